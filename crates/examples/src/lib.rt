@@ -1,0 +1,1 @@
+// Specs alone: document 01's worked rows marked †, as one proved table.

@@ -1,0 +1,1 @@
+// A fetch list as it is handed: four slices of one length and a mark byte a chunk.
