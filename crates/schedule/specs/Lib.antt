@@ -4,6 +4,7 @@ pub mod Ascending
 pub mod Need
 pub mod Necessity
 pub mod AnyOrder
+pub mod Own
 pub mod Fill
 pub mod Sufficiency
 pub mod Order
