@@ -10,6 +10,7 @@ pub mod Sufficiency
 pub mod Order
 pub mod Kept
 pub mod Choice
+pub mod Release
 pub mod Plan
 pub mod Level
 pub mod Base
