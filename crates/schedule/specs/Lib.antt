@@ -11,6 +11,7 @@ pub mod Order
 pub mod Kept
 pub mod Choice
 pub mod Release
+pub mod OwnFill
 pub mod Plan
 pub mod Level
 pub mod Base
