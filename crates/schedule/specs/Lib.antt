@@ -7,11 +7,14 @@ pub mod Need
 pub mod Stretches
 pub mod Necessity
 pub mod AnyOrder
+pub mod Own
 pub mod Fill
 pub mod Sufficiency
 pub mod Order
 pub mod Kept
 pub mod Choice
+pub mod Release
+pub mod OwnFill
 pub mod Plan
 pub mod Level
 pub mod Base
