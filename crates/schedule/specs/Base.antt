@@ -127,10 +127,10 @@ module _ (j : Job) (p : ℕ → ℕ) (accepts : (i : ℕ) → 1 ≤ i → i ≤ 
       let o : (i - 1) + 0 ≡ (i - 1) = omega arith in
       let s : suc (i - 1) ≡ i = omega arith in
       let skip : picked q 0 (chunks j) ≡ picked q (i - 1) (suc m) = rw (c, o) at (picked-skip q 0 (i - 1) (suc m) (λ k u v. rw (ne-eqb k i (omega arith), le-ltb i k (omega arith)) (lt-leb 1 (min (p k) 0) (omega arith)))) in
-      skip ∙ rw (s, eq-eqb i i refl) (ap (λ (ks : List ℕ). i ∷ ks) (picked-cong q (λ i. leb 1 (p i)) i m (λ k u v. rw (ne-eqb k i (omega arith), lt-ltb i k u) (one (p k)))))
+      skip ∙ rw (s, eq-eqb i i refl) (ap (λ (ks : List ℕ). i ∷ ks) (picked-cong q (λ i. leb 1 (p i)) i m (λ k u v. rw (ne-eqb k i (omega arith), lt-ltb i k u) (kept-to-one (p k)))))
     where
-      one : (n : ℕ) → leb 1 (min n 1) ≡ leb 1 n
-      one n = ⊎-elim (λ t. rw (le-leb 1 n (leb→le 1 n t), le-leb 1 (min n 1) (omega (arith, leb→le 1 n t)))) (λ t. rw (lt-leb 1 n (nleb→lt 1 n t), lt-leb 1 (min n 1) (omega (arith, nleb→lt 1 n t)))) (test (leb 1 n))
+      kept-to-one : (n : ℕ) → leb 1 (min n 1) ≡ leb 1 n
+      kept-to-one n = ⊎-elim (λ t. rw (le-leb 1 n (leb→le 1 n t), le-leb 1 (min n 1) (omega (arith, leb→le 1 n t)))) (λ t. rw (lt-leb 1 n (nleb→lt 1 n t), lt-leb 1 (min n 1) (omega (arith, nleb→lt 1 n t)))) (test (leb 1 n))
 
   -- Each of them has its base alone.
   tried-bytes : (i k : ℕ) → T (leb 1 (tried p 0 i k)) → bytes j (tried p 0 i) k ≡ size j k 0

@@ -1,7 +1,7 @@
 -- Lemmas. A list makes its choice fit: the carried chunks of a passing list in playing order fit. Section 2 of the argument.
 use Prim.Native.Nat.{ℕ, suc, _+_, _-_, _≤_, _<_}
 use mathlib.Core.Path.{_≡_}
-use mathlib.Core.Bool.{Bool, _&&_}
+use mathlib.Core.Bool.{Bool, not, _&&_}
 use mathlib.Core.List.{List, [], _∷_}
 use mathlib.Core.Logic.{⊎-elim}
 use native.Mathlib.Omega.{arith}
@@ -70,7 +70,7 @@ module _ (j : Job) (l : List Row) (ok : Passes j l) where
   begun-by o x i e g h t =
       ⊎-elim
       (λ u. o x i e g (ltb→lt e (x .chunk) u) t)
-      (λ u.
+      (λ (u : T (not (ltb e (x .chunk)))).
       let q : x .chunk ≡ e = omega (arith, nltb→le e (x .chunk) u) in
       any-row (λ y. eqb (y .chunk) e && leb (y .slot) (x .slot)) i (simp tests (omega arith)))
       (test (ltb e (x .chunk)))

@@ -24,12 +24,14 @@ pub record Feas (w d A : ℕ → ℕ) (h : ℕ) (ks : List ℕ) : Type 0 where
   pub whole : need w d A ks ≤ A 0
   pub tails : Tails w d A h ks
 
--- ---- the same as tests
+-- ---- as tests
 
+-- `Tails` as a test.
 abbrev pub tails : (w d A : ℕ → ℕ) (h : ℕ) → List ℕ → Bool
 tails w d A h [] = true
 tails w d A h (k ∷ ks) = leb (need w d A (drop h (k ∷ ks))) (A (d k - 1)) && tails w d A h ks
 
+-- `Feas` as a test.
 unfoldable pub feas : (w d A : ℕ → ℕ) (h : ℕ) → List ℕ → Bool
 feas w d A h ks = leb (need w d A ks) (A 0) && tails w d A h ks
 

@@ -2,14 +2,14 @@
 -- a plan in the sense of Statement. Sections 1 and 3 of the argument.
 use Prim.Native.Nat.{ℕ, zero, suc, _+_, _-_, _≤_, _<_, min}
 use mathlib.Core.Path.{_≡_, refl, sym, ap, _∙_, subst}
-use mathlib.Core.Bool.{Bool, not, cond, _&&_}
+use mathlib.Core.Bool.{Bool, true, false, cond, _&&_}
 use mathlib.Core.List.{List, []}
 use mathlib.Core.Logic.{_⊎_, inl, inr, ⊎-elim, _↔_}
 use native.Mathlib.Omega.{arith}
 use borrow.Author.Tests.{eq-eqb, ne-eqb, lt-leb, le-leb, lt-ltb, le-ltb}
 use lib.Dec.{T, T-not, leb, ltb, eqb, leb→le, nleb→lt, ltb→lt, nltb→le, eqb→eq, eqb-refl}
 use Rattle.basics.specs.Sums.{sum}
-use Rattle.basics.specs.Tests.{T-and, and-T, by-cond, test}
+use Rattle.basics.specs.Tests.{T-and, T-true, and-T, by-cond, not-T-false, test}
 use Rattle.job.specs.Job.{Job, Layer, chunks, due, heldMost, layers, size}
 use Rattle.schedule.specs.Choice.{Fits, Same, bytes, can-carry-iff-fits, kept}
 use Rattle.schedule.specs.Kept.{picked, picked-cong, picked-each}
@@ -33,9 +33,13 @@ fits-iff j lv = feas-iff (bytes j lv) (due j) (after j) (heldMost j) (kept j lv)
 abbrev pub raise : (ℕ → ℕ) → ℕ → ℕ → ℕ
 raise p i k = cond (eqb k i) (suc (p k)) (p k)
 
--- Layer n of chunk i is tried: carried if the layers below are and the choice with it fits.
+-- Layer n of chunk i is taken: the layers below are carried, and the choice with it fits.
+abbrev pub takes : Job → ℕ → (ℕ → ℕ) → ℕ → Bool
+takes j n p i = eqb (p i) n && fits j (raise p i)
+
+-- The choice after the trial of layer n of chunk i.
 abbrev pub try : Job → ℕ → (ℕ → ℕ) → ℕ → ℕ → ℕ
-try j n p i = cond (eqb (p i) n && fits j (raise p i)) (raise p i) p
+try j n p i = cond (takes j n p i) (raise p i) p
 
 -- Layer n is tried for the chunks lo + m down to lo + 1.
 abbrev pub sweep : Job → ℕ → ℕ → ℕ → (ℕ → ℕ) → ℕ → ℕ
@@ -73,32 +77,38 @@ fits-cong j p q e f =
 abbrev SameOrOneMore : ℕ → ℕ → ℕ → Type 0
 SameOrOneMore n x y = (y ≡ x) ⊎ ((x ≡ n) × (y ≡ suc n))
 
+takes-iff : (j : Job) (n : ℕ) (p : ℕ → ℕ) (i : ℕ) → T (takes j n p i) ↔ ((p i ≡ n) × Fits j (raise p i))
+takes-iff j n p i =
+    let f = fits-iff j (raise p i) in (
+      λ t. let u = and-T (eqb (p i) n) (fits j (raise p i)) t in (eqb→eq (p i) n (u .0), f .0 (u .1)),
+      λ u. T-and (eqb (p i) n) (fits j (raise p i)) (rw (u .0) (eqb-refl n)) (f .1 (u .1)),
+    )
+
 try-other : (j : Job) (n : ℕ) (p : ℕ → ℕ) (i k : ℕ) → (k ≡ i → ⊥) → try j n p i k ≡ p k
-try-other j n p i k o = by-cond (λ (q : ℕ → ℕ). q k ≡ p k) (eqb (p i) n && fits j (raise p i)) (λ t. rw (ne-eqb k i o)) (λ t. refl)
+try-other j n p i k o = by-cond (λ (q : ℕ → ℕ). q k ≡ p k) (takes j n p i) (λ t. rw (ne-eqb k i o)) (λ t. refl)
+
+try-own : (j : Job) (n : ℕ) (p : ℕ → ℕ) (i : ℕ) → try j n p i i ≡ cond (takes j n p i) (suc (p i)) (p i)
+try-own j n p i = by-test (takes j n p i)
+  where
+    by-test : (b : Bool) → cond b (raise p i) p i ≡ cond b (suc (p i)) (p i)
+    by-test true = rw (eq-eqb i i refl)
+    by-test false = refl
 
 try-grown : (j : Job) (n : ℕ) (p : ℕ → ℕ) (i : ℕ) → SameOrOneMore n (p i) (try j n p i i)
 try-grown j n p i =
-    by-cond
-    (λ (q : ℕ → ℕ). SameOrOneMore n (p i) (q i))
-    (eqb (p i) n && fits j (raise p i))
-    (λ t. let e = eqb→eq (p i) n (and-T (eqb (p i) n) (fits j (raise p i)) t .0) in inr (e, rw (eq-eqb i i refl) (ap suc e)))
-    (λ t. inl refl)
+    rw (try-own j n p i)
+    (by-cond (SameOrOneMore n (p i)) (takes j n p i) (λ t. let e = takes-iff j n p i .0 t .0 in inr (e, ap suc e)) (λ t. inl refl))
 
 try-iff : (j : Job) (n : ℕ) (p : ℕ → ℕ) (i : ℕ) → p i ≤ n → (n < try j n p i i) ↔ ((p i ≡ n) × Fits j (raise p i))
-try-iff j n p i h = (
-  λ l.
-      ⊎-elim
-      (λ t. let u = and-T (eqb (p i) n) (fits j (raise p i)) t in (eqb→eq (p i) n (u .0), fits-iff j (raise p i) .0 (u .1)))
-      (λ t. absurd (omega (arith, refused t)))
-      (test (eqb (p i) n && fits j (raise p i))),
-  λ u. taken (T-and (eqb (p i) n) (fits j (raise p i)) (rw (u .0) (eqb-refl n)) (fits-iff j (raise p i) .1 (u .1))),
-)
-  where
-    refused : T (not (eqb (p i) n && fits j (raise p i))) → try j n p i i ≤ n
-    refused t = by-cond (λ (q : ℕ → ℕ). q i ≤ n) (eqb (p i) n && fits j (raise p i)) (λ u. absurd (T-not (eqb (p i) n && fits j (raise p i)) t u)) (λ u. h)
-
-    taken : T (eqb (p i) n && fits j (raise p i)) → n < try j n p i i
-    taken t = by-cond (λ (q : ℕ → ℕ). n < q i) (eqb (p i) n && fits j (raise p i)) (λ u. rw (eq-eqb i i refl) (omega (arith, eqb→eq (p i) n (and-T (eqb (p i) n) (fits j (raise p i)) u .0)))) (λ u. absurd (T-not (eqb (p i) n && fits j (raise p i)) u t))
+try-iff j n p i h =
+    let r = takes-iff j n p i in
+    ⊎-elim
+    (λ t. (λ l. r .0 t, λ u. rw (try-own j n p i, T-true (takes j n p i) t) (omega arith)))
+    (λ t. (
+      λ l. absurd (let l′ = rw (try-own j n p i, not-T-false (takes j n p i) t) at l in omega arith),
+      λ u. absurd (T-not (takes j n p i) t (r .1 u)),
+    ))
+    (test (takes j n p i))
 
 sweep-below : (j : Job) (n lo m : ℕ) (p : ℕ → ℕ) (k : ℕ) → k ≤ lo → sweep j n lo m p k ≡ p k
 sweep-below j n lo zero p k h = refl
@@ -128,7 +138,7 @@ sweep-fits : (j : Job) (n lo m : ℕ) (p : ℕ → ℕ) → Fits j p → Fits j 
 sweep-fits j n lo zero p f = f
 sweep-fits j n lo (suc m) p f =
     let q = sweep j n (suc lo) m p in
-    by-cond (Fits j) (eqb (q (suc lo)) n && fits j (raise q (suc lo))) (λ t. fits-iff j (raise q (suc lo)) .0 (and-T (eqb (q (suc lo)) n) (fits j (raise q (suc lo))) t .1)) (λ t. sweep-fits j n (suc lo) m p f)
+    by-cond (Fits j) (takes j n q (suc lo)) (λ t. takes-iff j n q (suc lo) .0 t .1) (λ t. sweep-fits j n (suc lo) m p f)
 
 skip-all-fits : (j : Job) → Fits j (λ k. 0)
 skip-all-fits j = rw (empty 0 (chunks j)) (record { whole = omega arith; tails = tt })
@@ -141,10 +151,6 @@ planTo-fits : (j : Job) (n : ℕ) → Fits j (planTo j n)
 planTo-fits j zero = skip-all-fits j
 planTo-fits j (suc n) = sweep-fits j n 0 (chunks j) (planTo j n) (planTo-fits j n)
 
-pub plan-fits : (j : Job) → Fits j (plan j)
-unfolding plan
-plan-fits j = planTo-fits j (layers j)
-
 planTo-le : (j : Job) (n k : ℕ) → planTo j n k ≤ n
 planTo-le j zero k = omega arith
 planTo-le j (suc n) k = ⊎-elim (λ e. omega (arith, planTo-le j n k)) (λ e. omega arith) (sweep-grown j n 0 (chunks j) (planTo j n) k)
@@ -156,9 +162,14 @@ planTo-min j n (suc a) k =
     let e : suc a + n ≡ suc (a + n) = omega arith in
     rw e (⊎-elim (λ g. omega (arith, planTo-min j n a k)) (λ g. omega (arith, planTo-min j n a k)) (sweep-grown j (a + n) 0 (chunks j) (planTo j (a + n)) k))
 
+-- Below layer n the plan is what the trials of the layers below n make.
 pub plan-min : (j : Job) (n k : ℕ) → n ≤ layers j → min (plan j k) n ≡ planTo j n k
 unfolding plan
 plan-min j n k h = let e : layers j - n + n ≡ layers j = omega arith in rw e at (planTo-min j n (layers j - n) k)
+
+pub plan-fits : (j : Job) → Fits j (plan j)
+unfolding plan
+plan-fits j = planTo-fits j (layers j)
 
 -- ---- the trial of one layer of one chunk
 

@@ -47,6 +47,7 @@ need-iff-runs w d A ks x = (
 
 -- ---- the chunks fit exactly if each, with those behind it, fits behind its release
 
+-- Each kept chunk, with those behind it, fits into the slots from its release on.
 abbrev Released : (w d A : ℕ → ℕ) (h : ℕ) → List ℕ → Type 0
 Released w d A h ks = (m : ℕ) → m < length ks → need w d A (drop m ks) ≤ A (release d h ks m - 1)
 

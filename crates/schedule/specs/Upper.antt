@@ -114,6 +114,7 @@ module _ (j : Job) (n z : ℕ) (up : 1 ≤ n) (equal : (i : ℕ) → 1 ≤ i →
         (λ w. rw (ne-eqb (suc b) i (omega arith), le-ltb i (suc b) (omega arith)) (omega (arith, r, sum-mono (size j (suc b)) (min (p (suc b)) n) (x (suc b)) (omega (arith, agree (suc b) (omega arith) (omega arith))))))
         (λ w. r))
 
+    -- From any chunk on it is no heavier than the plan or than the other.
     tried-from-any : (b k : ℕ) → b + k ≡ chunks j → need-of t (picked base b k) ≤ max (need-of (bytes j p) (picked base b k)) (need-of (bytes j x) (picked base b k))
     tried-from-any b k h =
         ⊎-elim
@@ -137,7 +138,7 @@ module _ (j : Job) (n z : ℕ) (up : 1 ≤ n) (equal : (i : ℕ) → 1 ≤ i →
 
   -- ---- the scan
 
-  -- Over lo + 1 .. lo + m the plan has plan-takes no fewer, and needs no more but for what it took more.
+  -- Over lo + 1 .. lo + m the plan has taken no fewer, and needs no more but for what it took more.
   record Ahead (lo m : ℕ) : Type 0 where
     count : among (λ i. ltb n (x i)) lo m ≤ among (λ i. ltb n (p i)) lo m
     needs : need-of (upToLayer p) (picked base lo m) + among (λ i. ltb n (x i)) lo m * z ≤ need-of (upToLayer x) (picked base lo m) + among (λ i. ltb n (p i)) lo m * z
