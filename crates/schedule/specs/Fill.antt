@@ -1,37 +1,41 @@
--- The greedy fill: a queue of pieces, and what each slot takes of it. Assumes nothing.
-use Prim.Native.Nat.{ℕ, zero, suc, _+_, _*_, _-_, _≤_, _<_, pred, max}
-use mathlib.Core.Path.{_≡_, refl, sym, ap, _∙_, subst}
-use mathlib.Core.Bool.{Bool, true, false, not, cond, _&&_, _||_}
+-- Lemmas, theory.md section 3: the fill, a queue of pieces and what each slot takes of it. Here: what a slot takes, by cases;
+-- "Books" (nothing is lost, no slot above its forecast, no row before its piece's release); the invariant on need; "On time".
+-- A queue and a start slot may be any: a plan made anew from some slot on has the same fill. Assumes nothing.
+use Prim.Native.Nat.{ℕ, zero, suc, _+_, _-_, _≤_, _<_, max}
+use mathlib.Core.Path.{_≡_, refl, ap}
+use mathlib.Core.Bool.{Bool, true, false, cond, _&&_}
 use mathlib.Core.List.{List, [], _∷_, _++_}
-use mathlib.Core.Logic.{_⊎_, inl, inr, ⊎-elim, _↔_}
+use mathlib.Core.Logic.{_⊎_, inl, inr, ⊎-elim}
 use native.Mathlib.Omega.{arith}
-use lib.Dec.{T, T-not, leb, ltb, eqb, leb→le, nleb→lt, ltb→lt, nltb→le, lt→ltb, eqb→eq, eqb-refl}
-use Rattle.basics.specs.Sums.{pre, pre-mono, pre-step}
-use Rattle.basics.specs.Tests.{All, T-and, T-or-iff, and-T, by-cond, last, not-and, test, tests}
+use lib.Dec.{T, leb, ltb, eqb, leb→le, nleb→lt, ltb→lt, nltb→le, eqb→eq, T-not}
+use Rattle.basics.specs.Tests.{All, all-append, all-map, at-row, by-cond, each-row, not-and, test, tests}
 use Rattle.fetch.specs.Rows.{Row, bytesIf, bytesInSlot}
-use Rattle.job.specs.Job.{Job, due, lastSlot}
-use Rattle.schedule.specs.Words.{bytesOfChunk}
 
+-- ---- the fill
+
+-- Bytes left of one layer of one chunk, and the first slot that may take them, its release.
 pub record Piece : Type 0 where
   pub chunk : ℕ
   pub layer : ℕ
   pub left : ℕ
   pub ready : ℕ
 
+-- What a slot takes of a queue, and what it leaves.
 pub record Out : Type 0 where
   pub rows : List Row
   pub rest : List Piece
 
-abbrev row : ℕ → Piece → ℕ → Row
+-- b bytes of piece p in slot t; what they leave of p; all that is left of p, before what the slot takes next.
+abbrev pub row : ℕ → Piece → ℕ → Row
 row t p b = record { slot = t; chunk = p .chunk; layer = p .layer; bytes = b }
 
-abbrev less : Piece → ℕ → Piece
+abbrev pub less : Piece → ℕ → Piece
 less p b = record { chunk = p .chunk; layer = p .layer; left = p .left - b; ready = p .ready }
 
-abbrev after-row : ℕ → Piece → Out → Out
+abbrev pub after-row : ℕ → Piece → Out → Out
 after-row t p o = record { rows = row t p (p .left) ∷ o .rows; rest = o .rest }
 
--- what slot t takes, with c bytes left in it
+-- What slot t takes, with c bytes left in it.
 abbrev pub take-slot : ℕ → ℕ → List Piece → Out
 take-slot t c [] = record { rows = []; rest = [] }
 take-slot t c (p ∷ ps) =
@@ -43,7 +47,7 @@ take-slot t c (p ∷ ps) =
     (record { rows = row t p c ∷ []; rest = less p c ∷ ps }))
     (record { rows = []; rest = p ∷ ps })
 
--- n slots, from t + 1 on
+-- What n slots take, from slot t + 1 on, and what they leave.
 abbrev pub fill : (ℕ → ℕ) → ℕ → ℕ → List Piece → List Row
 fill B zero t q = []
 fill B (suc n) t q = let o = take-slot (suc t) (B (suc t)) q in o .rows ++ fill B n (suc t) (o .rest)
@@ -52,231 +56,214 @@ abbrev pub rest-after : (ℕ → ℕ) → ℕ → ℕ → List Piece → List Pi
 rest-after B zero t q = q
 rest-after B (suc n) t q = rest-after B n (suc t) (take-slot (suc t) (B (suc t)) q .rest)
 
+-- What holds of a slot, by cases: the queue is empty; the slot is shut to the first piece; it takes that piece whole and goes on;
+-- it takes a part of it and is spent.
+pub by-slot :
+    (t : ℕ) (P : ℕ → List Piece → Out → Type 0) →
+    ((c : ℕ) → P c [] (record { rows = []; rest = [] })) →
+    ((c : ℕ) (p : Piece) (ps : List Piece) → (t < p .ready) ⊎ (c ≡ 0) → P c (p ∷ ps) (record { rows = []; rest = p ∷ ps })) →
+    ((c : ℕ) (p : Piece) (ps : List Piece) (o : Out) → p .ready ≤ t → p .left ≤ c → P (c - p .left) ps o → P c (p ∷ ps) (after-row t p o)) →
+    ((c : ℕ) (p : Piece) (ps : List Piece) → p .ready ≤ t → 1 ≤ c → c < p .left → P c (p ∷ ps) (record { rows = row t p c ∷ []; rest = less p c ∷ ps })) →
+    (c : ℕ) (q : List Piece) → P c q (take-slot t c q)
+by-slot t P none shut whole part c [] = none c
+by-slot t P none shut whole part c (p ∷ ps) =
+    by-cond
+    (P c (p ∷ ps))
+    (leb (p .ready) t && ltb 0 c)
+    (λ u.
+    let v = simp tests at u in
+    by-cond
+    (P c (p ∷ ps))
+    (leb (p .left) c)
+    (λ w. whole c p ps (take-slot t (c - p .left) ps) (v .0) (leb→le (p .left) c w) (by-slot t P none shut whole part (c - p .left) ps))
+    (λ w. part c p ps (v .0) (v .1) (nleb→lt (p .left) c w)))
+    (λ u.
+    shut c p ps
+    (⊎-elim (λ v. inl (nleb→lt (p .ready) t v)) (λ v. inr (omega (arith, nltb→le 0 c v))) (not-and (leb (p .ready) t) (ltb 0 c) u)))
+
 -- ---- nothing is lost
+
+-- The bytes queued of the layers that pass.
 abbrev pub left-of : (ℕ → ℕ → Bool) → List Piece → ℕ
 left-of P [] = 0
 left-of P (p ∷ ps) = cond (P (p .chunk) (p .layer)) (p .left) 0 + left-of P ps
 
+-- The rows of the layers that pass.
 abbrev pub on : (ℕ → ℕ → Bool) → Row → Bool
 on P x = P (x .chunk) (x .layer)
 
-pick-sub : (b : Bool) (x c : ℕ) → c ≤ x → cond b c 0 + cond b (x - c) 0 ≡ cond b x 0
-pick-sub true x c h = omega arith
-pick-sub false x c h = omega arith
+split-left : (b : Bool) (x c : ℕ) → c ≤ x → cond b c 0 + cond b (x - c) 0 ≡ cond b x 0
+split-left true x c h = omega arith
+split-left false x c h = omega arith
 
-slot-same : (P : ℕ → ℕ → Bool) (t c : ℕ) (q : List Piece) → bytesIf (on P) (take-slot t c q .rows) + left-of P (take-slot t c q .rest) ≡ left-of P q
-slot-same P t c [] = omega arith
-slot-same P t c (p ∷ ps) =
-    by-cond
-    (λ (o : Out). bytesIf (on P) (o .rows) + left-of P (o .rest) ≡ left-of P (p ∷ ps))
-    (leb (p .ready) t && ltb 0 c)
-    (λ u.
-    by-cond
-    (λ (o : Out). bytesIf (on P) (o .rows) + left-of P (o .rest) ≡ left-of P (p ∷ ps))
-    (leb (p .left) c)
-    (λ v. omega (arith, slot-same P t (c - p .left) ps))
-    (λ v. omega (arith, pick-sub (P (p .chunk) (p .layer)) (p .left) c (omega (arith, nleb→lt (p .left) c v)))))
-    (λ u. omega arith)
+bytes-append : (p : Row → Bool) (a b : List Row) → bytesIf p (a ++ b) ≡ bytesIf p a + bytesIf p b
+bytes-append p [] b = omega arith
+bytes-append p (x ∷ xs) b = omega (arith, bytes-append p xs b)
+
+slot-loses-nothing : (P : ℕ → ℕ → Bool) (t c : ℕ) (q : List Piece) → bytesIf (on P) (take-slot t c q .rows) + left-of P (take-slot t c q .rest) ≡ left-of P q
+slot-loses-nothing P t =
+    by-slot
+    t
+    (λ c q o. bytesIf (on P) (o .rows) + left-of P (o .rest) ≡ left-of P q)
+    (λ c. omega arith)
+    (λ c p ps h. omega arith)
+    (λ c p ps o h l e. omega arith)
+    (λ c p ps h m l. omega (arith, split-left (P (p .chunk) (p .layer)) (p .left) c (omega arith)))
+
+pub fill-loses-nothing : (P : ℕ → ℕ → Bool) (B : ℕ → ℕ) (n t : ℕ) (q : List Piece) → bytesIf (on P) (fill B n t q) + left-of P (rest-after B n t q) ≡ left-of P q
+fill-loses-nothing P B zero t q = omega arith
+fill-loses-nothing P B (suc n) t q =
+    let o = take-slot (suc t) (B (suc t)) q in
+    omega (arith, slot-loses-nothing P (suc t) (B (suc t)) q, fill-loses-nothing P B n (suc t) (o .rest), bytes-append (on P) (o .rows) (fill B n (suc t) (o .rest)))
+
+-- ---- the slots of the rows, and that none is above its forecast
+
+pub slot-in-slot : (t c : ℕ) (q : List Piece) → All (λ x. x .slot ≡ t) (take-slot t c q .rows)
+slot-in-slot t =
+    by-slot t (λ c q o. All (λ x. x .slot ≡ t) (o .rows)) (λ c. tt) (λ c p ps h. tt) (λ c p ps o h l a. (refl, a)) (λ c p ps h m l. (refl, tt))
+
+pub fill-in-slots : (B : ℕ → ℕ) (n t : ℕ) (q : List Piece) → All (λ x. (t < x .slot) × (x .slot ≤ n + t)) (fill B n t q)
+fill-in-slots B zero t q = tt
+fill-in-slots B (suc n) t q =
+    let o = take-slot (suc t) (B (suc t)) q in
+    all-append
+    (λ x. (t < x .slot) × (x .slot ≤ suc n + t))
+    (o .rows)
+    (fill B n (suc t) (o .rest))
+    (all-map (λ x. x .slot ≡ suc t) (λ x. (t < x .slot) × (x .slot ≤ suc n + t)) (o .rows) (λ x e. omega arith) (slot-in-slot (suc t) (B (suc t)) q))
+    (all-map (λ x. (suc t < x .slot) × (x .slot ≤ n + suc t)) (λ x. (t < x .slot) × (x .slot ≤ suc n + t)) (fill B n (suc t) (o .rest)) (λ x h. omega arith) (fill-in-slots B n (suc t) (o .rest)))
 
 slot-within : (t c : ℕ) (q : List Piece) → bytesIf (λ x. true) (take-slot t c q .rows) ≤ c
-slot-within t c [] = omega arith
-slot-within t c (p ∷ ps) =
-    by-cond
-    (λ (o : Out). bytesIf (λ x. true) (o .rows) ≤ c)
-    (leb (p .ready) t && ltb 0 c)
+slot-within t =
+    by-slot
+    t
+    (λ c q o. bytesIf (λ x. true) (o .rows) ≤ c)
+    (λ c. omega arith)
+    (λ c p ps h. omega arith)
+    (λ c p ps o h l e. omega arith)
+    (λ c p ps h m l. omega arith)
+
+bytes-none : (p : Row → Bool) (l : List Row) → All (λ x. T (p x) → ⊥) l → bytesIf p l ≡ 0
+bytes-none p [] a = refl
+bytes-none p (x ∷ xs) a =
+    omega (arith, bytes-none p xs (a .1), by-cond (λ n. n ≤ 0) (p x) {x = x .bytes} {y = 0} (λ t. absurd (a .0 t)) (λ t. omega arith))
+
+bytes-all : (p : Row → Bool) (l : List Row) → bytesIf p l ≤ bytesIf (λ x. true) l
+bytes-all p [] = omega arith
+bytes-all p (x ∷ xs) = omega (arith, bytes-all p xs, by-cond (λ n. n ≤ x .bytes) (p x) {x = x .bytes} {y = 0} (λ t. omega arith) (λ t. omega arith))
+
+pub fill-within : (B : ℕ → ℕ) (n t : ℕ) (q : List Piece) (s : ℕ) → bytesInSlot (fill B n t q) s ≤ B s
+fill-within B zero t q s = omega arith
+fill-within B (suc n) t q s =
+    let o = take-slot (suc t) (B (suc t)) q in
+    let more = fill B n (suc t) (o .rest) in
+    let here : Row → Bool = λ x. eqb (x .slot) s in
+    let sum = bytes-append here (o .rows) more in
+    ⊎-elim
     (λ u.
-    by-cond
-    (λ (o : Out). bytesIf (λ x. true) (o .rows) ≤ c)
-    (leb (p .left) c)
-    (λ v. omega (arith, leb→le (p .left) c v, slot-within t (c - p .left) ps))
-    (λ v. omega arith))
-    (λ u. omega arith)
+    let e : suc t ≡ s = eqb→eq (suc t) s u in
+    let none = bytes-none here more (all-map (λ x. (suc t < x .slot) × (x .slot ≤ n + suc t)) (λ x. T (here x) → ⊥) more (λ x h v. omega (arith, eqb→eq (x .slot) s v)) (fill-in-slots B n (suc t) (o .rest))) in
+    omega (arith, sum, none, bytes-all here (o .rows), slot-within (suc t) (B (suc t)) q, ap B e))
+    (λ u.
+    let none = bytes-none here (o .rows) (all-map (λ x. x .slot ≡ suc t) (λ x. T (here x) → ⊥) (o .rows) (λ x e v. T-not (eqb (suc t) s) u (rw e at v)) (slot-in-slot (suc t) (B (suc t)) q)) in
+    omega (arith, sum, none, fill-within B n (suc t) (o .rest) s))
+    (test (eqb (suc t) s))
 
--- ---- the need of a queue
-abbrev pub EachP : (Piece → Type 0) → List Piece → Type 0
-EachP Q [] = Unit {0}
-EachP Q (p ∷ ps) = Q p × EachP Q ps
+-- ---- what holds of the pieces holds of the rows
 
-abbrev pub needs : (d A : ℕ → ℕ) → List Piece → ℕ
-needs d A [] = 0
-needs d A (p ∷ ps) = p .left + max (A (d (p .chunk))) (needs d A ps)
-
--- each piece, with what follows it, fits behind its release
-abbrev pub Ready : (d A : ℕ → ℕ) → List Piece → Type 0
-Ready d A [] = Unit {0}
-Ready d A (p ∷ ps) = (needs d A (p ∷ ps) ≤ A (((p .ready) - 1))) × (1 ≤ p .left) × Ready d A ps
-
--- ---- the rows of a slot
-pub record From (Q : ℕ → ℕ → ℕ → Type 0) (t : ℕ) (x : Row) : Type 0 where
-  pub slot-is : x .slot ≡ t
-  pub some : 1 ≤ x .bytes
-  pub ready : ℕ
-  pub ready-by : ready ≤ t
-  pub from : Q (x .chunk) (x .layer) ready
-
+-- A piece with bytes left, of which Q holds: of its chunk, its layer and its release.
 abbrev pub Still : (ℕ → ℕ → ℕ → Type 0) → Piece → Type 0
 Still Q p = (1 ≤ p .left) × Q (p .chunk) (p .layer) (p .ready)
 
-pub slot-rows : (Q : ℕ → ℕ → ℕ → Type 0) (t c : ℕ) (q : List Piece) → EachP (Still Q) q → All (From Q t) (take-slot t c q .rows) × EachP (Still Q) (take-slot t c q .rest)
-slot-rows Q t c [] a = (tt, tt)
-slot-rows Q t c (p ∷ ps) a =
-    by-cond
-    (λ (o : Out). All (From Q t) (o .rows) × EachP (Still Q) (o .rest))
-    (leb (p .ready) t && ltb 0 c)
-    (λ u.
-    let u′ = simp tests at u in
-    by-cond
-    (λ (o : Out). All (From Q t) (o .rows) × EachP (Still Q) (o .rest))
-    (leb (p .left) c)
-    (λ v.
-    let r = slot-rows Q t (c - p .left) ps (a .1) in
-    ((record { slot-is = refl; some = a .0 .0; ready = p .ready; ready-by = u′ .0; from = a .0 .1 }, r .0), r .1))
-    (λ v. (
-      (record { slot-is = refl; some = u′ .1; ready = p .ready; ready-by = u′ .0; from = a .0 .1 }, tt),
-      ((omega (arith, nleb→lt (p .left) c v), a .0 .1), a .1),
-    )))
-    (λ u. (tt, a))
-
-all-append : (P : Row → Type 0) (a b : List Row) → All P a → All P b → All P (a ++ b)
-all-append P [] b u v = v
-all-append P (x ∷ xs) b u v = (u .0, all-append P xs b (u .1) v)
-
-pub all-map : (P Q : Row → Type 0) (l : List Row) → ((x : Row) → P x → Q x) → All P l → All Q l
-all-map P Q [] f a = tt
-all-map P Q (x ∷ xs) f a = (f x (a .0), all-map P Q xs f (a .1))
-
-sum-append : (p : Row → Bool) (a b : List Row) → bytesIf p (a ++ b) ≡ bytesIf p a + bytesIf p b
-sum-append p [] b = omega arith
-sum-append p (x ∷ xs) b = omega (arith, sum-append p xs b)
-
-sum-none : (p : Row → Bool) (l : List Row) → All (λ x. T (p x) → ⊥) l → bytesIf p l ≡ 0
-sum-none p [] a = refl
-sum-none p (x ∷ xs) a =
-    omega (arith, sum-none p xs (a .1), by-cond (λ n. n ≤ 0) (p x) {x = x .bytes} {y = 0} (λ t. absurd (a .0 t)) (λ t. omega arith))
-
-sum-all : (p : Row → Bool) (l : List Row) → bytesIf p l ≤ bytesIf (λ x. true) l
-sum-all p [] = omega arith
-sum-all p (x ∷ xs) = omega (arith, sum-all p xs, by-cond (λ n. n ≤ x .bytes) (p x) {x = x .bytes} {y = 0} (λ t. omega arith) (λ t. omega arith))
-
-pub fill-same : (P : ℕ → ℕ → Bool) (B : ℕ → ℕ) (n t : ℕ) (q : List Piece) → bytesIf (on P) (fill B n t q) + left-of P (rest-after B n t q) ≡ left-of P q
-fill-same P B zero t q = omega arith
-fill-same P B (suc n) t q =
-    let o = take-slot (suc t) (B (suc t)) q in
-    omega (arith, slot-same P (suc t) (B (suc t)) q, fill-same P B n (suc t) (o .rest), sum-append (on P) (o .rows) (fill B n (suc t) (o .rest)))
-
-pub record Sent (Q : ℕ → ℕ → ℕ → Type 0) (d : ℕ → ℕ) (lo hi : ℕ) (x : Row) : Type 0 where
-  pub later : lo < x .slot
-  pub by : x .slot ≤ hi
-  pub in-time : x .slot ≤ d (x .chunk)
+-- A row with bytes, no earlier than the release of a piece of which Q holds.
+pub record Sent (Q : ℕ → ℕ → ℕ → Type 0) (x : Row) : Type 0 where
   pub some : 1 ≤ x .bytes
   pub ready : ℕ
   pub ready-by : ready ≤ x .slot
   pub from : Q (x .chunk) (x .layer) ready
 
-module _ (d A : ℕ → ℕ) (A-anti : (x y : ℕ) → x ≤ y → A y ≤ A x) where
-  pub slot-need : (t c : ℕ) (q : List Piece) → Ready d A q → needs d A q ≤ c + A t → (needs d A (take-slot t c q .rest) ≤ A t) × Ready d A (take-slot t c q .rest)
-  slot-need t c [] r h = (omega arith, tt)
-  slot-need t c (p ∷ ps) r h =
-      by-cond
-      (λ (o : Out). (needs d A (o .rest) ≤ A t) × Ready d A (o .rest))
-      (leb (p .ready) t && ltb 0 c)
-      (λ u.
-      by-cond
-      (λ (o : Out). (needs d A (o .rest) ≤ A t) × Ready d A (o .rest))
-      (leb (p .left) c)
-      (λ v. slot-need t (c - p .left) ps (r .2) (omega (arith, leb→le (p .left) c v)))
-      (λ v. let w = nleb→lt (p .left) c v in (omega arith, (omega arith, omega arith, r .2))))
-      (λ u. (
-        ⊎-elim
-            (λ v. omega (arith, A-anti t (((p .ready) - 1)) (omega (arith, nleb→lt (p .ready) t v))))
-            (λ v. omega (arith, nltb→le 0 c v))
-            (not-and (leb (p .ready) t) (ltb 0 c) u),
-        r,
-      ))
+pub slot-sent : (Q : ℕ → ℕ → ℕ → Type 0) (t c : ℕ) (q : List Piece) → All (Still Q) q → All (Sent Q) (take-slot t c q .rows) × All (Still Q) (take-slot t c q .rest)
+slot-sent Q t =
+    by-slot
+    t
+    (λ c q o. All (Still Q) q → All (Sent Q) (o .rows) × All (Still Q) (o .rest))
+    (λ c a. (tt, tt))
+    (λ c p ps h a. (tt, a))
+    (λ c p ps o h l f a. let r = f (a .1) in ((record { some = a .0 .0; ready = p .ready; ready-by = h; from = a .0 .1 }, r .0), r .1))
+    (λ c p ps h m l a. ((record { some = m; ready = p .ready; ready-by = h; from = a .0 .1 }, tt), ((omega arith, a .0 .1), a .1)))
 
-  -- no piece that is left is due yet
-  soon : (Q : ℕ → ℕ → ℕ → Type 0) (t : ℕ) (q : List Piece) → EachP (Still Q) q → Ready d A q → needs d A q ≤ A t → EachP (Still (λ k n r. (t < d k) × Q k n r)) q
-  soon Q t [] a r h = tt
-  soon Q t (p ∷ ps) a r h = (
+pub fill-sent : (Q : ℕ → ℕ → ℕ → Type 0) (B : ℕ → ℕ) (n t : ℕ) (q : List Piece) → All (Still Q) q → All (Sent Q) (fill B n t q)
+fill-sent Q B zero t q a = tt
+fill-sent Q B (suc n) t q a =
+    let o = take-slot (suc t) (B (suc t)) q in
+    let r = slot-sent Q (suc t) (B (suc t)) q a in
+    all-append (Sent Q) (o .rows) (fill B n (suc t) (o .rest)) (r .0) (fill-sent Q B n (suc t) (o .rest) (r .1))
+
+-- ---- the queue's need; d is the due slot of a chunk, A t what is forecast after slot t
+
+abbrev pub needs : (d A : ℕ → ℕ) → List Piece → ℕ
+needs d A [] = 0
+needs d A (p ∷ ps) = p .left + max (A (d (p .chunk))) (needs d A ps)
+
+-- Each piece has bytes, and with what follows it fits behind its release.
+abbrev pub Ready : (d A : ℕ → ℕ) → List Piece → Type 0
+Ready d A [] = Unit {0}
+Ready d A (p ∷ ps) = (needs d A (p ∷ ps) ≤ A (p .ready - 1)) × (1 ≤ p .left) × Ready d A ps
+
+module _ (d A : ℕ → ℕ) (A-anti : (x y : ℕ) → x ≤ y → A y ≤ A x) where
+  -- The invariant: the slot used up, the need fell by its bytes; blocked at a piece not released, that piece's own bound holds.
+  pub slot-keeps-need : (t c : ℕ) (q : List Piece) → Ready d A q → needs d A q ≤ c + A t → (needs d A (take-slot t c q .rest) ≤ A t) × Ready d A (take-slot t c q .rest)
+  slot-keeps-need t =
+      by-slot
+      t
+      (λ c q o. Ready d A q → needs d A q ≤ c + A t → (needs d A (o .rest) ≤ A t) × Ready d A (o .rest))
+      (λ c r h. (omega arith, tt))
+      (λ c p ps s r h. (⊎-elim (λ u. omega (arith, A-anti t (p .ready - 1) (omega arith))) (λ u. omega arith) s, r))
+      (λ c p ps o u l f r h. f (r .2) (omega arith))
+      (λ c p ps u m l r h. (omega arith, (omega arith, omega arith, r .2)))
+
+  -- No piece that is left is due yet.
+  left-due-later : (t : ℕ) (q : List Piece) → Ready d A q → needs d A q ≤ A t → All (Still (λ k n r. t < d k)) q
+  left-due-later t [] r h = tt
+  left-due-later t (p ∷ ps) r h = (
     (
-      a .0 .0,
-      (
-        ⊎-elim
-            (λ u. ltb→lt t (d (p .chunk)) u)
-            (λ u. absurd (omega (arith, r .1, A-anti (d (p .chunk)) t (nltb→le t (d (p .chunk)) u))))
-            (test (ltb t (d (p .chunk)))),
-        a .0 .1,
-      ),
+      r .1,
+      ⊎-elim
+          (λ u. ltb→lt t (d (p .chunk)) u)
+          (λ u. absurd (omega (arith, r .1, A-anti (d (p .chunk)) t (nltb→le t (d (p .chunk)) u))))
+          (test (ltb t (d (p .chunk)))),
     ),
-    soon Q t ps (a .1) (r .2) (omega arith),
+    left-due-later t ps (r .2) (omega arith),
   )
 
-  none-left : (q : List Piece) → Ready d A q → needs d A q ≤ 0 → q ≡ []
-  none-left [] r h = refl
-  none-left (p ∷ ps) r h = absurd (omega arith)
+  no-need-no-pieces : (q : List Piece) → Ready d A q → needs d A q ≤ 0 → q ≡ []
+  no-need-no-pieces [] r h = refl
+  no-need-no-pieces (p ∷ ps) r h = absurd (omega arith)
 
   module _ (B : ℕ → ℕ) (D : ℕ) (step : (t : ℕ) → t < D → A t ≤ B (suc t) + A (suc t)) where
-    rest-need : (n t : ℕ) (q : List Piece) → n + t ≤ D → Ready d A q → needs d A q ≤ A t → (needs d A (rest-after B n t q) ≤ A (n + t)) × Ready d A (rest-after B n t q)
-    rest-need zero t q h r m = let e : 0 + t ≡ t = omega arith in rw e (m, r)
-    rest-need (suc n) t q h r m =
-        let s = slot-need (suc t) (B (suc t)) q r (omega (arith, step t (omega arith))) in
+    fill-keeps-need : (n t : ℕ) (q : List Piece) → n + t ≤ D → Ready d A q → needs d A q ≤ A t → (needs d A (rest-after B n t q) ≤ A (n + t)) × Ready d A (rest-after B n t q)
+    fill-keeps-need zero t q h r m = let e : 0 + t ≡ t = omega arith in rw e (m, r)
+    fill-keeps-need (suc n) t q h r m =
+        let s = slot-keeps-need (suc t) (B (suc t)) q r (omega (arith, step t (omega arith))) in
         let e : suc n + t ≡ n + suc t = omega arith in
-        rw e (rest-need n (suc t) (take-slot (suc t) (B (suc t)) q .rest) (omega arith) (s .1) (s .0))
+        rw e (fill-keeps-need n (suc t) (take-slot (suc t) (B (suc t)) q .rest) (omega arith) (s .1) (s .0))
 
-    pub fill-rows : (Q : ℕ → ℕ → ℕ → Type 0) (n t : ℕ) (q : List Piece) → n + t ≤ D → EachP (Still Q) q → Ready d A q → needs d A q ≤ A t → All (Sent Q d t (n + t)) (fill B n t q)
-    fill-rows Q zero t q h a r m = tt
-    fill-rows Q (suc n) t q h a r m =
+    pub fill-on-time : (n t : ℕ) (q : List Piece) → n + t ≤ D → Ready d A q → needs d A q ≤ A t → All (λ x. x .slot ≤ d (x .chunk)) (fill B n t q)
+    fill-on-time zero t q h r m = tt
+    fill-on-time (suc n) t q h r m =
         let o = take-slot (suc t) (B (suc t)) q in
-        let s = slot-need (suc t) (B (suc t)) q r (omega (arith, step t (omega arith))) in
-        let f = slot-rows (λ k n r. (t < d k) × Q k n r) (suc t) (B (suc t)) q (soon Q t q a r m) in
-        let f′ = slot-rows Q (suc t) (B (suc t)) q a in
+        let s = slot-keeps-need (suc t) (B (suc t)) q r (omega (arith, step t (omega arith))) in
+        let now = slot-sent (λ k n r. t < d k) (suc t) (B (suc t)) q (left-due-later t q r m) .0 in
         all-append
-        (Sent Q d t (suc n + t))
+        (λ x. x .slot ≤ d (x .chunk))
         (o .rows)
         (fill B n (suc t) (o .rest))
-        (all-map
-        (From (λ k n r. (t < d k) × Q k n r) (suc t))
-        (Sent Q d t (suc n + t))
-        (o .rows)
-        (λ x g. record { later = omega arith; by = omega arith; in-time = omega arith; some = g .some; ready = g .ready; ready-by = omega arith; from = g .from .1 })
-        (f .0))
-        (all-map
-        (Sent Q d (suc t) (n + suc t))
-        (Sent Q d t (suc n + t))
-        (fill B n (suc t) (o .rest))
-        (λ x g. record { later = omega arith; by = omega arith; in-time = g .in-time; some = g .some; ready = g .ready; ready-by = g .ready-by; from = g .from })
-        (fill-rows Q n (suc t) (o .rest) (omega arith) (f′ .1) (s .1) (s .0)))
+        (each-row (λ x. x .slot ≤ d (x .chunk)) (o .rows) (λ x i. omega (arith, at-row (λ x. x .slot ≡ suc t) i (slot-in-slot (suc t) (B (suc t)) q), at-row (Sent (λ k n r. t < d k)) i now .from)))
+        (fill-on-time n (suc t) (o .rest) (omega arith) (s .1) (s .0))
 
-    pub fill-fits : (Q : ℕ → ℕ → ℕ → Type 0) (n t : ℕ) (q : List Piece) → n + t ≤ D → EachP (Still Q) q → Ready d A q → needs d A q ≤ A t → (s : ℕ) → bytesInSlot (fill B n t q) s ≤ B s
-    fill-fits Q zero t q h a r m s = omega arith
-    fill-fits Q (suc n) t q h a r m s =
-        let o = take-slot (suc t) (B (suc t)) q in
-        let k = slot-need (suc t) (B (suc t)) q r (omega (arith, step t (omega arith))) in
-        let f = slot-rows Q (suc t) (B (suc t)) q a in
-        let here : Row → Bool = λ x. eqb (x .slot) s in
-        ⊎-elim
-        (λ u.
-        let e : suc t ≡ s = eqb→eq (suc t) s u in
-        omega (
-          arith,
-          sum-append here (o .rows) (fill B n (suc t) (o .rest)),
-          sum-all here (o .rows),
-          slot-within (suc t) (B (suc t)) q,
-          ap B e,
-          sum-none here (fill B n (suc t) (o .rest)) (all-map (Sent Q d (suc t) (n + suc t)) (λ x. T (here x) → ⊥) (fill B n (suc t) (o .rest)) (λ x g v. omega (arith, g .later, eqb→eq (x .slot) s v)) (fill-rows Q n (suc t) (o .rest) (omega arith) (f .1) (k .1) (k .0))),
-        ))
-        (λ u.
-        omega (
-          arith,
-          sum-append here (o .rows) (fill B n (suc t) (o .rest)),
-          fill-fits Q n (suc t) (o .rest) (omega arith) (f .1) (k .1) (k .0) s,
-          sum-none here (o .rows) (all-map (From Q (suc t)) (λ x. T (here x) → ⊥) (o .rows) (λ x g v. T-not (eqb (suc t) s) u (rw (g .slot-is) at v)) (f .0)),
-        ))
-        (test (eqb (suc t) s))
-
-    -- at the last slot nothing is left
+    -- At the last slot nothing is left.
     pub fill-done : (q : List Piece) → A D ≡ 0 → Ready d A q → needs d A q ≤ A 0 → rest-after B D 0 q ≡ []
     fill-done q z r m =
         let e : D + 0 ≡ D = omega arith in
-        let k = rw e at (rest-need D 0 q (omega arith) r m) in
-        none-left (rest-after B D 0 q) (k .1) (omega arith)
+        let k = rw e at (fill-keeps-need D 0 q (omega arith) r m) in
+        no-need-no-pieces (rest-after B D 0 q) (k .1) (omega arith)

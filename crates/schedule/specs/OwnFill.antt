@@ -1,20 +1,20 @@
 -- Theorem `own-list-is` and its lemmas, theory.md section 3: the own list, which asks rule 6 itself, is the fill by releases.
 -- First in, first out: when a piece comes up, the chunks begun are those of the pieces before it. Assumes nothing.
-use Prim.Native.Nat.{ℕ, zero, suc, _+_, _-_, _≤_, _<_}
+use Prim.Native.Nat.{ℕ, zero, suc, _+_, _-_, _≤_}
 use mathlib.Core.Path.{_≡_, refl, sym, ap, _∙_, subst, fun-ext}
 use mathlib.Core.Bool.{Bool, true, false, not, cond, _&&_, _||_}
 use mathlib.Core.List.{List, [], _∷_, _++_, append-assoc}
 use native.Mathlib.Omega.{arith}
-use borrow.Author.Tests.{eq-eqb, ne-eqb, lt-leb, le-leb, lt-ltb, le-ltb}
+use borrow.Author.Tests.{le-leb}
 use lib.ListN.{length, length-append}
 use lib.Dec.{T, leb, ltb, eqb, leb→le, nleb→lt}
 use Rattle.basics.specs.Sums.{count}
-use Rattle.basics.specs.Tests.{All, all-append, all-map, any, by-cond}
+use Rattle.basics.specs.Tests.{All, all-append, all-map, by-cond}
 use Rattle.basics.specs.Lists.{upTo}
-use Rattle.fetch.specs.Rows.{Row, begun, heldCount}
+use Rattle.fetch.specs.Rows.{Row, begun}
 use Rattle.job.specs.Job.{Job, chunks, due, forecast, heldMost, lastSlot, size}
-use Rattle.schedule.specs.Choice.{kept, kept-asc, own}
-use Rattle.schedule.specs.Fill.{Out, Piece, fill, rest-after, take-slot}
+use Rattle.schedule.specs.Choice.{kept, kept-asc}
+use Rattle.schedule.specs.Fill.{Out, Piece, fill, rest-after, slot-in-slot, take-slot}
 use Rattle.schedule.specs.Kept.{picked, picked-each}
 use Rattle.schedule.specs.Own.{Fetched, Part, allowed, carriedTo, fetchedBy, ownList, rowOf, slotTakes, wholeLayer}
 use Rattle.schedule.specs.Release.{Fair, Released, fair-queue, with, with-twice}
@@ -96,20 +96,6 @@ slot-same j t c rows (p ∷ ps) u a f =
     (λ w. record { rows-are = refl; left-is = refl; fair = subst (λ (s : ℕ → Bool). Released j s (p .ready) × Fair j s ps) (sym (with-twice (p .chunk) (carries rows)) ∙ ap (with (p .chunk)) (begin c)) (f .0, f .1) }))
     (λ v. record { rows-are = sym (append-none rows); left-is = refl; fair = subst (λ (l : List Row). Fair j (carries l) (p ∷ ps)) (sym (append-none rows)) f }))
 
-slot-slots : (t c : ℕ) (q : List Piece) → All (λ x. x .slot ≤ t) (take-slot t c q .rows)
-slot-slots t c [] = tt
-slot-slots t c (p ∷ ps) =
-    by-cond
-    (λ (o : Out). All (λ x. x .slot ≤ t) (o .rows))
-    (leb (p .ready) t && ltb 0 c)
-    (λ u.
-    by-cond
-    (λ (o : Out). All (λ x. x .slot ≤ t) (o .rows))
-    (leb (p .left) c)
-    (λ v. (omega arith, slot-slots t (c - p .left) ps))
-    (λ v. (omega arith, tt)))
-    (λ u. tt)
-
 -- ---- all slots take what the fill takes
 
 -- The fill's last slot.
@@ -135,7 +121,7 @@ slots-same j lv q e f (suc n) =
     let by = all-map (λ x. x .slot ≤ n) (λ x. x .slot ≤ suc n) (o .rows) (λ x h. omega arith) (r .0) in
     let s = slot-same j (suc n) (forecast j (suc n)) (o .rows) (o .rest) (omega arith) by (r .1 .fair) in
     let l = fill-last (forecast j) n 0 n q (omega arith) in (
-      rw (l .0) (all-append (λ x. x .slot ≤ suc n) (o .rows) (x .rows) by (slot-slots (suc n) (forecast j (suc n)) (o .rest))),
+      rw (l .0) (all-append (λ x. x .slot ≤ suc n) (o .rows) (x .rows) by (all-map (λ x. x .slot ≡ suc n) (λ x. x .slot ≤ suc n) (x .rows) (λ y e. omega arith) (slot-in-slot (suc n) (forecast j (suc n)) (o .rest)))),
       record {
         rows-are = rw (r .1 .rows-are, r .1 .left-is, l .0) (s .rows-are);
         left-is = rw (r .1 .rows-are, r .1 .left-is, l .1) (s .left-is);

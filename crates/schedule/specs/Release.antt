@@ -2,13 +2,13 @@
 -- stand in a list, the last begun first. Assumes nothing.
 use Prim.Native.Nat.{ℕ, zero, suc, _+_, _-_, _≤_, _<_, compare·suc-suc}
 use mathlib.Core.Path.{_≡_, refl, sym, ap, _∙_, subst, fun-ext}
-use mathlib.Core.Bool.{Bool, true, false, not, cond, _&&_, _||_}
+use mathlib.Core.Bool.{Bool, true, false, cond, _&&_, _||_}
 use mathlib.Core.List.{List, [], _∷_, _++_}
 use mathlib.Core.Logic.{⊎-elim}
 use native.Mathlib.Omega.{arith}
 use borrow.Author.Tests.{eq-eqb, ne-eqb, lt-leb, le-leb, lt-ltb, le-ltb}
 use lib.ListN.{getD}
-use lib.Dec.{T, T-not, leb, ltb, eqb, ltb→lt, nltb→le, eqb→eq, eqb-refl}
+use lib.Dec.{T-not, leb, ltb, eqb, ltb→lt, nltb→le, eqb→eq, eqb-refl}
 use Rattle.basics.specs.Sums.{count, pre, pre-add}
 use Rattle.basics.specs.Tests.{test}
 use Rattle.job.specs.Job.{Job, chunks, due, heldMost, size}

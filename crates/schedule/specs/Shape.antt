@@ -1,14 +1,14 @@
 -- Theorems `own-list-ascending` and `own-list-rows` with their lemmas; theory.md section 3, "Books" and "Row bound".
 -- Both hold for every choice of the job, whether it fits or not. Assumes nothing.
 use Prim.Native.Nat.{ℕ, zero, suc, _+_, _*_, _-_, _≤_, _<_}
-use mathlib.Core.Path.{_≡_, refl, sym, ap, subst}
-use mathlib.Core.Bool.{Bool, cond, _&&_}
+use mathlib.Core.Path.{_≡_, refl, sym, subst}
+use mathlib.Core.Bool.{Bool}
 use mathlib.Core.List.{List, [], _∷_, _++_}
 use mathlib.Core.Logic.{_⊎_, inl, inr, ⊎-elim}
 use native.Mathlib.Omega.{arith}
 use native.Mathlib.Nat.{mul-le-mul-right}
 use lib.ListN.{length, length-append}
-use lib.Dec.{leb, ltb, eqb, ltb→lt, nltb→le, eqb→eq}
+use lib.Dec.{leb, ltb, ltb→lt, nltb→le}
 use Rattle.basics.specs.Tests.{All, all-map, by-cond, test}
 use Rattle.fetch.specs.Rows.{Row}
 use Rattle.job.specs.Job.{Accepted, Job, chunks, due, forecast, heldMost, lastSlot, layers, size}
@@ -17,7 +17,7 @@ use Rattle.schedule.specs.Own.{Ascending, Before, ownList}
 use Rattle.schedule.specs.Ascending.{Asc}
 use Rattle.schedule.specs.Kept.{picked}
 use Rattle.schedule.specs.Choice.{kept, kept-asc}
-use Rattle.schedule.specs.Fill.{Out, Piece, fill, take-slot}
+use Rattle.schedule.specs.Fill.{Out, Piece, by-slot, fill, slot-in-slot, take-slot}
 use Rattle.schedule.specs.Sufficiency.{fetch, pieces, queue, releases}
 use Rattle.schedule.specs.OwnFill.{own-list-is}
 
@@ -34,35 +34,35 @@ upto-trans a b c d e f (inr x) (inl y) = inl (omega arith)
 upto-trans a b c d e f (inr x) (inr y) = inr (omega arith)
 
 -- Row x stands in slot t, chunk k, layer n or after.
-abbrev From : ℕ → ℕ → ℕ → Row → Type 0
-From t k n x = (t < x .slot) ⊎ ((t ≡ x .slot) × Upto k n (x .chunk) (x .layer))
+abbrev AtOrAfter : ℕ → ℕ → ℕ → Row → Type 0
+AtOrAfter t k n x = (t < x .slot) ⊎ ((t ≡ x .slot) × Upto k n (x .chunk) (x .layer))
 
-from-trans : (t k n : ℕ) (x y : Row) → From t k n x → From (x .slot) (x .chunk) (suc (x .layer)) y → From t k n y
-from-trans t k n x y (inl u) (inl v) = inl (omega arith)
-from-trans t k n x y (inl u) (inr v) = inl (omega arith)
-from-trans t k n x y (inr u) (inl v) = inl (omega arith)
-from-trans t k n x y (inr u) (inr v) = inr (omega arith, upto-trans k n (x .chunk) (x .layer) (y .chunk) (y .layer) (u .1) (v .1))
+at-or-after-trans : (t k n : ℕ) (x y : Row) → AtOrAfter t k n x → AtOrAfter (x .slot) (x .chunk) (suc (x .layer)) y → AtOrAfter t k n y
+at-or-after-trans t k n x y (inl u) (inl v) = inl (omega arith)
+at-or-after-trans t k n x y (inl u) (inr v) = inl (omega arith)
+at-or-after-trans t k n x y (inr u) (inl v) = inl (omega arith)
+at-or-after-trans t k n x y (inr u) (inr v) = inr (omega arith, upto-trans k n (x .chunk) (x .layer) (y .chunk) (y .layer) (u .1) (v .1))
 
-from-before : (x y : Row) → From (x .slot) (x .chunk) (suc (x .layer)) y → Before x y
-from-before x y (inl u) = inl u
-from-before x y (inr u) = inr (u .0, ⊎-elim (λ v. inl v) (λ v. inr (v .0, omega arith)) (u .1))
+after-before : (x y : Row) → AtOrAfter (x .slot) (x .chunk) (suc (x .layer)) y → Before x y
+after-before x y (inl u) = inl u
+after-before x y (inr u) = inr (u .0, ⊎-elim (λ v. inl v) (λ v. inr (v .0, omega arith)) (u .1))
 
 -- The rows rise from slot t, chunk k, layer n on.
 abbrev Rising : ℕ → ℕ → ℕ → List Row → Type 0
 Rising t k n [] = Unit {0}
-Rising t k n (x ∷ xs) = From t k n x × Rising (x .slot) (x .chunk) (suc (x .layer)) xs
+Rising t k n (x ∷ xs) = AtOrAfter t k n x × Rising (x .slot) (x .chunk) (suc (x .layer)) xs
 
-rising-from : (t k n : ℕ) (l : List Row) → Rising t k n l → All (From t k n) l
-rising-from t k n [] r = tt
-rising-from t k n (x ∷ xs) r = (
+rising-all : (t k n : ℕ) (l : List Row) → Rising t k n l → All (AtOrAfter t k n) l
+rising-all t k n [] r = tt
+rising-all t k n (x ∷ xs) r = (
   r .0,
-  all-map (From (x .slot) (x .chunk) (suc (x .layer))) (From t k n) xs (λ y v. from-trans t k n x y (r .0) v) (rising-from (x .slot) (x .chunk) (suc (x .layer)) xs (r .1)),
+  all-map (AtOrAfter (x .slot) (x .chunk) (suc (x .layer))) (AtOrAfter t k n) xs (λ y v. at-or-after-trans t k n x y (r .0) v) (rising-all (x .slot) (x .chunk) (suc (x .layer)) xs (r .1)),
 )
 
 rising-ascending : (t k n : ℕ) (l : List Row) → Rising t k n l → Ascending l
 rising-ascending t k n [] r = tt
 rising-ascending t k n (x ∷ xs) r = (
-  all-map (From (x .slot) (x .chunk) (suc (x .layer))) (Before x) xs (from-before x) (rising-from (x .slot) (x .chunk) (suc (x .layer)) xs (r .1)),
+  all-map (AtOrAfter (x .slot) (x .chunk) (suc (x .layer))) (Before x) xs (after-before x) (rising-all (x .slot) (x .chunk) (suc (x .layer)) xs (r .1)),
   rising-ascending (x .slot) (x .chunk) (suc (x .layer)) xs (r .1),
 )
 
@@ -80,28 +80,19 @@ queue-lower a b c d (p ∷ ps) h f = (upto-trans a b c d (p .chunk) (p .layer) h
 -- What a slot takes, and what it leaves.
 record Rises (t k n : ℕ) (o : Out) : Type 0 where
   rows-rise : Rising t k n (o .rows)
-  in-slot : All (λ x. x .slot ≡ t) (o .rows)
   rest-rises : QueueFrom k n (o .rest)
 
-slot-rises : (t c k n : ℕ) (q : List Piece) → QueueFrom k n q → Rises t k n (take-slot t c q)
-slot-rises t c k n [] f = record { rows-rise = tt; in-slot = tt; rest-rises = tt }
-slot-rises t c k n (p ∷ ps) f =
-    by-cond
-    (Rises t k n)
-    (leb (p .ready) t && ltb 0 c)
-    (λ u.
-    by-cond
-    (Rises t k n)
-    (leb (p .left) c)
-    (λ v.
-    let r = slot-rises t (c - p .left) (p .chunk) (suc (p .layer)) ps (f .1) in
-    record {
-      rows-rise = (inr (refl, f .0), r .rows-rise);
-      in-slot = (refl, r .in-slot);
-      rest-rises = queue-lower k n (p .chunk) (p .layer) (take-slot t (c - p .left) ps .rest) (f .0) (r .rest-rises);
-    })
-    (λ v. record { rows-rise = (inr (refl, f .0), tt); in-slot = (refl, tt); rest-rises = (f .0, f .1) }))
-    (λ u. record { rows-rise = tt; in-slot = tt; rest-rises = f })
+slot-rises : (t c : ℕ) (q : List Piece) (k n : ℕ) → QueueFrom k n q → Rises t k n (take-slot t c q)
+slot-rises t =
+    by-slot
+    t
+    (λ c q o. (k n : ℕ) → QueueFrom k n q → Rises t k n o)
+    (λ c k n f. record { rows-rise = tt; rest-rises = tt })
+    (λ c p ps h k n f. record { rows-rise = tt; rest-rises = f })
+    (λ c p ps o h l g k n f.
+    let r = g (p .chunk) (suc (p .layer)) (f .1) in
+    record { rows-rise = (inr (refl, f .0), r .rows-rise); rest-rises = queue-lower k n (p .chunk) (p .layer) (o .rest) (f .0) (r .rest-rises) })
+    (λ c p ps h m l k n f. record { rows-rise = (inr (refl, f .0), tt); rest-rises = (f .0, f .1) })
 
 rising-append : (t k n : ℕ) (a b : List Row) → Rising t k n a → All (λ x. x .slot ≡ t) a → Rising (suc t) 0 0 b → Rising t k n (a ++ b)
 rising-append t k n [] [] f s g = tt
@@ -116,8 +107,8 @@ fill-rises : (B : ℕ → ℕ) (n t : ℕ) (q : List Piece) → QueueFrom 0 0 q 
 fill-rises B zero t q f = tt
 fill-rises B (suc n) t q f =
     let o = take-slot (suc t) (B (suc t)) q in
-    let r = slot-rises (suc t) (B (suc t)) 0 0 q f in
-    rising-append (suc t) 0 0 (o .rows) (fill B n (suc t) (o .rest)) (r .rows-rise) (r .in-slot) (fill-rises B n (suc t) (o .rest) (r .rest-rises))
+    let r = slot-rises (suc t) (B (suc t)) q 0 0 f in
+    rising-append (suc t) 0 0 (o .rows) (fill B n (suc t) (o .rest)) (r .rows-rise) (slot-in-slot (suc t) (B (suc t)) q) (fill-rises B n (suc t) (o .rest) (r .rest-rises))
 
 -- ---- the queue of a choice rises
 
@@ -152,46 +143,27 @@ own-list-ascending j choice =
 
 -- ---- how many rows
 
--- A row that does not finish its piece is its slot's last.
-slot-count : (t c : ℕ) (q : List Piece) → length (take-slot t c q .rows) + length (take-slot t c q .rest) ≤ suc (length q)
-slot-count t c [] = omega arith
-slot-count t c (p ∷ ps) =
-    by-cond
-    (λ (o : Out). length (o .rows) + length (o .rest) ≤ suc (length (p ∷ ps)))
-    (leb (p .ready) t && ltb 0 c)
-    (λ u.
-    by-cond
-    (λ (o : Out). length (o .rows) + length (o .rest) ≤ suc (length (p ∷ ps)))
-    (leb (p .left) c)
-    (λ v. omega (arith, slot-count t (c - p .left) ps))
-    (λ v. omega arith))
-    (λ u. omega arith)
-
--- A slot has at most a row for each piece.
-slot-count-rows : (t c : ℕ) (q : List Piece) → length (take-slot t c q .rows) ≤ length q
-slot-count-rows t c [] = omega arith
-slot-count-rows t c (p ∷ ps) =
-    by-cond
-    (λ (o : Out). length (o .rows) ≤ length (p ∷ ps))
-    (leb (p .ready) t && ltb 0 c)
-    (λ u.
-    by-cond
-    (λ (o : Out). length (o .rows) ≤ length (p ∷ ps))
-    (leb (p .left) c)
-    (λ v. omega (arith, slot-count-rows t (c - p .left) ps))
-    (λ v. omega arith))
-    (λ u. omega arith)
+-- A row that does not finish its piece is its slot's last, and no piece has two.
+slot-count : (t c : ℕ) (q : List Piece) → (length (take-slot t c q .rows) + length (take-slot t c q .rest) ≤ suc (length q)) × (length (take-slot t c q .rows) ≤ length q)
+slot-count t =
+    by-slot
+    t
+    (λ c q o. (length (o .rows) + length (o .rest) ≤ suc (length q)) × (length (o .rows) ≤ length q))
+    (λ c. omega arith)
+    (λ c p ps h. omega arith)
+    (λ c p ps o h l e. omega arith)
+    (λ c p ps h m l. omega arith)
 
 -- At most pieces + slots - 1 rows.
 fill-count : (B : ℕ → ℕ) (n t : ℕ) (q : List Piece) → length (fill B n t q) ≤ length q + (n - 1)
 fill-count B zero t q = omega arith
-fill-count B (suc zero) t q = omega (arith, length-append (take-slot (suc t) (B (suc t)) q .rows) [], slot-count-rows (suc t) (B (suc t)) q)
+fill-count B (suc zero) t q = omega (arith, length-append (take-slot (suc t) (B (suc t)) q .rows) [], slot-count (suc t) (B (suc t)) q .1)
 fill-count B (suc (suc n)) t q =
     let o = take-slot (suc t) (B (suc t)) q in
     omega (
       arith,
       length-append (o .rows) (fill B (suc n) (suc t) (o .rest)),
-      slot-count (suc t) (B (suc t)) q,
+      slot-count (suc t) (B (suc t)) q .0,
       fill-count B (suc n) (suc t) (o .rest),
     )
 

@@ -1,29 +1,32 @@
--- Sufficiency: the fill of feasible chunks passes. Assumes nothing.
-use Prim.Native.Nat.{ℕ, zero, suc, _+_, _*_, _-_, _≤_, _<_, pred, max}
-use mathlib.Core.Path.{_≡_, refl, sym, ap, _∙_, subst}
+-- Lemmas, theory.md section 3: a choice that fits has a list. The queue of the kept chunks with their releases; its need; and that
+-- the fill of it passes: rule 2 and 3 by "Books", rule 4, rule 5 by "On time", rule 6 by the releases. Assumes nothing.
+use Prim.Native.Nat.{ℕ, zero, suc, _+_, _-_, _≤_, _<_, max}
+use mathlib.Core.Path.{_≡_, refl, ap}
 use mathlib.Core.Bool.{Bool, true, false, not, cond, _&&_, _||_}
 use mathlib.Core.List.{List, [], _∷_, _++_, append-assoc}
-use mathlib.Core.Logic.{_⊎_, inl, inr, ⊎-elim, _↔_}
+use mathlib.Core.Logic.{_⊎_, inl, inr, ⊎-elim}
 use native.Mathlib.Omega.{arith}
-use borrow.Author.Tests.{eq-eqb, ne-eqb, lt-leb, le-leb, lt-ltb, le-ltb}
+use native.Mathlib.Numerals.{add-one}
+use borrow.Author.Tests.{eq-eqb, ne-eqb, lt-leb, lt-ltb, le-ltb}
 use lib.ListN.{length, drop, length-append}
 use lib.Seq.{drop-drop}
-use native.Mathlib.Numerals.{add-one}
-use lib.Dec.{T, T-not, leb, ltb, eqb, leb→le, nleb→lt, ltb→lt, nltb→le, lt→ltb, le→leb, eqb→eq, eqb-refl}
+use lib.Dec.{T, T-not, leb, ltb, eqb, ltb→lt, nltb→le, le→leb, eqb→eq, eqb-refl}
 use Rattle.basics.specs.Sums.{count, pre, pre-add, pre-le, pre-mono}
-use Rattle.basics.specs.Tests.{All, In, T-and, T-or-iff, all-map, and-T, at-row, by-cond, last, not-and, test, tests}
-use Rattle.fetch.specs.Rows.{Carried, Row, begun, bytesIf, bytesInSlot, bytesOfLayer, held}
-use Rattle.fetch.specs.Rules.{InRange, OnTime, Passes}
-use Rattle.job.specs.Job.{Job, Layer, chunks, due, forecast, heldMost, lastSlot, layers, size}
+use Rattle.basics.specs.Tests.{All, T-and, T-or-iff, all-append, and-T, at-row, by-cond, each-row, test, tests}
+use Rattle.job.specs.Job.{Job, chunks, due, forecast, heldMost, lastSlot, layers, size}
+use Rattle.fetch.specs.Rows.{Row, begun, bytesOfLayer, held}
+use Rattle.fetch.specs.Rules.{InRange, Passes}
 use Rattle.schedule.specs.AnyOrder.{none-count, some-row}
 use Rattle.schedule.specs.Ascending.{Asc, asc-lower}
-use Rattle.schedule.specs.Count.{point, point-in, point-out}
-use Rattle.schedule.specs.Fill.{EachP, Piece, Ready, Sent, Still, fill, fill-done, fill-fits, fill-rows, fill-same, left-of, needs, on, rest-after}
+use Rattle.schedule.specs.Count.{point, point-out}
+use Rattle.schedule.specs.Fill.{Piece, Ready, Sent, Still, fill, fill-done, fill-in-slots, fill-loses-nothing, fill-on-time, fill-sent, fill-within, left-of, needs}
 use Rattle.schedule.specs.Necessity.{after, due-mono}
 use Rattle.schedule.specs.Need.{Feas, Tails, need}
-use Rattle.schedule.specs.Words.{Sized, bytesOfChunk}
+use Rattle.schedule.specs.Words.{Sized}
 
--- ---- the queue: layers m .. m + n - 1 of chunk k, released at r
+-- ---- the queue
+
+-- Layers m .. m + n - 1 of chunk k, released at r; and how many bytes they have.
 abbrev pub pieces : (ℕ → ℕ → ℕ) → (k r m n : ℕ) → List Piece
 pieces size k r m zero = []
 pieces size k r m (suc n) = record { chunk = k; layer = m; left = size k m; ready = r } ∷ pieces size k r (suc m) n
@@ -32,6 +35,7 @@ abbrev pub weight : (ℕ → ℕ → ℕ) → (k m n : ℕ) → ℕ
 weight size k m zero = 0
 weight size k m (suc n) = size k m + weight size k (suc m) n
 
+-- The layers of the chunks ks, of chunk k the first lv k, by chunk, then layer; rs are the chunks' releases.
 abbrev pub queue : (ℕ → ℕ → ℕ) → (ℕ → ℕ) → List ℕ → List ℕ → List Piece
 queue size lv [] rs = []
 queue size lv (k ∷ ks) [] = []
@@ -45,17 +49,17 @@ abbrev pub ones : ℕ → List ℕ
 ones zero = []
 ones (suc n) = 1 ∷ ones n
 
--- 1 for the first h, and then the due slot of the chunk h places before
+-- The releases of the chunks ks: 1 for the first h, then the due slot of the chunk h places before.
 abbrev pub releases : (ℕ → ℕ) → ℕ → List ℕ → List ℕ
 releases d h ks = ones h ++ each d ks
 
--- each chunk fits behind its release
+-- Each chunk, with those after it, fits behind its release.
 abbrev pub RelOk : (w d A : ℕ → ℕ) → List ℕ → List ℕ → Type 0
 RelOk w d A [] rs = Unit {0}
 RelOk w d A (k ∷ ks) [] = ⊥
-RelOk w d A (k ∷ ks) (r ∷ rs) = (need w d A (k ∷ ks) ≤ A ((r - 1))) × RelOk w d A ks rs
+RelOk w d A (k ∷ ks) (r ∷ rs) = (need w d A (k ∷ ks) ≤ A (r - 1)) × RelOk w d A ks rs
 
-relok-cons : (w d A : ℕ → ℕ) (gs : List ℕ) (r : ℕ) (rs : List ℕ) → need w d A gs ≤ A ((r - 1)) → RelOk w d A (drop 1 gs) rs → RelOk w d A gs (r ∷ rs)
+relok-cons : (w d A : ℕ → ℕ) (gs : List ℕ) (r : ℕ) (rs : List ℕ) → need w d A gs ≤ A (r - 1) → RelOk w d A (drop 1 gs) rs → RelOk w d A gs (r ∷ rs)
 relok-cons w d A [] r rs m t = tt
 relok-cons w d A (g ∷ gs) r rs m t = (m, t)
 
@@ -71,11 +75,13 @@ relok-first w d A zero gs rs m t = t
 relok-first w d A (suc h) [] rs m t = tt
 relok-first w d A (suc h) (g ∷ gs) rs m t = (m, relok-first w d A h gs rs (omega arith) t)
 
+-- Chunks that fit do so behind their releases: `Feas` read at each chunk.
 pub feas-relok : (w d A : ℕ → ℕ) (h : ℕ) (ks : List ℕ) → Feas w d A h ks → RelOk w d A ks (releases d h ks)
 feas-relok w d A h ks f = relok-first w d A h ks (each d ks) (f .whole) (relok-later w d A h ks (f .tails))
 
--- ---- the queue's need
--- each layer queued of a chunk of 1 .. c has bytes
+-- ---- the queue's need is its chunks'
+
+-- Each layer queued of a chunk of 1 .. c has bytes.
 abbrev pub SomeBytes : (size : ℕ → ℕ → ℕ) (lv : ℕ → ℕ) (c : ℕ) → Type 0
 SomeBytes size lv c = (k i : ℕ) → 1 ≤ k → k ≤ c → i < lv k → 1 ≤ size k i
 
@@ -84,7 +90,7 @@ module _ (d A : ℕ → ℕ) (size : ℕ → ℕ → ℕ) where
   needs-pieces k r m zero q = omega arith
   needs-pieces k r m (suc n) q = omega (arith, needs-pieces k r (suc m) n q)
 
-  ready-pieces : (k r m n : ℕ) (q : List Piece) → ((i : ℕ) → i < n + m → 1 ≤ size k i) → Ready d A q → weight size k m n + max (A (d k)) (needs d A q) ≤ A ((r - 1)) → Ready d A (pieces size k r m n ++ q)
+  ready-pieces : (k r m n : ℕ) (q : List Piece) → ((i : ℕ) → i < n + m → 1 ≤ size k i) → Ready d A q → weight size k m n + max (A (d k)) (needs d A q) ≤ A (r - 1) → Ready d A (pieces size k r m n ++ q)
   ready-pieces k r m zero q pos a h = a
   ready-pieces k r m (suc n) q pos a h =
       (omega (arith, needs-pieces k r (suc m) n q), pos m (omega arith), ready-pieces k r (suc m) n q (λ i l. pos i (omega arith)) a (omega arith))
@@ -98,7 +104,9 @@ module _ (d A : ℕ → ℕ) (size : ℕ → ℕ → ℕ) where
         ready-pieces k r 0 (lv k) (queue size lv ks rs) (λ i m. pos k i (omega arith) (s .1) (omega arith)) (i .1) (omega arith),
       )
 
--- ---- what the queue holds of a layer
+-- ---- what the queue holds of a layer: all of it or nothing
+
+-- Layer n of chunk i.
 abbrev at-layer : ℕ → ℕ → ℕ → ℕ → Bool
 at-layer i n k m = eqb k i && eqb m n
 
@@ -106,7 +114,6 @@ left-append : (P : ℕ → ℕ → Bool) (a b : List Piece) → left-of P (a ++ 
 left-append P [] b = omega arith
 left-append P (p ∷ ps) b = omega (arith, left-append P ps b)
 
--- each layer is queued whole or not at all; a layer that is not queued has none above it
 left-other : (size : ℕ → ℕ → ℕ) (i n k r m c : ℕ) → (k ≡ i → ⊥) → left-of (at-layer i n) (pieces size k r m c) ≡ 0
 left-other size i n k r m zero h = refl
 left-other size i n k r m (suc c) h = rw (ne-eqb k i h) (omega (arith, left-other size i n k r (suc m) c h))
@@ -132,6 +139,7 @@ left-here size i n r m (suc c) h =
     ne-lt : (m n : ℕ) → m ≤ n → (m ≡ n → ⊥) → m < n
     ne-lt m n h o = ⊎-elim (λ t. ltb→lt m n t) (λ t. absurd (o (omega (arith, nltb→le m n t)))) (test (ltb m n))
 
+-- i is one of the numbers.
 abbrev pub has : List ℕ → ℕ → Bool
 has [] i = false
 has (k ∷ ks) i = eqb k i || has ks i
@@ -160,13 +168,15 @@ left-queue w d A size lv lo c i n (k ∷ ks) (q ∷ rs) a r =
     rw (ne-eqb k i o) (omega (arith, u, v, left-other size i n k q 0 (lv k) o)))
     (test (eqb k i))
 
--- ---- who may have begun by slot t
+-- ---- rule 6: who may have begun by slot t
+
+-- Chunk i has its release by slot t.
 abbrev pub live : ℕ → List ℕ → List ℕ → ℕ → Bool
 live t [] rs i = false
 live t (k ∷ ks) [] i = false
 live t (k ∷ ks) (r ∷ rs) i = (eqb k i && leb r t) || live t ks rs i
 
--- how many of them are not due yet
+-- How many of those are due after t.
 abbrev lives : ℕ → (ℕ → ℕ) → List ℕ → List ℕ → ℕ
 lives t d [] rs = 0
 lives t d (k ∷ ks) [] = 0
@@ -209,7 +219,7 @@ count-live t c d (k ∷ ks) (r ∷ rs) =
       count-live t c d ks rs,
     )
 
--- a release that is a due slot behind t is no release by t
+-- Where all due slots are after t, only the chunks of the first places ps have their release by t.
 later-none : (t : ℕ) (d : ℕ → ℕ) (ks gs ps : List ℕ) (lo c : ℕ) → ((k : ℕ) → lo ≤ k → t < d k) → Asc lo c gs → lives t d ks (ps ++ each d gs) ≤ length ps
 later-none t d [] gs ps lo c f a = omega arith
 later-none t d (k ∷ ks) [] [] lo c f a = omega arith
@@ -240,27 +250,24 @@ length-ones : (h : ℕ) → length (ones h) ≡ h
 length-ones zero = refl
 length-ones (suc h) = ap suc (length-ones h)
 
--- ---- what each piece of the queue is
+-- ---- what is known of each piece of the queue
+
 pub record Queued (c layers : ℕ) (ks rs : List ℕ) (k n r : ℕ) : Type 0 where
   pub chunk-low : 1 ≤ k
   pub chunk-high : k ≤ c
   pub layer-in : n < layers
   pub alive : (t : ℕ) → r ≤ t → T (live t ks rs k)
 
-eachp-append : (Q : Piece → Type 0) (a b : List Piece) → EachP Q a → EachP Q b → EachP Q (a ++ b)
-eachp-append Q [] b u v = v
-eachp-append Q (p ∷ ps) b u v = (u .0, eachp-append Q ps b (u .1) v)
-
-still-pieces : (size : ℕ → ℕ → ℕ) (Q : ℕ → ℕ → ℕ → Type 0) (k r m n : ℕ) → ((i : ℕ) → i < n + m → 1 ≤ size k i) → ((i : ℕ) → i < n + m → Q k i r) → EachP (Still Q) (pieces size k r m n)
+still-pieces : (size : ℕ → ℕ → ℕ) (Q : ℕ → ℕ → ℕ → Type 0) (k r m n : ℕ) → ((i : ℕ) → i < n + m → 1 ≤ size k i) → ((i : ℕ) → i < n + m → Q k i r) → All (Still Q) (pieces size k r m n)
 still-pieces size Q k r m zero pos f = tt
 still-pieces size Q k r m (suc n) pos f =
     ((pos m (omega arith), f m (omega arith)), still-pieces size Q k r (suc m) n (λ i u. pos i (omega arith)) (λ i u. f i (omega arith)))
 
-still-queue : (size : ℕ → ℕ → ℕ) (lv : ℕ → ℕ) (c layers : ℕ) → SomeBytes size lv c → ((k : ℕ) → 1 ≤ k → k ≤ c → lv k ≤ layers) → (KS RS ks rs : List ℕ) (lo : ℕ) → 1 ≤ lo → Asc lo c ks → ((t k : ℕ) → T (live t ks rs k) → T (live t KS RS k)) → EachP (Still (Queued c layers KS RS)) (queue size lv ks rs)
+still-queue : (size : ℕ → ℕ → ℕ) (lv : ℕ → ℕ) (c layers : ℕ) → SomeBytes size lv c → ((k : ℕ) → 1 ≤ k → k ≤ c → lv k ≤ layers) → (KS RS ks rs : List ℕ) (lo : ℕ) → 1 ≤ lo → Asc lo c ks → ((t k : ℕ) → T (live t ks rs k) → T (live t KS RS k)) → All (Still (Queued c layers KS RS)) (queue size lv ks rs)
 still-queue size lv c layers pos lim KS RS [] rs lo h a f = tt
 still-queue size lv c layers pos lim KS RS (k ∷ ks) [] lo h a f = tt
 still-queue size lv c layers pos lim KS RS (k ∷ ks) (r ∷ rs) lo h a f =
-    eachp-append
+    all-append
     (Still (Queued c layers KS RS))
     (pieces size k r 0 (lv k))
     (queue size lv ks rs)
@@ -284,7 +291,7 @@ count-mono p q n f = pre-le (λ i. cond (p i) 1 0) (λ i. cond (q i) 1 0) n (λ 
 pub after-anti : (j : Job) (x y : ℕ) → x ≤ y → after j y ≤ after j x
 after-anti j x y h = omega (arith, pre-mono (forecast j) x y h)
 
--- the fetch list of the kept chunks, lv k layers of chunk k
+-- The fill of the chunks ks with their releases, lv k layers of chunk k, over all slots.
 unfoldable pub fetch : Job → (ℕ → ℕ) → List ℕ → List Row
 fetch j lv ks = fill (forecast j) (lastSlot j) 0 (queue (size j) lv ks (releases (due j) (heldMost j) ks))
 
@@ -292,7 +299,7 @@ pick-or : (b : Bool) (s x : ℕ) → x ≡ cond b s 0 → (x ≡ 0) ⊎ (x ≡ s
 pick-or true s x e = inr e
 pick-or false s x e = inl e
 
--- what is carried below
+-- A layer that is carried has the one below carried: layers below lv i are.
 full-below : (a : Bool) (n m s s′ x x′ : ℕ) → x ≡ cond (a && ltb (suc n) m) s 0 → x′ ≡ cond (a && ltb n m) s′ 0 → 1 ≤ s → x ≡ s → x′ ≡ s′
 full-below false n m s s′ x x′ p q h e = absurd (omega arith)
 full-below true n m s s′ x x′ p q h e =
@@ -301,7 +308,8 @@ full-below true n m s s′ x x′ p q h e =
     (λ t. absurd (omega (arith, rw (le-ltb (suc n) m (nltb→le (suc n) m t)) at p)))
     (test (ltb (suc n) m))
 
--- ---- the fill of feasible chunks passes
+-- ---- the fill of chunks that fit passes
+
 module _ (j : Job) (sized : Sized j) (lv : ℕ → ℕ) (lim : (k : ℕ) → 1 ≤ k → k ≤ chunks j → lv k ≤ layers j) (ks : List ℕ) (asc : Asc 1 (chunks j) ks) (ok : Feas (λ k. weight (size j) k 0 (lv k)) (due j) (after j) (heldMost j) ks) where
   some-bytes : SomeBytes (size j) lv (chunks j)
   some-bytes k i u v w = sized k i (record { chunk-low = u; chunk-high = v; layer-in = omega (arith, lim k u v) })
@@ -318,22 +326,26 @@ module _ (j : Job) (sized : Sized j) (lv : ℕ → ℕ) (lim : (k : ℕ) → 1 �
   pub fits-queue : (needs (due j) (after j) (queue (size j) lv ks rs) ≤ after j 0) × Ready (due j) (after j) (queue (size j) lv ks rs)
   fits-queue = let r = ready-queue (due j) (after j) (size j) lv 1 (chunks j) some-bytes (omega arith) ks rs asc relok in (omega (arith, r .0, ok .whole), r .1)
 
-  pub still : EachP (Still Q) (queue (size j) lv ks rs)
+  pub still : All (Still Q) (queue (size j) lv ks rs)
   still = still-queue (size j) lv (chunks j) (layers j) some-bytes lim ks rs ks rs 1 (omega arith) asc (λ t k u. u)
 
   pub step : (t : ℕ) → t < lastSlot j → after j t ≤ forecast j (suc t) + after j (suc t)
   step t h = omega arith
 
-  rows : All (Sent Q (due j) 0 (lastSlot j + 0)) (fetch j lv ks)
+  sent : All (Sent Q) (fetch j lv ks)
   unfolding fetch
-  rows = fill-rows (due j) (after j) (after-anti j) (forecast j) (lastSlot j) step Q (lastSlot j) 0 (queue (size j) lv ks rs) (omega arith) still (fits-queue .1) (fits-queue .0)
+  sent = fill-sent Q (forecast j) (lastSlot j) 0 (queue (size j) lv ks rs) still
+
+  in-slots : All (λ x. (0 < x .slot) × (x .slot ≤ lastSlot j + 0)) (fetch j lv ks)
+  unfolding fetch
+  in-slots = fill-in-slots (forecast j) (lastSlot j) 0 (queue (size j) lv ks rs)
 
   pub layer-is : (i n : ℕ) → bytesOfLayer (fetch j lv ks) i n ≡ cond (has ks i && ltb n (lv i)) (size j i n) 0
   unfolding fetch
   layer-is i n =
       let q = queue (size j) lv ks rs in
       let d = fill-done (due j) (after j) (after-anti j) (forecast j) (lastSlot j) step q (omega arith) (fits-queue .1) (fits-queue .0) in
-      let s = rw d at (fill-same (at-layer i n) (forecast j) (lastSlot j) 0 q) in
+      let s = rw d at (fill-loses-nothing (at-layer i n) (forecast j) (lastSlot j) 0 q) in
       omega (arith, s, left-queue (λ k. weight (size j) k 0 (lv k)) (due j) (after j) (size j) lv 1 (chunks j) i n ks rs asc relok)
 
   held-live : (t i : ℕ) → T (held j (fetch j lv ks) t i) → T (live t ks rs i && ltb t (due j i))
@@ -341,7 +353,7 @@ module _ (j : Job) (sized : Sized j) (lv : ℕ → ℕ) (lim : (k : ℕ) → 1 �
       let v = and-T (begun (fetch j lv ks) t i) (ltb t (due j i)) u in
       let x = some-row (λ x. eqb (x .chunk) i && leb (x .slot) t) (fetch j lv ks) (v .0) in
       let y = simp tests at (x .2) in
-      let z = at-row (Sent Q (due j) 0 (lastSlot j + 0)) (x .1) rows in
+      let z = at-row (Sent Q) (x .1) sent in
       T-and (live t ks rs i) (ltb t (due j i)) (rw (y .0) at (z .from .alive t (omega (arith, z .ready-by)))) (v .1)
 
   pub sufficient : Passes j (fetch j lv ks)
@@ -349,16 +361,14 @@ module _ (j : Job) (sized : Sized j) (lv : ℕ → ℕ) (lim : (k : ℕ) → 1 �
   sufficient =
       record {
         in-range =
-            all-map
-            (Sent Q (due j) 0 (lastSlot j + 0))
-            (InRange j)
-            (fetch j lv ks)
-            (λ x s. record { slot-low = s .later; slot-high = omega (arith, s .by); chunk-low = s .from .chunk-low; chunk-high = s .from .chunk-high; layer-in = s .from .layer-in; some-bytes = s .some })
-            rows;
+            each-row (InRange j) (fetch j lv ks) (λ x i.
+            let s = at-row (Sent Q) i sent in
+            let t = at-row (λ x. (0 < x .slot) × (x .slot ≤ lastSlot j + 0)) i in-slots in
+            record { slot-low = t .0; slot-high = omega arith; chunk-low = s .from .chunk-low; chunk-high = s .from .chunk-high; layer-in = s .from .layer-in; some-bytes = s .some });
         whole = λ i n r. pick-or (has ks i && ltb n (lv i)) (size j i n) (bytesOfLayer (fetch j lv ks) i n) (layer-is i n);
         lower = λ i n r e. full-below (has ks i) n (lv i) (size j i (suc n)) (size j i n) (bytesOfLayer (fetch j lv ks) i (suc n)) (bytesOfLayer (fetch j lv ks) i n) (layer-is i (suc n)) (layer-is i n) (sized i (suc n) r) e;
-        within = λ t u v. fill-fits (due j) (after j) (after-anti j) (forecast j) (lastSlot j) step Q (lastSlot j) 0 (queue (size j) lv ks rs) (omega arith) still (fits-queue .1) (fits-queue .0) t;
-        on-time = all-map (Sent Q (due j) 0 (lastSlot j + 0)) (OnTime j) (fetch j lv ks) (λ x s. s .in-time) rows;
+        within = λ t u v. fill-within (forecast j) (lastSlot j) 0 (queue (size j) lv ks rs) t;
+        on-time = fill-on-time (due j) (after j) (after-anti j) (forecast j) (lastSlot j) step (lastSlot j) 0 (queue (size j) lv ks rs) (omega arith) (fits-queue .1) (fits-queue .0);
         few-held = λ t u v.
             omega (
               arith,
