@@ -1,166 +1,139 @@
--- A choice: how many layers each chunk carries. Whether it fits, and that it fits exactly if a passing list in playing order
--- carries it and nothing else. Assumes nothing.
-use Prim.Native.Nat.{ℕ, zero, suc, _+_, _*_, _-_, _≤_, _<_, pred, max, min}
-use mathlib.Core.Path.{_≡_, refl, sym, ap, _∙_, subst, fun-ext}
-use mathlib.Core.Bool.{Bool, true, false, not, cond, _&&_, _||_}
-use mathlib.Core.List.{List, [], _∷_, _++_}
-use mathlib.Core.Logic.{_⊎_, inl, inr, ⊎-elim, _↔_}
+-- Lemmas. The decision: some passing list in playing order carries exactly a choice if and only if the choice fits, and then its own
+-- list is one. Sizes may differ by chunk and layer, and there may be any number of layers. Sections 2 and 3 of the argument.
+use Prim.Native.Nat.{ℕ, zero, suc, _+_, _≤_, _<_}
+use mathlib.Core.Path.{_≡_, refl, sym, _∙_, subst}
+use mathlib.Core.Bool.{Bool, true, false, cond, _&&_}
+use mathlib.Core.List.{List}
+use mathlib.Core.Logic.{_⊎_, ⊎-elim, _↔_}
 use native.Mathlib.Omega.{arith}
-use native.Mathlib.Nat.{mul-le-mul-right}
-use borrow.Author.Tests.{eq-eqb, ne-eqb, lt-leb, le-leb, lt-ltb, le-ltb}
-use lib.ListN.{length, getD, take, drop, drop-of-length-le}
-use lib.Dec.{T, T-not, leb, ltb, eqb, leb→le, nleb→lt, ltb→lt, nltb→le, lt→ltb, le→leb, eqb→eq, eqb-refl}
-use Rattle.basics.specs.Sums.{pre, sum, sum-mono}
-use Rattle.basics.specs.Tests.{All, In, T-and, and-T, at-row, by-cond, last, test, tests}
-use Rattle.fetch.specs.Rows.{Carried, Row, bytesIf, bytesOfLayer}
-use Rattle.fetch.specs.Rules.{InRange, Passes, PlayingOrder}
-use Rattle.job.specs.Job.{Job, Layer, chunks, due, heldMost, lastSlot, layers, size}
+use borrow.Author.Tests.{lt-ltb, le-ltb}
+use lib.Dec.{T, leb, ltb, leb→le, ltb→lt, nltb→le, le→leb}
+use Rattle.basics.specs.Sums.{sum}
+use Rattle.basics.specs.Tests.{all-map, test}
+use Rattle.fetch.specs.Rows.{Carried, Row, bytesOfLayer}
+use Rattle.fetch.specs.Rules.{InRange, Passes, PlayingOrder, WholeLayers}
+use Rattle.job.specs.Job.{Job, Layer, chunks, due, heldMost, layers, size}
 use Rattle.schedule.specs.Ascending.{Asc}
-use Rattle.schedule.specs.Kept.{feas-mono, has-picked, picked, picked-asc, picked-each}
-use Rattle.schedule.specs.Necessity.{Each, after, necessary}
-use Rattle.schedule.specs.Need.{Feas, Tails, need}
+use Rattle.schedule.specs.Count.{chunk-by-layers}
+use Rattle.schedule.specs.Kept.{has-picked, picked, picked-asc, picked-each}
+use Rattle.schedule.specs.Lists.{sum-below, sum-cong}
+use Rattle.schedule.specs.Necessity.{carried-fit}
+use Rattle.schedule.specs.Need.{Feas, feas-mono}
 use Rattle.schedule.specs.Order.{fetch-order}
+pub use Rattle.schedule.specs.Statement.{Choice}
+use Rattle.schedule.specs.Statement.{CanCarry, CarriesExactly}
 use Rattle.schedule.specs.Sufficiency.{fetch, has, layer-is, sufficient, weight}
-use Rattle.schedule.specs.Words.{Sized, bytesOfChunk}
+use Rattle.schedule.specs.Words.{Sized, after, bytesOfChunk}
 
--- a choice of a job: for each chunk how many layers it carries, from the base up; 0: the chunk is skipped
-abbrev pub Choice : Job → (ℕ → ℕ) → Type 0
-Choice j lv = (i : ℕ) → 1 ≤ i → i ≤ chunks j → lv i ≤ layers j
-
--- rule 7: the list carries these layers and no others
-abbrev pub Carries : Job → List Row → (ℕ → ℕ) → Type 0
-Carries j l lv = (i n : ℕ) → Layer j i n → bytesOfLayer l i n ≡ cond (ltb n (lv i)) (size j i n) 0
-
--- the bytes of a chunk
+-- The bytes of chunk k in the choice lv.
 abbrev pub bytes : Job → (ℕ → ℕ) → ℕ → ℕ
 bytes j lv k = sum (size j k) (lv k)
 
--- the chunks that are not skipped, in playing order
+-- The chunks that are not skipped, in playing order.
 abbrev pub kept : Job → (ℕ → ℕ) → List ℕ
 kept j lv = picked (λ i. leb 1 (lv i)) 0 (chunks j)
 
+-- The kept chunks fit, each with the bytes of its layers in the choice.
 abbrev pub Fits : Job → (ℕ → ℕ) → Type 0
 Fits j lv = Feas (bytes j lv) (due j) (after j) (heldMost j) (kept j lv)
 
--- some passing list in playing order carries exactly the choice
-pub record Listed (j : Job) (lv : ℕ → ℕ) : Type 0 where
-  pub list : List Row
-  pub passes : Passes j list
-  pub order : PlayingOrder j list
-  pub carries : Carries j list lv
+-- Two choices agree at the chunks of the job.
+abbrev pub Same : Job → (ℕ → ℕ) → (ℕ → ℕ) → Type 0
+Same j p q = (k : ℕ) → 1 ≤ k → k ≤ chunks j → p k ≡ q k
 
--- the choice's own list
+-- The choice's own list: the fill of its kept chunks.
 unfoldable pub own : Job → (ℕ → ℕ) → List Row
 own j lv = fetch j lv (kept j lv)
-
-weight-sum : (size : ℕ → ℕ → ℕ) (k m n : ℕ) → weight size k m n + sum (size k) m ≡ sum (size k) (n + m)
-weight-sum size k m zero = let e : 0 + m ≡ m = omega arith in rw e (omega arith)
-weight-sum size k m (suc n) = let e : suc n + m ≡ n + suc m = omega arith in rw e (omega (arith, weight-sum size k (suc m) n))
 
 pub kept-asc : (j : Job) (lv : ℕ → ℕ) → Asc 1 (chunks j) (kept j lv)
 kept-asc j lv = picked-asc (λ i. leb 1 (lv i)) 0 (chunks j) (chunks j) (omega arith)
 
-pub fits-weight : (j : Job) (lv : ℕ → ℕ) → Fits j lv → Feas (λ k. weight (size j) k 0 (lv k)) (due j) (after j) (heldMost j) (kept j lv)
-fits-weight j lv f =
-    feas-mono (λ k. weight (size j) k 0 (lv k)) (bytes j lv) (due j) (after j) (heldMost j) (kept j lv) (picked-each (λ i. leb 1 (lv i)) (λ k. weight (size j) k 0 (lv k) ≤ bytes j lv k) 0 (chunks j) (λ i u v t. let e : lv i + 0 ≡ lv i = omega arith in omega (arith, rw e at (weight-sum (size j) i 0 (lv i))))) f
+-- ---- the bytes of a list that carries a choice
 
--- ---- the rows of a chunk, layer by layer
-pub sum-add : (f g : ℕ → ℕ) (n : ℕ) → sum (λ t. f t + g t) n ≡ sum f n + sum g n
-sum-add f g zero = omega arith
-sum-add f g (suc n) = omega (arith, sum-add f g n)
+-- Each layer of the choice has its size, the others have no bytes.
+abbrev pub SizesCarried : Job → List Row → (ℕ → ℕ) → Type 0
+SizesCarried j l lv = (i n : ℕ) → Layer j i n → bytesOfLayer l i n ≡ cond (ltb n (lv i)) (size j i n) 0
 
-sum-zero : (n : ℕ) → sum (λ t. 0) n ≡ 0
-sum-zero zero = refl
-sum-zero (suc n) = omega (arith, sum-zero n)
-
-pub sum-cong : (f g : ℕ → ℕ) (n : ℕ) → ((t : ℕ) → t < n → f t ≡ g t) → sum f n ≡ sum g n
-sum-cong f g zero h = refl
-sum-cong f g (suc n) h = omega (arith, sum-cong f g n (λ t u. h t (omega arith)), h n (omega arith))
-
-sum-out : (s b n : ℕ) → n ≤ s → sum (λ t. cond (eqb s t) b 0) n ≡ 0
-sum-out s b zero h = refl
-sum-out s b (suc n) h = rw (ne-eqb s n (omega arith)) (omega (arith, sum-out s b n (omega arith)))
-
-sum-in : (s b n : ℕ) → s < n → sum (λ t. cond (eqb s t) b 0) n ≡ b
-sum-in s b zero h = absurd (omega arith)
-sum-in s b (suc n) h =
+pub exactly-sizes : (j : Job) (l : List Row) (lv : ℕ → ℕ) → WholeLayers j l → CarriesExactly j l lv → SizesCarried j l lv
+exactly-sizes j l lv whole c i n r =
     ⊎-elim
-    (λ t. let e = eqb→eq s n t in rw (eq-eqb s n e) (omega (arith, sum-out s b n (omega arith))))
-    (λ t. rw (ne-eqb s n (λ e. T-not (eqb s n) t (rw e (eqb-refl n)))) (omega (arith, sum-in s b n (less t))))
-    (test (eqb s n))
-  where
-    less : T (not (eqb s n)) → s < n
-    less t = ⊎-elim (λ u. ltb→lt s n u) (λ u. let e : s ≡ n = omega (arith, nltb→le s n u) in absurd (T-not (eqb s n) t (rw e (eqb-refl n)))) (test (ltb s n))
+    (λ t. rw (lt-ltb n (lv i) (ltb→lt n (lv i) t)) (c i n r .1 (ltb→lt n (lv i) t)))
+    (λ t.
+    let o = nltb→le n (lv i) t in
+    rw (le-ltb n (lv i) o) (⊎-elim (λ z. z) (λ e. absurd (omega (arith, c i n r .0 e))) (whole i n r)))
+    (test (ltb n (lv i)))
 
-one-row : (c : Bool) (s b n : ℕ) → s < n → cond c b 0 ≡ sum (λ t. cond (c && eqb s t) b 0) n
-one-row true s b n h = sym (sum-in s b n h)
-one-row false s b n h = sym (sum-zero n)
+pub sizes-exactly : (j : Job) (l : List Row) (lv : ℕ → ℕ) → Sized j → SizesCarried j l lv → CarriesExactly j l lv
+sizes-exactly j l lv sized c i n r = (
+  λ e.
+      ⊎-elim
+      (λ t. ltb→lt n (lv i) t)
+      (λ t. absurd (omega (arith, rw (le-ltb n (lv i) (nltb→le n (lv i) t)) at (c i n r), e, sized i n r)))
+      (test (ltb n (lv i))),
+  λ h. rw (lt-ltb n (lv i) h) at (c i n r),
+)
 
-chunk-layers : (i n : ℕ) (l : List Row) → All (λ x. x .layer < n) l → bytesOfChunk l i ≡ sum (bytesOfLayer l i) n
-chunk-layers i n [] a = sym (sum-zero n)
-chunk-layers i n (x ∷ xs) a =
-    omega (
-      arith,
-      one-row (eqb (x .chunk) i) (x .layer) (x .bytes) n (a .0),
-      chunk-layers i n xs (a .1),
-      sum-add (λ t. cond (eqb (x .chunk) i && eqb (x .layer) t) (x .bytes) 0) (bytesOfLayer xs i) n,
-    )
-
-pub sum-below : (f : ℕ → ℕ) (m n : ℕ) → m ≤ n → sum (λ t. cond (ltb t m) (f t) 0) n ≡ sum f m
-sum-below f m zero h = let e : m ≡ 0 = omega arith in rw e
-sum-below f m (suc n) h =
-    ⊎-elim
-    (λ l. rw (le-ltb n m l) (omega (arith, sum-below f m n l)))
-    (λ e. rw (lt-ltb n m (omega arith)) (rw e (omega (arith, sum-cong (λ t. cond (ltb t (suc n)) (f t) 0) f n (λ t u. rw (lt-ltb t (suc n) (omega arith)))))))
-    (last m n h)
-
-layers-in : (j : Job) (l : List Row) → All (InRange j) l → All (λ x. x .layer < layers j) l
-layers-in j [] a = tt
-layers-in j (x ∷ xs) a = (a .0 .layer-in, layers-in j xs (a .1))
-
-pub chunk-bytes : (j : Job) (l : List Row) (lv : ℕ → ℕ) → Passes j l → Choice j lv → Carries j l lv → (i : ℕ) → 1 ≤ i → i ≤ chunks j → bytesOfChunk l i ≡ bytes j lv i
+pub chunk-bytes : (j : Job) (l : List Row) (lv : ℕ → ℕ) → Passes j l → Choice j lv → CarriesExactly j l lv → (i : ℕ) → 1 ≤ i → i ≤ chunks j → bytesOfChunk l i ≡ bytes j lv i
 chunk-bytes j l lv ok c a i g h =
-    chunk-layers i (layers j) l (layers-in j l (ok .in-range))
-    ∙ sum-cong (bytesOfLayer l i) (λ n. cond (ltb n (lv i)) (size j i n) 0) (layers j) (λ n u. a i n (record { chunk-low = g; chunk-high = h; layer-in = u }))
+    chunk-by-layers i (layers j) l (all-map (InRange j) (λ x. x .layer < layers j) l (λ x r. r .layer-in) (ok .in-range))
+    ∙ sum-cong (bytesOfLayer l i) (λ n. cond (ltb n (lv i)) (size j i n) 0) (layers j) (λ n u. exactly-sizes j l lv (ok .whole) a i n (record { chunk-low = g; chunk-high = h; layer-in = u }))
     ∙ sum-below (size j i) (lv i) (layers j) (c i g h)
 
-base-carried : (j : Job) (l : List Row) (lv : ℕ → ℕ) → Choice j lv → Carries j l lv → (i : ℕ) → 1 ≤ i → i ≤ chunks j → 1 ≤ lv i → Carried j l i 0
-base-carried j l lv c a i g h p = rw (lt-ltb 0 (lv i) p) at (a i 0 (record { chunk-low = g; chunk-high = h; layer-in = omega (arith, c i g h) }))
+-- ---- a choice that can be carried fits
 
-module _ (j : Job) (sized : Sized j) (lv : ℕ → ℕ) (choice : Choice j lv) where
-  pub fits-if : Listed j lv → Fits j lv
-  fits-if s =
-      feas-mono
-      (bytes j lv)
-      (bytesOfChunk (s .list))
-      (due j)
-      (after j)
-      (heldMost j)
-      (kept j lv)
-      (picked-each (λ i. leb 1 (lv i)) (λ k. bytes j lv k ≤ bytesOfChunk (s .list) k) 0 (chunks j) (λ i u v t. omega (arith, chunk-bytes j (s .list) lv (s .passes) choice (s .carries) i u (omega arith))))
-      (necessary j (s .list) (s .passes) (s .order) (kept j lv) (kept-asc j lv) (picked-each (λ i. leb 1 (lv i)) (λ e. Carried j (s .list) e 0) 0 (chunks j) (λ i u v t. base-carried j (s .list) lv choice (s .carries) i u (omega arith) (leb→le 1 (lv i) t))))
+pub can-carry-fits : (j : Job) (lv : ℕ → ℕ) → Choice j lv → CanCarry j lv → Fits j lv
+can-carry-fits j lv c s =
+    let l = s .rows in
+    let keeps : ℕ → Bool = λ i. leb 1 (lv i) in
+    feas-mono
+    (bytes j lv)
+    (bytesOfChunk l)
+    (due j)
+    (after j)
+    (heldMost j)
+    (kept j lv)
+    (picked-each keeps (λ k. bytes j lv k ≤ bytesOfChunk l k) 0 (chunks j) (λ i u v t. omega (arith, chunk-bytes j l lv (s .passes) c (s .exactly) i u (omega arith))))
+    (carried-fit j l (s .passes) (s .in-order) (kept j lv) (kept-asc j lv)
+    (picked-each keeps (λ e. Carried j l e 0) 0 (chunks j) (λ i u v t.
+    s .exactly i 0 (record { chunk-low = u; chunk-high = omega arith; layer-in = omega (arith, c i u (omega arith), leb→le 1 (lv i) t) }) .1 (leb→le 1 (lv i) t))))
 
-  -- the own list of a choice that fits
-  pub own-passes : Fits j lv → Passes j (own j lv)
+-- ---- a choice that fits is carried by its own list
+
+weight-is-sum : (size : ℕ → ℕ → ℕ) (k m n : ℕ) → weight size k m n + sum (size k) m ≡ sum (size k) (n + m)
+weight-is-sum size k m zero = let e : 0 + m ≡ m = omega arith in rw e (omega arith)
+weight-is-sum size k m (suc n) = let e : suc n + m ≡ n + suc m = omega arith in rw e (omega (arith, weight-is-sum size k (suc m) n))
+
+-- The bytes of a chunk as the fill adds them up.
+pub fits-weight : (j : Job) (lv : ℕ → ℕ) → Fits j lv → Feas (λ k. weight (size j) k 0 (lv k)) (due j) (after j) (heldMost j) (kept j lv)
+fits-weight j lv f =
+    let w : ℕ → ℕ = λ k. weight (size j) k 0 (lv k) in
+    feas-mono w (bytes j lv) (due j) (after j) (heldMost j) (kept j lv)
+    (picked-each (λ i. leb 1 (lv i)) (λ k. w k ≤ bytes j lv k) 0 (chunks j) (λ i u v t. let e : lv i + 0 ≡ lv i = omega arith in omega (arith, rw e at (weight-is-sum (size j) i 0 (lv i)))))
+    f
+
+module _ (j : Job) (sized : Sized j) (lv : ℕ → ℕ) (choice : Choice j lv) (f : Fits j lv) where
+  pub own-passes : Passes j (own j lv)
   unfolding own
-  own-passes f = sufficient j sized lv choice (kept j lv) (kept-asc j lv) (fits-weight j lv f)
+  own-passes = sufficient j sized lv choice (kept j lv) (kept-asc j lv) (fits-weight j lv f)
 
-  pub own-order : Fits j lv → PlayingOrder j (own j lv)
+  pub own-in-order : PlayingOrder j (own j lv)
   unfolding own
-  own-order f = fetch-order j sized lv choice (kept j lv) (kept-asc j lv) (fits-weight j lv f)
+  own-in-order = fetch-order j sized lv choice (kept j lv) (kept-asc j lv) (fits-weight j lv f)
 
-  pub own-carries : Fits j lv → Carries j (own j lv) lv
+  own-sizes : SizesCarried j (own j lv) lv
   unfolding own
-  own-carries f i n r =
+  own-sizes i n r =
       layer-is j sized lv choice (kept j lv) (kept-asc j lv) (fits-weight j lv f) i n ∙ same (lv i) n (has (kept j lv) i) (size j i n) (has-picked (λ i. leb 1 (lv i)) 0 (chunks j) i (r .chunk-low) (omega (arith, r .chunk-high)))
     where
       same : (m n : ℕ) (b : Bool) (s : ℕ) → b ≡ leb 1 m → cond (b && ltb n m) s 0 ≡ cond (ltb n m) s 0
       same m n true s e = refl
       same m n false s e = ⊎-elim (λ t. absurd (subst T (sym e) (le→leb 1 m (omega (arith, ltb→lt n m t))))) (λ t. rw (le-ltb n m (nltb→le n m t))) (test (ltb n m))
 
-  pub own-listed : Fits j lv → Listed j lv
-  own-listed f = record { list = own j lv; passes = own-passes f; order = own-order f; carries = own-carries f }
+  pub own-exactly : CarriesExactly j (own j lv) lv
+  own-exactly = sizes-exactly j (own j lv) lv sized own-sizes
 
-  -- the decision
-  pub decision : Listed j lv ↔ Fits j lv
-  decision = (fits-if, own-listed)
+  pub fits-can-carry : CanCarry j lv
+  fits-can-carry = record { rows = own j lv; passes = own-passes; in-order = own-in-order; exactly = own-exactly }
+
+pub can-carry-iff-fits : (j : Job) → Sized j → (lv : ℕ → ℕ) → Choice j lv → CanCarry j lv ↔ Fits j lv
+can-carry-iff-fits j sized lv choice = (can-carry-fits j lv choice, fits-can-carry j sized lv choice)

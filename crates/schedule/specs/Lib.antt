@@ -1,8 +1,10 @@
 pub mod Statement
+pub mod Lists
 pub mod Words
 pub mod Count
 pub mod Ascending
 pub mod Need
+pub mod Stretches
 pub mod Necessity
 pub mod AnyOrder
 pub mod Own
@@ -19,6 +21,7 @@ pub mod Base
 pub mod Upper
 pub mod Whole
 pub mod Best
+pub mod Theorems
 pub mod Linear
 pub mod Unique
 pub mod Shape

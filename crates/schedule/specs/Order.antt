@@ -10,13 +10,12 @@ use Rattle.basics.specs.Tests.{All, In, all-append, all-map, and-T, any-row, at
 use Rattle.job.specs.Job.{Job, chunks, due, forecast, heldMost, lastSlot, layers, size}
 use Rattle.fetch.specs.Rows.{Row}
 use Rattle.fetch.specs.Rules.{InRange, PlayingOrder}
-use Rattle.schedule.specs.AnyOrder.{some-row, sum-any}
 use Rattle.schedule.specs.Ascending.{Asc}
+use Rattle.schedule.specs.Count.{some-row, sum-any}
 use Rattle.schedule.specs.Fill.{Out, Piece, by-slot, fill, fill-in-slots, slot-in-slot, take-slot}
-use Rattle.schedule.specs.Necessity.{after}
 use Rattle.schedule.specs.Need.{Feas}
 use Rattle.schedule.specs.Sufficiency.{fetch, pieces, queue, releases, sufficient, weight}
-use Rattle.schedule.specs.Words.{Sized}
+use Rattle.schedule.specs.Words.{Sized, after}
 
 -- The pieces' chunks never fall, from chunk lo on.
 abbrev Sorted : ℕ → List Piece → Type 0

@@ -9,7 +9,7 @@ use borrow.Author.Tests.{le-leb}
 use lib.ListN.{length, length-append}
 use lib.Dec.{T, leb, ltb, eqb, leb→le, nleb→lt}
 use Rattle.basics.specs.Sums.{count}
-use Rattle.basics.specs.Tests.{All, all-append, all-map, by-cond}
+use Rattle.basics.specs.Tests.{All, all-append, all-map, any, by-cond}
 use Rattle.basics.specs.Lists.{upTo}
 use Rattle.fetch.specs.Rows.{Row, begun}
 use Rattle.job.specs.Job.{Job, chunks, due, forecast, heldMost, lastSlot, size}
@@ -19,9 +19,12 @@ use Rattle.schedule.specs.Kept.{picked, picked-each}
 use Rattle.schedule.specs.Own.{Fetched, Part, allowed, carriedTo, fetchedBy, ownList, rowOf, slotTakes, wholeLayer}
 use Rattle.schedule.specs.Release.{Fair, Released, fair-queue, with, with-twice}
 use Rattle.schedule.specs.Sufficiency.{each, fetch, ones, pieces, queue, releases}
-use Rattle.schedule.specs.Words.{carries}
 
 -- ---- which chunks have begun
+
+-- Chunk i has a row.
+abbrev carries : List Row → ℕ → Bool
+carries rows i = any (λ x. eqb (x .chunk) i) rows
 
 by-slot : (t : ℕ) (rows : List Row) → All (λ x. x .slot ≤ t) rows → begun rows t ≡ carries rows
 by-slot t rows a = fun-ext (λ i. at i rows a)

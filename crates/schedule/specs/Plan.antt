@@ -1,40 +1,26 @@
--- The plan: which choice it is, how it is computed, and that the two agree. Assumes nothing.
-use Prim.Native.Nat.{ℕ, zero, suc, _+_, _*_, _-_, _≤_, _<_, pred, max, min}
-use mathlib.Core.Path.{_≡_, refl, sym, ap, _∙_, subst, fun-ext}
-use mathlib.Core.Bool.{Bool, true, false, not, cond, _&&_, _||_}
-use mathlib.Core.List.{List, [], _∷_, _++_}
+-- Lemmas. The plan computed: the trials in document 01's order, each decided by whether the choice fits; and that the computed plan is
+-- a plan in the sense of Statement. Sections 1 and 3 of the argument.
+use Prim.Native.Nat.{ℕ, zero, suc, _+_, _-_, _≤_, _<_, min}
+use mathlib.Core.Path.{_≡_, refl, sym, ap, _∙_, subst}
+use mathlib.Core.Bool.{Bool, not, cond, _&&_}
+use mathlib.Core.List.{List, []}
 use mathlib.Core.Logic.{_⊎_, inl, inr, ⊎-elim, _↔_}
 use native.Mathlib.Omega.{arith}
-use native.Mathlib.Nat.{mul-le-mul-right}
 use borrow.Author.Tests.{eq-eqb, ne-eqb, lt-leb, le-leb, lt-ltb, le-ltb}
-use lib.ListN.{length, getD, take, drop, drop-of-length-le}
-use lib.Dec.{T, T-not, leb, ltb, eqb, leb→le, nleb→lt, ltb→lt, nltb→le, lt→ltb, le→leb, eqb→eq, eqb-refl}
+use lib.Dec.{T, T-not, leb, ltb, eqb, leb→le, nleb→lt, ltb→lt, nltb→le, eqb→eq, eqb-refl}
 use Rattle.basics.specs.Sums.{sum}
-use Rattle.basics.specs.Tests.{T-and, and-T, by-cond, last, test, tests}
-use Rattle.fetch.specs.Rows.{Row}
+use Rattle.basics.specs.Tests.{T-and, and-T, by-cond, test}
 use Rattle.job.specs.Job.{Job, Layer, chunks, due, heldMost, layers, size}
-use Rattle.schedule.specs.Choice.{Choice, Fits, Listed, bytes, decision, kept, sum-cong}
-use Rattle.schedule.specs.Kept.{feas-mono, picked, picked-cong, picked-each}
-use Rattle.schedule.specs.Necessity.{Each, after}
-use Rattle.schedule.specs.Need.{Feas, feas, feas-iff}
-use Rattle.schedule.specs.Words.{Sized}
-
--- ---- what the plan p is
--- what is settled of chunk k before layer n of chunk i is tried: layers 0 .. n behind i, layers below n up to i
-abbrev pub settled : (ℕ → ℕ) → ℕ → ℕ → ℕ → ℕ
-settled p n i k = min (p k) (cond (ltb i k) (suc n) n)
-
--- the same, and layer n of chunk i
-abbrev pub tried : (ℕ → ℕ) → ℕ → ℕ → ℕ → ℕ
-tried p n i k = cond (eqb k i) (suc n) (settled p n i k)
-
--- a layer is carried exactly if the layer below is, and some passing list in playing order carries what is settled
--- before it, this layer, and no others
-pub record Decided (j : Job) (p : ℕ → ℕ) : Type 0 where
-  pub choice : Choice j p
-  pub exactly : (i n : ℕ) → Layer j i n → (n < p i) ↔ ((n ≤ p i) × Listed j (tried p n i))
+use Rattle.schedule.specs.Choice.{Fits, Same, bytes, can-carry-iff-fits, kept}
+use Rattle.schedule.specs.Kept.{picked, picked-cong, picked-each}
+use Rattle.schedule.specs.Need.{Feas, feas, feas-iff, feas-mono}
+pub use Rattle.schedule.specs.Statement.{settled, tried}
+use Rattle.schedule.specs.Statement.{Choice, IsPlan}
+use Rattle.schedule.specs.Words.{Sized, after}
 
 -- ---- how it is computed
+
+-- The test that a choice fits.
 unfoldable pub fits : Job → (ℕ → ℕ) → Bool
 unfolding feas
 fits j lv = feas (bytes j lv) (due j) (after j) (heldMost j) (kept j lv)
@@ -43,29 +29,32 @@ pub fits-iff : (j : Job) (lv : ℕ → ℕ) → T (fits j lv) ↔ Fits j lv
 unfolding fits
 fits-iff j lv = feas-iff (bytes j lv) (due j) (after j) (heldMost j) (kept j lv)
 
+-- One layer more for chunk i.
 abbrev pub raise : (ℕ → ℕ) → ℕ → ℕ → ℕ
 raise p i k = cond (eqb k i) (suc (p k)) (p k)
 
--- layer n of chunk i
+-- Layer n of chunk i is tried: carried if the layers below are and the choice with it fits.
 abbrev pub try : Job → ℕ → (ℕ → ℕ) → ℕ → ℕ → ℕ
 try j n p i = cond (eqb (p i) n && fits j (raise p i)) (raise p i) p
 
--- layer n of the chunks lo + m down to lo + 1
-abbrev pub pass : Job → ℕ → ℕ → ℕ → (ℕ → ℕ) → ℕ → ℕ
-pass j n lo zero p = p
-pass j n lo (suc m) p = try j n (pass j n (suc lo) m p) (suc lo)
+-- Layer n is tried for the chunks lo + m down to lo + 1.
+abbrev pub sweep : Job → ℕ → ℕ → ℕ → (ℕ → ℕ) → ℕ → ℕ
+sweep j n lo zero p = p
+sweep j n lo (suc m) p = try j n (sweep j n (suc lo) m p) (suc lo)
 
--- layers 0 .. n - 1 of all chunks
+-- Layers 0 .. n - 1 are tried for all chunks.
 abbrev pub planTo : Job → ℕ → ℕ → ℕ
 planTo j zero = λ k. 0
-planTo j (suc n) = pass j n 0 (chunks j) (planTo j n)
+planTo j (suc n) = sweep j n 0 (chunks j) (planTo j n)
 
+-- All layers.
 unfoldable pub plan : Job → ℕ → ℕ
 unfolding fits
 plan j = planTo j (layers j)
 
--- ---- a choice fits by its values at the chunks alone
-fits-cong : (j : Job) (p q : ℕ → ℕ) → ((k : ℕ) → 1 ≤ k → k ≤ chunks j → p k ≡ q k) → Fits j p → Fits j q
+-- ---- whether a choice fits depends on its values at the chunks alone
+
+pub fits-cong : (j : Job) (p q : ℕ → ℕ) → Same j p q → Fits j p → Fits j q
 fits-cong j p q e f =
     let s = picked-cong (λ i. leb 1 (p i)) (λ i. leb 1 (q i)) 0 (chunks j) (λ i u v. ap (leb 1) (e i u (omega arith))) in
     feas-mono
@@ -78,18 +67,19 @@ fits-cong j p q e f =
     (picked-each (λ i. leb 1 (q i)) (λ k. bytes j q k ≤ bytes j p k) 0 (chunks j) (λ i u v t. omega (arith, ap (sum (size j i)) (e i u (omega arith)))))
     (subst (λ (ks : List ℕ). Feas (bytes j p) (due j) (after j) (heldMost j) ks) s f)
 
--- ---- what a trial and a pass change
--- of x, y is the same or one layer more
-abbrev Grown : ℕ → ℕ → ℕ → Type 0
-Grown n x y = (y ≡ x) ⊎ ((x ≡ n) × (y ≡ suc n))
+-- ---- what trials change
+
+-- y is x, or x is n and y one layer more.
+abbrev SameOrOneMore : ℕ → ℕ → ℕ → Type 0
+SameOrOneMore n x y = (y ≡ x) ⊎ ((x ≡ n) × (y ≡ suc n))
 
 try-other : (j : Job) (n : ℕ) (p : ℕ → ℕ) (i k : ℕ) → (k ≡ i → ⊥) → try j n p i k ≡ p k
 try-other j n p i k o = by-cond (λ (q : ℕ → ℕ). q k ≡ p k) (eqb (p i) n && fits j (raise p i)) (λ t. rw (ne-eqb k i o)) (λ t. refl)
 
-try-grown : (j : Job) (n : ℕ) (p : ℕ → ℕ) (i : ℕ) → Grown n (p i) (try j n p i i)
+try-grown : (j : Job) (n : ℕ) (p : ℕ → ℕ) (i : ℕ) → SameOrOneMore n (p i) (try j n p i i)
 try-grown j n p i =
     by-cond
-    (λ (q : ℕ → ℕ). Grown n (p i) (q i))
+    (λ (q : ℕ → ℕ). SameOrOneMore n (p i) (q i))
     (eqb (p i) n && fits j (raise p i))
     (λ t. let e = eqb→eq (p i) n (and-T (eqb (p i) n) (fits j (raise p i)) t .0) in inr (e, rw (eq-eqb i i refl) (ap suc e)))
     (λ t. inl refl)
@@ -110,46 +100,46 @@ try-iff j n p i h = (
     taken : T (eqb (p i) n && fits j (raise p i)) → n < try j n p i i
     taken t = by-cond (λ (q : ℕ → ℕ). n < q i) (eqb (p i) n && fits j (raise p i)) (λ u. rw (eq-eqb i i refl) (omega (arith, eqb→eq (p i) n (and-T (eqb (p i) n) (fits j (raise p i)) u .0)))) (λ u. absurd (T-not (eqb (p i) n && fits j (raise p i)) u t))
 
-pass-below : (j : Job) (n lo m : ℕ) (p : ℕ → ℕ) (k : ℕ) → k ≤ lo → pass j n lo m p k ≡ p k
-pass-below j n lo zero p k h = refl
-pass-below j n lo (suc m) p k h = try-other j n (pass j n (suc lo) m p) (suc lo) k (λ e. omega arith) ∙ pass-below j n (suc lo) m p k (omega arith)
+sweep-below : (j : Job) (n lo m : ℕ) (p : ℕ → ℕ) (k : ℕ) → k ≤ lo → sweep j n lo m p k ≡ p k
+sweep-below j n lo zero p k h = refl
+sweep-below j n lo (suc m) p k h = try-other j n (sweep j n (suc lo) m p) (suc lo) k (λ e. omega arith) ∙ sweep-below j n (suc lo) m p k (omega arith)
 
-pass-grown : (j : Job) (n lo m : ℕ) (p : ℕ → ℕ) (k : ℕ) → Grown n (p k) (pass j n lo m p k)
-pass-grown j n lo zero p k = inl refl
-pass-grown j n lo (suc m) p k =
-    let q = pass j n (suc lo) m p in
+sweep-grown : (j : Job) (n lo m : ℕ) (p : ℕ → ℕ) (k : ℕ) → SameOrOneMore n (p k) (sweep j n lo m p k)
+sweep-grown j n lo zero p k = inl refl
+sweep-grown j n lo (suc m) p k =
+    let q = sweep j n (suc lo) m p in
     ⊎-elim
     (λ t.
     let e : k ≡ suc lo = eqb→eq k (suc lo) t in
-    let s : q (suc lo) ≡ p (suc lo) = pass-below j n (suc lo) m p (suc lo) (omega arith) in
-    rw e (subst (λ (x : ℕ). Grown n x (try j n q (suc lo) (suc lo))) s (try-grown j n q (suc lo))))
-    (λ t. rw (try-other j n q (suc lo) k (λ e. T-not (eqb k (suc lo)) t (rw e (eqb-refl (suc lo))))) (pass-grown j n (suc lo) m p k))
+    let s : q (suc lo) ≡ p (suc lo) = sweep-below j n (suc lo) m p (suc lo) (omega arith) in
+    rw e (subst (λ (x : ℕ). SameOrOneMore n x (try j n q (suc lo) (suc lo))) s (try-grown j n q (suc lo))))
+    (λ t. rw (try-other j n q (suc lo) k (λ e. T-not (eqb k (suc lo)) t (rw e (eqb-refl (suc lo))))) (sweep-grown j n (suc lo) m p k))
     (test (eqb k (suc lo)))
 
--- later trials of a pass leave the chunks behind alone
-pass-behind : (j : Job) (n lo a m : ℕ) (p : ℕ → ℕ) (k : ℕ) → a + lo < k → pass j n lo (a + m) p k ≡ pass j n (a + lo) m p k
-pass-behind j n lo zero m p k h = let e : 0 + m ≡ m = omega arith in let e′ : 0 + lo ≡ lo = omega arith in rw (e, e′)
-pass-behind j n lo (suc a) m p k h =
+-- Trials of earlier chunks leave the later ones alone.
+sweep-behind : (j : Job) (n lo a m : ℕ) (p : ℕ → ℕ) (k : ℕ) → a + lo < k → sweep j n lo (a + m) p k ≡ sweep j n (a + lo) m p k
+sweep-behind j n lo zero m p k h = let e : 0 + m ≡ m = omega arith in let e′ : 0 + lo ≡ lo = omega arith in rw (e, e′)
+sweep-behind j n lo (suc a) m p k h =
     let e : suc a + m ≡ suc (a + m) = omega arith in
     let e′ : suc a + lo ≡ a + suc lo = omega arith in
-    rw (e, e′) (try-other j n (pass j n (suc lo) (a + m) p) (suc lo) k (λ e. omega arith) ∙ pass-behind j n (suc lo) a m p k (omega arith))
+    rw (e, e′) (try-other j n (sweep j n (suc lo) (a + m) p) (suc lo) k (λ e. omega arith) ∙ sweep-behind j n (suc lo) a m p k (omega arith))
 
-pass-fits : (j : Job) (n lo m : ℕ) (p : ℕ → ℕ) → Fits j p → Fits j (pass j n lo m p)
-pass-fits j n lo zero p f = f
-pass-fits j n lo (suc m) p f =
-    let q = pass j n (suc lo) m p in
-    by-cond (Fits j) (eqb (q (suc lo)) n && fits j (raise q (suc lo))) (λ t. fits-iff j (raise q (suc lo)) .0 (and-T (eqb (q (suc lo)) n) (fits j (raise q (suc lo))) t .1)) (λ t. pass-fits j n (suc lo) m p f)
+sweep-fits : (j : Job) (n lo m : ℕ) (p : ℕ → ℕ) → Fits j p → Fits j (sweep j n lo m p)
+sweep-fits j n lo zero p f = f
+sweep-fits j n lo (suc m) p f =
+    let q = sweep j n (suc lo) m p in
+    by-cond (Fits j) (eqb (q (suc lo)) n && fits j (raise q (suc lo))) (λ t. fits-iff j (raise q (suc lo)) .0 (and-T (eqb (q (suc lo)) n) (fits j (raise q (suc lo))) t .1)) (λ t. sweep-fits j n (suc lo) m p f)
 
-none-fits : (j : Job) → Fits j (λ k. 0)
-none-fits j = rw (empty 0 (chunks j)) (record { whole = omega arith; tails = tt })
+skip-all-fits : (j : Job) → Fits j (λ k. 0)
+skip-all-fits j = rw (empty 0 (chunks j)) (record { whole = omega arith; tails = tt })
   where
     empty : (lo n : ℕ) → picked (λ i. leb 1 0) lo n ≡ []
     empty lo zero = refl
     empty lo (suc n) = empty (suc lo) n
 
 planTo-fits : (j : Job) (n : ℕ) → Fits j (planTo j n)
-planTo-fits j zero = none-fits j
-planTo-fits j (suc n) = pass-fits j n 0 (chunks j) (planTo j n) (planTo-fits j n)
+planTo-fits j zero = skip-all-fits j
+planTo-fits j (suc n) = sweep-fits j n 0 (chunks j) (planTo j n) (planTo-fits j n)
 
 pub plan-fits : (j : Job) → Fits j (plan j)
 unfolding plan
@@ -157,67 +147,70 @@ plan-fits j = planTo-fits j (layers j)
 
 planTo-le : (j : Job) (n k : ℕ) → planTo j n k ≤ n
 planTo-le j zero k = omega arith
-planTo-le j (suc n) k = ⊎-elim (λ e. omega (arith, planTo-le j n k)) (λ e. omega arith) (pass-grown j n 0 (chunks j) (planTo j n) k)
+planTo-le j (suc n) k = ⊎-elim (λ e. omega (arith, planTo-le j n k)) (λ e. omega arith) (sweep-grown j n 0 (chunks j) (planTo j n) k)
 
--- later layers leave the layers below alone
+-- Trials of higher layers leave the lower ones alone.
 planTo-min : (j : Job) (n a k : ℕ) → min (planTo j (a + n) k) n ≡ planTo j n k
 planTo-min j n zero k = let e : 0 + n ≡ n = omega arith in rw e (omega (arith, planTo-le j n k))
 planTo-min j n (suc a) k =
     let e : suc a + n ≡ suc (a + n) = omega arith in
-    rw e (⊎-elim (λ g. omega (arith, planTo-min j n a k)) (λ g. omega (arith, planTo-min j n a k)) (pass-grown j (a + n) 0 (chunks j) (planTo j (a + n)) k))
+    rw e (⊎-elim (λ g. omega (arith, planTo-min j n a k)) (λ g. omega (arith, planTo-min j n a k)) (sweep-grown j (a + n) 0 (chunks j) (planTo j (a + n)) k))
 
 pub plan-min : (j : Job) (n k : ℕ) → n ≤ layers j → min (plan j k) n ≡ planTo j n k
 unfolding plan
-plan-min j n k h = let e : (layers j) - n + n ≡ layers j = omega arith in rw e at (planTo-min j n ((layers j) - n) k)
+plan-min j n k h = let e : layers j - n + n ≡ layers j = omega arith in rw e at (planTo-min j n (layers j - n) k)
+
+-- ---- the trial of one layer of one chunk
 
 module _ (j : Job) (i n : ℕ) (r : Layer j i n) where
-  -- the state in which layer n of chunk i is tried
+  -- What the trials before that of layer n of chunk i have made.
   abbrev state : ℕ → ℕ
-  state = pass j n i ((chunks j) - i) (planTo j n)
+  state = sweep j n i (chunks j - i) (planTo j n)
 
-  state-is : (k : ℕ) → state k ≡ settled (plan j) n i k
-  state-is k =
+  state-is-settled : (k : ℕ) → state k ≡ settled (plan j) n i k
+  state-is-settled k =
       ⊎-elim
       (λ t.
-      let e : i + ((chunks j) - i) ≡ chunks j = omega (arith, r .chunk-high) in
+      let e : i + (chunks j - i) ≡ chunks j = omega (arith, r .chunk-high) in
       let e′ : i + 0 ≡ i = omega arith in
-      let b : pass j n 0 (chunks j) (planTo j n) k ≡ state k = rw (e, e′) at (pass-behind j n 0 i ((chunks j) - i) (planTo j n) k (omega (arith, ltb→lt i k t))) in
+      let b : sweep j n 0 (chunks j) (planTo j n) k ≡ state k = rw (e, e′) at (sweep-behind j n 0 i (chunks j - i) (planTo j n) k (omega (arith, ltb→lt i k t))) in
       rw (lt-ltb i k (ltb→lt i k t)) (sym b ∙ sym (plan-min j (suc n) k (r .layer-in))))
-      (λ t. rw (le-ltb i k (nltb→le i k t)) (pass-below j n i ((chunks j) - i) (planTo j n) k (nltb→le i k t) ∙ sym (plan-min j n k (omega (arith, r .layer-in)))))
+      (λ t. rw (le-ltb i k (nltb→le i k t)) (sweep-below j n i (chunks j - i) (planTo j n) k (nltb→le i k t) ∙ sym (plan-min j n k (omega (arith, r .layer-in)))))
       (test (ltb i k))
 
-  after-trial : planTo j (suc n) i ≡ try j n state i i
-  after-trial =
-      let e : (i - 1) + suc ((chunks j) - i) ≡ chunks j = omega (arith, r .chunk-low, r .chunk-high) in
+  planTo-is-trial : planTo j (suc n) i ≡ try j n state i i
+  planTo-is-trial =
+      let e : (i - 1) + suc (chunks j - i) ≡ chunks j = omega (arith, r .chunk-low, r .chunk-high) in
       let e′ : (i - 1) + 0 ≡ (i - 1) = omega arith in
-      let e″ : suc ((i - 1)) ≡ i = omega (arith, r .chunk-low) in
-      rw e″ at (rw (e, e′) at (pass-behind j n 0 ((i - 1)) (suc ((chunks j) - i)) (planTo j n) i (omega (arith, r .chunk-low))))
+      let e″ : suc (i - 1) ≡ i = omega (arith, r .chunk-low) in
+      rw e″ at (rw (e, e′) at (sweep-behind j n 0 (i - 1) (suc (chunks j - i)) (planTo j n) i (omega (arith, r .chunk-low))))
 
-  here : state i ≡ min (plan j i) n
-  here = rw (le-ltb i i (omega arith)) at (state-is i)
+  state-at-own : state i ≡ min (plan j i) n
+  state-at-own = rw (le-ltb i i (omega arith)) at (state-is-settled i)
 
-  raised : state i ≡ n → (k : ℕ) → raise state i k ≡ tried (plan j) n i k
-  raised e k =
+  raise-is-tried : state i ≡ n → (k : ℕ) → raise state i k ≡ tried (plan j) n i k
+  raise-is-tried e k =
       ⊎-elim
       (λ t. let q = eqb→eq k i t in rw (q, eq-eqb i i refl) (ap suc e))
-      (λ t. rw (ne-eqb k i (λ q. T-not (eqb k i) t (rw q (eqb-refl i)))) (state-is k))
+      (λ t. rw (ne-eqb k i (λ q. T-not (eqb k i) t (rw q (eqb-refl i)))) (state-is-settled k))
       (test (eqb k i))
 
-  -- the test that the computation makes, in words
+  -- The computed plan carries a layer exactly if the layers below are carried and the choice that is tried fits.
   pub accepted : (n < plan j i) ↔ ((n ≤ plan j i) × Fits j (tried (plan j) n i))
   accepted =
       let m = plan-min j (suc n) i (r .layer-in) in
-      let t = try-iff j n state i (omega (arith, here)) in (
-        λ l. let u = t .0 (omega (arith, after-trial)) in (omega arith, fits-cong j (raise state i) (tried (plan j) n i) (λ k x y. raised (u .0) k) (u .1)),
-        λ u. let s : state i ≡ n = omega (arith, here, u .0) in omega (arith, after-trial, t .1 (s, fits-cong j (tried (plan j) n i) (raise state i) (λ k x y. sym (raised s k)) (u .1))),
+      let t = try-iff j n state i (omega (arith, state-at-own)) in (
+        λ l. let u = t .0 (omega (arith, planTo-is-trial)) in (omega arith, fits-cong j (raise state i) (tried (plan j) n i) (λ k x y. raise-is-tried (u .0) k) (u .1)),
+        λ u. let s : state i ≡ n = omega (arith, state-at-own, u .0) in omega (arith, planTo-is-trial, t .1 (s, fits-cong j (tried (plan j) n i) (raise state i) (λ k x y. sym (raise-is-tried s k)) (u .1))),
       )
 
-leb-same : (a b n : ℕ) → 1 ≤ n → min a n ≡ min b n → leb 1 a ≡ leb 1 b
-leb-same a b n h e = ⊎-elim (λ t. rw (le-leb 1 a (leb→le 1 a t)) (sym (le-leb 1 b (omega (arith, leb→le 1 a t))))) (λ t. rw (lt-leb 1 a (nleb→lt 1 a t)) (sym (lt-leb 1 b (omega (arith, nleb→lt 1 a t))))) (test (leb 1 a))
+-- ---- above the base the kept chunks stay the same
 
--- above the base the kept chunks stay the same
+kept-same-test : (a b n : ℕ) → 1 ≤ n → min a n ≡ min b n → leb 1 a ≡ leb 1 b
+kept-same-test a b n h e = ⊎-elim (λ t. rw (le-leb 1 a (leb→le 1 a t)) (sym (le-leb 1 b (omega (arith, leb→le 1 a t))))) (λ t. rw (lt-leb 1 a (nleb→lt 1 a t)) (sym (lt-leb 1 b (omega (arith, nleb→lt 1 a t))))) (test (leb 1 a))
+
 pub same-kept : (j : Job) (n : ℕ) (p x : ℕ → ℕ) → 1 ≤ n → ((i : ℕ) → 1 ≤ i → i ≤ chunks j → min (x i) n ≡ min (p i) n) → kept j x ≡ kept j p
-same-kept j n p x up agree = picked-cong (λ i. leb 1 (x i)) (λ i. leb 1 (p i)) 0 (chunks j) (λ i u v. leb-same (x i) (p i) n up (agree i u (omega arith)))
+same-kept j n p x up agree = picked-cong (λ i. leb 1 (x i)) (λ i. leb 1 (p i)) 0 (chunks j) (λ i u v. kept-same-test (x i) (p i) n up (agree i u (omega arith)))
 
 pub tried-kept : (j : Job) (n : ℕ) (p : ℕ → ℕ) (i : ℕ) → 1 ≤ n → n ≤ p i → kept j (tried p n i) ≡ kept j p
 tried-kept j n p i up there =
@@ -227,6 +220,8 @@ tried-kept j n p i up there =
     (λ w. rw (ne-eqb k i (λ e. T-not (eqb k i) w (rw e (eqb-refl i)))) (by-cond (λ a. min (min (p k) a) n ≡ min (p k) n) (ltb i k) (λ o. omega arith) (λ o. omega arith)))
     (test (eqb k i)))
 
+-- ---- the computed plan is a plan
+
 pub tried-choice : (j : Job) (p : ℕ → ℕ) (i n : ℕ) → Choice j p → n < layers j → Choice j (tried p n i)
 tried-choice j p i n c l k g h = by-cond (λ x. x ≤ layers j) (eqb k i) (λ t. l) (λ t. omega (arith, c k g h))
 
@@ -234,12 +229,12 @@ pub plan-choice : (j : Job) → Choice j (plan j)
 unfolding plan
 plan-choice j k g h = planTo-le j (layers j) k
 
-pub plan-decided : (j : Job) → Sized j → Decided j (plan j)
-plan-decided j sized =
+pub plan-is-plan : (j : Job) → Sized j → IsPlan j (plan j)
+plan-is-plan j sized =
     record {
       choice = plan-choice j;
-      exactly = λ i n r.
+      decided = λ i n r.
           let a = accepted j i n r in
-          let d = decision j sized (tried (plan j) n i) (tried-choice j (plan j) i n (plan-choice j) (r .layer-in)) in
+          let d = can-carry-iff-fits j sized (tried (plan j) n i) (tried-choice j (plan j) i n (plan-choice j) (r .layer-in)) in
           (λ l. let u = a .0 l in (u .0, d .1 (u .1)), λ u. a .1 (u .0, d .0 (u .1)));
     }

@@ -10,13 +10,13 @@ use borrow.Author.Tests.{eq-eqb, ne-eqb, lt-leb, le-leb, lt-ltb, le-ltb}
 use lib.ListN.{getD}
 use lib.Dec.{T-not, leb, ltb, eqb, ltb→lt, nltb→le, eqb→eq, eqb-refl}
 use Rattle.basics.specs.Sums.{count, pre, pre-add}
-use Rattle.basics.specs.Tests.{test}
+use Rattle.basics.specs.Tests.{All, test}
 use Rattle.job.specs.Job.{Job, chunks, due, heldMost, size}
 use Rattle.schedule.specs.Ascending.{Asc}
-use Rattle.schedule.specs.Count.{point, point-in}
 use Rattle.schedule.specs.Fill.{Piece}
-use Rattle.schedule.specs.Necessity.{Each, due-mono}
+use Rattle.schedule.specs.Lists.{count-none, point, point-in}
 use Rattle.schedule.specs.Sufficiency.{each, has, ones, pieces, queue, releases}
+use Rattle.schedule.specs.Words.{due-mono}
 
 -- Descending, below hi.
 abbrev Desc : ℕ → List ℕ → Type 0
@@ -37,13 +37,9 @@ abbrev passing : (ℕ → Bool) → List ℕ → ℕ
 passing p [] = 0
 passing p (k ∷ ks) = cond (p k) 1 0 + passing p ks
 
-count-none : (n : ℕ) → count (λ i. false) n ≡ 0
-count-none zero = refl
-count-none (suc n) = omega (arith, count-none n)
-
 -- Of the numbers 1 to c, those of a descending list that pass.
 count-has : (p : ℕ → Bool) (hi c : ℕ) (ks : List ℕ) → hi ≤ suc c → Desc hi ks → count (λ i. has ks i && p i) c ≡ passing p ks
-count-has p hi c [] h a = count-none c
+count-has p hi c [] h a = count-none (λ i. false) c (λ i u v. tt)
 count-has p hi c (k ∷ ks) h a =
     let x : ℕ = cond (p k) 1 0 in
     ap (λ (f : ℕ → ℕ). pre f c) (fun-ext (λ i. at i))
@@ -153,7 +149,7 @@ released j k ks a h t u =
     ∙ few-late (due j) (due-mono j) t (suc k) (heldMost j) (k ∷ ks) u a
 
 -- bs have begun, ks are still to come.
-fair-rest : (j : Job) (lv : ℕ → ℕ) (size : ℕ → ℕ → ℕ) (lo : ℕ) (bs ks : List ℕ) → 1 ≤ lo → Desc lo bs → Asc lo (chunks j) ks → Each (λ k. 1 ≤ lv k) ks → Fair j (has bs) (queue size lv ks (window (due j) (heldMost j) bs (each (due j) ks)))
+fair-rest : (j : Job) (lv : ℕ → ℕ) (size : ℕ → ℕ → ℕ) (lo : ℕ) (bs ks : List ℕ) → 1 ≤ lo → Desc lo bs → Asc lo (chunks j) ks → All (λ k. 1 ≤ lv k) ks → Fair j (has bs) (queue size lv ks (window (due j) (heldMost j) bs (each (due j) ks)))
 fair-rest j lv size lo bs [] h a s e = tt
 fair-rest j lv size lo bs (k ∷ ks) h a s e =
     let below : Desc (suc k) (k ∷ bs) = (omega arith, omega arith, desc-raise lo k bs (s .0) a) in
@@ -166,7 +162,7 @@ fair-rest j lv size lo bs (k ∷ ks) h a s e =
     (sym (window-first (due j) (heldMost j) (k ∷ bs) (each (due j) ks)))
     (subst (λ (m : ℕ). Fair j (has bs) (pieces size k r 0 m ++ q)) n (fair-pieces j size k r 0 (lv k - 1) (has bs) q (released j k bs below (s .1)) f))
 
-pub fair-queue : (j : Job) (lv : ℕ → ℕ) (ks : List ℕ) → Asc 1 (chunks j) ks → Each (λ k. 1 ≤ lv k) ks → Fair j (λ i. false) (queue (size j) lv ks (releases (due j) (heldMost j) ks))
+pub fair-queue : (j : Job) (lv : ℕ → ℕ) (ks : List ℕ) → Asc 1 (chunks j) ks → All (λ k. 1 ≤ lv k) ks → Fair j (λ i. false) (queue (size j) lv ks (releases (due j) (heldMost j) ks))
 fair-queue j lv ks s e =
     subst
     (λ (rs : List ℕ). Fair j (λ i. false) (queue (size j) lv ks rs))

@@ -2,20 +2,19 @@
 -- Both hold for every choice of the job, whether it fits or not. Assumes nothing.
 use Prim.Native.Nat.{ℕ, zero, suc, _+_, _*_, _-_, _≤_, _<_}
 use mathlib.Core.Path.{_≡_, refl, sym, subst}
-use mathlib.Core.Bool.{Bool}
 use mathlib.Core.List.{List, [], _∷_, _++_}
 use mathlib.Core.Logic.{_⊎_, inl, inr, ⊎-elim}
 use native.Mathlib.Omega.{arith}
 use native.Mathlib.Nat.{mul-le-mul-right}
 use lib.ListN.{length, length-append}
 use lib.Dec.{leb, ltb, ltb→lt, nltb→le}
-use Rattle.basics.specs.Tests.{All, all-map, by-cond, test}
+use Rattle.basics.specs.Tests.{All, all-map, test}
 use Rattle.fetch.specs.Rows.{Row}
 use Rattle.job.specs.Job.{Accepted, Job, chunks, due, forecast, heldMost, lastSlot, layers, size}
 use Rattle.schedule.specs.Statement.{Choice}
 use Rattle.schedule.specs.Own.{Ascending, Before, ownList}
 use Rattle.schedule.specs.Ascending.{Asc}
-use Rattle.schedule.specs.Kept.{picked}
+use Rattle.schedule.specs.Kept.{length-picked-le}
 use Rattle.schedule.specs.Choice.{kept, kept-asc}
 use Rattle.schedule.specs.Fill.{Out, Piece, by-slot, fill, slot-in-slot, take-slot}
 use Rattle.schedule.specs.Sufficiency.{fetch, pieces, queue, releases}
@@ -183,17 +182,6 @@ length-queue size choice b c (r ∷ rs) (k ∷ ks) lo h a f =
       length-queue size choice b c rs ks (suc k) (omega arith) (a .2) f,
     )
 
-length-picked : (p : ℕ → Bool) (lo n : ℕ) → length (picked p lo n) ≤ n
-length-picked p lo zero = omega arith
-length-picked p lo (suc n) =
-    by-cond
-    (λ (ks : List ℕ). length ks ≤ suc n)
-    (p (suc lo))
-    {x = suc lo ∷ picked p (suc lo) n}
-    {y = picked p (suc lo) n}
-    (λ t. omega (arith, length-picked p (suc lo) n))
-    (λ t. omega (arith, length-picked p (suc lo) n))
-
 -- A row for each layer of each chunk, and one more for each slot but one.
 own-list-count : (j : Job) (choice : ℕ → ℕ) → Choice j choice → length (ownList j choice) ≤ chunks j * layers j + (lastSlot j - 1)
 unfolding fetch
@@ -207,7 +195,7 @@ own-list-count j choice few =
       arith,
       fill-count (forecast j) (lastSlot j) 0 q,
       length-queue (size j) choice (layers j) (chunks j) rs ks 1 (omega arith) (kept-asc j choice) few,
-      mul-le-mul-right (layers j) (length-picked (λ i. leb 1 (choice i)) 0 (chunks j)),
+      mul-le-mul-right (layers j) (length-picked-le (λ i. leb 1 (choice i)) 0 (chunks j)),
     ))
 
 -- "It has at most 5,599 rows."

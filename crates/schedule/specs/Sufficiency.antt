@@ -16,13 +16,12 @@ use Rattle.basics.specs.Tests.{All, T-and, T-or-iff, all-append, and-T, at-row,
 use Rattle.job.specs.Job.{Job, chunks, due, forecast, heldMost, lastSlot, layers, size}
 use Rattle.fetch.specs.Rows.{Row, begun, bytesOfLayer, held}
 use Rattle.fetch.specs.Rules.{InRange, Passes}
-use Rattle.schedule.specs.AnyOrder.{none-count, some-row}
 use Rattle.schedule.specs.Ascending.{Asc, asc-lower}
-use Rattle.schedule.specs.Count.{point, point-out}
+use Rattle.schedule.specs.Count.{some-row}
 use Rattle.schedule.specs.Fill.{Piece, Ready, Sent, Still, fill, fill-done, fill-in-slots, fill-loses-nothing, fill-on-time, fill-sent, fill-within, left-of, needs}
-use Rattle.schedule.specs.Necessity.{after, due-mono}
+use Rattle.schedule.specs.Lists.{count-mono, count-none, point, point-out}
 use Rattle.schedule.specs.Need.{Feas, Tails, need}
-use Rattle.schedule.specs.Words.{Sized}
+use Rattle.schedule.specs.Words.{Sized, after, due-mono}
 
 -- ---- the queue
 
@@ -82,7 +81,7 @@ feas-relok w d A h ks f = relok-first w d A h ks (each d ks) (f .whole) (relok-l
 -- ---- the queue's need is its chunks'
 
 -- Each layer queued of a chunk of 1 .. c has bytes.
-abbrev pub SomeBytes : (size : ℕ → ℕ → ℕ) (lv : ℕ → ℕ) (c : ℕ) → Type 0
+abbrev SomeBytes : (size : ℕ → ℕ → ℕ) (lv : ℕ → ℕ) (c : ℕ) → Type 0
 SomeBytes size lv c = (k i : ℕ) → 1 ≤ k → k ≤ c → i < lv k → 1 ≤ size k i
 
 module _ (d A : ℕ → ℕ) (size : ℕ → ℕ → ℕ) where
@@ -110,30 +109,30 @@ module _ (d A : ℕ → ℕ) (size : ℕ → ℕ → ℕ) where
 abbrev at-layer : ℕ → ℕ → ℕ → ℕ → Bool
 at-layer i n k m = eqb k i && eqb m n
 
-left-append : (P : ℕ → ℕ → Bool) (a b : List Piece) → left-of P (a ++ b) ≡ left-of P a + left-of P b
-left-append P [] b = omega arith
-left-append P (p ∷ ps) b = omega (arith, left-append P ps b)
+left-of-append : (P : ℕ → ℕ → Bool) (a b : List Piece) → left-of P (a ++ b) ≡ left-of P a + left-of P b
+left-of-append P [] b = omega arith
+left-of-append P (p ∷ ps) b = omega (arith, left-of-append P ps b)
 
-left-other : (size : ℕ → ℕ → ℕ) (i n k r m c : ℕ) → (k ≡ i → ⊥) → left-of (at-layer i n) (pieces size k r m c) ≡ 0
-left-other size i n k r m zero h = refl
-left-other size i n k r m (suc c) h = rw (ne-eqb k i h) (omega (arith, left-other size i n k r (suc m) c h))
+left-of-other-chunk : (size : ℕ → ℕ → ℕ) (i n k r m c : ℕ) → (k ≡ i → ⊥) → left-of (at-layer i n) (pieces size k r m c) ≡ 0
+left-of-other-chunk size i n k r m zero h = refl
+left-of-other-chunk size i n k r m (suc c) h = rw (ne-eqb k i h) (omega (arith, left-of-other-chunk size i n k r (suc m) c h))
 
-left-past : (size : ℕ → ℕ → ℕ) (i n r m c : ℕ) → n < m → left-of (at-layer i n) (pieces size i r m c) ≡ 0
-left-past size i n r m zero h = refl
-left-past size i n r m (suc c) h = rw (eq-eqb i i refl, ne-eqb m n (omega arith)) (omega (arith, left-past size i n r (suc m) c (omega arith)))
+left-of-lower-layer : (size : ℕ → ℕ → ℕ) (i n r m c : ℕ) → n < m → left-of (at-layer i n) (pieces size i r m c) ≡ 0
+left-of-lower-layer size i n r m zero h = refl
+left-of-lower-layer size i n r m (suc c) h = rw (eq-eqb i i refl, ne-eqb m n (omega arith)) (omega (arith, left-of-lower-layer size i n r (suc m) c (omega arith)))
 
-left-here : (size : ℕ → ℕ → ℕ) (i n r m c : ℕ) → m ≤ n → left-of (at-layer i n) (pieces size i r m c) ≡ cond (ltb n (c + m)) (size i n) 0
-left-here size i n r m zero h = rw (le-ltb n (0 + m) (omega arith))
-left-here size i n r m (suc c) h =
+left-of-layer : (size : ℕ → ℕ → ℕ) (i n r m c : ℕ) → m ≤ n → left-of (at-layer i n) (pieces size i r m c) ≡ cond (ltb n (c + m)) (size i n) 0
+left-of-layer size i n r m zero h = rw (le-ltb n (0 + m) (omega arith))
+left-of-layer size i n r m (suc c) h =
     ⊎-elim
     (λ t.
     let e : m ≡ n = eqb→eq m n t in
-    rw (eq-eqb i i refl, eq-eqb m n e, lt-ltb n (suc c + m) (omega arith)) (omega (arith, ap (size i) e, left-past size i n r (suc m) c (omega arith))))
+    rw (eq-eqb i i refl, eq-eqb m n e, lt-ltb n (suc c + m) (omega arith)) (omega (arith, ap (size i) e, left-of-lower-layer size i n r (suc m) c (omega arith))))
     (λ t.
     let o : m ≡ n → ⊥ = λ e. T-not (eqb m n) t (rw e (eqb-refl n)) in
     let o′ : m < n = ne-lt m n h o in
     let e : c + suc m ≡ suc c + m = omega arith in
-    rw (eq-eqb i i refl, ne-eqb m n o) (omega (arith, rw e at (left-here size i n r (suc m) c (omega arith)))))
+    rw (eq-eqb i i refl, ne-eqb m n o) (omega (arith, rw e at (left-of-layer size i n r (suc m) c (omega arith)))))
     (test (eqb m n))
   where
     ne-lt : (m n : ℕ) → m ≤ n → (m ≡ n → ⊥) → m < n
@@ -148,30 +147,30 @@ pub has-low : (lo c : ℕ) (ks : List ℕ) (i : ℕ) → Asc lo c ks → i < lo 
 has-low lo c [] i a h = refl
 has-low lo c (k ∷ ks) i a h = rw (ne-eqb k i (omega arith), has-low (suc k) c ks i (a .2) (omega arith))
 
-pub left-queue : (w d A : ℕ → ℕ) (size : ℕ → ℕ → ℕ) (lv : ℕ → ℕ) (lo c i n : ℕ) (ks rs : List ℕ) → Asc lo c ks → RelOk w d A ks rs → left-of (at-layer i n) (queue size lv ks rs) ≡ cond (has ks i && ltb n (lv i)) (size i n) 0
-left-queue w d A size lv lo c i n [] rs a r = refl
-left-queue w d A size lv lo c i n (k ∷ ks) [] a r = absurd r
-left-queue w d A size lv lo c i n (k ∷ ks) (q ∷ rs) a r =
-    let u = left-append (at-layer i n) (pieces size k q 0 (lv k)) (queue size lv ks rs) in
-    let v = left-queue w d A size lv (suc k) c i n ks rs (a .2) (r .1) in
+left-of-queue : (w d A : ℕ → ℕ) (size : ℕ → ℕ → ℕ) (lv : ℕ → ℕ) (lo c i n : ℕ) (ks rs : List ℕ) → Asc lo c ks → RelOk w d A ks rs → left-of (at-layer i n) (queue size lv ks rs) ≡ cond (has ks i && ltb n (lv i)) (size i n) 0
+left-of-queue w d A size lv lo c i n [] rs a r = refl
+left-of-queue w d A size lv lo c i n (k ∷ ks) [] a r = absurd r
+left-of-queue w d A size lv lo c i n (k ∷ ks) (q ∷ rs) a r =
+    let u = left-of-append (at-layer i n) (pieces size k q 0 (lv k)) (queue size lv ks rs) in
+    let v = left-of-queue w d A size lv (suc k) c i n ks rs (a .2) (r .1) in
     ⊎-elim
     (λ t.
     let e : k ≡ i = eqb→eq k i t in
     let z : has ks i ≡ false = has-low (suc k) c ks i (a .2) (omega arith) in
     let v′ = rw z at v in
     let e′ : lv i + 0 ≡ lv i = omega arith in
-    let x = rw e′ at (left-here size i n q 0 (lv i) (omega arith)) in
+    let x = rw e′ at (left-of-layer size i n q 0 (lv i) (omega arith)) in
     let x′ : left-of (at-layer i n) (pieces size k q 0 (lv k)) ≡ cond (ltb n (lv i)) (size i n) 0 = rw e x in
     rw (eq-eqb k i e) (omega (arith, u, v′, x′)))
     (λ t.
     let o : k ≡ i → ⊥ = λ e. T-not (eqb k i) t (rw e (eqb-refl i)) in
-    rw (ne-eqb k i o) (omega (arith, u, v, left-other size i n k q 0 (lv k) o)))
+    rw (ne-eqb k i o) (omega (arith, u, v, left-of-other-chunk size i n k q 0 (lv k) o)))
     (test (eqb k i))
 
 -- ---- rule 6: who may have begun by slot t
 
 -- Chunk i has its release by slot t.
-abbrev pub live : ℕ → List ℕ → List ℕ → ℕ → Bool
+abbrev live : ℕ → List ℕ → List ℕ → ℕ → Bool
 live t [] rs i = false
 live t (k ∷ ks) [] i = false
 live t (k ∷ ks) (r ∷ rs) i = (eqb k i && leb r t) || live t ks rs i
@@ -190,21 +189,21 @@ point-total s b (suc n) =
     (λ t. rw (ne-eqb s (suc n) (λ e. T-not (eqb s (suc n)) t (rw e (eqb-refl (suc n))))) (omega (arith, point-total s b n)))
     (test (eqb s (suc n)))
 
-split : (a b c : Bool) → cond ((a || b) && c) 1 0 ≤ cond (a && c) 1 0 + cond (b && c) 1 0
-split true b true = omega arith
-split true b false = omega arith
-split false b c = omega arith
+either-counted : (a b c : Bool) → cond ((a || b) && c) 1 0 ≤ cond (a && c) 1 0 + cond (b && c) 1 0
+either-counted true b true = omega arith
+either-counted true b false = omega arith
+either-counted false b c = omega arith
 
-one-at : (X : ℕ → Bool) (b : Bool) (k i : ℕ) → cond ((eqb k i && b) && X i) 1 0 ≤ point k (cond (b && X k) 1 0) i
-one-at X b k i =
+counted-at : (X : ℕ → Bool) (b : Bool) (k i : ℕ) → cond ((eqb k i && b) && X i) 1 0 ≤ point k (cond (b && X k) 1 0) i
+counted-at X b k i =
     ⊎-elim
     (λ t. let e = eqb→eq k i t in rw (eq-eqb k i e, e) (omega arith))
     (λ t. rw (ne-eqb k i (λ e. T-not (eqb k i) t (rw e (eqb-refl i)))) (omega arith))
     (test (eqb k i))
 
 count-live : (t c : ℕ) (d : ℕ → ℕ) (ks rs : List ℕ) → count (λ i. live t ks rs i && ltb t (d i)) c ≤ lives t d ks rs
-count-live t c d [] rs = none-count (λ i. live t [] rs i && ltb t (d i)) c (λ e u. u)
-count-live t c d (k ∷ ks) [] = none-count (λ i. live t (k ∷ ks) [] i && ltb t (d i)) c (λ e u. u)
+count-live t c d [] rs = omega (arith, count-none (λ i. live t [] rs i && ltb t (d i)) c (λ i u v. tt))
+count-live t c d (k ∷ ks) [] = omega (arith, count-none (λ i. live t (k ∷ ks) [] i && ltb t (d i)) c (λ i u v. tt))
 count-live t c d (k ∷ ks) (r ∷ rs) =
     let x : ℕ = cond (leb r t && ltb t (d k)) 1 0 in
     omega (
@@ -213,37 +212,37 @@ count-live t c d (k ∷ ks) (r ∷ rs) =
           (λ i. cond (live t (k ∷ ks) (r ∷ rs) i && ltb t (d i)) 1 0)
           (λ i. point k x i + cond (live t ks rs i && ltb t (d i)) 1 0)
           c
-          (λ i. omega (arith, split (eqb k i && leb r t) (live t ks rs i) (ltb t (d i)), one-at (λ i. ltb t (d i)) (leb r t) k i)),
+          (λ i. omega (arith, either-counted (eqb k i && leb r t) (live t ks rs i) (ltb t (d i)), counted-at (λ i. ltb t (d i)) (leb r t) k i)),
       pre-add (point k x) (λ i. cond (live t ks rs i && ltb t (d i)) 1 0) c,
       point-total k x c,
       count-live t c d ks rs,
     )
 
 -- Where all due slots are after t, only the chunks of the first places ps have their release by t.
-later-none : (t : ℕ) (d : ℕ → ℕ) (ks gs ps : List ℕ) (lo c : ℕ) → ((k : ℕ) → lo ≤ k → t < d k) → Asc lo c gs → lives t d ks (ps ++ each d gs) ≤ length ps
-later-none t d [] gs ps lo c f a = omega arith
-later-none t d (k ∷ ks) [] [] lo c f a = omega arith
-later-none t d (k ∷ ks) (g ∷ gs) [] lo c f a =
-    rw (lt-leb (d g) t (f g (a .0))) (omega (arith, later-none t d ks gs [] lo c f (asc-lower lo (suc g) c gs (omega arith) (a .2))))
-later-none t d (k ∷ ks) gs (p ∷ ps) lo c f a =
-    omega (arith, later-none t d ks gs ps lo c f a, by-cond (λ n. n ≤ 1) (leb p t && ltb t (d k)) {x = 1} {y = 0} (λ u. omega arith) (λ u. omega arith))
+only-first-live : (t : ℕ) (d : ℕ → ℕ) (ks gs ps : List ℕ) (lo c : ℕ) → ((k : ℕ) → lo ≤ k → t < d k) → Asc lo c gs → lives t d ks (ps ++ each d gs) ≤ length ps
+only-first-live t d [] gs ps lo c f a = omega arith
+only-first-live t d (k ∷ ks) [] [] lo c f a = omega arith
+only-first-live t d (k ∷ ks) (g ∷ gs) [] lo c f a =
+    rw (lt-leb (d g) t (f g (a .0))) (omega (arith, only-first-live t d ks gs [] lo c f (asc-lower lo (suc g) c gs (omega arith) (a .2))))
+only-first-live t d (k ∷ ks) gs (p ∷ ps) lo c f a =
+    omega (arith, only-first-live t d ks gs ps lo c f a, by-cond (λ n. n ≤ 1) (leb p t && ltb t (d k)) {x = 1} {y = 0} (λ u. omega arith) (λ u. omega arith))
 
-not-last : (a b : Bool) → T (not b) → cond (a && b) 1 0 ≤ 0
-not-last true true u = absurd u
-not-last true false u = omega arith
-not-last false b u = omega arith
+due-not-counted : (a b : Bool) → T (not b) → cond (a && b) 1 0 ≤ 0
+due-not-counted true true u = absurd u
+due-not-counted true false u = omega arith
+due-not-counted false b u = omega arith
 
-over : (t : ℕ) (d : ℕ → ℕ) (k : ℕ) (ks ps : List ℕ) → T (not (ltb t (d k))) → ((qs : List ℕ) → lives t d ks (qs ++ each d ks) ≤ length qs) → lives t d (k ∷ ks) (ps ++ each d (k ∷ ks)) ≤ length ps
-over t d k ks [] u f = omega (arith, not-last (leb (d k) t) (ltb t (d k)) u, f [])
-over t d k ks (q ∷ qs) u f =
-    omega (arith, not-last (leb q t) (ltb t (d k)) u, rw (append-assoc, length-append) at (f (qs ++ d k ∷ [])))
+few-live-after-due : (t : ℕ) (d : ℕ → ℕ) (k : ℕ) (ks ps : List ℕ) → T (not (ltb t (d k))) → ((qs : List ℕ) → lives t d ks (qs ++ each d ks) ≤ length qs) → lives t d (k ∷ ks) (ps ++ each d (k ∷ ks)) ≤ length ps
+few-live-after-due t d k ks [] u f = omega (arith, due-not-counted (leb (d k) t) (ltb t (d k)) u, f [])
+few-live-after-due t d k ks (q ∷ qs) u f =
+    omega (arith, due-not-counted (leb q t) (ltb t (d k)) u, rw (append-assoc, length-append) at (f (qs ++ d k ∷ [])))
 
 few-live : (t : ℕ) (d : ℕ → ℕ) (d-mono : (x y : ℕ) → x ≤ y → d x ≤ d y) (ks ps : List ℕ) (lo c : ℕ) → Asc lo c ks → lives t d ks (ps ++ each d ks) ≤ length ps
 few-live t d d-mono [] ps lo c a = omega arith
 few-live t d d-mono (k ∷ ks) ps lo c a =
     ⊎-elim
-    (λ u. later-none t d (k ∷ ks) (k ∷ ks) ps k c (λ g h. omega (arith, ltb→lt t (d k) u, d-mono k g h)) (omega arith, a .1, a .2))
-    (λ u. over t d k ks ps u (λ qs. few-live t d d-mono ks qs (suc k) c (a .2)))
+    (λ u. only-first-live t d (k ∷ ks) (k ∷ ks) ps k c (λ g h. omega (arith, ltb→lt t (d k) u, d-mono k g h)) (omega arith, a .1, a .2))
+    (λ u. few-live-after-due t d k ks ps u (λ qs. few-live t d d-mono ks qs (suc k) c (a .2)))
     (test (ltb t (d k)))
 
 length-ones : (h : ℕ) → length (ones h) ≡ h
@@ -252,11 +251,11 @@ length-ones (suc h) = ap suc (length-ones h)
 
 -- ---- what is known of each piece of the queue
 
-pub record Queued (c layers : ℕ) (ks rs : List ℕ) (k n r : ℕ) : Type 0 where
-  pub chunk-low : 1 ≤ k
-  pub chunk-high : k ≤ c
-  pub layer-in : n < layers
-  pub alive : (t : ℕ) → r ≤ t → T (live t ks rs k)
+record Queued (c layers : ℕ) (ks rs : List ℕ) (k n r : ℕ) : Type 0 where
+  chunk-low : 1 ≤ k
+  chunk-high : k ≤ c
+  layer-in : n < layers
+  alive : (t : ℕ) → r ≤ t → T (live t ks rs k)
 
 still-pieces : (size : ℕ → ℕ → ℕ) (Q : ℕ → ℕ → ℕ → Type 0) (k r m n : ℕ) → ((i : ℕ) → i < n + m → 1 ≤ size k i) → ((i : ℕ) → i < n + m → Q k i r) → All (Still Q) (pieces size k r m n)
 still-pieces size Q k r m zero pos f = tt
@@ -280,29 +279,21 @@ still-queue size lv c layers pos lim KS RS (k ∷ ks) (r ∷ rs) lo h a f =
     }))
     (still-queue size lv c layers pos lim KS RS ks rs (suc k) (omega arith) (a .2) (λ t i u. f t i (T-or-iff (eqb k i && leb r t) (live t ks rs i) .1 (inr u))))
 
-count-mono : (p q : ℕ → Bool) (n : ℕ) → ((i : ℕ) → T (p i) → T (q i)) → count p n ≤ count q n
-count-mono p q n f = pre-le (λ i. cond (p i) 1 0) (λ i. cond (q i) 1 0) n (λ i. one (p i) (q i) (f i))
-  where
-    one : (a b : Bool) → (T a → T b) → cond a 1 0 ≤ cond b 1 0
-    one true true g = omega arith
-    one true false g = absurd (g tt)
-    one false b g = omega arith
-
 pub after-anti : (j : Job) (x y : ℕ) → x ≤ y → after j y ≤ after j x
 after-anti j x y h = omega (arith, pre-mono (forecast j) x y h)
 
--- The fill of the chunks ks with their releases, lv k layers of chunk k, over all slots.
+-- The fill of the chunks ks with their releases, lv k layers of chunk k, few-live-after-due all slots.
 unfoldable pub fetch : Job → (ℕ → ℕ) → List ℕ → List Row
 fetch j lv ks = fill (forecast j) (lastSlot j) 0 (queue (size j) lv ks (releases (due j) (heldMost j) ks))
 
-pick-or : (b : Bool) (s x : ℕ) → x ≡ cond b s 0 → (x ≡ 0) ⊎ (x ≡ s)
-pick-or true s x e = inr e
-pick-or false s x e = inl e
+none-or-all : (b : Bool) (s x : ℕ) → x ≡ cond b s 0 → (x ≡ 0) ⊎ (x ≡ s)
+none-or-all true s x e = inr e
+none-or-all false s x e = inl e
 
 -- A layer that is carried has the one below carried: layers below lv i are.
-full-below : (a : Bool) (n m s s′ x x′ : ℕ) → x ≡ cond (a && ltb (suc n) m) s 0 → x′ ≡ cond (a && ltb n m) s′ 0 → 1 ≤ s → x ≡ s → x′ ≡ s′
-full-below false n m s s′ x x′ p q h e = absurd (omega arith)
-full-below true n m s s′ x x′ p q h e =
+layer-below-full : (a : Bool) (n m s s′ x x′ : ℕ) → x ≡ cond (a && ltb (suc n) m) s 0 → x′ ≡ cond (a && ltb n m) s′ 0 → 1 ≤ s → x ≡ s → x′ ≡ s′
+layer-below-full false n m s s′ x x′ p q h e = absurd (omega arith)
+layer-below-full true n m s s′ x x′ p q h e =
     ⊎-elim
     (λ t. rw (lt-ltb n m (omega (arith, ltb→lt (suc n) m t))) at q)
     (λ t. absurd (omega (arith, rw (le-ltb (suc n) m (nltb→le (suc n) m t)) at p)))
@@ -314,22 +305,22 @@ module _ (j : Job) (sized : Sized j) (lv : ℕ → ℕ) (lim : (k : ℕ) → 1 �
   some-bytes : SomeBytes (size j) lv (chunks j)
   some-bytes k i u v w = sized k i (record { chunk-low = u; chunk-high = v; layer-in = omega (arith, lim k u v) })
 
-  abbrev pub rs : List ℕ
+  abbrev rs : List ℕ
   rs = releases (due j) (heldMost j) ks
 
-  abbrev pub Q : ℕ → ℕ → ℕ → Type 0
+  abbrev Q : ℕ → ℕ → ℕ → Type 0
   Q = Queued (chunks j) (layers j) ks rs
 
-  pub relok : RelOk (λ k. weight (size j) k 0 (lv k)) (due j) (after j) ks rs
+  relok : RelOk (λ k. weight (size j) k 0 (lv k)) (due j) (after j) ks rs
   relok = feas-relok (λ k. weight (size j) k 0 (lv k)) (due j) (after j) (heldMost j) ks ok
 
-  pub fits-queue : (needs (due j) (after j) (queue (size j) lv ks rs) ≤ after j 0) × Ready (due j) (after j) (queue (size j) lv ks rs)
+  fits-queue : (needs (due j) (after j) (queue (size j) lv ks rs) ≤ after j 0) × Ready (due j) (after j) (queue (size j) lv ks rs)
   fits-queue = let r = ready-queue (due j) (after j) (size j) lv 1 (chunks j) some-bytes (omega arith) ks rs asc relok in (omega (arith, r .0, ok .whole), r .1)
 
-  pub still : All (Still Q) (queue (size j) lv ks rs)
+  still : All (Still Q) (queue (size j) lv ks rs)
   still = still-queue (size j) lv (chunks j) (layers j) some-bytes lim ks rs ks rs 1 (omega arith) asc (λ t k u. u)
 
-  pub step : (t : ℕ) → t < lastSlot j → after j t ≤ forecast j (suc t) + after j (suc t)
+  step : (t : ℕ) → t < lastSlot j → after j t ≤ forecast j (suc t) + after j (suc t)
   step t h = omega arith
 
   sent : All (Sent Q) (fetch j lv ks)
@@ -346,7 +337,7 @@ module _ (j : Job) (sized : Sized j) (lv : ℕ → ℕ) (lim : (k : ℕ) → 1 �
       let q = queue (size j) lv ks rs in
       let d = fill-done (due j) (after j) (after-anti j) (forecast j) (lastSlot j) step q (omega arith) (fits-queue .1) (fits-queue .0) in
       let s = rw d at (fill-loses-nothing (at-layer i n) (forecast j) (lastSlot j) 0 q) in
-      omega (arith, s, left-queue (λ k. weight (size j) k 0 (lv k)) (due j) (after j) (size j) lv 1 (chunks j) i n ks rs asc relok)
+      omega (arith, s, left-of-queue (λ k. weight (size j) k 0 (lv k)) (due j) (after j) (size j) lv 1 (chunks j) i n ks rs asc relok)
 
   held-live : (t i : ℕ) → T (held j (fetch j lv ks) t i) → T (live t ks rs i && ltb t (due j i))
   held-live t i u =
@@ -365,14 +356,14 @@ module _ (j : Job) (sized : Sized j) (lv : ℕ → ℕ) (lim : (k : ℕ) → 1 �
             let s = at-row (Sent Q) i sent in
             let t = at-row (λ x. (0 < x .slot) × (x .slot ≤ lastSlot j + 0)) i in-slots in
             record { slot-low = t .0; slot-high = omega arith; chunk-low = s .from .chunk-low; chunk-high = s .from .chunk-high; layer-in = s .from .layer-in; some-bytes = s .some });
-        whole = λ i n r. pick-or (has ks i && ltb n (lv i)) (size j i n) (bytesOfLayer (fetch j lv ks) i n) (layer-is i n);
-        lower = λ i n r e. full-below (has ks i) n (lv i) (size j i (suc n)) (size j i n) (bytesOfLayer (fetch j lv ks) i (suc n)) (bytesOfLayer (fetch j lv ks) i n) (layer-is i (suc n)) (layer-is i n) (sized i (suc n) r) e;
+        whole = λ i n r. none-or-all (has ks i && ltb n (lv i)) (size j i n) (bytesOfLayer (fetch j lv ks) i n) (layer-is i n);
+        lower = λ i n r e. layer-below-full (has ks i) n (lv i) (size j i (suc n)) (size j i n) (bytesOfLayer (fetch j lv ks) i (suc n)) (bytesOfLayer (fetch j lv ks) i n) (layer-is i (suc n)) (layer-is i n) (sized i (suc n) r) e;
         within = λ t u v. fill-within (forecast j) (lastSlot j) 0 (queue (size j) lv ks rs) t;
         on-time = fill-on-time (due j) (after j) (after-anti j) (forecast j) (lastSlot j) step (lastSlot j) 0 (queue (size j) lv ks rs) (omega arith) (fits-queue .1) (fits-queue .0);
         few-held = λ t u v.
             omega (
               arith,
-              count-mono (held j (fetch j lv ks) t) (λ i. live t ks rs i && ltb t (due j i)) (chunks j) (held-live t),
+              count-mono (held j (fetch j lv ks) t) (λ i. live t ks rs i && ltb t (due j i)) (chunks j) (λ i u v. held-live t i),
               count-live t (chunks j) (due j) ks rs,
               few-live t (due j) (due-mono j) ks (ones (heldMost j)) 1 (chunks j) asc,
               length-ones (heldMost j),

@@ -1,0 +1,97 @@
+-- Theorems. What Statement states, proved: the decision, that there is exactly one plan, and demand 3.
+use Prim.Native.Nat.{ℕ, suc, _+_, _≤_, _<_, _^_}
+use mathlib.Core.Path.{_≡_, ap}
+use mathlib.Core.Bool.{Bool, not, cond}
+use mathlib.Core.List.{List}
+use mathlib.Core.Logic.{⊎-elim, _↔_}
+use native.Mathlib.Omega.{arith}
+use lib.Dec.{T, ltb, ltb→lt, nltb→le}
+use Rattle.basics.specs.Lists.{upTo-cong}
+use Rattle.basics.specs.Tests.{test}
+use Rattle.fetch.specs.Rows.{Row, layerCount, markByte, marksGiven}
+use Rattle.fetch.specs.Rules.{Keeps, Passes, PlayingOrder}
+use Rattle.fetch.specs.Verdict.{verdict, verdict-iff}
+use Rattle.job.specs.Job.{Accepted, EqualChunks, Job, Layer, chunks, layers, size}
+use Rattle.schedule.specs.Best.{first-difference, is-plan-fits, most-bases, most-of-layer}
+use Rattle.schedule.specs.Choice.{Same, can-carry-fits, can-carry-iff-fits, own, own-exactly, own-in-order, own-passes}
+use Rattle.schedule.specs.Level.{count-carried, keeps-marks}
+use Rattle.schedule.specs.Lists.{count-cong, count-none}
+use Rattle.schedule.specs.Plan.{fits, fits-iff, plan, plan-is-plan}
+use Rattle.schedule.specs.Statement.{Best, CanCarry, CarriesExactly, Choice, IsPlan, countOf, countsOf, marksOf}
+use Rattle.schedule.specs.Unique.{plans-agree}
+use Rattle.schedule.specs.Words.{Sized, accepted-sized}
+
+-- "A fetch list, of any number of rows, passes if its verdict is 0", with the marks its rows give.
+pub passes-iff : (j : Job) (rows : List Row) → (verdict j (marksGiven j rows) rows ≡ 0) ↔ Passes j rows
+passes-iff j rows = verdict-iff j (marksGiven j rows) rows
+
+-- ---- the decision
+
+-- "some list in playing order passes that carries" exactly the choice, if and only if the computed test holds.
+pub decision : (j : Job) → Sized j → (choice : ℕ → ℕ) → Choice j choice → CanCarry j choice ↔ T (fits j choice)
+decision j sized lv c =
+    let a = can-carry-iff-fits j sized lv c in
+    let b = fits-iff j lv in
+    (λ s. b .1 (a .0 s), λ t. a .1 (b .0 t))
+
+-- The own list of a choice that can be carried passes with its marks, is in playing order and carries exactly the choice.
+pub record OwnCarries (j : Job) (choice : ℕ → ℕ) (rows : List Row) : Type 0 where
+  pub passes : Keeps j (marksOf j choice) rows
+  pub in-order : PlayingOrder j rows
+  pub exactly : CarriesExactly j rows choice
+
+pub own-carries : (j : Job) → Sized j → (choice : ℕ → ℕ) → Choice j choice → CanCarry j choice → OwnCarries j choice (own j choice)
+own-carries j sized lv c s =
+    let f = can-carry-fits j lv c s in
+    let e = own-exactly j sized lv c f in
+    record { passes = keeps-marks j (own j lv) lv e (own-passes j sized lv c f); in-order = own-in-order j sized lv c f; exactly = e }
+
+-- ---- exactly one plan
+
+-- The computed plan is a plan.
+pub plan-exists : (j : Job) → Accepted j → IsPlan j (plan j)
+plan-exists j a = plan-is-plan j (accepted-sized j a)
+
+-- Any two plans carry the same layers of every chunk of the job,
+pub plan-unique : (j : Job) (p q : ℕ → ℕ) → IsPlan j p → IsPlan j q → Same j p q
+plan-unique = plans-agree
+
+-- and so have the same marks and the same counts.
+pub plan-marks-unique : (j : Job) (p q : ℕ → ℕ) → IsPlan j p → IsPlan j q → marksOf j p ≡ marksOf j q
+plan-marks-unique j p q dp dq =
+    upTo-cong _ _ (chunks j) (λ k h. ap (λ (m : ℕ). markByte (λ n. ltb n m) (layers j)) (plans-agree j p q dp dq (k + 1) (omega arith) (omega arith)))
+
+pub plan-counts-unique : (j : Job) (p q : ℕ → ℕ) → IsPlan j p → IsPlan j q → countsOf j p ≡ countsOf j q
+plan-counts-unique j p q dp dq =
+    upTo-cong (countOf j p) (countOf j q) 4 (λ n h. count-cong (λ i. ltb n (p i)) (λ i. ltb n (q i)) (chunks j) (λ i u v. ap (ltb n) (plans-agree j p q dp dq i u v)))
+
+-- "0 for absent layers".
+pub absent-count : (j : Job) (choice : ℕ → ℕ) → Choice j choice → (n : ℕ) → layers j ≤ n → countOf j choice n ≡ 0
+absent-count j lv c n h =
+    count-none (λ i. ltb n (lv i)) (chunks j) (λ i u v.
+    ⊎-elim (λ t. absurd (omega (arith, ltb→lt n (lv i) t, c i u v))) (λ t. t) (test (ltb n (lv i))))
+
+-- ---- demand 3
+
+-- "Take any accepted job of equal chunks, whatever its layer sizes, forecast, deadlines and buffer limit." Best has its sentences.
+pub best : (j : Job) → Accepted j → EqualChunks j → (p : ℕ → ℕ) → IsPlan j p → Best j p (own j p)
+best j a equal p dec =
+    let sized = accepted-sized j a in
+    let f = is-plan-fits j sized p dec in
+    let e = own-exactly j sized p (dec .choice) f in
+    let z : ℕ → ℕ = size j 1 in
+    let one : (i n : ℕ) → Layer j i n → size j i n ≡ z n = λ i n r.
+    equal i 1 n r (record { chunk-low = omega arith; chunk-high = a .chunks-in .low; layer-in = r .layer-in }) in
+    record {
+      passes = keeps-marks j (own j p) p e (own-passes j sized p (dec .choice) f);
+      in-order = own-in-order j sized p (dec .choice) f;
+      counted = count-carried j (own j p) p e;
+      mostBases = most-bases j sized p dec z one (a .layers-in .low);
+      mostOfLayer = λ n h other ok o. most-of-layer j sized p dec z one other ok o n h;
+      firstDifference = λ w other ok n h same differ.
+          let l = first-difference j sized p dec z one w other ok n h same in
+          ⊎-elim
+          (λ t. ltb→lt (layerCount j other n) (countOf j p n) t)
+          (λ t. absurd (differ (omega (arith, nltb→le (layerCount j other n) (countOf j p n) t))))
+          (test (ltb (layerCount j other n) (countOf j p n)));
+    }
