@@ -1,6 +1,6 @@
 -- Lemmas. Sums over the rows of a list: rows that pass a test, rows between two slots (double counting), the rows of a chunk by layer.
 -- Section 2 of the argument.
-use Prim.Native.Nat.{ℕ, suc, _+_, _≤_, _<_}
+use Prim.Native.Nat.{ℕ, _+_, _≤_, _<_}
 use mathlib.Core.Path.{_≡_, sym}
 use mathlib.Core.Bool.{Bool, true, false, cond, _&&_}
 use mathlib.Core.List.{List, [], _∷_}

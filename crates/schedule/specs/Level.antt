@@ -1,17 +1,16 @@
 -- Lemmas. The choice that a passing list carries, its marks and its counts: what a list and a choice say of each other.
-use Prim.Native.Nat.{ℕ, suc, _+_, _≤_, _<_, _^_}
+use Prim.Native.Nat.{ℕ, _+_, _<_, _^_}
 use mathlib.Core.Path.{_≡_, ap, sym}
 use mathlib.Core.Bool.{Bool, cond}
 use mathlib.Core.List.{List}
-use mathlib.Core.Logic.{_↔_}
 use native.Mathlib.Omega.{arith}
-use lib.Dec.{T, T-not, ltb, eqb→eq, eqb-refl, ltb→lt, lt→ltb}
+use lib.Dec.{ltb, eqb→eq, ltb→lt, lt→ltb}
 use Rattle.basics.specs.Lists.{upTo-cong}
 use Rattle.basics.specs.Sums.{sum}
-use Rattle.basics.specs.Tests.{eqb-iff, same-test, test}
-use Rattle.fetch.specs.Rows.{Carried, Row, bytesOfLayer, carried, layerCount, markByte, marksGiven}
+use Rattle.basics.specs.Tests.{eqb-iff, same-test}
+use Rattle.fetch.specs.Rows.{Row, carried, layerCount, marksGiven}
 use Rattle.fetch.specs.Rules.{Keeps, Passes}
-use Rattle.job.specs.Job.{Job, Layer, chunks, layers, size}
+use Rattle.job.specs.Job.{Job, Layer, chunks, layers}
 use Rattle.schedule.specs.Lists.{below-bits-iff, bit, bits-le, count-cong, sum-cong}
 use Rattle.schedule.specs.Statement.{CarriesExactly, Choice, countOf, marksOf}
 

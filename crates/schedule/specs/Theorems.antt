@@ -1,7 +1,6 @@
 -- Theorems. What Statement states, proved: the decision, that there is exactly one plan, and demand 3.
-use Prim.Native.Nat.{ℕ, suc, _+_, _≤_, _<_, _^_}
-use mathlib.Core.Path.{_≡_, ap}
-use mathlib.Core.Bool.{Bool, not, cond}
+use Prim.Native.Nat.{ℕ, _+_, _≤_}
+use mathlib.Core.Path.{_≡_, ap, subst, sym}
 use mathlib.Core.List.{List}
 use mathlib.Core.Logic.{⊎-elim, _↔_}
 use native.Mathlib.Omega.{arith}
@@ -13,12 +12,14 @@ use Rattle.fetch.specs.Rules.{Keeps, Passes, PlayingOrder}
 use Rattle.fetch.specs.Verdict.{verdict, verdict-iff}
 use Rattle.job.specs.Job.{Accepted, EqualChunks, Job, Layer, chunks, layers, size}
 use Rattle.schedule.specs.Best.{first-difference, is-plan-fits, most-bases, most-of-layer}
-use Rattle.schedule.specs.Choice.{Same, can-carry-fits, can-carry-iff-fits, own, own-exactly, own-in-order, own-passes}
+use Rattle.schedule.specs.Choice.{Same, can-carry-fits, can-carry-iff-fits, fits-can-carry, own, own-exactly, own-in-order, own-passes}
 use Rattle.schedule.specs.Level.{count-carried, keeps-marks}
 use Rattle.schedule.specs.Lists.{count-cong, count-none}
+use Rattle.schedule.specs.Own.{ownList}
+use Rattle.schedule.specs.OwnFill.{own-list-is}
 use Rattle.schedule.specs.Plan.{fits, fits-iff, plan, plan-is-plan}
 use Rattle.schedule.specs.Statement.{Best, CanCarry, CarriesExactly, Choice, IsPlan, countOf, countsOf, marksOf}
-use Rattle.schedule.specs.Unique.{plans-agree}
+use Rattle.schedule.specs.Unique.{own-list-cong, plans-agree}
 use Rattle.schedule.specs.Words.{Sized, accepted-sized}
 
 -- "A fetch list, of any number of rows, passes if its verdict is 0", with the marks its rows give.
@@ -34,17 +35,16 @@ decision j sized lv c =
     let b = fits-iff j lv in
     (λ s. b .1 (a .0 s), λ t. a .1 (b .0 t))
 
--- The own list of a choice that can be carried passes with its marks, is in playing order and carries exactly the choice.
-pub record OwnCarries (j : Job) (choice : ℕ → ℕ) (rows : List Row) : Type 0 where
-  pub passes : Keeps j (marksOf j choice) rows
-  pub in-order : PlayingOrder j rows
-  pub exactly : CarriesExactly j rows choice
-
-pub own-carries : (j : Job) → Sized j → (choice : ℕ → ℕ) → Choice j choice → CanCarry j choice → OwnCarries j choice (own j choice)
+-- Then the choice's own list with its marks passes, is in playing order and carries exactly the choice.
+pub own-carries : (j : Job) → Sized j → (choice : ℕ → ℕ) → Choice j choice → CanCarry j choice → Keeps j (marksOf j choice) (ownList j choice) × PlayingOrder j (ownList j choice) × CarriesExactly j (ownList j choice) choice
+unfolding own
 own-carries j sized lv c s =
     let f = can-carry-fits j lv c s in
     let e = own-exactly j sized lv c f in
-    record { passes = keeps-marks j (own j lv) lv e (own-passes j sized lv c f); in-order = own-in-order j sized lv c f; exactly = e }
+    subst
+    (λ (l : List Row). Keeps j (marksOf j lv) l × PlayingOrder j l × CarriesExactly j l lv)
+    (sym (own-list-is j lv))
+    (keeps-marks j (own j lv) lv e (own-passes j sized lv c f), own-in-order j sized lv c f, e)
 
 -- ---- exactly one plan
 
@@ -56,7 +56,7 @@ plan-exists j a = plan-is-plan j (accepted-sized j a)
 pub plan-unique : (j : Job) (p q : ℕ → ℕ) → IsPlan j p → IsPlan j q → Same j p q
 plan-unique = plans-agree
 
--- and so have the same marks and the same counts.
+-- and so have the same marks, the same counts and the same own list.
 pub plan-marks-unique : (j : Job) (p q : ℕ → ℕ) → IsPlan j p → IsPlan j q → marksOf j p ≡ marksOf j q
 plan-marks-unique j p q dp dq =
     upTo-cong _ _ (chunks j) (λ k h. ap (λ (m : ℕ). markByte (λ n. ltb n m) (layers j)) (plans-agree j p q dp dq (k + 1) (omega arith) (omega arith)))
@@ -64,6 +64,9 @@ plan-marks-unique j p q dp dq =
 pub plan-counts-unique : (j : Job) (p q : ℕ → ℕ) → IsPlan j p → IsPlan j q → countsOf j p ≡ countsOf j q
 plan-counts-unique j p q dp dq =
     upTo-cong (countOf j p) (countOf j q) 4 (λ n h. count-cong (λ i. ltb n (p i)) (λ i. ltb n (q i)) (chunks j) (λ i u v. ap (ltb n) (plans-agree j p q dp dq i u v)))
+
+pub plan-rows-unique : (j : Job) (p q : ℕ → ℕ) → IsPlan j p → IsPlan j q → ownList j p ≡ ownList j q
+plan-rows-unique j p q dp dq = own-list-cong j p q (plans-agree j p q dp dq)
 
 -- "0 for absent layers".
 pub absent-count : (j : Job) (choice : ℕ → ℕ) → Choice j choice → (n : ℕ) → layers j ≤ n → countOf j choice n ≡ 0
@@ -74,18 +77,17 @@ absent-count j lv c n h =
 -- ---- demand 3
 
 -- "Take any accepted job of equal chunks, whatever its layer sizes, forecast, deadlines and buffer limit." Best has its sentences.
-pub best : (j : Job) → Accepted j → EqualChunks j → (p : ℕ → ℕ) → IsPlan j p → Best j p (own j p)
+pub best : (j : Job) → Accepted j → EqualChunks j → (p : ℕ → ℕ) → IsPlan j p → Best j p (ownList j p)
 best j a equal p dec =
     let sized = accepted-sized j a in
-    let f = is-plan-fits j sized p dec in
-    let e = own-exactly j sized p (dec .choice) f in
+    let own = own-carries j sized p (dec .choice) (fits-can-carry j sized p (dec .choice) (is-plan-fits j sized p dec)) in
     let z : ℕ → ℕ = size j 1 in
     let one : (i n : ℕ) → Layer j i n → size j i n ≡ z n = λ i n r.
     equal i 1 n r (record { chunk-low = omega arith; chunk-high = a .chunks-in .low; layer-in = r .layer-in }) in
     record {
-      passes = keeps-marks j (own j p) p e (own-passes j sized p (dec .choice) f);
-      in-order = own-in-order j sized p (dec .choice) f;
-      counted = count-carried j (own j p) p e;
+      passes = own .0;
+      in-order = own .1;
+      counted = count-carried j (ownList j p) p (own .2);
       mostBases = most-bases j sized p dec z one (a .layers-in .low);
       mostOfLayer = λ n h other ok o. most-of-layer j sized p dec z one other ok o n h;
       firstDifference = λ w other ok n h same differ.

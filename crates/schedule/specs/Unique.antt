@@ -1,19 +1,36 @@
 -- Lemmas. The words that say what a plan is leave one choice only. Trial by trial, in the order in which layers are settled: where all
 -- that is settled before agrees, so does what the trial settles.
 use Prim.Native.Nat.{ℕ, zero, suc, _+_, _≤_, _<_, min}
-use mathlib.Core.Path.{_≡_, refl, sym}
+use mathlib.Core.Path.{_≡_, refl, sym, ap}
 use mathlib.Core.Logic.{⊎-elim}
 use native.Mathlib.Omega.{arith}
 use borrow.Author.Tests.{eq-eqb, ne-eqb, lt-ltb, le-ltb}
 use lib.Dec.{T-not, ltb, eqb, ltb→lt, nltb→le, eqb→eq, eqb-refl}
 use Rattle.basics.specs.Tests.{test}
-use Rattle.job.specs.Job.{Job, Layer, chunks, layers}
+use Rattle.job.specs.Job.{Job, Layer, chunks, lastSlot, layers}
 use Rattle.schedule.specs.Choice.{Same}
+use Rattle.schedule.specs.Own.{Fetched, carriedTo, fetchedBy, ownList}
 use Rattle.schedule.specs.Statement.{CanCarry, IsPlan, tried}
 
-pub can-carry-cong : (j : Job) (p q : ℕ → ℕ) → Same j p q → CanCarry j p → CanCarry j q
+-- ---- what depends on the layers of the job's chunks alone
+
+can-carry-cong : (j : Job) (p q : ℕ → ℕ) → Same j p q → CanCarry j p → CanCarry j q
 can-carry-cong j p q e s =
     record { rows = s .rows; passes = s .passes; in-order = s .in-order; exactly = λ i n r. rw (e i (r .chunk-low) (r .chunk-high)) at (s .exactly i n r) }
+
+carried-cong : (j : Job) (p q : ℕ → ℕ) → Same j p q → (i : ℕ) → i ≤ chunks j → carriedTo j p i ≡ carriedTo j q i
+carried-cong j p q e zero h = refl
+carried-cong j p q e (suc i) h = rw (carried-cong j p q e i (omega arith), e (suc i) (omega arith) h)
+
+fetched-cong : (j : Job) (p q : ℕ → ℕ) → Same j p q → (t : ℕ) → fetchedBy j p t ≡ fetchedBy j q t
+fetched-cong j p q e zero = rw (carried-cong j p q e (chunks j) (omega arith))
+fetched-cong j p q e (suc t) = rw (fetched-cong j p q e t)
+
+pub own-list-cong : (j : Job) (p q : ℕ → ℕ) → Same j p q → ownList j p ≡ ownList j q
+unfolding ownList
+own-list-cong j p q e = ap (λ (f : Fetched). f .rows) (fetched-cong j p q e (lastSlot j))
+
+-- ---- trial by trial
 
 -- The layers below n of a choice.
 abbrev below : (ℕ → ℕ) → ℕ → ℕ → ℕ

@@ -1,18 +1,23 @@
 -- Lemmas. Words of the argument that document 01 does not have, and the order of due slots and forecasts. Section 1 of the argument.
-use Prim.Native.Nat.{ℕ, zero, suc, _*_, _-_, _≤_, _<_}
+use Prim.Native.Nat.{ℕ, zero, suc, _-_, _≤_, _<_}
+use mathlib.Core.Bool.{Bool}
 use mathlib.Core.List.{List, [], _∷_}
 use native.Mathlib.Omega.{arith}
 use native.Mathlib.Nat.{mul-le-mul-right}
 use lib.Dec.{eqb}
 use lib.ListN.{length, getD}
 use Rattle.basics.specs.Sums.{pre}
-use Rattle.basics.specs.Tests.{All}
+use Rattle.basics.specs.Tests.{All, any}
 use Rattle.job.specs.Job.{Accepted, Job, Layer, Within, due, forecast, lastSlot, size}
 use Rattle.fetch.specs.Rows.{Row, bytesIf}
 
 -- The bytes of chunk i, all layers.
 abbrev pub bytesOfChunk : List Row → ℕ → ℕ
 bytesOfChunk rows i = bytesIf (λ x. eqb (x .chunk) i) rows
+
+-- Chunk i has a row.
+abbrev pub carries : List Row → ℕ → Bool
+carries rows i = any (λ x. eqb (x .chunk) i) rows
 
 -- What is forecast after slot t, up to the last slot.
 abbrev pub after : Job → ℕ → ℕ
