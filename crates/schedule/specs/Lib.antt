@@ -9,6 +9,7 @@ pub mod Necessity
 pub mod AnyOrder
 pub mod Own
 pub mod Fill
+pub mod Queue
 pub mod Sufficiency
 pub mod Order
 pub mod Kept

@@ -1,177 +1,43 @@
--- Sufficiency: the fill of feasible chunks passes. Assumes nothing.
-use Prim.Native.Nat.{ℕ, zero, suc, _+_, _*_, _-_, _≤_, _<_, pred, max}
-use mathlib.Core.Path.{_≡_, refl, sym, ap, _∙_, subst}
+-- Lemmas. A choice that fits has a list: the fill of the kept chunks with their releases passes, rules 1 to 6 one by one.
+-- Section 3 of the argument.
+use Prim.Native.Nat.{ℕ, zero, suc, _+_, _-_, _≤_, _<_}
+use mathlib.Core.Path.{_≡_, refl, ap}
 use mathlib.Core.Bool.{Bool, true, false, not, cond, _&&_, _||_}
 use mathlib.Core.List.{List, [], _∷_, _++_, append-assoc}
-use mathlib.Core.Logic.{_⊎_, inl, inr, ⊎-elim, _↔_}
+use mathlib.Core.Logic.{_⊎_, inl, inr, ⊎-elim}
 use native.Mathlib.Omega.{arith}
-use borrow.Author.Tests.{eq-eqb, ne-eqb, lt-leb, le-leb, lt-ltb, le-ltb}
-use lib.ListN.{length, drop, length-append}
-use lib.Seq.{drop-drop}
-use native.Mathlib.Numerals.{add-one}
-use lib.Dec.{T, T-not, leb, ltb, eqb, leb→le, nleb→lt, ltb→lt, nltb→le, lt→ltb, le→leb, eqb→eq, eqb-refl}
+use borrow.Author.Tests.{eq-eqb, ne-eqb, lt-leb, lt-ltb, le-ltb}
+use lib.ListN.{length, length-append}
+use lib.Dec.{T, T-not, leb, ltb, eqb, ltb→lt, nltb→le, le→leb, eqb→eq, eqb-refl}
 use Rattle.basics.specs.Sums.{count, pre, pre-add, pre-le, pre-mono}
-use Rattle.basics.specs.Tests.{All, In, T-and, T-or-iff, all-map, and-T, at-row, by-cond, last, not-and, test, tests}
-use Rattle.fetch.specs.Rows.{Carried, Row, begun, bytesIf, bytesInSlot, bytesOfLayer, held}
-use Rattle.fetch.specs.Rules.{InRange, OnTime, Passes}
-use Rattle.job.specs.Job.{Job, Layer, chunks, due, forecast, heldMost, lastSlot, layers, size}
-use Rattle.schedule.specs.AnyOrder.{none-count, some-row}
+use Rattle.basics.specs.Tests.{All, T-and, T-or-iff, all-append, and-T, at-row, by-cond, each-row, test, tests}
+use Rattle.job.specs.Job.{Job, chunks, due, forecast, heldMost, lastSlot, layers, size}
+use Rattle.fetch.specs.Rows.{Row, begun, bytesOfLayer, held}
+use Rattle.fetch.specs.Rules.{InRange, Passes}
 use Rattle.schedule.specs.Ascending.{Asc, asc-lower}
-use Rattle.schedule.specs.Count.{point, point-in, point-out}
-use Rattle.schedule.specs.Fill.{EachP, Piece, Ready, Sent, Still, fill, fill-done, fill-fits, fill-rows, fill-same, left-of, needs, on, rest-after}
-use Rattle.schedule.specs.Necessity.{after, due-mono}
-use Rattle.schedule.specs.Need.{Feas, Tails, need}
-use Rattle.schedule.specs.Words.{Sized, bytesOfChunk}
+use Rattle.schedule.specs.Count.{some-row}
+use Rattle.schedule.specs.Fill.{Ready, Sent, Still, fill, fill-done, fill-in-slots, fill-loses-nothing, fill-on-time, fill-sent, fill-within, needs}
+use Rattle.schedule.specs.Lists.{count-mono, count-none, point, point-out}
+use Rattle.schedule.specs.Need.{Feas}
+use Rattle.schedule.specs.Words.{Sized, after, due-mono}
+pub use Rattle.schedule.specs.Queue.{RelOk, each, feas-relok, has, has-low, ones, pieces, queue, releases, weight}
+use Rattle.schedule.specs.Queue.{SomeBytes, at-layer, left-of-queue, ready-queue}
 
--- ---- the queue: layers m .. m + n - 1 of chunk k, released at r
-abbrev pub pieces : (ℕ → ℕ → ℕ) → (k r m n : ℕ) → List Piece
-pieces size k r m zero = []
-pieces size k r m (suc n) = record { chunk = k; layer = m; left = size k m; ready = r } ∷ pieces size k r (suc m) n
+-- ---- rule 6: who may have begun by slot t
 
-abbrev pub weight : (ℕ → ℕ → ℕ) → (k m n : ℕ) → ℕ
-weight size k m zero = 0
-weight size k m (suc n) = size k m + weight size k (suc m) n
-
-abbrev pub queue : (ℕ → ℕ → ℕ) → (ℕ → ℕ) → List ℕ → List ℕ → List Piece
-queue size lv [] rs = []
-queue size lv (k ∷ ks) [] = []
-queue size lv (k ∷ ks) (r ∷ rs) = pieces size k r 0 (lv k) ++ queue size lv ks rs
-
-abbrev pub each : (ℕ → ℕ) → List ℕ → List ℕ
-each d [] = []
-each d (k ∷ ks) = d k ∷ each d ks
-
-abbrev pub ones : ℕ → List ℕ
-ones zero = []
-ones (suc n) = 1 ∷ ones n
-
--- 1 for the first h, and then the due slot of the chunk h places before
-abbrev pub releases : (ℕ → ℕ) → ℕ → List ℕ → List ℕ
-releases d h ks = ones h ++ each d ks
-
--- each chunk fits behind its release
-abbrev pub RelOk : (w d A : ℕ → ℕ) → List ℕ → List ℕ → Type 0
-RelOk w d A [] rs = Unit {0}
-RelOk w d A (k ∷ ks) [] = ⊥
-RelOk w d A (k ∷ ks) (r ∷ rs) = (need w d A (k ∷ ks) ≤ A ((r - 1))) × RelOk w d A ks rs
-
-relok-cons : (w d A : ℕ → ℕ) (gs : List ℕ) (r : ℕ) (rs : List ℕ) → need w d A gs ≤ A ((r - 1)) → RelOk w d A (drop 1 gs) rs → RelOk w d A gs (r ∷ rs)
-relok-cons w d A [] r rs m t = tt
-relok-cons w d A (g ∷ gs) r rs m t = (m, t)
-
-relok-later : (w d A : ℕ → ℕ) (h : ℕ) (ks : List ℕ) → Tails w d A h ks → RelOk w d A (drop h ks) (each d ks)
-relok-later w d A zero [] t = tt
-relok-later w d A (suc h) [] t = tt
-relok-later w d A zero (k ∷ ks) t = (t .0, relok-later w d A zero ks (t .1))
-relok-later w d A (suc h) (k ∷ ks) t =
-    relok-cons w d A (drop h ks) (d k) (each d ks) (t .0) (rw (drop-drop, add-one) (relok-later w d A (suc h) ks (t .1)))
-
-relok-first : (w d A : ℕ → ℕ) (h : ℕ) (gs rs : List ℕ) → need w d A gs ≤ A 0 → RelOk w d A (drop h gs) rs → RelOk w d A gs (ones h ++ rs)
-relok-first w d A zero gs rs m t = t
-relok-first w d A (suc h) [] rs m t = tt
-relok-first w d A (suc h) (g ∷ gs) rs m t = (m, relok-first w d A h gs rs (omega arith) t)
-
-pub feas-relok : (w d A : ℕ → ℕ) (h : ℕ) (ks : List ℕ) → Feas w d A h ks → RelOk w d A ks (releases d h ks)
-feas-relok w d A h ks f = relok-first w d A h ks (each d ks) (f .whole) (relok-later w d A h ks (f .tails))
-
--- ---- the queue's need
--- each layer queued of a chunk of 1 .. c has bytes
-abbrev pub SomeBytes : (size : ℕ → ℕ → ℕ) (lv : ℕ → ℕ) (c : ℕ) → Type 0
-SomeBytes size lv c = (k i : ℕ) → 1 ≤ k → k ≤ c → i < lv k → 1 ≤ size k i
-
-module _ (d A : ℕ → ℕ) (size : ℕ → ℕ → ℕ) where
-  needs-pieces : (k r m n : ℕ) (q : List Piece) → needs d A (pieces size k r m n ++ q) ≤ weight size k m n + max (A (d k)) (needs d A q)
-  needs-pieces k r m zero q = omega arith
-  needs-pieces k r m (suc n) q = omega (arith, needs-pieces k r (suc m) n q)
-
-  ready-pieces : (k r m n : ℕ) (q : List Piece) → ((i : ℕ) → i < n + m → 1 ≤ size k i) → Ready d A q → weight size k m n + max (A (d k)) (needs d A q) ≤ A ((r - 1)) → Ready d A (pieces size k r m n ++ q)
-  ready-pieces k r m zero q pos a h = a
-  ready-pieces k r m (suc n) q pos a h =
-      (omega (arith, needs-pieces k r (suc m) n q), pos m (omega arith), ready-pieces k r (suc m) n q (λ i l. pos i (omega arith)) a (omega arith))
-
-  ready-queue : (lv : ℕ → ℕ) (lo c : ℕ) → SomeBytes size lv c → 1 ≤ lo → (ks rs : List ℕ) → Asc lo c ks → RelOk (λ k. weight size k 0 (lv k)) d A ks rs → (needs d A (queue size lv ks rs) ≤ need (λ k. weight size k 0 (lv k)) d A ks) × Ready d A (queue size lv ks rs)
-  ready-queue lv lo c pos l [] rs s a = (omega arith, tt)
-  ready-queue lv lo c pos l (k ∷ ks) [] s a = absurd a
-  ready-queue lv lo c pos l (k ∷ ks) (r ∷ rs) s a =
-      let i = ready-queue lv (suc k) c pos (omega arith) ks rs (s .2) (a .1) in (
-        omega (arith, needs-pieces k r 0 (lv k) (queue size lv ks rs)),
-        ready-pieces k r 0 (lv k) (queue size lv ks rs) (λ i m. pos k i (omega arith) (s .1) (omega arith)) (i .1) (omega arith),
-      )
-
--- ---- what the queue holds of a layer
-abbrev at-layer : ℕ → ℕ → ℕ → ℕ → Bool
-at-layer i n k m = eqb k i && eqb m n
-
-left-append : (P : ℕ → ℕ → Bool) (a b : List Piece) → left-of P (a ++ b) ≡ left-of P a + left-of P b
-left-append P [] b = omega arith
-left-append P (p ∷ ps) b = omega (arith, left-append P ps b)
-
--- each layer is queued whole or not at all; a layer that is not queued has none above it
-left-other : (size : ℕ → ℕ → ℕ) (i n k r m c : ℕ) → (k ≡ i → ⊥) → left-of (at-layer i n) (pieces size k r m c) ≡ 0
-left-other size i n k r m zero h = refl
-left-other size i n k r m (suc c) h = rw (ne-eqb k i h) (omega (arith, left-other size i n k r (suc m) c h))
-
-left-past : (size : ℕ → ℕ → ℕ) (i n r m c : ℕ) → n < m → left-of (at-layer i n) (pieces size i r m c) ≡ 0
-left-past size i n r m zero h = refl
-left-past size i n r m (suc c) h = rw (eq-eqb i i refl, ne-eqb m n (omega arith)) (omega (arith, left-past size i n r (suc m) c (omega arith)))
-
-left-here : (size : ℕ → ℕ → ℕ) (i n r m c : ℕ) → m ≤ n → left-of (at-layer i n) (pieces size i r m c) ≡ cond (ltb n (c + m)) (size i n) 0
-left-here size i n r m zero h = rw (le-ltb n (0 + m) (omega arith))
-left-here size i n r m (suc c) h =
-    ⊎-elim
-    (λ t.
-    let e : m ≡ n = eqb→eq m n t in
-    rw (eq-eqb i i refl, eq-eqb m n e, lt-ltb n (suc c + m) (omega arith)) (omega (arith, ap (size i) e, left-past size i n r (suc m) c (omega arith))))
-    (λ t.
-    let o : m ≡ n → ⊥ = λ e. T-not (eqb m n) t (rw e (eqb-refl n)) in
-    let o′ : m < n = ne-lt m n h o in
-    let e : c + suc m ≡ suc c + m = omega arith in
-    rw (eq-eqb i i refl, ne-eqb m n o) (omega (arith, rw e at (left-here size i n r (suc m) c (omega arith)))))
-    (test (eqb m n))
-  where
-    ne-lt : (m n : ℕ) → m ≤ n → (m ≡ n → ⊥) → m < n
-    ne-lt m n h o = ⊎-elim (λ t. ltb→lt m n t) (λ t. absurd (o (omega (arith, nltb→le m n t)))) (test (ltb m n))
-
-abbrev pub has : List ℕ → ℕ → Bool
-has [] i = false
-has (k ∷ ks) i = eqb k i || has ks i
-
-pub has-low : (lo c : ℕ) (ks : List ℕ) (i : ℕ) → Asc lo c ks → i < lo → has ks i ≡ false
-has-low lo c [] i a h = refl
-has-low lo c (k ∷ ks) i a h = rw (ne-eqb k i (omega arith), has-low (suc k) c ks i (a .2) (omega arith))
-
-pub left-queue : (w d A : ℕ → ℕ) (size : ℕ → ℕ → ℕ) (lv : ℕ → ℕ) (lo c i n : ℕ) (ks rs : List ℕ) → Asc lo c ks → RelOk w d A ks rs → left-of (at-layer i n) (queue size lv ks rs) ≡ cond (has ks i && ltb n (lv i)) (size i n) 0
-left-queue w d A size lv lo c i n [] rs a r = refl
-left-queue w d A size lv lo c i n (k ∷ ks) [] a r = absurd r
-left-queue w d A size lv lo c i n (k ∷ ks) (q ∷ rs) a r =
-    let u = left-append (at-layer i n) (pieces size k q 0 (lv k)) (queue size lv ks rs) in
-    let v = left-queue w d A size lv (suc k) c i n ks rs (a .2) (r .1) in
-    ⊎-elim
-    (λ t.
-    let e : k ≡ i = eqb→eq k i t in
-    let z : has ks i ≡ false = has-low (suc k) c ks i (a .2) (omega arith) in
-    let v′ = rw z at v in
-    let e′ : lv i + 0 ≡ lv i = omega arith in
-    let x = rw e′ at (left-here size i n q 0 (lv i) (omega arith)) in
-    let x′ : left-of (at-layer i n) (pieces size k q 0 (lv k)) ≡ cond (ltb n (lv i)) (size i n) 0 = rw e x in
-    rw (eq-eqb k i e) (omega (arith, u, v′, x′)))
-    (λ t.
-    let o : k ≡ i → ⊥ = λ e. T-not (eqb k i) t (rw e (eqb-refl i)) in
-    rw (ne-eqb k i o) (omega (arith, u, v, left-other size i n k q 0 (lv k) o)))
-    (test (eqb k i))
-
--- ---- who may have begun by slot t
-abbrev pub live : ℕ → List ℕ → List ℕ → ℕ → Bool
+-- Chunk i has its release by slot t.
+abbrev live : ℕ → List ℕ → List ℕ → ℕ → Bool
 live t [] rs i = false
 live t (k ∷ ks) [] i = false
 live t (k ∷ ks) (r ∷ rs) i = (eqb k i && leb r t) || live t ks rs i
 
--- how many of them are not due yet
+-- How many of those are due after t.
 abbrev lives : ℕ → (ℕ → ℕ) → List ℕ → List ℕ → ℕ
 lives t d [] rs = 0
 lives t d (k ∷ ks) [] = 0
 lives t d (k ∷ ks) (r ∷ rs) = cond (leb r t && ltb t (d k)) 1 0 + lives t d ks rs
 
+-- One place sums to at most its value.
 pub point-total : (s b n : ℕ) → pre (point s b) n ≤ b
 point-total s b zero = omega arith
 point-total s b (suc n) =
@@ -180,21 +46,21 @@ point-total s b (suc n) =
     (λ t. rw (ne-eqb s (suc n) (λ e. T-not (eqb s (suc n)) t (rw e (eqb-refl (suc n))))) (omega (arith, point-total s b n)))
     (test (eqb s (suc n)))
 
-split : (a b c : Bool) → cond ((a || b) && c) 1 0 ≤ cond (a && c) 1 0 + cond (b && c) 1 0
-split true b true = omega arith
-split true b false = omega arith
-split false b c = omega arith
+either-counted : (a b c : Bool) → cond ((a || b) && c) 1 0 ≤ cond (a && c) 1 0 + cond (b && c) 1 0
+either-counted true b true = omega arith
+either-counted true b false = omega arith
+either-counted false b c = omega arith
 
-one-at : (X : ℕ → Bool) (b : Bool) (k i : ℕ) → cond ((eqb k i && b) && X i) 1 0 ≤ point k (cond (b && X k) 1 0) i
-one-at X b k i =
+counted-at : (X : ℕ → Bool) (b : Bool) (k i : ℕ) → cond ((eqb k i && b) && X i) 1 0 ≤ point k (cond (b && X k) 1 0) i
+counted-at X b k i =
     ⊎-elim
     (λ t. let e = eqb→eq k i t in rw (eq-eqb k i e, e) (omega arith))
     (λ t. rw (ne-eqb k i (λ e. T-not (eqb k i) t (rw e (eqb-refl i)))) (omega arith))
     (test (eqb k i))
 
 count-live : (t c : ℕ) (d : ℕ → ℕ) (ks rs : List ℕ) → count (λ i. live t ks rs i && ltb t (d i)) c ≤ lives t d ks rs
-count-live t c d [] rs = none-count (λ i. live t [] rs i && ltb t (d i)) c (λ e u. u)
-count-live t c d (k ∷ ks) [] = none-count (λ i. live t (k ∷ ks) [] i && ltb t (d i)) c (λ e u. u)
+count-live t c d [] rs = omega (arith, count-none (λ i. live t [] rs i && ltb t (d i)) c (λ i u v. tt))
+count-live t c d (k ∷ ks) [] = omega (arith, count-none (λ i. live t (k ∷ ks) [] i && ltb t (d i)) c (λ i u v. tt))
 count-live t c d (k ∷ ks) (r ∷ rs) =
     let x : ℕ = cond (leb r t && ltb t (d k)) 1 0 in
     omega (
@@ -203,64 +69,73 @@ count-live t c d (k ∷ ks) (r ∷ rs) =
           (λ i. cond (live t (k ∷ ks) (r ∷ rs) i && ltb t (d i)) 1 0)
           (λ i. point k x i + cond (live t ks rs i && ltb t (d i)) 1 0)
           c
-          (λ i. omega (arith, split (eqb k i && leb r t) (live t ks rs i) (ltb t (d i)), one-at (λ i. ltb t (d i)) (leb r t) k i)),
+          (λ i. omega (arith, either-counted (eqb k i && leb r t) (live t ks rs i) (ltb t (d i)), counted-at (λ i. ltb t (d i)) (leb r t) k i)),
       pre-add (point k x) (λ i. cond (live t ks rs i && ltb t (d i)) 1 0) c,
       point-total k x c,
       count-live t c d ks rs,
     )
 
--- a release that is a due slot behind t is no release by t
-later-none : (t : ℕ) (d : ℕ → ℕ) (ks gs ps : List ℕ) (lo c : ℕ) → ((k : ℕ) → lo ≤ k → t < d k) → Asc lo c gs → lives t d ks (ps ++ each d gs) ≤ length ps
-later-none t d [] gs ps lo c f a = omega arith
-later-none t d (k ∷ ks) [] [] lo c f a = omega arith
-later-none t d (k ∷ ks) (g ∷ gs) [] lo c f a =
-    rw (lt-leb (d g) t (f g (a .0))) (omega (arith, later-none t d ks gs [] lo c f (asc-lower lo (suc g) c gs (omega arith) (a .2))))
-later-none t d (k ∷ ks) gs (p ∷ ps) lo c f a =
-    omega (arith, later-none t d ks gs ps lo c f a, by-cond (λ n. n ≤ 1) (leb p t && ltb t (d k)) {x = 1} {y = 0} (λ u. omega arith) (λ u. omega arith))
+-- Where all due slots are after t, only the chunks of the first places ps have their release by t.
+only-first-live :
+    (t : ℕ) (d : ℕ → ℕ) (ks gs ps : List ℕ) (lo c : ℕ) → ((k : ℕ) → lo ≤ k → t < d k) → Asc lo c gs →
+    lives t d ks (ps ++ each d gs) ≤ length ps
+only-first-live t d [] gs ps lo c f a = omega arith
+only-first-live t d (k ∷ ks) [] [] lo c f a = omega arith
+only-first-live t d (k ∷ ks) (g ∷ gs) [] lo c f a =
+    rw (lt-leb (d g) t (f g (a .0))) (omega (arith, only-first-live t d ks gs [] lo c f (asc-lower lo (suc g) c gs (omega arith) (a .2))))
+only-first-live t d (k ∷ ks) gs (p ∷ ps) lo c f a =
+    omega (arith, only-first-live t d ks gs ps lo c f a, by-cond (λ n. n ≤ 1) (leb p t && ltb t (d k)) {x = 1} {y = 0} (λ u. omega arith) (λ u. omega arith))
 
-not-last : (a b : Bool) → T (not b) → cond (a && b) 1 0 ≤ 0
-not-last true true u = absurd u
-not-last true false u = omega arith
-not-last false b u = omega arith
+due-not-counted : (a b : Bool) → T (not b) → cond (a && b) 1 0 ≤ 0
+due-not-counted true true u = absurd u
+due-not-counted true false u = omega arith
+due-not-counted false b u = omega arith
 
-over : (t : ℕ) (d : ℕ → ℕ) (k : ℕ) (ks ps : List ℕ) → T (not (ltb t (d k))) → ((qs : List ℕ) → lives t d ks (qs ++ each d ks) ≤ length qs) → lives t d (k ∷ ks) (ps ++ each d (k ∷ ks)) ≤ length ps
-over t d k ks [] u f = omega (arith, not-last (leb (d k) t) (ltb t (d k)) u, f [])
-over t d k ks (q ∷ qs) u f =
-    omega (arith, not-last (leb q t) (ltb t (d k)) u, rw (append-assoc, length-append) at (f (qs ++ d k ∷ [])))
+few-live-after-due :
+    (t : ℕ) (d : ℕ → ℕ) (k : ℕ) (ks ps : List ℕ) → T (not (ltb t (d k))) →
+    ((qs : List ℕ) → lives t d ks (qs ++ each d ks) ≤ length qs) → lives t d (k ∷ ks) (ps ++ each d (k ∷ ks)) ≤ length ps
+few-live-after-due t d k ks [] u f = omega (arith, due-not-counted (leb (d k) t) (ltb t (d k)) u, f [])
+few-live-after-due t d k ks (q ∷ qs) u f =
+    omega (arith, due-not-counted (leb q t) (ltb t (d k)) u, rw (append-assoc, length-append) at (f (qs ++ d k ∷ [])))
 
-few-live : (t : ℕ) (d : ℕ → ℕ) (d-mono : (x y : ℕ) → x ≤ y → d x ≤ d y) (ks ps : List ℕ) (lo c : ℕ) → Asc lo c ks → lives t d ks (ps ++ each d ks) ≤ length ps
+-- At most the length of ps have their release by t and are due after t; with ones h for ps, at most h.
+few-live :
+    (t : ℕ) (d : ℕ → ℕ) (d-mono : (x y : ℕ) → x ≤ y → d x ≤ d y) (ks ps : List ℕ) (lo c : ℕ) → Asc lo c ks →
+    lives t d ks (ps ++ each d ks) ≤ length ps
 few-live t d d-mono [] ps lo c a = omega arith
 few-live t d d-mono (k ∷ ks) ps lo c a =
     ⊎-elim
-    (λ u. later-none t d (k ∷ ks) (k ∷ ks) ps k c (λ g h. omega (arith, ltb→lt t (d k) u, d-mono k g h)) (omega arith, a .1, a .2))
-    (λ u. over t d k ks ps u (λ qs. few-live t d d-mono ks qs (suc k) c (a .2)))
+    (λ u. only-first-live t d (k ∷ ks) (k ∷ ks) ps k c (λ g h. omega (arith, ltb→lt t (d k) u, d-mono k g h)) (omega arith, a .1, a .2))
+    (λ u. few-live-after-due t d k ks ps u (λ qs. few-live t d d-mono ks qs (suc k) c (a .2)))
     (test (ltb t (d k)))
 
 length-ones : (h : ℕ) → length (ones h) ≡ h
 length-ones zero = refl
 length-ones (suc h) = ap suc (length-ones h)
 
--- ---- what each piece of the queue is
-pub record Queued (c layers : ℕ) (ks rs : List ℕ) (k n r : ℕ) : Type 0 where
-  pub chunk-low : 1 ≤ k
-  pub chunk-high : k ≤ c
-  pub layer-in : n < layers
-  pub alive : (t : ℕ) → r ≤ t → T (live t ks rs k)
+-- ---- what is known of each piece of the queue
 
-eachp-append : (Q : Piece → Type 0) (a b : List Piece) → EachP Q a → EachP Q b → EachP Q (a ++ b)
-eachp-append Q [] b u v = v
-eachp-append Q (p ∷ ps) b u v = (u .0, eachp-append Q ps b (u .1) v)
+record Queued (c layers : ℕ) (ks rs : List ℕ) (k n r : ℕ) : Type 0 where
+  chunk-low : 1 ≤ k
+  chunk-high : k ≤ c
+  layer-in : n < layers
+  alive : (t : ℕ) → r ≤ t → T (live t ks rs k)
 
-still-pieces : (size : ℕ → ℕ → ℕ) (Q : ℕ → ℕ → ℕ → Type 0) (k r m n : ℕ) → ((i : ℕ) → i < n + m → 1 ≤ size k i) → ((i : ℕ) → i < n + m → Q k i r) → EachP (Still Q) (pieces size k r m n)
+still-pieces :
+    (size : ℕ → ℕ → ℕ) (Q : ℕ → ℕ → ℕ → Type 0) (k r m n : ℕ) → ((i : ℕ) → i < n + m → 1 ≤ size k i) →
+    ((i : ℕ) → i < n + m → Q k i r) → All (Still Q) (pieces size k r m n)
 still-pieces size Q k r m zero pos f = tt
 still-pieces size Q k r m (suc n) pos f =
     ((pos m (omega arith), f m (omega arith)), still-pieces size Q k r (suc m) n (λ i u. pos i (omega arith)) (λ i u. f i (omega arith)))
 
-still-queue : (size : ℕ → ℕ → ℕ) (lv : ℕ → ℕ) (c layers : ℕ) → SomeBytes size lv c → ((k : ℕ) → 1 ≤ k → k ≤ c → lv k ≤ layers) → (KS RS ks rs : List ℕ) (lo : ℕ) → 1 ≤ lo → Asc lo c ks → ((t k : ℕ) → T (live t ks rs k) → T (live t KS RS k)) → EachP (Still (Queued c layers KS RS)) (queue size lv ks rs)
+still-queue :
+    (size : ℕ → ℕ → ℕ) (lv : ℕ → ℕ) (c layers : ℕ) → SomeBytes size lv c → ((k : ℕ) → 1 ≤ k → k ≤ c → lv k ≤ layers) →
+    (KS RS ks rs : List ℕ) (lo : ℕ) → 1 ≤ lo → Asc lo c ks → ((t k : ℕ) → T (live t ks rs k) → T (live t KS RS k)) →
+    All (Still (Queued c layers KS RS)) (queue size lv ks rs)
 still-queue size lv c layers pos lim KS RS [] rs lo h a f = tt
 still-queue size lv c layers pos lim KS RS (k ∷ ks) [] lo h a f = tt
 still-queue size lv c layers pos lim KS RS (k ∷ ks) (r ∷ rs) lo h a f =
-    eachp-append
+    all-append
     (Still (Queued c layers KS RS))
     (pieces size k r 0 (lv k))
     (queue size lv ks rs)
@@ -273,75 +148,73 @@ still-queue size lv c layers pos lim KS RS (k ∷ ks) (r ∷ rs) lo h a f =
     }))
     (still-queue size lv c layers pos lim KS RS ks rs (suc k) (omega arith) (a .2) (λ t i u. f t i (T-or-iff (eqb k i && leb r t) (live t ks rs i) .1 (inr u))))
 
-count-mono : (p q : ℕ → Bool) (n : ℕ) → ((i : ℕ) → T (p i) → T (q i)) → count p n ≤ count q n
-count-mono p q n f = pre-le (λ i. cond (p i) 1 0) (λ i. cond (q i) 1 0) n (λ i. one (p i) (q i) (f i))
-  where
-    one : (a b : Bool) → (T a → T b) → cond a 1 0 ≤ cond b 1 0
-    one true true g = omega arith
-    one true false g = absurd (g tt)
-    one false b g = omega arith
-
 pub after-anti : (j : Job) (x y : ℕ) → x ≤ y → after j y ≤ after j x
 after-anti j x y h = omega (arith, pre-mono (forecast j) x y h)
 
--- the fetch list of the kept chunks, lv k layers of chunk k
+-- The fill of the chunks ks with their releases, lv k layers of chunk k, few-live-after-due all slots.
 unfoldable pub fetch : Job → (ℕ → ℕ) → List ℕ → List Row
 fetch j lv ks = fill (forecast j) (lastSlot j) 0 (queue (size j) lv ks (releases (due j) (heldMost j) ks))
 
-pick-or : (b : Bool) (s x : ℕ) → x ≡ cond b s 0 → (x ≡ 0) ⊎ (x ≡ s)
-pick-or true s x e = inr e
-pick-or false s x e = inl e
+none-or-all : (b : Bool) (s x : ℕ) → x ≡ cond b s 0 → (x ≡ 0) ⊎ (x ≡ s)
+none-or-all true s x e = inr e
+none-or-all false s x e = inl e
 
--- what is carried below
-full-below : (a : Bool) (n m s s′ x x′ : ℕ) → x ≡ cond (a && ltb (suc n) m) s 0 → x′ ≡ cond (a && ltb n m) s′ 0 → 1 ≤ s → x ≡ s → x′ ≡ s′
-full-below false n m s s′ x x′ p q h e = absurd (omega arith)
-full-below true n m s s′ x x′ p q h e =
+-- A layer that is carried has the one below carried: layers below lv i are.
+layer-below-full :
+    (a : Bool) (n m s s′ x x′ : ℕ) → x ≡ cond (a && ltb (suc n) m) s 0 → x′ ≡ cond (a && ltb n m) s′ 0 → 1 ≤ s → x ≡ s → x′ ≡ s′
+layer-below-full false n m s s′ x x′ p q h e = absurd (omega arith)
+layer-below-full true n m s s′ x x′ p q h e =
     ⊎-elim
     (λ t. rw (lt-ltb n m (omega (arith, ltb→lt (suc n) m t))) at q)
     (λ t. absurd (omega (arith, rw (le-ltb (suc n) m (nltb→le (suc n) m t)) at p)))
     (test (ltb (suc n) m))
 
--- ---- the fill of feasible chunks passes
+-- ---- the fill of chunks that fit passes
+
 module _ (j : Job) (sized : Sized j) (lv : ℕ → ℕ) (lim : (k : ℕ) → 1 ≤ k → k ≤ chunks j → lv k ≤ layers j) (ks : List ℕ) (asc : Asc 1 (chunks j) ks) (ok : Feas (λ k. weight (size j) k 0 (lv k)) (due j) (after j) (heldMost j) ks) where
   some-bytes : SomeBytes (size j) lv (chunks j)
   some-bytes k i u v w = sized k i (record { chunk-low = u; chunk-high = v; layer-in = omega (arith, lim k u v) })
 
-  abbrev pub rs : List ℕ
+  abbrev rs : List ℕ
   rs = releases (due j) (heldMost j) ks
 
-  abbrev pub Q : ℕ → ℕ → ℕ → Type 0
+  abbrev Q : ℕ → ℕ → ℕ → Type 0
   Q = Queued (chunks j) (layers j) ks rs
 
-  pub relok : RelOk (λ k. weight (size j) k 0 (lv k)) (due j) (after j) ks rs
+  relok : RelOk (λ k. weight (size j) k 0 (lv k)) (due j) (after j) ks rs
   relok = feas-relok (λ k. weight (size j) k 0 (lv k)) (due j) (after j) (heldMost j) ks ok
 
-  pub fits-queue : (needs (due j) (after j) (queue (size j) lv ks rs) ≤ after j 0) × Ready (due j) (after j) (queue (size j) lv ks rs)
+  fits-queue : (needs (due j) (after j) (queue (size j) lv ks rs) ≤ after j 0) × Ready (due j) (after j) (queue (size j) lv ks rs)
   fits-queue = let r = ready-queue (due j) (after j) (size j) lv 1 (chunks j) some-bytes (omega arith) ks rs asc relok in (omega (arith, r .0, ok .whole), r .1)
 
-  pub still : EachP (Still Q) (queue (size j) lv ks rs)
+  still : All (Still Q) (queue (size j) lv ks rs)
   still = still-queue (size j) lv (chunks j) (layers j) some-bytes lim ks rs ks rs 1 (omega arith) asc (λ t k u. u)
 
-  pub step : (t : ℕ) → t < lastSlot j → after j t ≤ forecast j (suc t) + after j (suc t)
+  step : (t : ℕ) → t < lastSlot j → after j t ≤ forecast j (suc t) + after j (suc t)
   step t h = omega arith
 
-  rows : All (Sent Q (due j) 0 (lastSlot j + 0)) (fetch j lv ks)
+  sent : All (Sent Q) (fetch j lv ks)
   unfolding fetch
-  rows = fill-rows (due j) (after j) (after-anti j) (forecast j) (lastSlot j) step Q (lastSlot j) 0 (queue (size j) lv ks rs) (omega arith) still (fits-queue .1) (fits-queue .0)
+  sent = fill-sent Q (forecast j) (lastSlot j) 0 (queue (size j) lv ks rs) still
+
+  in-slots : All (λ x. (0 < x .slot) × (x .slot ≤ lastSlot j + 0)) (fetch j lv ks)
+  unfolding fetch
+  in-slots = fill-in-slots (forecast j) (lastSlot j) 0 (queue (size j) lv ks rs)
 
   pub layer-is : (i n : ℕ) → bytesOfLayer (fetch j lv ks) i n ≡ cond (has ks i && ltb n (lv i)) (size j i n) 0
   unfolding fetch
   layer-is i n =
       let q = queue (size j) lv ks rs in
       let d = fill-done (due j) (after j) (after-anti j) (forecast j) (lastSlot j) step q (omega arith) (fits-queue .1) (fits-queue .0) in
-      let s = rw d at (fill-same (at-layer i n) (forecast j) (lastSlot j) 0 q) in
-      omega (arith, s, left-queue (λ k. weight (size j) k 0 (lv k)) (due j) (after j) (size j) lv 1 (chunks j) i n ks rs asc relok)
+      let s = rw d at (fill-loses-nothing (at-layer i n) (forecast j) (lastSlot j) 0 q) in
+      omega (arith, s, left-of-queue (λ k. weight (size j) k 0 (lv k)) (due j) (after j) (size j) lv 1 (chunks j) i n ks rs asc relok)
 
   held-live : (t i : ℕ) → T (held j (fetch j lv ks) t i) → T (live t ks rs i && ltb t (due j i))
   held-live t i u =
       let v = and-T (begun (fetch j lv ks) t i) (ltb t (due j i)) u in
       let x = some-row (λ x. eqb (x .chunk) i && leb (x .slot) t) (fetch j lv ks) (v .0) in
       let y = simp tests at (x .2) in
-      let z = at-row (Sent Q (due j) 0 (lastSlot j + 0)) (x .1) rows in
+      let z = at-row (Sent Q) (x .1) sent in
       T-and (live t ks rs i) (ltb t (due j i)) (rw (y .0) at (z .from .alive t (omega (arith, z .ready-by)))) (v .1)
 
   pub sufficient : Passes j (fetch j lv ks)
@@ -349,20 +222,18 @@ module _ (j : Job) (sized : Sized j) (lv : ℕ → ℕ) (lim : (k : ℕ) → 1 �
   sufficient =
       record {
         in-range =
-            all-map
-            (Sent Q (due j) 0 (lastSlot j + 0))
-            (InRange j)
-            (fetch j lv ks)
-            (λ x s. record { slot-low = s .later; slot-high = omega (arith, s .by); chunk-low = s .from .chunk-low; chunk-high = s .from .chunk-high; layer-in = s .from .layer-in; some-bytes = s .some })
-            rows;
-        whole = λ i n r. pick-or (has ks i && ltb n (lv i)) (size j i n) (bytesOfLayer (fetch j lv ks) i n) (layer-is i n);
-        lower = λ i n r e. full-below (has ks i) n (lv i) (size j i (suc n)) (size j i n) (bytesOfLayer (fetch j lv ks) i (suc n)) (bytesOfLayer (fetch j lv ks) i n) (layer-is i (suc n)) (layer-is i n) (sized i (suc n) r) e;
-        within = λ t u v. fill-fits (due j) (after j) (after-anti j) (forecast j) (lastSlot j) step Q (lastSlot j) 0 (queue (size j) lv ks rs) (omega arith) still (fits-queue .1) (fits-queue .0) t;
-        on-time = all-map (Sent Q (due j) 0 (lastSlot j + 0)) (OnTime j) (fetch j lv ks) (λ x s. s .in-time) rows;
+            each-row (InRange j) (fetch j lv ks) (λ x i.
+            let s = at-row (Sent Q) i sent in
+            let t = at-row (λ x. (0 < x .slot) × (x .slot ≤ lastSlot j + 0)) i in-slots in
+            record { slot-low = t .0; slot-high = omega arith; chunk-low = s .from .chunk-low; chunk-high = s .from .chunk-high; layer-in = s .from .layer-in; some-bytes = s .some });
+        whole = λ i n r. none-or-all (has ks i && ltb n (lv i)) (size j i n) (bytesOfLayer (fetch j lv ks) i n) (layer-is i n);
+        lower = λ i n r e. layer-below-full (has ks i) n (lv i) (size j i (suc n)) (size j i n) (bytesOfLayer (fetch j lv ks) i (suc n)) (bytesOfLayer (fetch j lv ks) i n) (layer-is i (suc n)) (layer-is i n) (sized i (suc n) r) e;
+        within = λ t u v. fill-within (forecast j) (lastSlot j) 0 (queue (size j) lv ks rs) t;
+        on-time = fill-on-time (due j) (after j) (after-anti j) (forecast j) (lastSlot j) step (lastSlot j) 0 (queue (size j) lv ks rs) (omega arith) (fits-queue .1) (fits-queue .0);
         few-held = λ t u v.
             omega (
               arith,
-              count-mono (held j (fetch j lv ks) t) (λ i. live t ks rs i && ltb t (due j i)) (chunks j) (held-live t),
+              count-mono (held j (fetch j lv ks) t) (λ i. live t ks rs i && ltb t (due j i)) (chunks j) (λ i u v. held-live t i),
               count-live t (chunks j) (due j) ks rs,
               few-live t (due j) (due-mono j) ks (ones (heldMost j)) 1 (chunks j) asc,
               length-ones (heldMost j),
