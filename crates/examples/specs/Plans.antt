@@ -24,7 +24,9 @@ pub record Planned (j : Job) (marks counts : List ℕ) (rows : List Row) : Type 
   pub rows-are : (p : ℕ → ℕ) → IsPlan j p → ownList j p ≡ rows
 
 -- What is computed of the computed plan holds of every plan.
-planned : (j : Job) (marks counts : List ℕ) (rows : List Row) → refusal j ≡ 0 → marksOf j (plan j) ≡ marks → countsOf j (plan j) ≡ counts → ownList j (plan j) ≡ rows → Planned j marks counts rows
+planned :
+    (j : Job) (marks counts : List ℕ) (rows : List Row) → refusal j ≡ 0 → marksOf j (plan j) ≡ marks →
+    countsOf j (plan j) ≡ counts → ownList j (plan j) ≡ rows → Planned j marks counts rows
 planned j marks counts rows ok m c r =
     let a = accepted-iff j .0 ok in
     let d = plan-exists j a in
@@ -47,12 +49,14 @@ unfolding refusal plan ownList
 A-plan = planned A _ _ _ refl refl refl refl
 
 -- A with limit 3: the same.
-pub A-limit-3 : Planned (A-with 3 (3 ∷ 0 ∷ 1 ∷ 0 ∷ 2 ∷ 0 ∷ [])) (0 ∷ 3 ∷ 1 ∷ []) (2 ∷ 1 ∷ 0 ∷ 0 ∷ []) (row 1 2 0 2 ∷ row 1 2 1 1 ∷ row 5 3 0 2 ∷ [])
+pub A-limit-3 :
+    Planned (A-with 3 (3 ∷ 0 ∷ 1 ∷ 0 ∷ 2 ∷ 0 ∷ [])) (0 ∷ 3 ∷ 1 ∷ []) (2 ∷ 1 ∷ 0 ∷ 0 ∷ []) (row 1 2 0 2 ∷ row 1 2 1 1 ∷ row 5 3 0 2 ∷ [])
 unfolding refusal plan ownList
 A-limit-3 = planned _ _ _ _ refl refl refl refl
 
 -- A with limit 6: marks 1, 1, 1. Rows (1,1,0,2) (1,2,0,1) (3,2,0,1) (5,3,0,2).
-pub A-limit-6 : Planned (A-with 6 (3 ∷ 0 ∷ 1 ∷ 0 ∷ 2 ∷ 0 ∷ [])) (1 ∷ 1 ∷ 1 ∷ []) (3 ∷ 0 ∷ 0 ∷ 0 ∷ []) (row 1 1 0 2 ∷ row 1 2 0 1 ∷ row 3 2 0 1 ∷ row 5 3 0 2 ∷ [])
+pub A-limit-6 :
+    Planned (A-with 6 (3 ∷ 0 ∷ 1 ∷ 0 ∷ 2 ∷ 0 ∷ [])) (1 ∷ 1 ∷ 1 ∷ []) (3 ∷ 0 ∷ 0 ∷ 0 ∷ []) (row 1 1 0 2 ∷ row 1 2 0 1 ∷ row 3 2 0 1 ∷ row 5 3 0 2 ∷ [])
 unfolding refusal plan ownList
 A-limit-6 = planned _ _ _ _ refl refl refl refl
 

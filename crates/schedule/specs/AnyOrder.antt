@@ -15,8 +15,7 @@ use Rattle.fetch.specs.Rows.{Row, begun, bytesIf, held}
 use Rattle.fetch.specs.Rules.{InRange, OnTime, Passes}
 use Rattle.job.specs.Job.{Job, chunks, due, heldMost, lastSlot}
 use Rattle.schedule.specs.Ascending.{Asc}
-use Rattle.schedule.specs.Count.{bytes-disjoint, bytes-mono}
-pub use Rattle.schedule.specs.Count.{some-row, sum-any}
+use Rattle.schedule.specs.Count.{bytes-disjoint, bytes-mono, some-row}
 use Rattle.schedule.specs.Lists.{bit, count-none, count-step}
 use Rattle.schedule.specs.Necessity.{within-between}
 use Rattle.schedule.specs.Need.{Feas, Tails, need}
@@ -31,7 +30,9 @@ fresh-further l q lo hi x h t =
     let u = and-T (ltb (x .chunk) lo) (not (begun l q (x .chunk))) t in
     T-and (ltb (x .chunk) hi) (not (begun l q (x .chunk))) (lt→ltb (x .chunk) hi (omega (arith, ltb→lt (x .chunk) lo (u .0)))) (u .1)
 
-fresh-grows : (l : List Row) (q lo g : ℕ) → lo ≤ g → T (not (begun l q g)) → bytesIf (fresh l q lo) l + bytesOfChunk l g ≤ bytesIf (fresh l q (suc g)) l
+fresh-grows :
+    (l : List Row) (q lo g : ℕ) → lo ≤ g → T (not (begun l q g)) →
+    bytesIf (fresh l q lo) l + bytesOfChunk l g ≤ bytesIf (fresh l q (suc g)) l
 fresh-grows l q lo g h v =
     bytes-disjoint
     (fresh l q lo)
@@ -48,7 +49,10 @@ module _ (j : Job) (l : List Row) (ok : Passes j l) (z : ℕ) where
   -- A slot q, a first chunk, and how many of the chunks from it on may be begun by q: those are held at its end.
   module _ (q base most : ℕ) (q-in : q ≤ due j base) (begun-held : (g : ℕ) → base ≤ g → T (begun l q g) → T (held j l q g)) (few : count (held j l q) (chunks j) ≤ most) where
     -- One chunk more: z bytes more in rows after q, or one more chunk held.
-    fresh-or-held : (lo g c : ℕ) → 1 ≤ lo → base ≤ lo → lo ≤ g → z ≤ bytesOfChunk l g → c ≤ bytesIf (fresh l q lo) l + count (held j l q) (pred lo) * z → c + z ≤ bytesIf (fresh l q (suc g)) l + count (held j l q) g * z
+    fresh-or-held :
+        (lo g c : ℕ) → 1 ≤ lo → base ≤ lo → lo ≤ g → z ≤ bytesOfChunk l g →
+        c ≤ bytesIf (fresh l q lo) l + count (held j l q) (pred lo) * z →
+        c + z ≤ bytesIf (fresh l q (suc g)) l + count (held j l q) g * z
     fresh-or-held lo g c h b k e m =
         ⊎-elim
         (λ t.
@@ -81,7 +85,10 @@ module _ (j : Job) (l : List Row) (ok : Passes j l) (z : ℕ) where
         ))
 
     -- Behind as many chunks as may be held, the bytes of each further chunk stand after q.
-    need-beyond-held : (gs : List ℕ) (lo c : ℕ) → 1 ≤ lo → base ≤ lo → Asc lo (chunks j) gs → All (λ e. z ≤ bytesOfChunk l e) gs → c + most * z ≤ bytesIf (fresh l q lo) l + count (held j l q) (pred lo) * z → c ≤ after j q → c + need (λ k. z) (due j) (after j) gs ≤ after j q
+    need-beyond-held :
+        (gs : List ℕ) (lo c : ℕ) → 1 ≤ lo → base ≤ lo → Asc lo (chunks j) gs → All (λ e. z ≤ bytesOfChunk l e) gs →
+        c + most * z ≤ bytesIf (fresh l q lo) l + count (held j l q) (pred lo) * z → c ≤ after j q →
+        c + need (λ k. z) (due j) (after j) gs ≤ after j q
     need-beyond-held [] lo c h b s e m n = omega arith
     need-beyond-held (g ∷ gs) lo c h b s e m n =
         let r = fresh-or-held lo g (c + most * z) h b (s .0) (e .0) m in
@@ -90,7 +97,10 @@ module _ (j : Job) (l : List Row) (ok : Passes j l) (z : ℕ) where
         let k = mul-le-mul-right z y in
         omega (arith, need-beyond-held gs (suc g) (c + z) (omega arith) (omega arith) (s .2) (e .1) (omega arith) (omega arith))
 
-    need-after : (n : ℕ) (gs : List ℕ) (lo i : ℕ) → i + n ≡ most → 1 ≤ lo → base ≤ lo → Asc lo (chunks j) gs → All (λ e. z ≤ bytesOfChunk l e) gs → i * z ≤ bytesIf (fresh l q lo) l + count (held j l q) (pred lo) * z → need (λ k. z) (due j) (after j) (drop n gs) ≤ after j q
+    need-after :
+        (n : ℕ) (gs : List ℕ) (lo i : ℕ) → i + n ≡ most → 1 ≤ lo → base ≤ lo → Asc lo (chunks j) gs →
+        All (λ e. z ≤ bytesOfChunk l e) gs → i * z ≤ bytesIf (fresh l q lo) l + count (held j l q) (pred lo) * z →
+        need (λ k. z) (due j) (after j) (drop n gs) ≤ after j q
     need-after zero gs lo i p h b s e m = let y : i ≡ most = omega arith in omega (arith, need-beyond-held gs lo 0 h b s e (let w = rw y at m in omega arith) (omega arith))
     need-after (suc n) [] lo i p h b s e m = omega arith
     need-after (suc n) (g ∷ gs) lo i p h b s e m =
@@ -114,7 +124,9 @@ module _ (j : Job) (l : List Row) (ok : Passes j l) (z : ℕ) where
   held-few zero h = omega (arith, none-held-at-0)
   held-few (suc q) h = ok .few-held (suc q) (omega arith) h
 
-  any-order-tails : (ks : List ℕ) (lo : ℕ) → 1 ≤ lo → Asc lo (chunks j) ks → All (λ e. z ≤ bytesOfChunk l e) ks → Tails (λ k. z) (due j) (after j) (heldMost j) ks
+  any-order-tails :
+      (ks : List ℕ) (lo : ℕ) → 1 ≤ lo → Asc lo (chunks j) ks → All (λ e. z ≤ bytesOfChunk l e) ks →
+      Tails (λ k. z) (due j) (after j) (heldMost j) ks
   any-order-tails [] lo h s e = tt
   any-order-tails (k ∷ ks) lo h s e =
       let q = due j k - 1 in (
@@ -138,7 +150,8 @@ module _ (j : Job) (l : List Row) (ok : Passes j l) (z : ℕ) where
         any-order-tails ks (suc k) (omega arith) (s .2) (e .1),
       )
 
-  pub any-order-fit : (ks : List ℕ) → Asc 1 (chunks j) ks → All (λ e. z ≤ bytesOfChunk l e) ks → Feas (λ k. z) (due j) (after j) (heldMost j) ks
+  pub any-order-fit :
+      (ks : List ℕ) → Asc 1 (chunks j) ks → All (λ e. z ≤ bytesOfChunk l e) ks → Feas (λ k. z) (due j) (after j) (heldMost j) ks
   any-order-fit ks s e =
       record {
         whole =
@@ -161,6 +174,3 @@ module _ (j : Job) (l : List Row) (ok : Passes j l) (z : ℕ) where
             (omega arith);
         tails = any-order-tails ks 1 (omega arith) s e;
       }
-
-pub none-count : (p : ℕ → Bool) (n : ℕ) → ((e : ℕ) → T (p e) → ⊥) → count p n ≤ 0
-none-count p n f = omega (arith, count-none p n (λ e u v. ⊎-elim (λ t. absurd (f e t)) (λ t. t) (test (p e))))

@@ -60,11 +60,14 @@ module _ (F : List ℕ → Type 0) (c : ℕ) (p : ℕ → Bool) (nil : F []) (ta
   picked-good lo zero h = nil
   picked-good lo (suc m) h = by-cond F (p (suc lo)) (λ t. picks (suc lo) m (omega arith) (omega arith) .0 t) (λ t. picked-good (suc lo) m (omega arith))
 
-  below-if-refused : (i : ℕ) (ks gs : List ℕ) → F (i ∷ ks) → F gs → Asc (suc i) c gs → (F (i ∷ gs) → ⊥) → Below ks gs → Below (i ∷ ks) gs
+  below-if-refused :
+      (i : ℕ) (ks gs : List ℕ) → F (i ∷ ks) → F gs → Asc (suc i) c gs → (F (i ∷ gs) → ⊥) → Below ks gs → Below (i ∷ ks) gs
   below-if-refused i ks gs t u a v (same r) = absurd (v (swap i ks gs r t u))
   below-if-refused i ks gs t u a v (more {g = g} r) = below-cons i g c (omega arith) (a .2) r
 
-  below-with-next : (lo m : ℕ) (ks : List ℕ) → lo + suc m ≡ c → F (suc lo ∷ ks) → Below ks (picked p (suc lo) m) → Below (suc lo ∷ ks) (picked p lo (suc m))
+  below-with-next :
+      (lo m : ℕ) (ks : List ℕ) → lo + suc m ≡ c → F (suc lo ∷ ks) → Below ks (picked p (suc lo) m) →
+      Below (suc lo ∷ ks) (picked p lo (suc m))
   below-with-next lo m ks h t b =
       let s = picked-asc p (suc lo) m c (omega arith) in
       by-cond
@@ -140,7 +143,9 @@ module _ (j : Job) (p : ℕ → ℕ) (accepts : (i : ℕ) → 1 ≤ i → i ≤ 
       rw e (omega arith)
 
   -- The plan keeps chunk i exactly if it fits with the chunks kept behind it.
-  pub base-picks : (i m : ℕ) → i + m ≡ chunks j → 1 ≤ i → T (leb 1 (p i)) ↔ Feas (λ k. size j k 0) (due j) (after j) (heldMost j) (i ∷ picked (λ i. leb 1 (p i)) i m)
+  pub base-picks :
+      (i m : ℕ) → i + m ≡ chunks j → 1 ≤ i →
+      T (leb 1 (p i)) ↔ Feas (λ k. size j k 0) (due j) (after j) (heldMost j) (i ∷ picked (λ i. leb 1 (p i)) i m)
   base-picks i m e g =
       let a = accepts i g (omega arith) in
       let w = tried-kept-base i m e g in

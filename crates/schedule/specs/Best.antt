@@ -57,13 +57,16 @@ module _ (j : Job) (sized : Sized j) (p : ℕ → ℕ) (dec : IsPlan j p) where
       x-fits : Fits j x
       x-fits = can-carry-fits j x (level-choice j m) (record { rows = m; passes = ok; in-order = o; exactly = level-exactly j m ok })
 
-      layer-no-more : (n : ℕ) → n < layers j → ((i : ℕ) → 1 ≤ i → i ≤ chunks j → min (x i) n ≡ min (p i) n) → countOf j x n ≤ countOf j p n
+      layer-no-more :
+          (n : ℕ) → n < layers j → ((i : ℕ) → 1 ≤ i → i ≤ chunks j → min (x i) n ≡ min (p i) n) → countOf j x n ≤ countOf j p n
       layer-no-more zero h f = base-no-more h m ok
       layer-no-more (suc n) h f =
           upper-most j (suc n) (z (suc n)) (omega arith) (λ i u v. equal i (suc n) (layer-of i (suc n) u v h)) p x is-plan-fits x-fits f (λ i u v a t. takes-iff i (suc n) (layer-of i (suc n) u v h) .1 (a, t))
 
       -- A list that carries the plan's layers below n carries no others there.
-      same-below : (n : ℕ) → n ≤ layers j → ((i : ℕ) → 1 ≤ i → i ≤ chunks j → min (p i) n ≤ x i) → (i : ℕ) → 1 ≤ i → i ≤ chunks j → min (x i) n ≡ min (p i) n
+      same-below :
+          (n : ℕ) → n ≤ layers j → ((i : ℕ) → 1 ≤ i → i ≤ chunks j → min (p i) n ≤ x i) → (i : ℕ) → 1 ≤ i → i ≤ chunks j →
+          min (x i) n ≡ min (p i) n
       same-below zero h f i u v = omega arith
       same-below (suc n) h f i u v =
           let a = same-below n (omega arith) (λ i u v. omega (arith, f i u v)) in
@@ -90,7 +93,9 @@ module _ (j : Job) (sized : Sized j) (p : ℕ → ℕ) (dec : IsPlan j p) where
 
     -- ---- a passing list, where the limit holds the whole programme
 
-    pub first-difference : HoldsAll j → (m : List Row) → Passes j m → (n : ℕ) → n < layers j → ((k : ℕ) → k < n → layerCount j m k ≡ countOf j p k) → layerCount j m n ≤ countOf j p n
+    pub first-difference :
+        HoldsAll j → (m : List Row) → Passes j m → (n : ℕ) → n < layers j → ((k : ℕ) → k < n → layerCount j m k ≡ countOf j p k) →
+        layerCount j m n ≤ countOf j p n
     first-difference w m ok n h f =
         omega (
           arith,

@@ -73,7 +73,9 @@ sizes-exactly j l lv sized c i n r = (
   λ h. rw (lt-ltb n (lv i) h) at (c i n r),
 )
 
-pub chunk-bytes : (j : Job) (l : List Row) (lv : ℕ → ℕ) → Passes j l → Choice j lv → CarriesExactly j l lv → (i : ℕ) → 1 ≤ i → i ≤ chunks j → bytesOfChunk l i ≡ bytes j lv i
+pub chunk-bytes :
+    (j : Job) (l : List Row) (lv : ℕ → ℕ) → Passes j l → Choice j lv → CarriesExactly j l lv → (i : ℕ) → 1 ≤ i → i ≤ chunks j →
+    bytesOfChunk l i ≡ bytes j lv i
 chunk-bytes j l lv ok c a i g h =
     chunk-by-layers i (layers j) l (all-map (InRange j) (λ x. x .layer < layers j) l (λ x r. r .layer-in) (ok .in-range))
     ∙ sum-cong (bytesOfLayer l i) (λ n. cond (ltb n (lv i)) (size j i n) 0) (layers j) (λ n u. exactly-sizes j l lv (ok .whole) a i n (record { chunk-low = g; chunk-high = h; layer-in = u }))

@@ -42,11 +42,15 @@ has-picked p lo (suc n) i g h =
     (λ t. let u : suc lo < i = nleb→lt i (suc lo) t in behind (p (suc lo)) u (has-picked p (suc lo) n i u (omega arith)))
     (test (leb i (suc lo)))
   where
-    front : (b : Bool) → has (picked p (suc lo) n) (suc lo) ≡ false → has (cond b (suc lo ∷ picked p (suc lo) n) (picked p (suc lo) n)) (suc lo) ≡ b
+    front :
+        (b : Bool) → has (picked p (suc lo) n) (suc lo) ≡ false →
+        has (cond b (suc lo ∷ picked p (suc lo) n) (picked p (suc lo) n)) (suc lo) ≡ b
     front true e = rw (eq-eqb (suc lo) (suc lo) refl)
     front false e = e
 
-    behind : (b : Bool) → suc lo < i → has (picked p (suc lo) n) i ≡ p i → has (cond b (suc lo ∷ picked p (suc lo) n) (picked p (suc lo) n)) i ≡ p i
+    behind :
+        (b : Bool) → suc lo < i → has (picked p (suc lo) n) i ≡ p i →
+        has (cond b (suc lo ∷ picked p (suc lo) n) (picked p (suc lo) n)) i ≡ p i
     behind true u e = rw (ne-eqb (suc lo) i (omega arith)) e
     behind false u e = e
 
@@ -77,7 +81,8 @@ picked-cong p q lo (suc n) f =
     rw (f (suc lo) (omega arith) (omega arith), picked-cong p q (suc lo) n (λ i u v. f i (omega arith) (omega arith)))
 
 -- Where nothing passes at the front, the front may be left out.
-pub picked-skip : (p : ℕ → Bool) (lo m n : ℕ) → ((i : ℕ) → lo < i → i ≤ m + lo → p i ≡ false) → picked p lo (m + n) ≡ picked p (m + lo) n
+pub picked-skip :
+    (p : ℕ → Bool) (lo m n : ℕ) → ((i : ℕ) → lo < i → i ≤ m + lo → p i ≡ false) → picked p lo (m + n) ≡ picked p (m + lo) n
 picked-skip p lo zero n f = let e : 0 + n ≡ n = omega arith in let e′ : 0 + lo ≡ lo = omega arith in rw (e, e′)
 picked-skip p lo (suc m) n f =
     let e : suc m + n ≡ suc (m + n) = omega arith in
@@ -88,7 +93,10 @@ picked-skip p lo (suc m) n f =
 abbrev PickedBehind : (ℕ → Bool) → List ℕ → ℕ → ℕ → Type 0
 PickedBehind p ks lo n = (b : ℕ) × (k : ℕ) × (b + k ≡ lo + n) × (lo ≤ b) × (ks ≡ picked p b k)
 
-behind-either : (p : ℕ → Bool) (m lo n : ℕ) (c : Bool) → PickedBehind p (drop m (picked p (suc lo) n)) (suc lo) n → PickedBehind p (drop (suc m) (picked p (suc lo) n)) (suc lo) n → PickedBehind p (drop (suc m) (cond c (suc lo ∷ picked p (suc lo) n) (picked p (suc lo) n))) lo (suc n)
+behind-either :
+    (p : ℕ → Bool) (m lo n : ℕ) (c : Bool) → PickedBehind p (drop m (picked p (suc lo) n)) (suc lo) n →
+    PickedBehind p (drop (suc m) (picked p (suc lo) n)) (suc lo) n →
+    PickedBehind p (drop (suc m) (cond c (suc lo ∷ picked p (suc lo) n) (picked p (suc lo) n))) lo (suc n)
 behind-either p m lo n true r s = (r .0, r .1, omega (arith, r .2), omega (arith, r .3), r .4)
 behind-either p m lo n false r s = (s .0, s .1, omega (arith, s .2), omega (arith, s .3), s .4)
 

@@ -53,7 +53,9 @@ count-step p lo zero h t = absurd (omega arith)
 count-step p lo (suc k) h t = omega (arith, pre-mono (λ i. bit (p i)) lo k (omega arith), bit-yes (p (suc k)) t)
 
 -- If all that pass p pass q, and no more pass q, then those that pass q pass p.
-pub count-tight : (p q : ℕ → Bool) (n : ℕ) → ((i : ℕ) → 1 ≤ i → i ≤ n → T (p i) → T (q i)) → count q n ≤ count p n → (i : ℕ) → 1 ≤ i → i ≤ n → T (q i) → T (p i)
+pub count-tight :
+    (p q : ℕ → Bool) (n : ℕ) → ((i : ℕ) → 1 ≤ i → i ≤ n → T (p i) → T (q i)) → count q n ≤ count p n → (i : ℕ) → 1 ≤ i → i ≤ n →
+    T (q i) → T (p i)
 count-tight p q zero f h i g l t = absurd (omega arith)
 count-tight p q (suc n) f h i g l t =
     let f′ : (i : ℕ) → 1 ≤ i → i ≤ n → T (p i) → T (q i) = λ i u v t. f i u (omega arith) t in
@@ -68,7 +70,9 @@ count-tight p q (suc n) f h i g l t =
     (test (p (suc n)))
 
 -- A test that passes from some number on has, of all with no smaller count, the fewest early ones.
-pub rising-has-fewest-early : (q r : ℕ → Bool) (e b : ℕ) → ((x y : ℕ) → 1 ≤ x → x ≤ y → y ≤ e + b → T (q x) → T (q y)) → count q (e + b) ≤ count r (e + b) → count q b ≤ count r b
+pub rising-has-fewest-early :
+    (q r : ℕ → Bool) (e b : ℕ) → ((x y : ℕ) → 1 ≤ x → x ≤ y → y ≤ e + b → T (q x) → T (q y)) → count q (e + b) ≤ count r (e + b) →
+    count q b ≤ count r b
 rising-has-fewest-early q r zero b f h = let e : 0 + b ≡ b = omega arith in rw e at h
 rising-has-fewest-early q r (suc e) b f h =
     let s : suc e + b ≡ suc (e + b) = omega arith in
@@ -87,7 +91,9 @@ rising-has-fewest-early q r (suc e) b f h =
     (test (q (suc (e + b))))
 
 -- Either all of 1 .. c pass, or there is a last one that does not.
-pub last-that-fails : (q : ℕ → Bool) (c : ℕ) → ((k : ℕ) → 1 ≤ k → k ≤ c → T (q k)) ⊎ ((i : ℕ) × (1 ≤ i) × (i ≤ c) × T (not (q i)) × ((k : ℕ) → i < k → k ≤ c → T (q k)))
+pub last-that-fails :
+    (q : ℕ → Bool) (c : ℕ) →
+    ((k : ℕ) → 1 ≤ k → k ≤ c → T (q k)) ⊎ ((i : ℕ) × (1 ≤ i) × (i ≤ c) × T (not (q i)) × ((k : ℕ) → i < k → k ≤ c → T (q k)))
 last-that-fails q zero = inl (λ k u v. absurd (omega arith))
 last-that-fails q (suc c) =
     ⊎-elim
@@ -198,7 +204,9 @@ passes-below p zero m f h t = let e : m ≡ 0 = omega arith in rw e t
 passes-below p (suc k) m f h t = ⊎-elim (λ l. passes-below p k m (λ n u v. f n (omega arith) v) l (f k (omega arith) t)) (λ e. rw e t) (last m k h)
 
 -- Those below the count are those that pass.
-pub below-bits-iff : (p : ℕ → Bool) (k : ℕ) → ((n : ℕ) → suc n < k → T (p (suc n)) → T (p n)) → (n : ℕ) → n < k → (n < sum (λ m. bit (p m)) k) ↔ T (p n)
+pub below-bits-iff :
+    (p : ℕ → Bool) (k : ℕ) → ((n : ℕ) → suc n < k → T (p (suc n)) → T (p n)) → (n : ℕ) → n < k →
+    (n < sum (λ m. bit (p m)) k) ↔ T (p n)
 below-bits-iff p zero f n h = absurd (omega arith)
 below-bits-iff p (suc k) f n h =
     ⊎-elim

@@ -15,9 +15,10 @@ use Rattle.job.specs.Job.{Job, chunks, due, forecast, heldMost, lastSlot}
 use Rattle.schedule.specs.Ascending.{Asc, asc-drop, asc-lower, asc-nth, count-to-nth}
 use Rattle.schedule.specs.Count.{bytes-between, bytes-disjoint}
 use Rattle.schedule.specs.Need.{Feas, Tails, need}
-pub use Rattle.schedule.specs.Words.{after, due-mono}
-use Rattle.schedule.specs.Words.{bytesOfChunk}
+pub use Rattle.schedule.specs.Words.{after}
+use Rattle.schedule.specs.Words.{bytesOfChunk, due-mono}
 
+-- P holds of each chunk.
 abbrev pub Each : (ℕ → Type 0) → List ℕ → Type 0
 Each P ks = All P ks
 
@@ -38,7 +39,9 @@ run-grows a lo k p q l =
 
 module _ (j : Job) (l : List Row) (ok : Passes j l) where
   -- Rows that lie in the slots q + 1 .. d sum to at most the forecast of those slots.
-  pub within-between : (P : Row → Bool) (q d : ℕ) → q ≤ d → d ≤ lastSlot j → ((x : Row) → In x l → T (P x) → (q < x .slot) × (x .slot ≤ d)) → bytesIf P l + after j d ≤ after j q
+  pub within-between :
+      (P : Row → Bool) (q d : ℕ) → q ≤ d → d ≤ lastSlot j → ((x : Row) → In x l → T (P x) → (q < x .slot) × (x .slot ≤ d)) →
+      bytesIf P l + after j d ≤ after j q
   within-between P q d h g f =
       omega (
         arith,
@@ -48,7 +51,9 @@ module _ (j : Job) (l : List Row) (ok : Passes j l) where
       )
 
   -- If the rows of the chunks from a on stand after slot q, those chunks need no more than the forecast after q.
-  need-behind : (a q : ℕ) → q ≤ due j a → ((x : Row) → In x l → a ≤ x .chunk → q < x .slot) → (ks : List ℕ) (lo c : ℕ) → a ≤ lo → Asc lo (chunks j) ks → c ≤ bytesIf (inRun a lo) l → c ≤ after j q → c + need (bytesOfChunk l) (due j) (after j) ks ≤ after j q
+  need-behind :
+      (a q : ℕ) → q ≤ due j a → ((x : Row) → In x l → a ≤ x .chunk → q < x .slot) → (ks : List ℕ) (lo c : ℕ) → a ≤ lo →
+      Asc lo (chunks j) ks → c ≤ bytesIf (inRun a lo) l → c ≤ after j q → c + need (bytesOfChunk l) (due j) (after j) ks ≤ after j q
   need-behind a q h f [] lo c g s m n = omega arith
   need-behind a q h f (k ∷ ks) lo c g s m n =
       let r = run-grows a lo k g (s .0) l in
@@ -76,7 +81,9 @@ module _ (j : Job) (l : List Row) (ok : Passes j l) where
       (test (ltb e (x .chunk)))
 
   -- The windows: the rows of the chunk that stands H places behind k, and of later ones, come no earlier than k is due.
-  row-after-due : PlayingOrder j l → (k : ℕ) (ks : List ℕ) → Asc 1 (chunks j) (k ∷ ks) → All (λ e. Carried j l e 0) (k ∷ ks) → heldMost j < length (k ∷ ks) → (x : Row) → In x l → getD (k ∷ ks) (heldMost j) 0 ≤ x .chunk → due j k ≤ x .slot
+  row-after-due :
+      PlayingOrder j l → (k : ℕ) (ks : List ℕ) → Asc 1 (chunks j) (k ∷ ks) → All (λ e. Carried j l e 0) (k ∷ ks) →
+      heldMost j < length (k ∷ ks) → (x : Row) → In x l → getD (k ∷ ks) (heldMost j) 0 ≤ x .chunk → due j k ≤ x .slot
   row-after-due o k ks s m h x i g =
       let z = at-row (InRange j) i (ok .in-range) in
       ⊎-elim
@@ -101,7 +108,9 @@ module _ (j : Job) (l : List Row) (ok : Passes j l) where
       (λ u. nltb→le (x .slot) (due j k) u)
       (test (ltb (x .slot) (due j k)))
 
-  carried-tails : PlayingOrder j l → (ks : List ℕ) (lo : ℕ) → 1 ≤ lo → Asc lo (chunks j) ks → All (λ e. Carried j l e 0) ks → Tails (bytesOfChunk l) (due j) (after j) (heldMost j) ks
+  carried-tails :
+      PlayingOrder j l → (ks : List ℕ) (lo : ℕ) → 1 ≤ lo → Asc lo (chunks j) ks → All (λ e. Carried j l e 0) ks →
+      Tails (bytesOfChunk l) (due j) (after j) (heldMost j) ks
   carried-tails o [] lo h s m = tt
   carried-tails o (k ∷ ks) lo h s m = (
     ⊎-elim
@@ -130,7 +139,9 @@ module _ (j : Job) (l : List Row) (ok : Passes j l) where
   )
 
   -- Carried chunks of a passing list in playing order fit, each with its bytes in the list.
-  pub carried-fit : PlayingOrder j l → (ks : List ℕ) → Asc 1 (chunks j) ks → All (λ e. Carried j l e 0) ks → Feas (bytesOfChunk l) (due j) (after j) (heldMost j) ks
+  pub carried-fit :
+      PlayingOrder j l → (ks : List ℕ) → Asc 1 (chunks j) ks → All (λ e. Carried j l e 0) ks →
+      Feas (bytesOfChunk l) (due j) (after j) (heldMost j) ks
   carried-fit o ks s m =
       record {
         whole = omega (arith, need-behind 0 0 (omega arith) (λ x i h. at-row (InRange j) i (ok .in-range) .slot-low) ks 0 0 (omega arith) (asc-lower 0 1 (chunks j) ks (omega arith) s) (omega arith) (omega arith));

@@ -220,7 +220,8 @@ module _ (j : Job) (i n : ℕ) (r : Layer j i n) where
 kept-same-test : (a b n : ℕ) → 1 ≤ n → min a n ≡ min b n → leb 1 a ≡ leb 1 b
 kept-same-test a b n h e = ⊎-elim (λ t. rw (le-leb 1 a (leb→le 1 a t)) (sym (le-leb 1 b (omega (arith, leb→le 1 a t))))) (λ t. rw (lt-leb 1 a (nleb→lt 1 a t)) (sym (lt-leb 1 b (omega (arith, nleb→lt 1 a t))))) (test (leb 1 a))
 
-pub same-kept : (j : Job) (n : ℕ) (p x : ℕ → ℕ) → 1 ≤ n → ((i : ℕ) → 1 ≤ i → i ≤ chunks j → min (x i) n ≡ min (p i) n) → kept j x ≡ kept j p
+pub same-kept :
+    (j : Job) (n : ℕ) (p x : ℕ → ℕ) → 1 ≤ n → ((i : ℕ) → 1 ≤ i → i ≤ chunks j → min (x i) n ≡ min (p i) n) → kept j x ≡ kept j p
 same-kept j n p x up agree = picked-cong (λ i. leb 1 (x i)) (λ i. leb 1 (p i)) 0 (chunks j) (λ i u v. kept-same-test (x i) (p i) n up (agree i u (omega arith)))
 
 pub tried-kept : (j : Job) (n : ℕ) (p : ℕ → ℕ) (i : ℕ) → 1 ≤ n → n ≤ p i → kept j (tried p n i) ≡ kept j p

@@ -36,7 +36,9 @@ decision j sized lv c =
     (λ s. b .1 (a .0 s), λ t. a .1 (b .0 t))
 
 -- Then the choice's own list with its marks passes, is in playing order and carries exactly the choice.
-pub own-carries : (j : Job) → Sized j → (choice : ℕ → ℕ) → Choice j choice → CanCarry j choice → Keeps j (marksOf j choice) (ownList j choice) × PlayingOrder j (ownList j choice) × CarriesExactly j (ownList j choice) choice
+pub own-carries :
+    (j : Job) → Sized j → (choice : ℕ → ℕ) → Choice j choice → CanCarry j choice →
+    Keeps j (marksOf j choice) (ownList j choice) × PlayingOrder j (ownList j choice) × CarriesExactly j (ownList j choice) choice
 unfolding own
 own-carries j sized lv c s =
     let f = can-carry-fits j lv c s in

@@ -38,7 +38,9 @@ below p n k = min (p k) n
 
 module _ (j : Job) (n : ℕ) (h : n < layers j) where
   -- One trial.
-  same-trial : (p q : ℕ → ℕ) (i : ℕ) → IsPlan j p → IsPlan j q → Same j (below p n) (below q n) → 1 ≤ i → i ≤ chunks j → ((k : ℕ) → i < k → k ≤ chunks j → below p (suc n) k ≡ below q (suc n) k) → n < p i → n < q i
+  same-trial :
+      (p q : ℕ → ℕ) (i : ℕ) → IsPlan j p → IsPlan j q → Same j (below p n) (below q n) → 1 ≤ i → i ≤ chunks j →
+      ((k : ℕ) → i < k → k ≤ chunks j → below p (suc n) k ≡ below q (suc n) k) → n < p i → n < q i
   same-trial p q i dp dq s u v f l =
       let r : Layer j i n = record { chunk-low = u; chunk-high = v; layer-in = h } in
       let a = dp .decided i n r .0 l in
@@ -54,7 +56,9 @@ module _ (j : Job) (n : ℕ) (h : n < layers j) where
       )
 
   -- The chunks down to lo + 1.
-  same-sweep : (p q : ℕ → ℕ) → IsPlan j p → IsPlan j q → Same j (below p n) (below q n) → (m lo : ℕ) → lo + m ≡ chunks j → (k : ℕ) → lo < k → k ≤ chunks j → below p (suc n) k ≡ below q (suc n) k
+  same-sweep :
+      (p q : ℕ → ℕ) → IsPlan j p → IsPlan j q → Same j (below p n) (below q n) → (m lo : ℕ) → lo + m ≡ chunks j → (k : ℕ) → lo < k →
+      k ≤ chunks j → below p (suc n) k ≡ below q (suc n) k
   same-sweep p q dp dq s zero lo e k u v = absurd (omega arith)
   same-sweep p q dp dq s (suc m) lo e k u v =
       let f : (k : ℕ) → suc lo < k → k ≤ chunks j → below p (suc n) k ≡ below q (suc n) k = same-sweep p q dp dq s m (suc lo) (omega arith) in

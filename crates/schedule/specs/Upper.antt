@@ -33,7 +33,9 @@ among-count q lo (suc m) = let e : suc m + lo ≡ m + suc lo = omega arith in rw
 
 -- The scan goes from the last chunk down: g and c are how many the plan and the other have taken, np and nx what they need. One chunk:
 -- the plan takes the layer if a, the other if b.
-scan-step : (a b : Bool) (s r np nx g c z : ℕ) → c ≤ g → np + c * z ≤ nx + g * z → (T (not a) → T b → c < g) → (bit b + c ≤ bit a + g) × (s + cond a z 0 + max r np + (bit b + c) * z ≤ s + cond b z 0 + max r nx + (bit a + g) * z)
+scan-step :
+    (a b : Bool) (s r np nx g c z : ℕ) → c ≤ g → np + c * z ≤ nx + g * z → (T (not a) → T b → c < g) →
+    (bit b + c ≤ bit a + g) × (s + cond a z 0 + max r np + (bit b + c) * z ≤ s + cond b z 0 + max r nx + (bit a + g) * z)
 scan-step true true s r np nx g c z h e f = (omega arith, omega (arith, mul-le-mul-right z h))
 scan-step true false s r np nx g c z h e f = (omega arith, omega (arith, mul-le-mul-right z h))
 scan-step false true s r np nx g c z h e f = let l : suc c ≤ g = f tt tt in (omega arith, omega (arith, mul-le-mul-right z h, mul-le-mul-right z l))
@@ -115,7 +117,9 @@ module _ (j : Job) (n z : ℕ) (up : 1 ≤ n) (equal : (i : ℕ) → 1 ≤ i →
         (λ w. r))
 
     -- From any chunk on it is no heavier than the plan or than the other.
-    tried-from-any : (b k : ℕ) → b + k ≡ chunks j → need-of t (picked base b k) ≤ max (need-of (bytes j p) (picked base b k)) (need-of (bytes j x) (picked base b k))
+    tried-from-any :
+        (b k : ℕ) → b + k ≡ chunks j →
+        need-of t (picked base b k) ≤ max (need-of (bytes j p) (picked base b k)) (need-of (bytes j x) (picked base b k))
     tried-from-any b k h =
         ⊎-elim
         (λ w. omega (arith, tried-behind b k (leb→le i b w), upToLayer-needs-less p b k))
@@ -141,7 +145,8 @@ module _ (j : Job) (n z : ℕ) (up : 1 ≤ n) (equal : (i : ℕ) → 1 ≤ i →
   -- Over lo + 1 .. lo + m the plan has taken no fewer, and needs no more but for what it took more.
   record Ahead (lo m : ℕ) : Type 0 where
     count : among (λ i. ltb n (x i)) lo m ≤ among (λ i. ltb n (p i)) lo m
-    needs : need-of (upToLayer p) (picked base lo m) + among (λ i. ltb n (x i)) lo m * z ≤ need-of (upToLayer x) (picked base lo m) + among (λ i. ltb n (p i)) lo m * z
+    needs :
+        need-of (upToLayer p) (picked base lo m) + among (λ i. ltb n (x i)) lo m * z ≤ need-of (upToLayer x) (picked base lo m) + among (λ i. ltb n (p i)) lo m * z
 
   ahead-kept : (lo m : ℕ) → lo + suc m ≡ chunks j → T (base (suc lo)) → Ahead (suc lo) m → Ahead lo (suc m)
   ahead-kept lo m h k a =

@@ -31,7 +31,8 @@ use Rattle.schedule.specs.Words.{Sized, after, bytesOfChunk, due-mono}
 abbrev pub Prefixes : Job → (ℕ → ℕ) → Type 0
 Prefixes j lv = (b : ℕ) → 1 ≤ b → b ≤ chunks j → pre (bytes j lv) b + after j (due j b) ≤ after j 0
 
-rows-to-next : (l : List Row) (b : ℕ) → bytesIf (λ x. leb (x .chunk) b) l + bytesOfChunk l (suc b) ≤ bytesIf (λ x. leb (x .chunk) (suc b)) l
+rows-to-next :
+    (l : List Row) (b : ℕ) → bytesIf (λ x. leb (x .chunk) b) l + bytesOfChunk l (suc b) ≤ bytesIf (λ x. leb (x .chunk) (suc b)) l
 rows-to-next l b =
     bytes-disjoint
     (λ x. leb (x .chunk) b)
@@ -56,7 +57,9 @@ list-prefixes j l lv ok c a b g h =
     bytes-to (suc b) h = omega (arith, bytes-to b (omega arith), rows-to-next l b, chunk-bytes j l lv ok c a (suc b) (omega arith) h)
 
 -- The need of the picked chunks is bounded by the prefixes.
-prefix-need : (w d A : ℕ → ℕ) (p : ℕ → Bool) (x c lo m : ℕ) → c ≤ x → c ≤ pre w lo → ((b : ℕ) → lo < b → b ≤ m + lo → pre w b + A (d b) ≤ x) → c + need w d A (picked p lo m) ≤ x
+prefix-need :
+    (w d A : ℕ → ℕ) (p : ℕ → Bool) (x c lo m : ℕ) → c ≤ x → c ≤ pre w lo → ((b : ℕ) → lo < b → b ≤ m + lo → pre w b + A (d b) ≤ x) →
+    c + need w d A (picked p lo m) ≤ x
 prefix-need w d A p x c lo zero h g f = omega arith
 prefix-need w d A p x c lo (suc m) h g f =
     let s = f (suc lo) (omega arith) (omega arith) in
@@ -82,14 +85,18 @@ module _ (j : Job) (sized : Sized j) (z : ℕ → ℕ) (equal : (i n : ℕ) → 
   layer-of i n u v w = record { chunk-low = u; chunk-high = v; layer-in = w }
 
   -- The bytes of the chunks up to b, layer by layer.
-  pre-bytes : (lv : ℕ → ℕ) → Choice j lv → (b : ℕ) → b ≤ chunks j → pre (bytes j lv) b ≡ sum (λ m. count (λ k. ltb m (lv k)) b * z m) (layers j)
+  pre-bytes :
+      (lv : ℕ → ℕ) → Choice j lv → (b : ℕ) → b ≤ chunks j →
+      pre (bytes j lv) b ≡ sum (λ m. count (λ k. ltb m (lv k)) b * z m) (layers j)
   pre-bytes lv c b h =
       pre-cong (bytes j lv) (λ k. sum (λ m. cond (ltb m (lv k)) (z m) 0) (layers j)) b (λ k u v. sum-cong (size j k) z (lv k) (λ m w. equal k m (layer-of k m u (omega arith) (omega (arith, c k u (omega arith))))) ∙ sym (sum-below z (lv k) (layers j) (c k u (omega arith))))
       ∙ sum-swap (λ k m. cond (ltb m (lv k)) (z m) 0) b (layers j)
       ∙ sum-cong (λ m. pre (λ k. cond (ltb m (lv k)) (z m) 0) b) (λ m. count (λ k. ltb m (lv k)) b * z m) (layers j) (λ m u. pre-of-tests (λ k. ltb m (lv k)) (z m) b)
 
   -- Of two choices, the one that carries each layer for fewer of the chunks up to b has fewer bytes there.
-  prefix-le : (y x : ℕ → ℕ) → Choice j y → Choice j x → (b : ℕ) → b ≤ chunks j → ((m : ℕ) → m < layers j → count (λ k. ltb m (y k)) b ≤ count (λ k. ltb m (x k)) b) → pre (bytes j y) b ≤ pre (bytes j x) b
+  prefix-le :
+      (y x : ℕ → ℕ) → Choice j y → Choice j x → (b : ℕ) → b ≤ chunks j →
+      ((m : ℕ) → m < layers j → count (λ k. ltb m (y k)) b ≤ count (λ k. ltb m (x k)) b) → pre (bytes j y) b ≤ pre (bytes j x) b
   prefix-le y x cy cx b h f =
       omega (
         arith,
@@ -104,7 +111,8 @@ module _ (j : Job) (sized : Sized j) (z : ℕ → ℕ) (equal : (i n : ℕ) → 
     -- Otherwise the plan carries layer n of chunk y, and of a later chunk x only the layers below.
     module _ (n y x : ℕ) (ry : 1 ≤ y) (yx : y < x) (rx : x ≤ chunks j) (ln : n < layers j) (has-y : n < p y) (at-x : p x ≡ n) where
       -- The trial of x has the layer's bytes at x where the trial of y has them at y, and no others more.
-      trial-exchanged : (k : ℕ) → 1 ≤ k → k ≤ chunks j → bytes j (tried p n x) k + point y (z n) k ≤ bytes j (tried p n y) k + point x (z n) k
+      trial-exchanged :
+          (k : ℕ) → 1 ≤ k → k ≤ chunks j → bytes j (tried p n x) k + point y (z n) k ≤ bytes j (tried p n y) k + point x (z n) k
       trial-exchanged k g h =
           ⊎-elim
           (λ t.
