@@ -47,7 +47,9 @@ fresh-grows l q lo g h v =
 
 module _ (j : Job) (l : List Row) (ok : Passes j l) (z : ℕ) where
   -- A slot q, a first chunk, and how many of the chunks from it on may be begun by q: those are held at its end.
-  module _ (q base most : ℕ) (q-in : q ≤ due j base) (begun-held : (g : ℕ) → base ≤ g → T (begun l q g) → T (held j l q g)) (few : count (held j l q) (chunks j) ≤ most) where
+  module _
+      (q base most : ℕ) (q-in : q ≤ due j base) (begun-held : (g : ℕ) → base ≤ g → T (begun l q g) → T (held j l q g))
+      (few : count (held j l q) (chunks j) ≤ most) where
     -- One chunk more: z bytes more in rows after q, or one more chunk held.
     fresh-or-held :
         (lo g c : ℕ) → 1 ≤ lo → base ≤ lo → lo ≤ g → z ≤ bytesOfChunk l g →

@@ -55,7 +55,10 @@ below-cons i g hi h a (more {g = g′} r) = more (below-cons i g′ hi (omega ar
 -- ---- picking from the last down what keeps the picked ones good
 
 -- F says that a list is good; where one list is good with x in front, so is a good list of later elements.
-module _ (F : List ℕ → Type 0) (c : ℕ) (p : ℕ → Bool) (nil : F []) (tail : (k : ℕ) (ks : List ℕ) → F (k ∷ ks) → F ks) (swap : (x : ℕ) (ks gs : List ℕ) → AtMost ks gs → F (x ∷ ks) → F gs → F (x ∷ gs)) (picks : (i m : ℕ) → i + m ≡ c → 1 ≤ i → T (p i) ↔ F (i ∷ picked p i m)) where
+module _
+    (F : List ℕ → Type 0) (c : ℕ) (p : ℕ → Bool) (nil : F []) (tail : (k : ℕ) (ks : List ℕ) → F (k ∷ ks) → F ks)
+    (swap : (x : ℕ) (ks gs : List ℕ) → AtMost ks gs → F (x ∷ ks) → F gs → F (x ∷ gs))
+    (picks : (i m : ℕ) → i + m ≡ c → 1 ≤ i → T (p i) ↔ F (i ∷ picked p i m)) where
   picked-good : (lo m : ℕ) → lo + m ≡ c → F (picked p lo m)
   picked-good lo zero h = nil
   picked-good lo (suc m) h = by-cond F (p (suc lo)) (λ t. picks (suc lo) m (omega arith) (omega arith) .0 t) (λ t. picked-good (suc lo) m (omega arith))
@@ -102,7 +105,9 @@ at-most-drop zero r = r
 at-most-drop (suc n) none = none
 at-most-drop (suc n) (both h r) = at-most-drop n r
 
-module _ (w d A : ℕ → ℕ) (h : ℕ) (w-anti : (x y : ℕ) → x ≤ y → w y ≤ w x) (d-mono : (x y : ℕ) → x ≤ y → d x ≤ d y) (A-anti : (x y : ℕ) → x ≤ y → A y ≤ A x) where
+module _
+    (w d A : ℕ → ℕ) (h : ℕ) (w-anti : (x y : ℕ) → x ≤ y → w y ≤ w x) (d-mono : (x y : ℕ) → x ≤ y → d x ≤ d y)
+    (A-anti : (x y : ℕ) → x ≤ y → A y ≤ A x) where
   need-of-later : {ks gs : List ℕ} → AtMost ks gs → need w d A gs ≤ need w d A ks
   need-of-later none = omega arith
   need-of-later (both {k = k} {g = g} l r) =
@@ -155,7 +160,9 @@ module _ (j : Job) (p : ℕ → ℕ) (accepts : (i : ℕ) → 1 ≤ i → i ≤ 
         λ f. le→leb 1 (p i) (a .1 (feas-mono (bytes j (tried p 0 i)) b (due j) (after j) (heldMost j) (kept j (tried p 0 i)) (picked-each q (λ k. bytes j (tried p 0 i) k ≤ b k) 0 (chunks j) (λ k u v t. omega (arith, tried-bytes i k t))) (subst (Feas b (due j) (after j) (heldMost j)) (sym w) f))),
       )
 
-module _ (j : Job) (z : ℕ) (equal : (i : ℕ) → 1 ≤ i → i ≤ chunks j → size j i 0 ≡ z) (p : ℕ → ℕ) (accepts : (i : ℕ) → 1 ≤ i → i ≤ chunks j → (0 < p i) ↔ Fits j (tried p 0 i)) where
+module _
+    (j : Job) (z : ℕ) (equal : (i : ℕ) → 1 ≤ i → i ≤ chunks j → size j i 0 ≡ z) (p : ℕ → ℕ)
+    (accepts : (i : ℕ) → 1 ≤ i → i ≤ chunks j → (0 < p i) ↔ Fits j (tried p 0 i)) where
   -- The plan keeps chunk i.
   abbrev base : ℕ → Bool
   base i = leb 1 (p i)

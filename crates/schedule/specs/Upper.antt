@@ -41,7 +41,10 @@ scan-step true false s r np nx g c z h e f = (omega arith, omega (arith, mul-le-
 scan-step false true s r np nx g c z h e f = let l : suc c ≤ g = f tt tt in (omega arith, omega (arith, mul-le-mul-right z h, mul-le-mul-right z l))
 scan-step false false s r np nx g c z h e f = (omega arith, omega (arith, mul-le-mul-right z h))
 
-module _ (j : Job) (n z : ℕ) (up : 1 ≤ n) (equal : (i : ℕ) → 1 ≤ i → i ≤ chunks j → size j i n ≡ z) (p x : ℕ → ℕ) (fp : Fits j p) (fx : Fits j x) (agree : (i : ℕ) → 1 ≤ i → i ≤ chunks j → min (x i) n ≡ min (p i) n) (accepts : (i : ℕ) → 1 ≤ i → i ≤ chunks j → n ≤ p i → Fits j (tried p n i) → n < p i) where
+module _
+    (j : Job) (n z : ℕ) (up : 1 ≤ n) (equal : (i : ℕ) → 1 ≤ i → i ≤ chunks j → size j i n ≡ z) (p x : ℕ → ℕ) (fp : Fits j p)
+    (fx : Fits j x) (agree : (i : ℕ) → 1 ≤ i → i ≤ chunks j → min (x i) n ≡ min (p i) n)
+    (accepts : (i : ℕ) → 1 ≤ i → i ≤ chunks j → n ≤ p i → Fits j (tried p n i) → n < p i) where
   -- The plan keeps chunk i.
   abbrev base : ℕ → Bool
   base i = leb 1 (p i)
@@ -70,7 +73,9 @@ module _ (j : Job) (n z : ℕ) (up : 1 ≤ n) (equal : (i : ℕ) → 1 ≤ i →
 
   -- ---- where the layer is tried at lo + 1, the other takes it, and the plan needs no more behind it, the plan takes it
 
-  module _ (lo m : ℕ) (all : lo + suc m ≡ chunks j) (takes : n < x (suc lo)) (no-more-behind : need-of (upToLayer p) (picked base (suc lo) m) ≤ need-of (upToLayer x) (picked base (suc lo) m)) where
+  module _
+      (lo m : ℕ) (all : lo + suc m ≡ chunks j) (takes : n < x (suc lo))
+      (no-more-behind : need-of (upToLayer p) (picked base (suc lo) m) ≤ need-of (upToLayer x) (picked base (suc lo) m)) where
     -- The chunk that is tried.
     abbrev i : ℕ
     i = suc lo

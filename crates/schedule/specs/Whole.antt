@@ -183,9 +183,13 @@ module _ (j : Job) (sized : Sized j) (z : ℕ → ℕ) (equal : (i n : ℕ) → 
 
     -- ---- a passing list of the choice x, with the plan's counts below n
 
-    module _ (n : ℕ) (ln : n < layers j) (l : List Row) (ok : Passes j l) (x : ℕ → ℕ) (cx : Choice j x) (ax : CarriesExactly j l x) (same : (m : ℕ) → m < n → countOf j x m ≡ countOf j p m) where
+    module _
+        (n : ℕ) (ln : n < layers j) (l : List Row) (ok : Passes j l) (x : ℕ → ℕ) (cx : Choice j x) (ax : CarriesExactly j l x)
+        (same : (m : ℕ) → m < n → countOf j x m ≡ countOf j p m) where
       -- If it had more of layer n: look at the trial of the last chunk i that the plan leaves without layer n.
-      module _ (i : ℕ) (ri : 1 ≤ i) (hi : i ≤ chunks j) (lacks : p i ≤ n) (rest : (k : ℕ) → i < k → k ≤ chunks j → n < p k) (more : countOf j p n < countOf j x n) where
+      module _
+          (i : ℕ) (ri : 1 ≤ i) (hi : i ≤ chunks j) (lacks : p i ≤ n) (rest : (k : ℕ) → i < k → k ≤ chunks j → n < p k)
+          (more : countOf j p n < countOf j x n) where
         -- Chunk i has the layers below n.
         below-carried : (m : ℕ) → m ≤ n → m ≤ p i
         below-carried zero h = omega arith
