@@ -6,7 +6,7 @@ use mathlib.Core.Bool.{Bool}
 use mathlib.Core.List.{List, [], _∷_}
 use mathlib.Core.Logic.{⊎-elim, _↔_}
 use native.Mathlib.Omega.{arith}
-use borrow.Author.Tests.{eq-eqb, ne-eqb, lt-leb, le-leb, lt-ltb, le-ltb}
+use borrow.Author.Tests.{eq-eqb, ne-eqb, lt-leb, lt-ltb, le-ltb}
 use lib.ListN.{length, drop}
 use lib.Dec.{T, T-not, leb, ltb, eqb, leb→le, nleb→lt, ltb→lt, lt→ltb, le→leb}
 use Rattle.basics.specs.Sums.{sum-mono}
@@ -17,9 +17,10 @@ use Rattle.job.specs.Job.{Job, chunks, due, heldMost, size}
 use Rattle.schedule.specs.AnyOrder.{any-order-fit}
 use Rattle.schedule.specs.Ascending.{Asc, count-all}
 use Rattle.schedule.specs.Choice.{Fits, bytes, chunk-bytes, kept}
-use Rattle.schedule.specs.Kept.{count-le-length-picked, picked, picked-asc, picked-cong, picked-each, picked-skip}
+use Rattle.schedule.specs.Kept.{count-le-length-picked, feas-picked, picked, picked-asc, picked-cong, picked-each, picked-skip}
 use Rattle.schedule.specs.Level.{level, level-choice, level-exactly}
 use Rattle.schedule.specs.Need.{Feas, feas-mono, need}
+use Rattle.schedule.specs.Plan.{kept-same-test}
 use Rattle.schedule.specs.Statement.{countOf, tried}
 use Rattle.schedule.specs.Sufficiency.{after-anti}
 use Rattle.schedule.specs.Words.{after, bytesOfChunk, due-mono}
@@ -134,11 +135,14 @@ module _ (j : Job) (p : ℕ → ℕ) (accepts : (i : ℕ) → 1 ≤ i → i ≤ 
       let c : (i - 1) + suc m ≡ chunks j = omega arith in
       let o : (i - 1) + 0 ≡ (i - 1) = omega arith in
       let s : suc (i - 1) ≡ i = omega arith in
-      let skip : picked q 0 (chunks j) ≡ picked q (i - 1) (suc m) = rw (c, o) at (picked-skip q 0 (i - 1) (suc m) (λ k u v. rw (ne-eqb k i (omega arith), le-ltb i k (omega arith)) (lt-leb 1 (min (p k) 0) (omega arith)))) in
-      skip ∙ rw (s, eq-eqb i i refl) (ap (λ (ks : List ℕ). i ∷ ks) (picked-cong q (λ i. leb 1 (p i)) i m (λ k u v. rw (ne-eqb k i (omega arith), lt-ltb i k u) (kept-to-one (p k)))))
-    where
-      kept-to-one : (n : ℕ) → leb 1 (min n 1) ≡ leb 1 n
-      kept-to-one n = ⊎-elim (λ t. rw (le-leb 1 n (leb→le 1 n t), le-leb 1 (min n 1) (omega (arith, leb→le 1 n t)))) (λ t. rw (lt-leb 1 n (nleb→lt 1 n t), lt-leb 1 (min n 1) (omega (arith, nleb→lt 1 n t)))) (test (leb 1 n))
+      let skip : picked q 0 (chunks j) ≡ picked q (i - 1) (suc m) =
+      rw (c, o) at
+      (picked-skip q 0 (i - 1) (suc m) (λ k u v. rw (ne-eqb k i (omega arith), le-ltb i k (omega arith)) (lt-leb 1 (min (p k) 0) (omega arith)))) in
+      skip
+      ∙ rw (s, eq-eqb i i refl)
+      (ap
+      (λ (ks : List ℕ). i ∷ ks)
+      (picked-cong q (λ i. leb 1 (p i)) i m (λ k u v. rw (ne-eqb k i (omega arith), lt-ltb i k u) (kept-same-test (min (p k) 1) (p k) 1 (omega arith) (omega arith)))))
 
   -- Each of them has its base alone.
   tried-bytes : (i k : ℕ) → T (leb 1 (tried p 0 i k)) → bytes j (tried p 0 i) k ≡ size j k 0
@@ -155,9 +159,12 @@ module _ (j : Job) (p : ℕ → ℕ) (accepts : (i : ℕ) → 1 ≤ i → i ≤ 
       let a = accepts i g (omega arith) in
       let w = tried-kept-base i m e g in
       let b : ℕ → ℕ = λ k. size j k 0 in
-      let q : ℕ → Bool = λ k. leb 1 (tried p 0 i k) in (
-        λ t. subst (Feas b (due j) (after j) (heldMost j)) w (feas-mono b (bytes j (tried p 0 i)) (due j) (after j) (heldMost j) (kept j (tried p 0 i)) (picked-each q (λ k. b k ≤ bytes j (tried p 0 i) k) 0 (chunks j) (λ k u v t. omega (arith, tried-bytes i k t))) (a .0 (leb→le 1 (p i) t))),
-        λ f. le→leb 1 (p i) (a .1 (feas-mono (bytes j (tried p 0 i)) b (due j) (after j) (heldMost j) (kept j (tried p 0 i)) (picked-each q (λ k. bytes j (tried p 0 i) k ≤ b k) 0 (chunks j) (λ k u v t. omega (arith, tried-bytes i k t))) (subst (Feas b (due j) (after j) (heldMost j)) (sym w) f))),
+      let t : ℕ → ℕ = bytes j (tried p 0 i) in
+      let q : ℕ → Bool = λ k. leb 1 (tried p 0 i k) in
+      let lighter = feas-picked b t (due j) (after j) (heldMost j) q 0 (chunks j) (λ k u v y. omega (arith, tried-bytes i k y)) in
+      let heavier = feas-picked t b (due j) (after j) (heldMost j) q 0 (chunks j) (λ k u v y. omega (arith, tried-bytes i k y)) in (
+        λ y. subst (Feas b (due j) (after j) (heldMost j)) w (lighter (a .0 (leb→le 1 (p i) y))),
+        λ f. le→leb 1 (p i) (a .1 (heavier (subst (Feas b (due j) (after j) (heldMost j)) (sym w) f))),
       )
 
 module _
@@ -175,9 +182,12 @@ module _
   good-picks i m e g =
       let a = base-picks j p accepts i m e g in
       let b : ℕ → ℕ = λ k. size j k 0 in
-      let ks = picked base i m in (
-        λ t. feas-mono (λ k. z) b (due j) (after j) (heldMost j) (i ∷ ks) (omega (arith, equal i g (omega arith)), picked-each base (λ k. z ≤ b k) i m (λ k u v t. omega (arith, equal k (omega arith) (omega arith)))) (a .0 t),
-        λ f. a .1 (feas-mono b (λ k. z) (due j) (after j) (heldMost j) (i ∷ ks) (omega (arith, equal i g (omega arith)), picked-each base (λ k. b k ≤ z) i m (λ k u v t. omega (arith, equal k (omega arith) (omega arith)))) f),
+      let ks = picked base i m in
+      let front = equal i g (omega arith) in
+      let le = picked-each base (λ k. z ≤ b k) i m (λ k u v t. omega (arith, equal k (omega arith) (omega arith))) in
+      let ge = picked-each base (λ k. b k ≤ z) i m (λ k u v t. omega (arith, equal k (omega arith) (omega arith))) in (
+        λ t. feas-mono (λ k. z) b (due j) (after j) (heldMost j) (i ∷ ks) (omega arith, le) (a .0 t),
+        λ f. a .1 (feas-mono b (λ k. z) (due j) (after j) (heldMost j) (i ∷ ks) (omega arith, ge) f),
       )
 
   -- No passing list carries more bases than the plan.
@@ -190,7 +200,9 @@ module _
       let a = picked-asc q 0 (chunks j) (chunks j) (omega arith) in
       let f =
       any-order-fit j l ok z ks a
-      (picked-each q (λ e. z ≤ bytesOfChunk l e) 0 (chunks j) (λ i u v t. omega (arith, equal i u (omega arith), chunk-bytes j l x ok (level-choice j l) (level-exactly j l ok) i u (omega arith), sum-mono (size j i) 1 (x i) (ltb→lt 0 (x i) t)))) in
+      (picked-each q (λ e. z ≤ bytesOfChunk l e) 0 (chunks j) (λ i u v t.
+      let b = chunk-bytes j l x ok (level-choice j l) (level-exactly j l ok) i u (omega arith) in
+      omega (arith, equal i u (omega arith), b, sum-mono (size j i) 1 (x i) (ltb→lt 0 (x i) t)))) in
       let m =
       longest-picked Good (chunks j) base
       (record { whole = omega arith; tails = tt })
@@ -201,5 +213,12 @@ module _
         arith,
         m,
         rw e at (count-le-length-picked q 0 (chunks j)),
-        count-all (λ i. ltb 0 (p i)) 0 (chunks j) (picked base 0 (chunks j)) (omega arith) (picked-asc base 0 (chunks j) (chunks j) (omega arith)) (picked-each base (λ i. T (ltb 0 (p i))) 0 (chunks j) (λ i u v t. lt→ltb 0 (p i) (leb→le 1 (p i) t))),
+        count-all
+            (λ i. ltb 0 (p i))
+            0
+            (chunks j)
+            (picked base 0 (chunks j))
+            (omega arith)
+            (picked-asc base 0 (chunks j) (chunks j) (omega arith))
+            (picked-each base (λ i. T (ltb 0 (p i))) 0 (chunks j) (λ i u v t. lt→ltb 0 (p i) (leb→le 1 (p i) t))),
       )

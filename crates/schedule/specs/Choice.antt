@@ -15,10 +15,10 @@ use Rattle.fetch.specs.Rules.{InRange, Passes, PlayingOrder, WholeLayers}
 use Rattle.job.specs.Job.{Job, Layer, chunks, due, heldMost, layers, size}
 use Rattle.schedule.specs.Ascending.{Asc}
 use Rattle.schedule.specs.Count.{chunk-by-layers}
-use Rattle.schedule.specs.Kept.{has-picked, picked, picked-asc, picked-each}
+use Rattle.schedule.specs.Kept.{feas-picked, has-picked, picked, picked-asc, picked-each}
 use Rattle.schedule.specs.Lists.{sum-below, sum-cong}
 use Rattle.schedule.specs.Necessity.{carried-fit}
-use Rattle.schedule.specs.Need.{Feas, feas-mono}
+use Rattle.schedule.specs.Need.{Feas}
 use Rattle.schedule.specs.Order.{fetch-order}
 pub use Rattle.schedule.specs.Statement.{Choice}
 use Rattle.schedule.specs.Statement.{CanCarry, CarriesExactly}
@@ -87,17 +87,20 @@ pub can-carry-fits : (j : Job) (lv : ℕ → ℕ) → Choice j lv → CanCarry j
 can-carry-fits j lv c s =
     let l = s .rows in
     let keeps : ℕ → Bool = λ i. leb 1 (lv i) in
-    feas-mono
+    feas-picked
     (bytes j lv)
     (bytesOfChunk l)
     (due j)
     (after j)
     (heldMost j)
-    (kept j lv)
-    (picked-each keeps (λ k. bytes j lv k ≤ bytesOfChunk l k) 0 (chunks j) (λ i u v t. omega (arith, chunk-bytes j l lv (s .passes) c (s .exactly) i u (omega arith))))
+    keeps
+    0
+    (chunks j)
+    (λ i u v t. omega (arith, chunk-bytes j l lv (s .passes) c (s .exactly) i u (omega arith)))
     (carried-fit j l (s .passes) (s .in-order) (kept j lv) (kept-asc j lv)
     (picked-each keeps (λ e. Carried j l e 0) 0 (chunks j) (λ i u v t.
-    s .exactly i 0 (record { chunk-low = u; chunk-high = omega arith; layer-in = omega (arith, c i u (omega arith), leb→le 1 (lv i) t) }) .1 (leb→le 1 (lv i) t))))
+    let b = leb→le 1 (lv i) t in
+    s .exactly i 0 (record { chunk-low = u; chunk-high = omega arith; layer-in = omega (arith, c i u (omega arith)) }) .1 b)))
 
 -- ---- a choice that fits is carried by its own list
 
@@ -109,8 +112,8 @@ weight-is-sum size k m (suc n) = let e : suc n + m ≡ n + suc m = omega arith i
 pub fits-weight : (j : Job) (lv : ℕ → ℕ) → Fits j lv → Feas (λ k. weight (size j) k 0 (lv k)) (due j) (after j) (heldMost j) (kept j lv)
 fits-weight j lv f =
     let w : ℕ → ℕ = λ k. weight (size j) k 0 (lv k) in
-    feas-mono w (bytes j lv) (due j) (after j) (heldMost j) (kept j lv)
-    (picked-each (λ i. leb 1 (lv i)) (λ k. w k ≤ bytes j lv k) 0 (chunks j) (λ i u v t. let e : lv i + 0 ≡ lv i = omega arith in omega (arith, rw e at (weight-is-sum (size j) i 0 (lv i)))))
+    feas-picked w (bytes j lv) (due j) (after j) (heldMost j) (λ i. leb 1 (lv i)) 0 (chunks j)
+    (λ i u v t. let e : lv i + 0 ≡ lv i = omega arith in omega (arith, rw e at (weight-is-sum (size j) i 0 (lv i))))
     f
 
 module _ (j : Job) (sized : Sized j) (lv : ℕ → ℕ) (choice : Choice j lv) (f : Fits j lv) where
@@ -125,7 +128,8 @@ module _ (j : Job) (sized : Sized j) (lv : ℕ → ℕ) (choice : Choice j lv) (
   own-sizes : SizesCarried j (own j lv) lv
   unfolding own
   own-sizes i n r =
-      layer-is j sized lv choice (kept j lv) (kept-asc j lv) (fits-weight j lv f) i n ∙ same (lv i) n (has (kept j lv) i) (size j i n) (has-picked (λ i. leb 1 (lv i)) 0 (chunks j) i (r .chunk-low) (omega (arith, r .chunk-high)))
+      layer-is j sized lv choice (kept j lv) (kept-asc j lv) (fits-weight j lv f) i n
+      ∙ same (lv i) n (has (kept j lv) i) (size j i n) (has-picked (λ i. leb 1 (lv i)) 0 (chunks j) i (r .chunk-low) (omega (arith, r .chunk-high)))
     where
       same : (m n : ℕ) (b : Bool) (s : ℕ) → b ≡ leb 1 m → cond (b && ltb n m) s 0 ≡ cond (ltb n m) s 0
       same m n true s e = refl
