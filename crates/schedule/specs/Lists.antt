@@ -5,7 +5,7 @@ use mathlib.Core.Bool.{Bool, true, false, not, cond, _&&_}
 use mathlib.Core.Logic.{_⊎_, inl, inr, ⊎-elim, _↔_}
 use native.Mathlib.Omega.{arith}
 use borrow.Author.Tests.{eq-eqb, ne-eqb, lt-ltb, le-ltb}
-use lib.Dec.{T, ltb, eqb, ltb→lt, nltb→le}
+use lib.Dec.{T, T-not, not-T, ltb, eqb, ltb→lt, nltb→le}
 use Rattle.basics.specs.Sums.{count, pre, pre-add, pre-mono, sum}
 use Rattle.basics.specs.Tests.{last, test}
 
@@ -82,11 +82,7 @@ rising-has-fewest-early q r (suc e) b f h =
     (λ t.
     omega (
       arith,
-      count-none q b (λ i u v.
-          ⊎-elim
-          (λ w. absurd (omega (arith, bit-yes (q (suc (e + b))) (f i (suc (e + b)) u (omega arith) (omega arith) w), bit-no (q (suc (e + b))) t)))
-          (λ w. w)
-          (test (q i))),
+      count-none q b (λ i u v. not-T (q i) (λ w. T-not (q (suc (e + b))) t (f i (suc (e + b)) u (omega arith) (omega arith) w))),
     ))
     (test (q (suc (e + b))))
 

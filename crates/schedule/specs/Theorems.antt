@@ -4,7 +4,7 @@ use mathlib.Core.Path.{_≡_, ap, subst, sym}
 use mathlib.Core.List.{List}
 use mathlib.Core.Logic.{⊎-elim, _↔_}
 use native.Mathlib.Omega.{arith}
-use lib.Dec.{T, ltb, ltb→lt, nltb→le}
+use lib.Dec.{T, not-T, ltb, ltb→lt, nltb→le}
 use Rattle.basics.specs.Lists.{upTo-cong}
 use Rattle.basics.specs.Tests.{test}
 use Rattle.fetch.specs.Rows.{Row, layerCount, markByte, marksGiven}
@@ -20,7 +20,7 @@ use Rattle.schedule.specs.OwnFill.{own-list-is}
 use Rattle.schedule.specs.Plan.{fits, fits-iff, plan, plan-is-plan}
 use Rattle.schedule.specs.Statement.{Best, CanCarry, CarriesExactly, Choice, IsPlan, countOf, countsOf, marksOf}
 use Rattle.schedule.specs.Unique.{own-list-cong, plans-agree}
-use Rattle.schedule.specs.Words.{Sized, accepted-sized}
+use Rattle.schedule.specs.Words.{Sized, accepted-sized, layer-of}
 
 -- "A fetch list, of any number of rows, passes if its verdict is 0", with the marks its rows give.
 pub passes-iff : (j : Job) (rows : List Row) → (verdict j (marksGiven j rows) rows ≡ 0) ↔ Passes j rows
@@ -73,8 +73,7 @@ plan-rows-unique j p q dp dq = own-list-cong j p q (plans-agree j p q dp dq)
 -- "0 for absent layers".
 pub absent-count : (j : Job) (choice : ℕ → ℕ) → Choice j choice → (n : ℕ) → layers j ≤ n → countOf j choice n ≡ 0
 absent-count j lv c n h =
-    count-none (λ i. ltb n (lv i)) (chunks j) (λ i u v.
-    ⊎-elim (λ t. absurd (omega (arith, ltb→lt n (lv i) t, c i u v))) (λ t. t) (test (ltb n (lv i))))
+    count-none (λ i. ltb n (lv i)) (chunks j) (λ i u v. not-T (ltb n (lv i)) (λ t. omega (arith, ltb→lt n (lv i) t, c i u v)))
 
 -- ---- demand 3
 
@@ -84,8 +83,7 @@ best j a equal p dec =
     let sized = accepted-sized j a in
     let own = own-carries j sized p (dec .choice) (fits-can-carry j sized p (dec .choice) (is-plan-fits j sized p dec)) in
     let z : ℕ → ℕ = size j 1 in
-    let one : (i n : ℕ) → Layer j i n → size j i n ≡ z n = λ i n r.
-    equal i 1 n r (record { chunk-low = omega arith; chunk-high = a .chunks-in .low; layer-in = r .layer-in }) in
+    let one : (i n : ℕ) → Layer j i n → size j i n ≡ z n = λ i n r. equal i 1 n r (layer-of j 1 n (omega arith) (a .chunks-in .low) (r .layer-in)) in
     record {
       passes = own .0;
       in-order = own .1;

@@ -8,7 +8,7 @@ use mathlib.Core.Logic.{⊎-elim}
 use native.Mathlib.Omega.{arith}
 use native.Mathlib.Nat.{mul-le-mul-right}
 use borrow.Author.Tests.{eq-eqb, ne-eqb, lt-ltb, le-ltb}
-use lib.Dec.{T-not, leb, ltb, eqb, leb→le, nleb→lt, ltb→lt, nltb→le, lt→ltb, eqb→eq, eqb-refl}
+use lib.Dec.{T-not, not-T, leb, ltb, eqb, leb→le, nleb→lt, ltb→lt, nltb→le, lt→ltb, eqb→eq, eqb-refl}
 use Rattle.basics.specs.Sums.{count, pre, pre-add, pre-step, sum, sum-mono}
 use Rattle.basics.specs.Tests.{at-row, by-cond, test, tests}
 use Rattle.fetch.specs.Rows.{Row, bytesIf}
@@ -23,7 +23,7 @@ use Rattle.schedule.specs.Need.{need, tails-few}
 use Rattle.schedule.specs.Plan.{tried-choice}
 use Rattle.schedule.specs.Statement.{CarriesExactly, Choice, IsPlan, countOf, tried}
 use Rattle.schedule.specs.Sufficiency.{point-total}
-use Rattle.schedule.specs.Words.{Sized, after, bytesOfChunk, due-mono}
+use Rattle.schedule.specs.Words.{Sized, after, bytesOfChunk, due-mono, layer-of}
 
 -- ---- a choice fits exactly if each prefix of the programme does
 
@@ -49,7 +49,9 @@ list-prefixes j l lv ok c a b g h =
     omega (
       arith,
       bytes-to b h,
-      within-between j l ok (λ x. leb (x .chunk) b) 0 (due j b) (omega arith) (due-mono j b (chunks j) h) (λ x i t. let u : x .chunk ≤ b = leb→le (x .chunk) b t in (at-row (InRange j) i (ok .in-range) .slot-low, omega (arith, at-row (OnTime j) i (ok .on-time), due-mono j (x .chunk) b u))),
+      within-between j l ok (λ x. leb (x .chunk) b) 0 (due j b) (omega arith) (due-mono j b (chunks j) h) (λ x i t.
+          let u : x .chunk ≤ b = leb→le (x .chunk) b t in
+          (at-row (InRange j) i (ok .in-range) .slot-low, omega (arith, at-row (OnTime j) i (ok .on-time), due-mono j (x .chunk) b u))),
     )
   where
     bytes-to : (b : ℕ) → b ≤ chunks j → pre (bytes j lv) b ≤ bytesIf (λ x. leb (x .chunk) b) l
@@ -81,15 +83,14 @@ prefixes-fit j lv h f =
 -- ---- the bytes of a choice, by layers of one size each
 
 module _ (j : Job) (sized : Sized j) (z : ℕ → ℕ) (equal : (i n : ℕ) → Layer j i n → size j i n ≡ z n) where
-  layer-of : (i n : ℕ) → 1 ≤ i → i ≤ chunks j → n < layers j → Layer j i n
-  layer-of i n u v w = record { chunk-low = u; chunk-high = v; layer-in = w }
-
   -- The bytes of the chunks up to b, layer by layer.
   pre-bytes :
       (lv : ℕ → ℕ) → Choice j lv → (b : ℕ) → b ≤ chunks j →
       pre (bytes j lv) b ≡ sum (λ m. count (λ k. ltb m (lv k)) b * z m) (layers j)
   pre-bytes lv c b h =
-      pre-cong (bytes j lv) (λ k. sum (λ m. cond (ltb m (lv k)) (z m) 0) (layers j)) b (λ k u v. sum-cong (size j k) z (lv k) (λ m w. equal k m (layer-of k m u (omega arith) (omega (arith, c k u (omega arith))))) ∙ sym (sum-below z (lv k) (layers j) (c k u (omega arith))))
+      pre-cong (bytes j lv) (λ k. sum (λ m. cond (ltb m (lv k)) (z m) 0) (layers j)) b (λ k u v.
+      sum-cong (size j k) z (lv k) (λ m w. equal k m (layer-of j k m u (omega arith) (omega (arith, c k u (omega arith)))))
+      ∙ sym (sum-below z (lv k) (layers j) (c k u (omega arith))))
       ∙ sum-swap (λ k m. cond (ltb m (lv k)) (z m) 0) b (layers j)
       ∙ sum-cong (λ m. pre (λ k. cond (ltb m (lv k)) (z m) 0) b) (λ m. count (λ k. ltb m (lv k)) b * z m) (layers j) (λ m u. pre-of-tests (λ k. ltb m (lv k)) (z m) b)
 
@@ -118,14 +119,14 @@ module _ (j : Job) (sized : Sized j) (z : ℕ → ℕ) (equal : (i n : ℕ) → 
           (λ t.
           let e = eqb→eq k x t in
           let a : min (p x) (suc n) ≡ n = omega arith in
-          rw (e, eq-eqb x x refl, ne-eqb y x (omega arith), ne-eqb x y (omega arith), lt-ltb y x yx, a) (omega (arith, equal x n (layer-of x n (omega arith) rx ln))))
+          rw (e, eq-eqb x x refl, ne-eqb y x (omega arith), ne-eqb x y (omega arith), lt-ltb y x yx, a) (omega (arith, equal x n (layer-of j x n (omega arith) rx ln))))
           (λ t.
           let o : k ≡ x → ⊥ = λ e. T-not (eqb k x) t (rw e (eqb-refl x)) in
           ⊎-elim
           (λ v.
           let e = eqb→eq k y v in
           let a : min (p y) n ≡ n = omega arith in
-          rw (e, ne-eqb y x (omega arith), ne-eqb x y (omega arith), eq-eqb y y refl, le-ltb x y (omega arith), a) (omega (arith, equal y n (layer-of y n ry (omega arith) ln))))
+          rw (e, ne-eqb y x (omega arith), ne-eqb x y (omega arith), eq-eqb y y refl, le-ltb x y (omega arith), a) (omega (arith, equal y n (layer-of j y n ry (omega arith) ln))))
           (λ v.
           let o′ : k ≡ y → ⊥ = λ e. T-not (eqb k y) v (rw e (eqb-refl y)) in
           rw (ne-eqb k x o, ne-eqb k y o′, ne-eqb y k (λ e. o′ (sym e)), ne-eqb x k (λ e. o (sym e)))
@@ -161,10 +162,10 @@ module _ (j : Job) (sized : Sized j) (z : ℕ → ℕ) (equal : (i n : ℕ) → 
 
       no-gap-behind : ⊥
       no-gap-behind =
-          let s = dec .decided y n (layer-of y n ry (omega arith) ln) .0 has-y .1 in
+          let s = dec .decided y n (layer-of j y n ry (omega arith) ln) .0 has-y .1 in
           let c = tried-choice j p x n (dec .choice) ln in
           let f = prefixes-fit j (tried p n x) wide (later-trial-fits (list-prefixes j (s .rows) (tried p n y) (s .passes) (tried-choice j p y n (dec .choice) ln) (s .exactly))) in
-          omega (arith, dec .decided x n (layer-of x n (omega arith) rx ln) .1 (omega arith, fits-can-carry j sized (tried p n x) c f))
+          omega (arith, dec .decided x n (layer-of j x n (omega arith) rx ln) .1 (omega arith, fits-can-carry j sized (tried p n x) c f))
 
     -- A later chunk carries no fewer layers.
     layers-rise : (n y x : ℕ) → 1 ≤ y → y ≤ x → x ≤ chunks j → n ≤ p y → n ≤ p x
@@ -202,7 +203,13 @@ module _ (j : Job) (sized : Sized j) (z : ℕ → ℕ) (equal : (i n : ℕ) → 
             (omega (
               arith,
               same m h,
-              count-mono (λ k. ltb m (p k)) (λ k. ltb n (p k)) (chunks j) (λ k u v w. lt→ltb n (p k) (⊎-elim (λ a. rest k (ltb→lt i k a) v) (λ a. absurd (omega (arith, ltb→lt m (p k) w, layers-rise (suc m) k i u (nltb→le i k a) hi (ltb→lt m (p k) w)))) (test (ltb i k)))),
+              count-mono (λ k. ltb m (p k)) (λ k. ltb n (p k)) (chunks j) (λ k u v w.
+                  let b = ltb→lt m (p k) w in
+                  lt→ltb n (p k)
+                  (⊎-elim
+                  (λ a. rest k (ltb→lt i k a) v)
+                  (λ a. absurd (omega (arith, b, layers-rise (suc m) k i u (nltb→le i k a) hi b)))
+                  (test (ltb i k)))),
               count-mono (λ k. ltb n (x k)) (λ k. ltb m (x k)) (chunks j) (λ k u v w. lt→ltb m (x k) (omega (arith, ltb→lt n (x k) w))),
             )))
             (test (ltb m (p i)))
@@ -241,7 +248,11 @@ module _ (j : Job) (sized : Sized j) (z : ℕ → ℕ) (equal : (i n : ℕ) → 
               count-mono (λ k. ltb m (tried p n i k)) (λ k. ltb m (p k)) (chunks j) (λ k u v w.
                   lt→ltb m (p k)
                   (⊎-elim
-                  (λ a. ⊎-elim (λ b. omega (arith, rest k (ltb→lt i k b) v)) (λ b. let e : k ≡ i = omega (arith, leb→le i k a, nltb→le i k b) in rw e (omega (arith, below-carried n (omega arith)))) (test (ltb i k)))
+                  (λ a.
+                  ⊎-elim
+                  (λ b. omega (arith, rest k (ltb→lt i k b) v))
+                  (λ b. let e : k ≡ i = omega (arith, leb→le i k a, nltb→le i k b) in rw e (omega (arith, below-carried n (omega arith))))
+                  (test (ltb i k)))
                   (λ a. omega (arith, ltb→lt m (tried p n i k) w, tried-early k (nleb→lt i k a)))
                   (test (leb i k)))),
             ))
@@ -259,7 +270,10 @@ module _ (j : Job) (sized : Sized j) (z : ℕ → ℕ) (equal : (i n : ℕ) → 
             )))
             (λ u.
             let l = nleb→lt m n u in
-            omega (arith, count-none (λ k. ltb m (tried p n i k)) (chunks j) (λ k v w. ⊎-elim (λ a. absurd (omega (arith, ltb→lt m (tried p n i k) a, tried-small k))) (λ a. a) (test (ltb m (tried p n i k))))))
+            omega (
+              arith,
+              count-none (λ k. ltb m (tried p n i k)) (chunks j) (λ k v w. not-T (ltb m (tried p n i k)) (λ a. omega (arith, ltb→lt m (tried p n i k) a, tried-small k))),
+            ))
             (test (leb m n)))
             (test (ltb m n))
           where
@@ -294,7 +308,9 @@ module _ (j : Job) (sized : Sized j) (z : ℕ → ℕ) (equal : (i n : ℕ) → 
 
         would-be-carried : ⊥
         would-be-carried =
-            omega (arith, dec .decided i n (layer-of i n ri hi ln) .1 (below-carried n (omega arith), fits-can-carry j sized (tried p n i) (tried-choice j p i n (dec .choice) ln) (prefixes-fit j (tried p n i) wide tried-fits-by-prefixes)))
+            let f = prefixes-fit j (tried p n i) wide tried-fits-by-prefixes in
+            let s = fits-can-carry j sized (tried p n i) (tried-choice j p i n (dec .choice) ln) f in
+            omega (arith, dec .decided i n (layer-of j i n ri hi ln) .1 (below-carried n (omega arith), s))
 
       -- The list has no more of layer n than the plan.
       pub whole-most : countOf j x n ≤ countOf j p n

@@ -8,7 +8,7 @@ use lib.Dec.{eqb}
 use lib.ListN.{length, getD}
 use Rattle.basics.specs.Sums.{pre}
 use Rattle.basics.specs.Tests.{All, any}
-use Rattle.job.specs.Job.{Accepted, Job, Layer, Within, due, forecast, lastSlot, size}
+use Rattle.job.specs.Job.{Accepted, Job, Layer, Within, chunks, due, forecast, lastSlot, layers, size}
 use Rattle.fetch.specs.Rows.{Row, bytesIf}
 
 -- The bytes of chunk i, all layers.
@@ -26,6 +26,9 @@ after j t = pre (forecast j) (lastSlot j) - pre (forecast j) t
 -- A later chunk is due no earlier.
 pub due-mono : (j : Job) (x y : ℕ) → x ≤ y → due j x ≤ due j y
 due-mono j x y h = let m : (x - 1) ≤ (y - 1) = omega arith in omega (arith, mul-le-mul-right (j .programme .span) m)
+
+pub layer-of : (j : Job) (i n : ℕ) → 1 ≤ i → i ≤ chunks j → n < layers j → Layer j i n
+layer-of j i n u v w = record { chunk-low = u; chunk-high = v; layer-in = w }
 
 -- Every layer has at least one byte. Sizes may differ by chunk and layer: this is all that the decision asks of them.
 abbrev pub Sized : Job → Type 0
