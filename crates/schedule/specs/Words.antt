@@ -6,7 +6,7 @@ use native.Mathlib.Omega.{arith}
 use native.Mathlib.Nat.{mul-le-mul-right}
 use lib.Dec.{eqb}
 use lib.ListN.{length, getD}
-use Rattle.basics.specs.Sums.{pre}
+use Rattle.basics.specs.Sums.{pre, pre-mono}
 use Rattle.basics.specs.Tests.{All, any}
 use Rattle.job.specs.Job.{Accepted, Job, Layer, Within, chunks, due, forecast, lastSlot, layers, size}
 use Rattle.fetch.specs.Rows.{Row, bytesIf}
@@ -26,6 +26,10 @@ after j t = pre (forecast j) (lastSlot j) - pre (forecast j) t
 -- A later chunk is due no earlier.
 pub due-mono : (j : Job) (x y : ℕ) → x ≤ y → due j x ≤ due j y
 due-mono j x y h = let m : (x - 1) ≤ (y - 1) = omega arith in omega (arith, mul-le-mul-right (j .programme .span) m)
+
+-- Later, less is left of the forecast.
+pub after-anti : (j : Job) (x y : ℕ) → x ≤ y → after j y ≤ after j x
+after-anti j x y h = omega (arith, pre-mono (forecast j) x y h)
 
 pub layer-of : (j : Job) (i n : ℕ) → 1 ≤ i → i ≤ chunks j → n < layers j → Layer j i n
 layer-of j i n u v w = record { chunk-low = u; chunk-high = v; layer-in = w }
