@@ -1,4 +1,5 @@
 pub mod Statement
+pub mod Theorems
 pub mod Lists
 pub mod Words
 pub mod Count
@@ -22,7 +23,6 @@ pub mod Base
 pub mod Upper
 pub mod Whole
 pub mod Best
-pub mod Theorems
 pub mod Linear
 pub mod Unique
 pub mod Shape
