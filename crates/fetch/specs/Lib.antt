@@ -1,3 +1,5 @@
 pub mod Rows
 pub mod Rules
 pub mod Verdict
+pub mod Marks
+pub mod Handed
