@@ -26,9 +26,12 @@ share b = 2 ^ 56 / b
 abbrev pub meanOf : List ℕ → ℕ
 meanOf bs = length bs * 2 ^ 56 / total (map share bs)
 
+abbrev pub isZero : ℕ → Bool
+isZero b = eqb b 0
+
 -- "Its forecast is 0 if one of them is 0."
 unfoldable pub forecastOf : List ℕ → ℕ
-forecastOf bs = cond (any (λ b. eqb b 0) bs) 0 (meanOf bs)
+forecastOf bs = cond (any isZero bs) 0 (meanOf bs)
 
 -- 12: a forecast from a meter without samples; 10 comes first.
 abbrev pub forecastRefusal : List Sample → ℕ

@@ -1,5 +1,7 @@
 pub mod Meter
 pub mod Forecast
-pub mod Worked
 pub mod Harmonic
+pub mod Worked
 pub mod Mean
+pub mod Order
+pub mod Promises

@@ -1,14 +1,16 @@
 -- Lemmas. The forecast's quotient against the exact harmonic mean. Only the first group looks at how a share is rounded.
 use Prim.Native.Nat.{ℕ, zero, suc, _+_, _*_, _-_, _/_, _^_, _≤_, _<_}
 use mathlib.Core.Path.{_≡_, refl, sym, ap, _∙_}
+use mathlib.Core.Bool.{Bool, true, false, not, _||_}
 use mathlib.Core.List.{List, [], _∷_, map}
 use mathlib.Core.Logic.{_⊎_, inl, inr, ⊎-elim}
 use native.Mathlib.Omega.{arith}
 use native.Mathlib.Nat.{mul-le-mul-left, mul-le-mul-right, mul-lt-mul-of-pos-left, mul-pos, le-of-mul-le-mul-right, lt-of-mul-lt-mul-left, div-mul-le-self, lt-div-mul-add, le-div-iff-mul-le, div-lt-iff-lt-mul, mul-div-right}
 use lib.ListN.{length}
-use lib.Dec.{leb, leb→le, nleb→lt}
-use Rattle.basics.specs.Tests.{All, test}
-use Rattle.meter.specs.Forecast.{total, share, meanOf}
+use lib.Dec.{T, T-not, leb, leb→le, nleb→lt, eqb→eq}
+use Rattle.basics.specs.Tests.{All, any, In, here, there, test, T-or-iff, eqb-iff}
+use Rattle.meter.specs.Forecast.{bytesOf, isZero, total, share, meanOf}
+use Rattle.meter.specs.Meter.{Sample, InRange}
 use Rattle.meter.specs.Harmonic.{product, others, WholePart}
 
 -- Bytes of which the mean is taken: in range and not 0.
@@ -106,3 +108,27 @@ others-quotients bs a =
     let e : 1 * product bs ≡ product bs = omega arith in
     let f : 1 * others bs ≡ others bs = omega arith in
     rw (e, f) at (quotients 1 bs a)
+
+-- ---- none of the samples is 0
+
+not-or : (a b : Bool) → T (not (a || b)) → T (not a) × T (not b)
+not-or true b t = absurd t
+not-or false b t = (tt, t)
+
+pub zero-in : (bs : List ℕ) → T (any isZero bs) → In 0 bs
+zero-in [] t = absurd t
+zero-in (b ∷ bs) t =
+    ⊎-elim (λ u. rw (eqb→eq b 0 u) here) (λ u. there (zero-in bs u)) (T-or-iff (isZero b) (any isZero bs) .0 t)
+
+pub counts : (l : List Sample) → All InRange l → T (not (any isZero (bytesOf l))) → All Counts (bytesOf l)
+counts [] a t = tt
+counts (x ∷ l) a t =
+    let u = not-or (isZero (x .bytes)) (any isZero (bytesOf l)) t in
+    let low : 1 ≤ x .bytes =
+    ⊎-elim (λ v. leb→le 1 (x .bytes) v)
+    (λ v. absurd (T-not (isZero (x .bytes)) (u .0) (eqb-iff (x .bytes) 0 .1 (omega (arith, nleb→lt 1 (x .bytes) v)))))
+    (test (leb 1 (x .bytes))) in
+    (record { low = low; high = a .0 .bytes-high }, counts l (a .1) (u .1))
+
+pub at-most-one-more : (h f : ℕ) → h ≤ f → f ≤ h + 1 → (f ≡ h) ⊎ (f ≡ h + 1)
+at-most-one-more h f a b = ⊎-elim (λ t. inl (omega (arith, leb→le f h t))) (λ t. inr (omega (arith, nleb→lt f h t))) (test (leb f h))
