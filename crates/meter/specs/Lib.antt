@@ -5,3 +5,4 @@ pub mod Worked
 pub mod Mean
 pub mod Order
 pub mod Promises
+pub mod Cells

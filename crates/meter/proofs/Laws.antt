@@ -1,0 +1,127 @@
+-- Laws that the functions' proofs cite: samples looked at one by one, and the cells of a meter after a sample. Assumes nothing.
+use Prim.Native.Nat.{ℕ, zero, suc, _+_, _-_, min, _≤_, _<_}
+use mathlib.Core.Path.{_≡_, refl, sym, ap, _∙_}
+use mathlib.Core.Bool.{Bool, true, false, not}
+use mathlib.Core.List.{List, [], _∷_, _++_, map, map-append, append-assoc}
+use native.Mathlib.Omega.{arith}
+use native.Mathlib.Numerals.{add-one}
+use lib.ListN.{length, getD, set, take, drop, length-append, length-drop, drop-of-length-le}
+use lib.Seq.{drop-cons, take-suc, take-all, drop-append-le, set-split, append-snoc}
+use lib.Dec.{ltb, ltb→lt, nltb→le}
+use Rattle.basics.specs.Tests.{by-cond, T-true, true-T}
+use Rattle.basics.specs.Lists.{upTo, length-upTo}
+use Rattle.meter.specs.declared.Meter.{Meter}
+use Rattle.meter.specs.Meter.{Sample, sample, samplesOf, storing, InRange, inRange, lastSlot, InOrder, inOrder, with-sample}
+use Rattle.meter.specs.Cells.{nextCells}
+use Rattle.meter.specs.Order.{in-order-iff, in-range-iff, test-false, test-true, Fine, fine-snoc, fine-before, last-slot-snoc}
+
+-- The sample in cell k.
+abbrev pub cell : Meter → ℕ → Sample
+cell m k = sample (getD (m .slots) k 0) (getD (m .bytes) k 0)
+
+-- ---- a look at each sample
+
+-- The first i samples are looked at, and the last of them is of the slot `before`.
+pub record Looked (m : Meter) (before i : ℕ) : Type 0 where
+  pub fine : Fine (upTo (cell m) i)
+  pub last : before ≡ lastSlot 0 (upTo (cell m) i)
+
+-- What the answer r of the range test says of a sample.
+pub found-in : (x : Sample) (r : Bool) → r ≡ inRange x → not r ≡ false → InRange x
+found-in x true e f = in-range-iff x .0 (true-T (inRange x) (sym e))
+found-in x false e f = let z : _≡_ {A = ℕ} 0 1 = cc in absurd (omega arith)
+
+pub found-out : (x : Sample) (r : Bool) → r ≡ inRange x → not r ≡ true → InRange x → ⊥
+found-out x true e f w = let z : _≡_ {A = ℕ} 0 1 = cc in omega arith
+found-out x false e f w = let i = T-true (inRange x) (in-range-iff x .1 w) in let z : _≡_ {A = ℕ} 0 1 = cc in omega arith
+
+pub looked-start : (m : Meter) → Looked m 0 0
+looked-start m = record { fine = record { each = tt; rises = tt }; last = refl }
+
+pub looked-more : (m : Meter) (before i : ℕ) → Looked m before i → InRange (cell m i) → before < getD (m .slots) i 0
+    → Looked m (getD (m .slots) i 0) (i + 1)
+looked-more m before i w r h = rw (add-one i) record {
+  fine = fine-snoc (upTo (cell m) i) (cell m i) .1 (w .fine, (r, rw (← w .last) h));
+  last = sym (last-slot-snoc 0 (upTo (cell m) i) (cell m i));
+}
+
+pub looked-all : (m : Meter) (before : ℕ) → m .kept ≤ 10 → Looked m before (m .kept) → inOrder (samplesOf m) ≡ true
+looked-all m before h w =
+    test-true (inOrder (samplesOf m)) (in-order-iff (samplesOf m))
+    record { few = omega (arith, length-upTo (cell m) (m .kept)); each = w .fine .each; rises = w .fine .rises }
+
+-- A kept sample is out of range, or its slot is not above the one before.
+pub looked-broken : (m : Meter) (i : ℕ) → i < m .kept → (InRange (cell m i) → lastSlot 0 (upTo (cell m) i) < getD (m .slots) i 0 → ⊥)
+    → inOrder (samplesOf m) ≡ false
+looked-broken m i h n =
+    test-false (inOrder (samplesOf m)) (in-order-iff (samplesOf m)) (λ o.
+    let u = fine-snoc (upTo (cell m) i) (cell m i) .0 (fine-before (cell m) (suc i) (m .kept) (omega arith) record { each = o .each; rises = o .rises }) in
+    n (u .1 .0) (u .1 .1))
+
+pub too-many : (m : Meter) → 10 < m .kept → inOrder (samplesOf m) ≡ false
+too-many m h =
+    test-false (inOrder (samplesOf m)) (in-order-iff (samplesOf m)) (λ o. omega (arith, o .few, length-upTo (cell m) (m .kept)))
+
+pub last-slot-at : (m : Meter) (n : ℕ) → 0 < n → getD (m .slots) (n - 1) 0 ≡ lastSlot 0 (upTo (cell m) n)
+last-slot-at m zero h = absurd (omega arith)
+last-slot-at m (suc n) h =
+    let e : suc n - 1 ≡ n = omega arith in
+    rw e (sym (last-slot-snoc 0 (upTo (cell m) n) (cell m n)))
+
+-- ---- ten cells and one more
+
+pub ten : (l : List ℕ) (v : ℕ) → length l ≡ 10
+    → getD l 1 0 ∷ getD l 2 0 ∷ getD l 3 0 ∷ getD l 4 0 ∷ getD l 5 0 ∷ getD l 6 0 ∷ getD l 7 0 ∷ getD l 8 0 ∷ getD l 9 0 ∷ v ∷ [] ≡ drop 1 l ++ (v ∷ [])
+ten l v h =
+    rw (
+      drop-cons l 1 0 (omega arith),
+      drop-cons l 2 0 (omega arith),
+      drop-cons l 3 0 (omega arith),
+      drop-cons l 4 0 (omega arith),
+      drop-cons l 5 0 (omega arith),
+      drop-cons l 6 0 (omega arith),
+      drop-cons l 7 0 (omega arith),
+      drop-cons l 8 0 (omega arith),
+      drop-cons l 9 0 (omega arith),
+      drop-of-length-le l {i = 10} (omega arith),
+    )
+
+length-snoc : (f : ℕ → Sample) (n : ℕ) (x : Sample) → length (upTo f n ++ (x ∷ [])) ≡ suc n
+length-snoc f n x = omega (arith, length-append (upTo f n) (x ∷ []), length-upTo f n)
+
+few-with : (f : ℕ → Sample) (n : ℕ) (x : Sample) → n < 10 → with-sample (upTo f n) x ≡ upTo f n ++ (x ∷ [])
+few-with f n x h = let e : length (upTo f n ++ (x ∷ [])) - 10 ≡ 0 = omega (arith, length-snoc f n x) in rw e
+
+-- One lemma for slots and for bytes: g is the number of a sample that the cells hold.
+module _ (g : Sample → ℕ) (f : ℕ → Sample) (cells : List ℕ) (held : (k : ℕ) → g (f k) ≡ getD cells k 0) where
+  kept-cells : (n : ℕ) → n ≤ length cells → map g (upTo f n) ≡ take n cells
+  kept-cells zero h = refl
+  kept-cells (suc n) h =
+      map-append g (upTo f n) (f n ∷ [])
+      ∙ rw (kept-cells n (omega arith), held n) (sym (take-suc cells n 0 (omega arith)))
+
+  -- Fewer than ten are kept: the next cell takes the sample, and the others stay. Ten: all move by one, and it comes last.
+  pub next-cells : (x : Sample) (n : ℕ) → length cells ≡ 10 → n ≤ 10
+      → nextCells cells n (g x) ≡ map g (with-sample (upTo f n) x) ++ drop (length (with-sample (upTo f n) x)) cells
+  next-cells x n full h =
+      by-cond (λ (l : List ℕ). l ≡ map g (with-sample (upTo f n) x) ++ drop (length (with-sample (upTo f n) x)) cells) (ltb n 10)
+      (λ t.
+      let few : n < 10 = ltb→lt n 10 t in
+      rw (few-with f n x few, length-snoc f n x, map-append g (upTo f n) (x ∷ []), kept-cells n (omega arith), set-split cells n (g x) (omega arith), append-assoc))
+      (λ t.
+      let e : n ≡ 10 = omega (arith, nltb→le n 10 t) in
+      rw (e, held 1, held 2, held 3, held 4, held 5, held 6, held 7, held 8, held 9, drop-of-length-le cells {i = 10} (omega arith))
+      (sym (ten cells (g x) full)))
+
+-- The meter that stores the samples after x, cell by cell.
+pub stored : (m : Meter) (x : Sample) (kept : ℕ) → length (m .slots) ≡ 10 → length (m .bytes) ≡ 10 → m .kept ≤ 10
+    → kept ≡ min (m .kept + 1) 10
+    → _≡_ {A = Meter} (record { slots = nextCells (m .slots) (m .kept) (x .slot); bytes = nextCells (m .bytes) (m .kept) (x .bytes); kept = kept }) (storing (with-sample (samplesOf m) x) m)
+stored m x kept s b h e =
+    let l = upTo (cell m) (m .kept) ++ (x ∷ []) in
+    let k : kept ≡ length (with-sample (samplesOf m) x) = omega (arith, length-drop (length l - 10) l, length-snoc (cell m) (m .kept) x) in
+    rw (
+      next-cells (λ x. x .slot) (cell m) (m .slots) (λ k. refl) x (m .kept) s h,
+      next-cells (λ x. x .bytes) (cell m) (m .bytes) (λ k. refl) x (m .kept) b h,
+      k,
+    )

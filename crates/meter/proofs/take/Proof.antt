@@ -1,0 +1,54 @@
+use borrow.Author.Needs.{needs}
+use Rattle.meter.proofs.take.Statement.{statement}
+use Rattle.meter.proofs.take.Tie as tie
+use Rattle.meter.proofs.take.Reads as reads
+use Rattle.meter.proofs.take.Lts as lts
+use Rattle.meter.proofs.in_order.Reads as in-order-reads
+use Rattle.meter.proofs.in_range.Reads as in-range-reads
+use Rattle.meter.proofs.keep.Reads as keep-reads
+use Rattle.meter.proofs.last_slot.Reads as last-slot-reads
+
+-- src/lib.rt:165:9
+in-range-requires : tie.Need-in-range-requires
+in-range-requires c κs = search needs
+
+-- src/lib.rt:166:9
+returns : tie.Need-returns
+returns c = ?
+
+-- src/lib.rt:168:9
+in-order-requires : tie.Need-in-order-requires
+in-order-requires c κs = search needs
+
+-- src/lib.rt:169:9
+returns-2 : tie.Need-returns-2
+returns-2 c = ?
+
+-- src/lib.rt:171:16
+last-slot-requires : tie.Need-last-slot-requires
+last-slot-requires c κs = ?
+
+-- src/lib.rt:172:9
+returns-3 : tie.Need-returns-3
+returns-3 c = ?
+
+-- src/lib.rt:176:16
+keep-requires : tie.Need-keep-requires
+keep-requires c κs = ?
+
+-- src/lib.rt:162:1
+returns-4 : tie.Need-returns-4
+returns-4 c = ?
+
+pub take-spec : {M : Type 1} → statement M
+take-spec =
+    tie.close
+    (tie.spec
+    in-range-requires
+    returns
+    in-order-requires
+    returns-2
+    last-slot-requires
+    returns-3
+    keep-requires
+    returns-4)
