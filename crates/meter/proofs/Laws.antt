@@ -7,17 +7,29 @@ use native.Mathlib.Omega.{arith}
 use native.Mathlib.Numerals.{add-one}
 use lib.ListN.{length, getD, set, take, drop, length-append, length-drop, drop-of-length-le}
 use lib.Seq.{drop-cons, take-suc, take-all, drop-append-le, set-split, append-snoc}
-use lib.Dec.{ltb, ltb→lt, nltb→le}
+use lib.Dec.{T-not, ltb, ltb→lt, nltb→le}
+use borrow.Author.Tests.{lt-ltb, le-ltb}
 use Rattle.basics.specs.Tests.{by-cond, T-true, true-T}
 use Rattle.basics.specs.Lists.{upTo, length-upTo}
 use Rattle.meter.specs.declared.Meter.{Meter}
-use Rattle.meter.specs.Meter.{Sample, sample, samplesOf, storing, InRange, inRange, lastSlot, InOrder, inOrder, with-sample}
+use Rattle.meter.specs.declared.Taken.{Taken}
+use Rattle.meter.specs.Meter.{Sample, sample, samplesOf, storing, InRange, inRange, lastSlot, InOrder, inOrder, with-sample, taken}
 use Rattle.meter.specs.Cells.{nextCells}
 use Rattle.meter.specs.Order.{in-order-iff, in-range-iff, test-false, test-true, Fine, fine-snoc, fine-before, last-slot-snoc}
 
 -- The sample in cell k.
 abbrev pub cell : Meter → ℕ → Sample
 cell m k = sample (getD (m .slots) k 0) (getD (m .bytes) k 0)
+
+-- ---- a test's answer, negated in the code
+
+pub answer-true : (r b : Bool) → r ≡ b → not r ≡ false → b ≡ true
+answer-true true b e f = sym e
+answer-true false b e f = let z : _≡_ {A = ℕ} 0 1 = cc in absurd (omega arith)
+
+pub answer-false : (r b : Bool) → r ≡ b → not r ≡ true → b ≡ false
+answer-false true b e f = let z : _≡_ {A = ℕ} 0 1 = cc in absurd (omega arith)
+answer-false false b e f = sym e
 
 -- ---- a look at each sample
 
@@ -28,12 +40,10 @@ pub record Looked (m : Meter) (before i : ℕ) : Type 0 where
 
 -- What the answer r of the range test says of a sample.
 pub found-in : (x : Sample) (r : Bool) → r ≡ inRange x → not r ≡ false → InRange x
-found-in x true e f = in-range-iff x .0 (true-T (inRange x) (sym e))
-found-in x false e f = let z : _≡_ {A = ℕ} 0 1 = cc in absurd (omega arith)
+found-in x r e f = in-range-iff x .0 (true-T (inRange x) (answer-true r (inRange x) e f))
 
 pub found-out : (x : Sample) (r : Bool) → r ≡ inRange x → not r ≡ true → InRange x → ⊥
-found-out x true e f w = let z : _≡_ {A = ℕ} 0 1 = cc in omega arith
-found-out x false e f w = let i = T-true (inRange x) (in-range-iff x .1 w) in let z : _≡_ {A = ℕ} 0 1 = cc in omega arith
+found-out x r e f w = T-not (inRange x) (rw (answer-false r (inRange x) e f) tt) (in-range-iff x .1 w)
 
 pub looked-start : (m : Meter) → Looked m 0 0
 looked-start m = record { fine = record { each = tt; rises = tt }; last = refl }
@@ -61,6 +71,10 @@ looked-broken m i h n =
 pub too-many : (m : Meter) → 10 < m .kept → inOrder (samplesOf m) ≡ false
 too-many m h =
     test-false (inOrder (samplesOf m)) (in-order-iff (samplesOf m)) (λ o. omega (arith, o .few, length-upTo (cell m) (m .kept)))
+
+pub in-order-kept : (m : Meter) → inOrder (samplesOf m) ≡ true → m .kept ≤ 10
+in-order-kept m e =
+    let o = in-order-iff (samplesOf m) .0 (true-T (inOrder (samplesOf m)) e) in omega (arith, o .few, length-upTo (cell m) (m .kept))
 
 pub last-slot-at : (m : Meter) (n : ℕ) → 0 < n → getD (m .slots) (n - 1) 0 ≡ lastSlot 0 (upTo (cell m) n)
 last-slot-at m zero h = absurd (omega arith)
@@ -125,3 +139,28 @@ stored m x kept s b h e =
       next-cells (λ x. x .bytes) (cell m) (m .bytes) (λ k. refl) x (m .kept) b h,
       k,
     )
+
+-- ---- the four answers to a sample
+
+module _ (m : Meter) (slot bytes : ℕ) where
+  abbrev x : Sample
+  x = sample slot bytes
+
+  pub answers-out : inRange x ≡ false → _≡_ {A = Taken} (record { code = 10; meter = m }) (taken m slot bytes)
+  unfolding taken
+  answers-out e = rw e
+
+  module _ (ranged : inRange x ≡ true) where
+    pub answers-disorder : inOrder (samplesOf m) ≡ false → _≡_ {A = Taken} (record { code = 10; meter = m }) (taken m slot bytes)
+    unfolding taken
+    answers-disorder e = rw (ranged, e)
+
+    module _ (ordered : inOrder (samplesOf m) ≡ true) where
+      pub answers-late : slot ≤ lastSlot 0 (samplesOf m) → _≡_ {A = Taken} (record { code = 13; meter = m }) (taken m slot bytes)
+      unfolding taken
+      answers-late h = rw (ranged, ordered, le-ltb (lastSlot 0 (samplesOf m)) slot h)
+
+      pub answers-taken : lastSlot 0 (samplesOf m) < slot
+          → _≡_ {A = Taken} (record { code = 0; meter = storing (with-sample (samplesOf m) x) m }) (taken m slot bytes)
+      unfolding taken
+      answers-taken h = rw (ranged, ordered, lt-ltb (lastSlot 0 (samplesOf m)) slot h)

@@ -55,7 +55,7 @@ module _ (n k p s q h : ℕ) (p-pos : 0 < p) where
       lt-of-mul-lt-mul-left p (omega (arith, mul-le-mul-left (h + 1) a, mul-lt-mul-of-pos-left b n-pos))
 
 module _ (bs : List ℕ) (some : 0 < length bs) (a : All Counts bs) where
-  total-pos : 0 < total (map share bs)
+  pub total-pos : 0 < total (map share bs)
   total-pos = omega (arith, shares-wide bs a)
 
   pub mean-high : meanOf bs ≤ 16777216

@@ -189,3 +189,13 @@ pub fn forecast(m: Meter) -> Answer
     }
     Answer::Bytes(mean(m))
 }
+
+// "The meter lent by the link reader is brought up to date in its own storage." The lent meter is then the one that `take`
+// answers: on a refusal the meter as it was.
+pub fn update(m: &mut Meter, slot: u16, bytes: u32) -> u8
+    ensures { λ r. ⌜ (r ≡ taken (now (m .entry)) slot bytes .code) × (now (m .exit) ≡ taken (now (m .entry)) slot bytes .meter) ⌝ }
+{
+    let a = take(*m, slot, bytes);
+    *m = a.meter;
+    a.code
+}
