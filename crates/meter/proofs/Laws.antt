@@ -1,20 +1,21 @@
 -- Laws that the functions' proofs cite: samples looked at one by one, and the cells of a meter after a sample. Assumes nothing.
 use Prim.Native.Nat.{ℕ, zero, suc, _+_, _-_, min, _≤_, _<_}
-use mathlib.Core.Path.{_≡_, refl, sym, ap, _∙_}
+use mathlib.Core.Path.{_≡_, refl, sym, _∙_}
 use mathlib.Core.Bool.{Bool, true, false, not}
 use mathlib.Core.List.{List, [], _∷_, _++_, map, map-append, append-assoc}
 use native.Mathlib.Omega.{arith}
 use native.Mathlib.Numerals.{add-one}
-use lib.ListN.{length, getD, set, take, drop, length-append, length-drop, drop-of-length-le}
-use lib.Seq.{drop-cons, take-suc, take-all, drop-append-le, set-split, append-snoc}
+use lib.ListN.{length, getD, take, drop, length-append, length-drop, drop-of-length-le}
+use lib.Seq.{drop-cons, take-suc, set-split}
 use lib.Dec.{T-not, ltb, ltb→lt, nltb→le}
 use borrow.Author.Tests.{lt-ltb, le-ltb}
-use Rattle.basics.specs.Tests.{by-cond, T-true, true-T}
+use Rattle.basics.specs.Tests.{by-cond, true-T}
 use Rattle.basics.specs.Lists.{upTo, length-upTo}
 use Rattle.meter.specs.declared.Meter.{Meter}
 use Rattle.meter.specs.declared.Taken.{Taken}
 use Rattle.meter.specs.Meter.{Sample, sample, samplesOf, storing, InRange, inRange, lastSlot, InOrder, inOrder, with-sample, taken}
 use Rattle.meter.specs.Cells.{nextCells}
+use Rattle.meter.specs.Promises.{few-kept}
 use Rattle.meter.specs.Order.{in-order-iff, in-range-iff, test-false, test-true, Fine, fine-snoc, fine-before, last-slot-snoc}
 
 -- The sample in cell k.
@@ -72,9 +73,11 @@ pub too-many : (m : Meter) → 10 < m .kept → inOrder (samplesOf m) ≡ false
 too-many m h =
     test-false (inOrder (samplesOf m)) (in-order-iff (samplesOf m)) (λ o. omega (arith, o .few, length-upTo (cell m) (m .kept)))
 
-pub in-order-kept : (m : Meter) → inOrder (samplesOf m) ≡ true → m .kept ≤ 10
-in-order-kept m e =
-    let o = in-order-iff (samplesOf m) .0 (true-T (inOrder (samplesOf m)) e) in omega (arith, o .few, length-upTo (cell m) (m .kept))
+pub in-order-kept : (m : Meter) → InOrder (samplesOf m) → m .kept ≤ 10
+in-order-kept m o = omega (arith, o .few, length-upTo (cell m) (m .kept))
+
+pub passed-kept : (m : Meter) → inOrder (samplesOf m) ≡ true → m .kept ≤ 10
+passed-kept m e = in-order-kept m (in-order-iff (samplesOf m) .0 (true-T (inOrder (samplesOf m)) e))
 
 pub last-slot-at : (m : Meter) (n : ℕ) → 0 < n → getD (m .slots) (n - 1) 0 ≡ lastSlot 0 (upTo (cell m) n)
 last-slot-at m zero h = absurd (omega arith)
@@ -103,9 +106,6 @@ ten l v h =
 length-snoc : (f : ℕ → Sample) (n : ℕ) (x : Sample) → length (upTo f n ++ (x ∷ [])) ≡ suc n
 length-snoc f n x = omega (arith, length-append (upTo f n) (x ∷ []), length-upTo f n)
 
-few-with : (f : ℕ → Sample) (n : ℕ) (x : Sample) → n < 10 → with-sample (upTo f n) x ≡ upTo f n ++ (x ∷ [])
-few-with f n x h = let e : length (upTo f n ++ (x ∷ [])) - 10 ≡ 0 = omega (arith, length-snoc f n x) in rw e
-
 -- One lemma for slots and for bytes: g is the number of a sample that the cells hold.
 module _ (g : Sample → ℕ) (f : ℕ → Sample) (cells : List ℕ) (held : (k : ℕ) → g (f k) ≡ getD cells k 0) where
   kept-cells : (n : ℕ) → n ≤ length cells → map g (upTo f n) ≡ take n cells
@@ -121,7 +121,7 @@ module _ (g : Sample → ℕ) (f : ℕ → Sample) (cells : List ℕ) (held : (k
       by-cond (λ (l : List ℕ). l ≡ map g (with-sample (upTo f n) x) ++ drop (length (with-sample (upTo f n) x)) cells) (ltb n 10)
       (λ t.
       let few : n < 10 = ltb→lt n 10 t in
-      rw (few-with f n x few, length-snoc f n x, map-append g (upTo f n) (x ∷ []), kept-cells n (omega arith), set-split cells n (g x) (omega arith), append-assoc))
+      rw (few-kept (upTo f n) x (omega (arith, length-upTo f n)), length-snoc f n x, map-append g (upTo f n) (x ∷ []), kept-cells n (omega arith), set-split cells n (g x) (omega arith), append-assoc))
       (λ t.
       let e : n ≡ 10 = omega (arith, nltb→le n 10 t) in
       rw (e, held 1, held 2, held 3, held 4, held 5, held 6, held 7, held 8, held 9, drop-of-length-le cells {i = 10} (omega arith))

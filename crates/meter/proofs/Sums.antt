@@ -1,19 +1,18 @@
 -- Laws of the forecast's loop: the shares of the first samples summed, none of which is 0. Assumes nothing.
 use Prim.Native.Nat.{ℕ, zero, suc, _+_, _*_, _/_, _^_, _≤_, _<_}
-use mathlib.Core.Path.{_≡_, refl, sym, ap, subst, _∙_}
-use mathlib.Core.Bool.{Bool, true, false, not, _||_}
+use mathlib.Core.Path.{_≡_, refl, _∙_}
+use mathlib.Core.Bool.{Bool, true, false, _||_}
 use mathlib.Core.List.{List, [], _∷_, _++_, map, map-append}
 use mathlib.Core.Logic.{inl, inr, ⊎-elim}
 use native.Mathlib.Omega.{arith}
 use native.Mathlib.Nat.{div-le-self}
 use native.Mathlib.Numerals.{add-one}
 use lib.ListN.{length, getD, length-map}
-use lib.Dec.{T, eqb-refl}
+use lib.Dec.{T}
 use borrow.Author.Tests.{ne-eqb, le-ltb, lt-ltb}
 use Rattle.basics.specs.Tests.{All, any, last, T-true, T-or-iff}
 use Rattle.basics.specs.Lists.{upTo, length-upTo}
 use Rattle.meter.specs.declared.Meter.{Meter}
-use Rattle.meter.specs.declared.Answer.{Answer}
 use Rattle.meter.specs.declared.Answer.the-variants.{Bytes, Refused}
 use Rattle.meter.specs.Meter.{Sample, samplesOf, InOrder, inOrder}
 use Rattle.meter.specs.Forecast.{bytesOf, isZero, total, share, meanOf, forecastOf, answerOf}
@@ -55,7 +54,7 @@ summed-more m sum i w h =
     rw (add-one i) record {
       none = rw (bytes-snoc l (cell m i), any-snoc isZero (bytesOf l) b, w .none, ne-eqb b 0 (λ e. omega arith));
       sums = rw (bytes-snoc l (cell m i), total-snoc (bytesOf l) b, w .sums);
-      small = omega (arith, w .small, div-le-self (2 ^ 56) b)
+      small = omega (arith, w .small, div-le-self (2 ^ 56) b);
     }
 
 -- A sample of 0 bytes.

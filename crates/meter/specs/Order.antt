@@ -1,18 +1,18 @@
 -- Lemmas. The tests of the meter and what they say; samples added one by one; what is stored reads back.
 use Prim.Native.Nat.{ℕ, zero, suc, _+_, _-_, _≤_, _<_}
-use mathlib.Core.Path.{_≡_, refl, sym, ap, _∙_}
+use mathlib.Core.Path.{_≡_, refl, _∙_}
 use mathlib.Core.Bool.{Bool, true, false, not, _&&_}
-use mathlib.Core.List.{List, [], _∷_, _++_, map, map-append}
-use mathlib.Core.Logic.{_⊎_, inl, inr, ⊎-elim, _↔_}
+use mathlib.Core.List.{List, [], _∷_, _++_, map}
+use mathlib.Core.Logic.{_⊎_, ⊎-elim, _↔_}
 use native.Mathlib.Omega.{arith}
-use lib.ListN.{length, getD, drop, take, length-append, length-drop, length-map, List·getD-append, List·getD-map}
-use lib.Seq.{ext-getD, take-suc, drop-append-le, take-all}
-use lib.Dec.{T, leb, ltb, eqb}
-use Rattle.basics.specs.Tests.{All, all, all-iff, leb-iff, ltb-iff, tests, last, T-true, not-T-false, test, all-append}
+use lib.ListN.{length, getD, drop, length-drop, length-map, List·getD-append, List·getD-map}
+use lib.Seq.{ext-getD}
+use lib.Dec.{T, leb, ltb}
+use Rattle.basics.specs.Tests.{All, all, all-iff, leb-iff, ltb-iff, tests, last, T-true, test}
 use Rattle.basics.specs.Lists.{upTo, length-upTo, getD-upTo}
 use Rattle.basics.specs.Refusals.{unless, _orElse_, and-as}
 use Rattle.meter.specs.declared.Meter.{Meter}
-use Rattle.meter.specs.Meter.{Sample, sample, samplesOf, storing, InRange, inRange, Rising, rising, lastSlot, InOrder, inOrder, lastTen, with-sample}
+use Rattle.meter.specs.Meter.{Sample, sample, samplesOf, storing, InRange, inRange, Rising, rising, lastSlot, InOrder, inOrder, lastTen}
 
 -- ---- tests
 

@@ -1,19 +1,18 @@
 -- Theorems. What the definitions of the meter promise: document 01, "Link meter", refusals 10, 12 and 13.
 use Prim.Native.Nat.{ℕ, _+_, _*_, _-_, _/_, _≤_, _<_}
 use mathlib.Core.Path.{_≡_, refl, sym, ap, subst}
-use mathlib.Core.Bool.{Bool, true, false, cond}
+use mathlib.Core.Bool.{true}
 use mathlib.Core.List.{List, [], _∷_, _++_}
-use mathlib.Core.Logic.{_⊎_, inl, inr, ⊎-elim, _↔_}
+use mathlib.Core.Logic.{_⊎_, ⊎-elim, _↔_}
 use native.Mathlib.Omega.{arith}
 use lib.ListN.{length, length-append, length-drop, length-map}
-use lib.Dec.{T-not, ltb}
+use lib.Dec.{T-not, ltb, eqb, eqb→eq}
 use borrow.Author.Tests.{eq-eqb, ne-eqb}
-use Rattle.basics.specs.Tests.{All, In, here, there, test, ltb-iff, T-true, not-T-false, by-cond, any, any-row}
-use Rattle.basics.specs.Refusals.{unless, _orElse_, unless-as, orElse-as, orElse-none, orElse-some}
+use Rattle.basics.specs.Tests.{eqb-iff, In, test, ltb-iff, by-cond, any, any-row}
+use Rattle.basics.specs.Refusals.{unless, _orElse_, unless-as, orElse-as}
 use Rattle.meter.specs.declared.Meter.{Meter}
-use Rattle.meter.specs.declared.Answer.{Answer}
-use Rattle.meter.specs.declared.Answer.the-variants.{Bytes, Refused}
-use Rattle.meter.specs.Meter.{Sample, sample, samplesOf, storing, empty, InRange, inRange, lastSlot, InOrder, inOrder, lastTen, sampleRefusal, meterRefusal, lateRefusal, takeRefusal, with-sample, taken}
+use Rattle.meter.specs.declared.Answer.the-variants.{Bytes}
+use Rattle.meter.specs.Meter.{Sample, sample, samplesOf, empty, InRange, inRange, lastSlot, InOrder, inOrder, lastTen, sampleRefusal, meterRefusal, lateRefusal, takeRefusal, with-sample, taken}
 use Rattle.meter.specs.Forecast.{bytesOf, isZero, meanOf, forecastOf, forecastRefusal, answerOf}
 use Rattle.meter.specs.Harmonic.{product, others, WholePart}
 use Rattle.meter.specs.Mean.{mean-high, mean-not-below, mean-near, whole-part, others-pos, zero-in, counts, at-most-one-more}
@@ -63,6 +62,14 @@ forecast-iff l =
 pub empty-samples : samplesOf empty ≡ []
 empty-samples = refl
 
+-- With fewer than ten kept none goes ..
+pub few-kept : (l : List Sample) (x : Sample) → length l < 10 → with-sample l x ≡ l ++ (x ∷ [])
+few-kept l x h = let e : length (l ++ (x ∷ [])) - 10 ≡ 0 = omega (arith, length-append l (x ∷ [])) in rw e
+
+-- .. and of ten the oldest.
+pub ten-kept : (oldest : Sample) (l : List Sample) (x : Sample) → length (oldest ∷ l) ≡ 10 → with-sample (oldest ∷ l) x ≡ l ++ (x ∷ [])
+ten-kept oldest l x h = let e : length (oldest ∷ (l ++ (x ∷ []))) - 10 ≡ 1 = omega (arith, length-append l (x ∷ [])) in rw e
+
 module _ (m : Meter) (slot bytes : ℕ) where
   -- A taken sample: the samples are then the last ten of the old ones with it.
   pub taken-samples : takeRefusal (samplesOf m) (sample slot bytes) ≡ 0
@@ -75,7 +82,7 @@ module _ (m : Meter) (slot bytes : ℕ) where
   unfolding taken
   refused-unchanged n = rw (ne-eqb (takeRefusal (samplesOf m) (sample slot bytes)) 0 n)
 
-  -- What is kept stays in order: a meter that took a sample has a forecast.
+  -- What is kept stays in order ..
   pub taken-in-order : takeRefusal (samplesOf m) (sample slot bytes) ≡ 0 → InOrder (samplesOf (taken m slot bytes .meter))
   taken-in-order e =
       let l = samplesOf m in
@@ -84,6 +91,15 @@ module _ (m : Meter) (slot bytes : ℕ) where
       subst (λ (k : List Sample). InOrder k) (sym (taken-samples e))
       (last-ten-in-order (l ++ (sample slot bytes ∷ [])) (fine-snoc l (sample slot bytes) .1 (before, (u .0, u .1 .1))))
 
+  pub stays-in-order : InOrder (samplesOf m) → InOrder (samplesOf (taken m slot bytes .meter))
+  stays-in-order o =
+      let n = takeRefusal (samplesOf m) (sample slot bytes) in
+      ⊎-elim
+      (λ t. taken-in-order (eqb→eq n 0 t))
+      (λ t. subst (λ (k : Meter). InOrder (samplesOf k)) (sym (refused-unchanged (λ e. T-not (eqb n 0) t (eqb-iff n 0 .1 e)))) o)
+      (test (eqb n 0))
+
+  -- .. so that a meter that took a sample has a forecast.
   pub taken-forecast : takeRefusal (samplesOf m) (sample slot bytes) ≡ 0
       → answerOf (taken m slot bytes .meter) ≡ Bytes (forecastOf (bytesOf (lastTen (samplesOf m ++ (sample slot bytes ∷ [])))))
   unfolding answerOf

@@ -1,32 +1,25 @@
+-- `meter::last_slot` meets its contract: the last sample stands in the cell before the count.
 use borrow.Author.Needs.{needs}
 use Rattle.meter.proofs.last_slot.Statement.{statement}
 use Rattle.meter.proofs.last_slot.Tie as tie
-use Rattle.meter.proofs.last_slot.Reads as reads
-use Rattle.meter.proofs.last_slot.Lts as lts
 use native.Mathlib.Omega.{arith}
 use Rattle.meter.proofs.Laws.{last-slot-at}
 
--- src/lib.rt:68:16
 cast-kept : tie.Need-cast-kept
 cast-kept c = search needs
 
--- src/lib.rt:70:9
 returns : tie.Need-returns
 returns c = search needs
 
--- src/lib.rt:72:14
 sub-at : tie.Need-sub-at
 sub-at c = search needs
 
--- src/lib.rt:73:5
 mul-result : tie.Need-mul-result
 mul-result c = search needs
 
--- src/lib.rt:73:5
 element-copy-out-result : tie.Need-element-copy-out-result
 element-copy-out-result c = search needs
 
--- src/lib.rt:64:1
 returns-2 : tie.Need-returns-2
 returns-2 c = last-slot-at (c .before .before .args .t1) (c .before .before .args .t1 .kept) (omega arith)
 
