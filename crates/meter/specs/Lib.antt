@@ -1,8 +1,9 @@
 pub mod Meter
 pub mod Forecast
 pub mod Harmonic
-pub mod Worked
-pub mod Mean
-pub mod Order
-pub mod Promises
 pub mod Cells
+pub mod Worked
+pub mod Edges
+pub mod Order
+pub mod Mean
+pub mod Promises

@@ -2,7 +2,7 @@
 -- public contracts cite. The samples are handed to an empty meter in slots 1, 2 and 3.
 use mathlib.Core.Path.{_≡_, refl}
 use Rattle.meter.specs.declared.Meter.{Meter}
-use Rattle.meter.specs.declared.Answer.the-variants.{Bytes, Refused}
+use Rattle.meter.specs.declared.Answer.the-variants.{Bytes}
 use Rattle.meter.specs.Meter.{empty, taken}
 use Rattle.meter.specs.Forecast.{forecastOf, answerOf}
 
@@ -19,13 +19,3 @@ six-three-forecast = refl
 pub third-zero-forecast : answerOf (taken six-three 3 0 .meter) ≡ Bytes 0
 unfolding taken answerOf forecastOf
 third-zero-forecast = refl
-
--- Without samples: refusal 12.
-pub empty-refused : answerOf empty ≡ Refused 12
-unfolding answerOf
-empty-refused = refl
-
--- A sample in the last one's slot: refusal 13, and the meter as it was.
-pub same-slot-refused : (taken six-three 2 9 .code ≡ 13) × (taken six-three 2 9 .meter ≡ six-three)
-unfolding taken
-same-slot-refused = (refl, refl)

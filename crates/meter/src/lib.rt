@@ -88,16 +88,16 @@ fn next_slots(a: [u16; 10], at: usize, v: u16) -> [u16; 10]
 }
 
 // The same of the bytes.
-fn next_bytes(a: [u32; 10], at: usize, v: u32) -> [u32; 10]
+fn next_bytes(b: [u32; 10], at: usize, v: u32) -> [u32; 10]
     requires { ⌜ at ≤ 10 ⌝ }
-    ensures { λ r. ⌜ (r ≡ nextCells a at v) × (length a ≡ 10) ⌝ }
+    ensures { λ r. ⌜ (r ≡ nextCells b at v) × (length b ≡ 10) ⌝ }
 {
     if at < 10 {
-        let mut next = a;
+        let mut next = b;
         next[at] = v;
         return next;
     }
-    [a[1], a[2], a[3], a[4], a[5], a[6], a[7], a[8], a[9], v]
+    [b[1], b[2], b[3], b[4], b[5], b[6], b[7], b[8], b[9], v]
 }
 
 // The sample comes last; where ten are kept, the oldest goes.
@@ -177,7 +177,7 @@ pub fn take(m: Meter, slot: u16, bytes: u32) -> Taken
     }
 }
 
-// The forecast of the next slot's bytes, or the refusal: 10, then 12.
+// The forecast by value: the bytes of a slot, or the refusal, 10 or 12.
 pub fn forecast(m: Meter) -> Answer
     ensures { λ r. ⌜ r ≡ answerOf m ⌝ }
 {
