@@ -25,7 +25,7 @@ sample slot bytes = record { slot = slot; bytes = bytes }
 abbrev pub samplesOf : Meter → List Sample
 samplesOf m = upTo (λ k. sample (getD (m .slots) k 0) (getD (m .bytes) k 0)) (m .kept)
 
--- The meter m with the samples l in its place: they stand in the first cells, and the cells past them are those of m.
+-- The samples l stored over m: they stand in the first cells, the cells past them are those of m, and as many are kept.
 abbrev pub storing : List Sample → Meter → Meter
 storing l m = record {
   slots = map (λ x. x .slot) l ++ drop (length l) (m .slots);
@@ -70,6 +70,7 @@ pub record InOrder (l : List Sample) : Type 0 where
 abbrev pub inOrder : List Sample → Bool
 inOrder l = leb (length l) 10 && (all inRange l && rising 0 l)
 
+-- The last ten; all, if there are no more.
 abbrev pub lastTen : List Sample → List Sample
 lastTen l = drop (length l - 10) l
 

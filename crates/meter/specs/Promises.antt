@@ -20,15 +20,6 @@ use Rattle.meter.specs.Order.{in-range-iff, in-order-iff, ten-first, the
 
 -- ---- "gets a result or, exactly in the cases that document 01 lists, a refusal number"
 
--- A sample is taken exactly if it is in range, the meter is in order and the slot is above the last one's.
-pub taken-iff : (l : List Sample) (x : Sample) → (takeRefusal l x ≡ 0) ↔ (InRange x × (InOrder l × (lastSlot 0 l < x .slot)))
-taken-iff l x =
-    orElse-as (sampleRefusal x) (meterRefusal l orElse lateRefusal l x)
-    (unless-as 10 (inRange x) (omega arith) (in-range-iff x))
-    (orElse-as (meterRefusal l) (lateRefusal l x)
-    (unless-as 10 (inOrder l) (omega arith) (in-order-iff l))
-    (unless-as 13 (ltb (lastSlot 0 l) (x .slot)) (omega arith) (ltb-iff (lastSlot 0 l) (x .slot))))
-
 -- "10. A sample's slot or bytes out of range, handed or kept; a meter with more than ten samples or slots not rising."
 pub ten-iff : (l : List Sample) (x : Sample) → (takeRefusal l x ≡ 10) ↔ ((InRange x × InOrder l) → ⊥)
 ten-iff l x = ten-first 13 (inRange x) (inOrder l) (ltb (lastSlot 0 l) (x .slot)) (omega arith) (in-range-iff x) (in-order-iff l)
@@ -37,6 +28,15 @@ ten-iff l x = ten-first 13 (inRange x) (inOrder l) (ltb (lastSlot 0 l) (x .slot)
 pub thirteen-iff : (l : List Sample) (x : Sample) → (takeRefusal l x ≡ 13) ↔ (InRange x × (InOrder l × ((lastSlot 0 l < x .slot) → ⊥)))
 thirteen-iff l x =
     then-after 13 (inRange x) (inOrder l) (ltb (lastSlot 0 l) (x .slot)) (omega arith) (in-range-iff x) (in-order-iff l) (ltb-iff (lastSlot 0 l) (x .slot))
+
+-- A sample is taken exactly if it is in range, the meter is in order and the slot is above the last one's.
+pub taken-iff : (l : List Sample) (x : Sample) → (takeRefusal l x ≡ 0) ↔ (InRange x × (InOrder l × (lastSlot 0 l < x .slot)))
+taken-iff l x =
+    orElse-as (sampleRefusal x) (meterRefusal l orElse lateRefusal l x)
+    (unless-as 10 (inRange x) (omega arith) (in-range-iff x))
+    (orElse-as (meterRefusal l) (lateRefusal l x)
+    (unless-as 10 (inOrder l) (omega arith) (in-order-iff l))
+    (unless-as 13 (ltb (lastSlot 0 l) (x .slot)) (omega arith) (ltb-iff (lastSlot 0 l) (x .slot))))
 
 -- A forecast is refused by 10 exactly if the meter is not in order ..
 pub forecast-ten-iff : (l : List Sample) → (forecastRefusal l ≡ 10) ↔ (InOrder l → ⊥)
@@ -112,7 +112,7 @@ module _ (m : Meter) (slot bytes : ℕ) where
       rw (eq-eqb (forecastRefusal after) 0 (forecast-iff after .1 (taken-in-order e, some)))
       (ap (λ (k : List Sample). Bytes (forecastOf (bytesOf k))) (taken-samples e))
 
--- ---- "the meter's forecast [is that] of document 01"
+-- ---- "the meter's forecast" is that of document 01
 
 -- "Its forecast is 0 if one of them is 0. Else .. That is the whole part of the exact harmonic mean or one more."
 pub record Forecasts (bs : List ℕ) (f : ℕ) : Type 0 where

@@ -19,7 +19,7 @@ returns c =
 returns-2 : tie.Need-returns-2
 returns-2 c =
     let ordered = answer-true (c .before .before .before .in-order .result) _ (c .before .before .before .in-order .ensures) (c .before .before .if1 .left) in
-    forecasts-none (c .before .before .before .before .args .m) ordered (c .if2 .taken)
+    forecasts-none (c .before .before .before .before .args .m) ordered (omega arith)
 
 mean-requires : tie.Need-mean-requires
 mean-requires c κs =

@@ -14,7 +14,7 @@ abbrev μ-loop : tie.MeasureT-loop
 μ-loop m kept before₀ i₀ before i = kept - i
 
 returns : tie.Need-returns Inv-loop μ-loop
-returns c = sym (too-many (c .before .args .t1) (c .if1 .taken))
+returns c = sym (too-many (c .before .args .t1) (omega arith))
 
 cast-kept : tie.Need-cast-kept Inv-loop μ-loop
 cast-kept c = search needs
@@ -59,7 +59,7 @@ loop-again c =
     let m = c .before .before .before .before .before .before .before .before .args .t1 in
     let i = c .before .before .before .before .before .before .loop .i in
     let ranged = found-in (cell m i) (c .before .before .in-range .result) (c .before .before .in-range .ensures) (c .before .if2 .left) in
-    (omega arith, looked-more m (c .before .before .before .before .before .before .loop .before) i (c .before .before .before .before .before .before .loop .inv .1) ranged (c .if3 .left))
+    (omega arith, looked-more m (c .before .before .before .before .before .before .loop .before) i (c .before .before .before .before .before .before .loop .inv .1) ranged (omega (arith, c .if3 .left)))
 
 returns-4 : tie.Need-returns-4 Inv-loop μ-loop
 returns-4 c =

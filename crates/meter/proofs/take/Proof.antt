@@ -1,4 +1,5 @@
 -- `meter::take` meets its contract, an answer for each of its four ways.
+use native.Mathlib.Omega.{arith}
 use borrow.Author.Needs.{needs}
 use Rattle.meter.proofs.take.Statement.{statement}
 use Rattle.meter.proofs.take.Tie as tie
@@ -29,7 +30,7 @@ returns-3 c =
     let a = c .before .before .before .before .before .before .args in
     let ranged = answer-true (c .before .before .before .before .before .in-range .result) _ (c .before .before .before .before .before .in-range .ensures) (c .before .before .before .before .if1 .left) in
     let ordered = answer-true (c .before .before .before .in-order .result) _ (c .before .before .before .in-order .ensures) (c .before .before .if2 .left) in
-    answers-late (a .m) (a .slot) (a .bytes) ranged ordered (rw (c .before .last-slot .ensures) at (c .if3 .taken))
+    answers-late (a .m) (a .slot) (a .bytes) ranged ordered (omega (arith, c .before .last-slot .ensures, c .if3 .taken))
 
 keep-requires : tie.Need-keep-requires
 keep-requires c κs = passed-kept (c .before .before .before .before .before .before .args .m) (answer-true (c .before .before .before .in-order .result) _ (c .before .before .before .in-order .ensures) (c .before .before .if2 .left))
@@ -40,7 +41,7 @@ returns-4 c =
     let ranged = answer-true (c .before .before .before .before .before .before .in-range .result) _ (c .before .before .before .before .before .before .in-range .ensures) (c .before .before .before .before .before .if1 .left) in
     let ordered = answer-true (c .before .before .before .before .in-order .result) _ (c .before .before .before .before .in-order .ensures) (c .before .before .before .if2 .left) in
     rw (c .keep .ensures)
-    (answers-taken (a .m) (a .slot) (a .bytes) ranged ordered (rw (c .before .before .last-slot .ensures) at (c .before .if3 .left)))
+    (answers-taken (a .m) (a .slot) (a .bytes) ranged ordered (omega (arith, c .before .before .last-slot .ensures, c .before .if3 .left)))
 
 pub take-spec : {M : Type 1} → statement M
 take-spec =
