@@ -5,6 +5,7 @@ use mathlib.Core.Bool.{Bool, true, false, not, cond, _&&_, _||_}
 use mathlib.Core.List.{List, [], _∷_}
 use mathlib.Core.Logic.{⊎-elim}
 use native.Mathlib.Omega.{arith}
+use native.Mathlib.Nat.{mul-le-mul-right}
 use lib.ListN.{length, getD}
 use lib.Seq.{ext-getD}
 use lib.Dec.{T, leb, ltb, eqb}
@@ -118,31 +119,37 @@ module _ (j : Job) (rows : List Row) (S L F : List ℕ) (ok : Accepted j) (t : T
           let back : i - 1 + 1 ≡ i = omega arith in
           rw back (mark-cong (carriedBy (j .sizes) L i) (carried j rows i) (layers j) (λ n w. carried-is i n u v w))
 
--- ---- the verdict
+-- ---- the verdict, with the last slot and the number of layers as numbers of their own
 
--- A row out of range: rule 1.
-pub verdict-one : (j : Job) (marks : List ℕ) (rows : List Row) → rule1 j rows ≡ false → 1 ≡ verdict j marks rows
-unfolding verdict
-verdict-one j marks rows e = rw e
+-- Every chunk is due by the last slot.
+pub due-most : (p : Programme) (i n : ℕ) → lastDue p ≤ n → i ≤ p .chunks → dueSlot p i ≤ n
+due-most p i n h l = omega (arith, mul-le-mul-right {m = i - 1} {n = p .chunks - 1} (p .span) (omega arith))
 
--- Every row in range: the lowest broken rule of 2 to 7, by the tables.
-pub verdict-is : (j : Job) (marks : List ℕ) (rows : List Row) (r : Pass) (m : Layers) (room few : Bool) (S L F : List ℕ)
-    → Accepted j → length marks ≡ chunks j
-    → Passed (j .programme) (lastDue (j .programme)) (layers j) rows r S L F → r .ranged ≡ true
-    → SeenAll (j .sizes) L marks (layers j) (chunks j) m
-    → room ≡ allTo (length (j .forecast)) (λ u. leb (getD S u 0) (getD (j .forecast) (u - 1) 0))
-    → few ≡ allTo (lastDue (j .programme)) (λ u. leb (heldBy (j .programme) F u) (j .programme .limit / j .programme .span))
-    → lowest 2 (m .whole ∷ m .lower ∷ room ∷ r .timely ∷ few ∷ m .said ∷ []) ≡ verdict j marks rows
-unfolding verdict
-verdict-is j marks rows r m room few S L F ok e a g s w f =
-    let t = a .tables g in
-    let one : rule1 j rows ≡ true = sym (a .ranged) ∙ g in
-    rw (
-      one,
-      s .whole ∙ rule2-is j rows S L F ok t,
-      s .lower ∙ rule3-is j rows S L F ok t,
-      w ∙ rule4-is j rows S L F ok t,
-      a .timely g,
-      f ∙ rule6-is j rows S L F ok t,
-      s .said ∙ rule7-is j rows S L F ok t marks e
-    )
+module _ (j : Job) (marks : List ℕ) (rows : List Row) (last depth : ℕ) (d : last ≡ lastDue (j .programme)) (k : depth ≡ layers j) (r : Pass) (S L F : List ℕ) (a : Passed (j .programme) last depth rows r S L F) where
+  one-is : r .ranged ≡ rule1 j rows
+  one-is = rw (d, k) at (a .ranged)
+
+  -- A row out of range: rule 1.
+  pub verdict-one : r .ranged ≡ false → 1 ≡ verdict j marks rows
+  unfolding verdict
+  verdict-one e = rw (sym one-is ∙ e)
+
+  -- Every row in range: the lowest broken rule of 2 to 7, by the tables.
+  pub verdict-is : r .ranged ≡ true → Accepted j → length marks ≡ chunks j → (m : Layers) (room few : Bool)
+      → SeenAll (j .sizes) L marks depth (chunks j) m
+      → room ≡ allTo (length (j .forecast)) (λ u. leb (getD S u 0) (getD (j .forecast) (u - 1) 0))
+      → few ≡ allTo last (λ u. leb (heldBy (j .programme) F u) (j .programme .limit / j .programme .span))
+      → lowest 2 (m .whole ∷ m .lower ∷ room ∷ r .timely ∷ few ∷ m .said ∷ []) ≡ verdict j marks rows
+  unfolding verdict
+  verdict-is g ok e m room few s w f =
+      let t = a .tables g in
+      let s′ = rw k at s in
+      rw (
+        sym one-is ∙ g,
+        s′ .whole ∙ rule2-is j rows S L F ok t,
+        s′ .lower ∙ rule3-is j rows S L F ok t,
+        w ∙ rule4-is j rows S L F ok t,
+        a .timely g,
+        (rw d at f) ∙ rule6-is j rows S L F ok t,
+        s′ .said ∙ rule7-is j rows S L F ok t marks e
+      )

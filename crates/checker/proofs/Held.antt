@@ -1,5 +1,5 @@
 -- Lemmas. Rule 6 by two tables, the chunks that begin and that cease to be held in each slot. Assumes nothing.
-use Prim.Native.Nat.{ℕ, zero, suc, _+_, _*_, _-_, _≤_, _<_, min}
+use Prim.Native.Nat.{ℕ, zero, suc, _+_, _*_, _-_, _/_, _≤_, _<_}
 use mathlib.Core.Path.{_≡_, refl, sym, ap, _∙_}
 use mathlib.Core.Bool.{Bool, true, false, cond, _&&_}
 use mathlib.Core.List.{List, [], _∷_}
@@ -9,11 +9,12 @@ use lib.ListN.{length, getD, set, length-set, replicate, length-replicate, getD-
 use lib.Seq.{getD-set-same, getD-set-other}
 use lib.Dec.{ltb, leb, eqb}
 use borrow.Author.Tests.{le-leb, lt-leb, lt-ltb, le-ltb, ne-eqb, eqb-true, eqb-false, ltb-true, ltb-false, leb-true, leb-false}
+use Rattle.basics.specs.Tests.{allTo}
 use Rattle.basics.specs.Sums.{count}
 use Rattle.job.specs.declared.Programme.{Programme}
 use Rattle.job.specs.Job.{dueSlot}
 use Rattle.checker.specs.Tables.{heldBy, startsAt, endsAt, Marked}
-use Rattle.checker.proofs.Ranges.{count-more, count-none, count-small, counts-add}
+use Rattle.checker.proofs.Ranges.{count-more, count-none, count-small, counts-add, allTo-cong, allTo-holds, allTo-not}
 
 abbrev bit : Bool → ℕ
 bit b = cond b 1 0
@@ -66,6 +67,9 @@ abbrev pub heldAt : List ℕ → List ℕ → ℕ → ℕ
 heldAt begins ends zero = 0
 heldAt begins ends (suc t) = heldAt begins ends t + getD begins (suc t) 0 - getD ends (suc t) 0
 
+held-more : (begins ends : List ℕ) (t : ℕ) → heldAt begins ends (t + 1) ≡ heldAt begins ends t + getD begins (t + 1) 0 - getD ends (t + 1) 0
+held-more begins ends t = rw add-one
+
 module _ (p : Programme) (first : List ℕ) where
   pub marked-none : Marked p first 0 (replicate 3601 0) (replicate 3601 0)
   marked-none = record {
@@ -113,6 +117,41 @@ module _ (p : Programme) (first : List ℕ) where
 
 -- ---- the sweep
 
+-- What the sums of slot t + 1 need: no more than 500 begin or are held, and no more cease than are held.
+pub record Fine (begins ends : List ℕ) (t : ℕ) : Type 0 where
+  pub held-few : heldAt begins ends t ≤ 500
+  pub begin-few : getD begins (t + 1) 0 ≤ 500
+  pub end-held : getD ends (t + 1) 0 ≤ heldAt begins ends t + getD begins (t + 1) 0
+
+pub record Sweeping (last most : ℕ) (begins ends : List ℕ) (held t : ℕ) : Type 0 where
+  pub reached : t ≤ last
+  pub now-held : held ≡ heldAt begins ends t
+  pub kept : allTo t (λ u. leb (heldAt begins ends u) most) ≡ true
+  pub short : last ≤ 3600
+  pub fine : (u : ℕ) → u < 3600 → Fine begins ends u
+
+module _ (last most : ℕ) (begins ends : List ℕ) (held t : ℕ) (s : Sweeping last most begins ends held t) (h : t < last) where
+  abbrev next : ℕ
+  next = held + getD begins (t + 1) 0 - getD ends (t + 1) 0
+
+  pub sweeping-fine : Fine begins ends t
+  sweeping-fine = s .fine t (omega (arith, s .short))
+
+  next-is : heldAt begins ends (t + 1) ≡ next
+  next-is = held-more begins ends t ∙ rw (sym (s .now-held))
+
+  pub sweeping-more : next ≤ most → Sweeping last most begins ends next (t + 1)
+  sweeping-more k = record {
+    reached = omega arith;
+    now-held = sym next-is;
+    kept = allTo-holds t (λ u. leb (heldAt begins ends u) most) (s .kept) (le-leb (heldAt begins ends (t + 1)) most (omega (arith, next-is)));
+    short = s .short;
+    fine = s .fine;
+  }
+
+  pub sweeping-stop : most < next → allTo last (λ u. leb (heldAt begins ends u) most) ≡ false
+  sweeping-stop k = allTo-not t last (λ u. leb (heldAt begins ends u) most) h (lt-leb (heldAt begins ends (t + 1)) most (omega (arith, next-is)))
+
 module _ (p : Programme) (first begins ends : List ℕ) (few : p .chunks ≤ 500) (some : (i : ℕ) → 1 ≤ i → i ≤ 500 → 1 ≤ getD first i 0) (m : Marked p first (p .chunks) begins ends) where
   held-none : heldBy p first 0 ≡ 0
   held-none = count-none (p .chunks) (λ i. leb (getD first i 0) 0 && ltb 0 (dueSlot p i)) (λ k u v. rw (lt-leb (getD first k 0) 0 (some k u (omega arith))))
@@ -128,14 +167,21 @@ module _ (p : Programme) (first begins ends : List ℕ) (few : p .chunks ≤ 500
       )
 
   -- The two tables give the chunks held.
-  pub held-run : (t : ℕ) → t ≤ 3600 → heldAt begins ends t ≡ heldBy p first t
+  held-run : (t : ℕ) → t ≤ 3600 → heldAt begins ends t ≡ heldBy p first t
   held-run zero h = sym held-none
   held-run (suc t) h = omega (arith, held-run t (omega arith), rw (add-one t) at (held-step t (omega arith)))
 
-  -- What the sweep's sums need: no more than 500 begin or are held, and no more cease than are held.
-  pub held-fine : (t : ℕ) → t < 3600 → (heldAt begins ends t ≤ 500) × (getD begins (t + 1) 0 ≤ 500) × (getD ends (t + 1) 0 ≤ heldAt begins ends t + getD begins (t + 1) 0)
-  held-fine t h = (
-    omega (arith, held-run t (omega arith), count-small (p .chunks) (λ i. leb (getD first i 0) t && ltb t (dueSlot p i))),
-    omega (arith, m .begin-at (t + 1) (omega arith), count-small (p .chunks) (startsAt p first (t + 1))),
-    omega (arith, held-run t (omega arith), held-step t h),
-  )
+  held-fine : (t : ℕ) → t < 3600 → Fine begins ends t
+  held-fine t h = record {
+    held-few = omega (arith, held-run t (omega arith), count-small (p .chunks) (λ i. leb (getD first i 0) t && ltb t (dueSlot p i)));
+    begin-few = omega (arith, m .begin-at (t + 1) (omega arith), count-small (p .chunks) (startsAt p first (t + 1)));
+    end-held = omega (arith, held-run t (omega arith), held-step t h);
+  }
+
+  pub sweeping-start : (last most : ℕ) → last ≤ 3600 → Sweeping last most begins ends 0 0
+  sweeping-start last most h = record { reached = omega arith; now-held = refl; kept = refl; short = h; fine = held-fine }
+
+  -- The sweep by the tables is rule 6 by first slots.
+  pub sweep-is : (last most : ℕ) → last ≤ 3600 → most ≡ p .limit / p .span
+      → allTo last (λ t. leb (heldAt begins ends t) most) ≡ allTo last (λ t. leb (heldBy p first t) (p .limit / p .span))
+  sweep-is last most h e = rw (sym e) (allTo-cong last (λ t. leb (heldAt begins ends t) most) (λ t. leb (heldBy p first t) most) (λ t a b. ap (λ (n : ℕ). leb n most) (held-run t (omega arith))))

@@ -4,56 +4,84 @@ use Rattle.checker.proofs.see_all.Reads as reads
 use Rattle.checker.proofs.see_all.Lts as lts
 use Rattle.checker.proofs.both.Reads as both-reads
 use Rattle.checker.proofs.see_chunk.Reads as see-chunk-reads
+use Prim.Native.Nat.{_+_, _-_, _≤_}
+use mathlib.Core.Path.{_≡_}
+use native.Mathlib.Omega.{arith}
+use denote.Ref.{now}
+use borrow.Author.Needs.{needs}
+use Rattle.checker.specs.Tables.{SeenAll}
+use Rattle.checker.proofs.Seeing.{seen-none, seen-more}
 
 abbrev Inv-loop : tie.InvT-loop
-Inv-loop sizes depth layersum marks count whole₀ lower₀ said₀ i₀ whole lower said i = ?
+Inv-loop sizes depth layersum marks count whole₀ lower₀ said₀ i₀ whole lower said i =
+    (i ≤ count) × SeenAll sizes layersum marks depth i (record { whole = whole; lower = lower; said = said })
+
 
 abbrev μ-loop : tie.MeasureT-loop
-μ-loop sizes depth layersum marks count whole₀ lower₀ said₀ i₀ whole lower said i = ?
+μ-loop sizes depth layersum marks count whole₀ lower₀ said₀ i₀ whole lower said i = count - i
+
 
 -- src/lib.rt:248:5
 loop-holds : tie.Need-loop-holds Inv-loop μ-loop
-loop-holds c = ?
+loop-holds c =
+    let a = c .before .before .args in
+    (omega arith, seen-none (now (a .sizes)) (now (a .layersum)) (now (a .marks)) (a .depth))
+
 
 -- src/lib.rt:249:18
 cast-at : tie.Need-cast-at Inv-loop μ-loop
-cast-at c = ?
+cast-at c = omega (arith, c .before .before .before .before .pre)
+
 
 -- src/lib.rt:250:20
 add-next : tie.Need-add-next Inv-loop μ-loop
-add-next c = ?
+add-next c = omega (arith, c .before .before .before .before .pre)
+
 
 -- src/lib.rt:251:13
 see-chunk-requires : tie.Need-see-chunk-requires Inv-loop μ-loop
-see-chunk-requires c κs = ?
+see-chunk-requires c κs = (c .before .before .before .before .pre .0, omega arith, omega (arith, c .before .before .before .before .pre))
+
 
 -- src/lib.rt:252:9
 both-requires : tie.Need-both-requires Inv-loop μ-loop
-both-requires c κs = ?
+both-requires c κs = search needs
+
 
 -- src/lib.rt:253:9
 both-requires-2 : tie.Need-both-requires-2 Inv-loop μ-loop
-both-requires-2 c κs = ?
+both-requires-2 c κs = search needs
+
 
 -- src/lib.rt:254:21
 shared-slice-read-both : tie.Need-shared-slice-read-both Inv-loop μ-loop
-shared-slice-read-both c = ?
+shared-slice-read-both c = omega (arith, c .before .before .before .before .loop-test .taken, c .before .before .before .before .before .before .before .before .pre)
+
 
 -- src/lib.rt:254:9
 both-requires-3 : tie.Need-both-requires-3 Inv-loop μ-loop
-both-requires-3 c κs = ?
+both-requires-3 c κs = search needs
+
 
 -- src/lib.rt:248:5
 loop-less : tie.Need-loop-less Inv-loop μ-loop
-loop-less c = ?
+loop-less c = omega (arith, c .before .before .before .before .before .before .loop-test .taken)
+
 
 -- src/lib.rt:248:5
 loop-again : tie.Need-loop-again Inv-loop μ-loop
-loop-again c = ?
+loop-again c =
+    let a = c .before .before .before .before .before .before .before .before .before .before .args in
+    let l = c .before .before .before .before .before .before .before .loop in
+    (omega (arith, c .before .before .before .before .before .before .loop-test .taken), rw (c .before .before .before .before .both .ensures, c .before .before .before .both2 .ensures, c .both3 .ensures) (seen-more (now (a .sizes)) (now (a .layersum)) (now (a .marks)) (a .depth) (l .i) (record { whole = l .whole; lower = l .lower; said = l .said }) (c .before .before .before .before .before .see-chunk .result) (l .inv .1) (c .before .before .before .before .before .see-chunk .ensures)))
+
 
 -- src/lib.rt:234:1
 returns : tie.Need-returns Inv-loop μ-loop
-returns c = ?
+returns c =
+    let l = c .before .loop in
+    let e : l .i ≡ c .before .before .before .before .args .count = omega (arith, l .inv .0) in
+    rw e at (l .inv .1)
 
 pub see-all-spec : {M : Type 1} → statement M
 see-all-spec =
