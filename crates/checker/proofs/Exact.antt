@@ -1,23 +1,21 @@
 -- Lemmas. What the tables say is what the rules say: sums that stop at the cap lose nothing. Assumes nothing.
 use Prim.Native.Nat.{ℕ, zero, suc, _+_, _*_, _-_, _/_, _≤_, _<_, min}
 use mathlib.Core.Path.{_≡_, refl, sym, ap, _∙_}
-use mathlib.Core.Bool.{Bool, true, false, not, cond, _&&_, _||_}
+use mathlib.Core.Bool.{Bool, true, false, cond, _&&_, _||_}
 use mathlib.Core.List.{List, [], _∷_}
-use mathlib.Core.Logic.{⊎-elim}
 use native.Mathlib.Omega.{arith}
 use native.Mathlib.Nat.{mul-le-mul-right}
 use lib.ListN.{length, getD}
 use lib.Seq.{ext-getD}
 use lib.Dec.{T, leb, ltb, eqb}
 use borrow.Author.Tests.{le-leb, lt-leb, leb-true, leb-false, eq-eqb, ne-eqb, eqb-true, eqb-false}
-use Rattle.basics.specs.Tests.{All, all, any, allTo, allBelow, allTo-iff, same-test, eqb-iff}
+use Rattle.basics.specs.Tests.{All, allTo, allBelow, allTo-iff, same-test, eqb-iff}
 use Rattle.basics.specs.Lists.{upTo, length-upTo, getD-upTo}
-use Rattle.basics.specs.Sums.{count}
 use Rattle.job.specs.declared.Programme.{Programme}
-use Rattle.job.specs.Job.{Job, jobOf, Within, Accepted, dueSlot, lastDue, chunks, layers}
+use Rattle.job.specs.Job.{Job, Within, Accepted, dueSlot, lastDue, chunks, layers}
 use Rattle.fetch.specs.Rows.{Row, begun, held, heldCount, carried, markByte, bytesInSlot, bytesOfLayer}
 use Rattle.fetch.specs.Marks.{mark-cong}
-use Rattle.fetch.specs.Verdict.{rule1, rule2, rule3, rule4, rule5, rule6, rule7, lowerCarried, same, same-iff, lowest, verdict}
+use Rattle.fetch.specs.Verdict.{rule1, rule2, rule3, rule4, rule6, rule7, lowerCarried, same, same-iff, lowest, verdict}
 use Rattle.checker.specs.declared.Pass.{Pass}
 use Rattle.checker.specs.declared.Layers.{Layers}
 use Rattle.checker.specs.Tables.{cap, firstOf, Tallied, Passed, carriedBy, wholeBy, under, lowerBy, SeenAll, heldBy}
@@ -151,5 +149,5 @@ module _ (j : Job) (marks : List ℕ) (rows : List Row) (last depth : ℕ) (d : 
         w ∙ rule4-is j rows S L F ok t,
         a .timely g,
         (rw d at f) ∙ rule6-is j rows S L F ok t,
-        s′ .said ∙ rule7-is j rows S L F ok t marks e
+        s′ .said ∙ rule7-is j rows S L F ok t marks e,
       )

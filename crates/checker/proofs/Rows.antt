@@ -8,7 +8,7 @@ use native.Mathlib.Omega.{arith}
 use native.Mathlib.Numerals.{add-one}
 use lib.ListN.{length, getD, set, length-set, replicate, length-replicate, getD-replicate}
 use lib.Seq.{getD-set-same, getD-set-other}
-use lib.Dec.{T, leb, ltb, eqb}
+use lib.Dec.{T, eqb}
 use borrow.Author.Tests.{eqb-true, eqb-false}
 use Rattle.basics.specs.Tests.{all, last, true-T, tests}
 use Rattle.basics.specs.Lists.{upTo}
@@ -41,9 +41,9 @@ all-not p f i zero h e = absurd (omega arith)
 all-not p f i (suc n) h e =
     all-snoc p (upTo f n) (f n)
     ∙ ⊎-elim
-        (λ l. ap (λ (b : Bool). b && p (f n)) (all-not p f i n l e))
-        (λ q. let s : i ≡ n = omega arith in rw (sym s, e) (and-false (all p (upTo f i))))
-        (last (suc i) n h)
+    (λ l. ap (λ (b : Bool). b && p (f n)) (all-not p f i n l e))
+    (λ q. let s : i ≡ n = omega arith in rw (sym s, e) (and-false (all p (upTo f i))))
+    (last (suc i) n h)
 
 -- ---- the tables
 

@@ -1,5 +1,5 @@
 -- Lemmas. The pass over the layers of a chunk, and over the chunks: one more of either. Assumes nothing.
-use Prim.Native.Nat.{ℕ, zero, suc, _+_, _*_, _-_, _≤_, _<_}
+use Prim.Native.Nat.{ℕ, suc, _+_, _-_, _≤_, _<_}
 use mathlib.Core.Path.{_≡_, refl, sym, ap, _∙_}
 use mathlib.Core.Bool.{Bool, true, false, not, cond, _&&_, _||_}
 use mathlib.Core.List.{List}
@@ -7,7 +7,7 @@ use native.Mathlib.Omega.{arith}
 use native.Mathlib.Numerals.{add-one}
 use lib.ListN.{getD}
 use lib.Dec.{eqb}
-use Rattle.basics.specs.Tests.{allTo, allBelow}
+use Rattle.basics.specs.Tests.{allBelow}
 use Rattle.fetch.specs.Rows.{markByte}
 use Rattle.fetch.specs.Marks.{withLayer, with-next}
 use Rattle.checker.specs.declared.Seen.{Seen}

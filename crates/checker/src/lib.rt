@@ -2,19 +2,19 @@
 // first slots; one pass over the chunks and two over the slots read them.
 use job::Programme;
 ghost use mathlib.Core.Path.{_≡_};
-ghost use mathlib.Core.Bool.{Bool, true, not, cond, _&&_, _||_};
+ghost use mathlib.Core.Bool.{true, not, cond, _&&_, _||_};
 ghost use mathlib.Core.List.{[], _∷_};
 ghost use Prim.Native.Nat.{ℕ, _+_, _*_, _-_, _/_, _<_, _≤_, min};
 ghost use lib.ListN.{length, getD, set, replicate};
-ghost use lib.Dec.{leb, ltb, eqb};
-ghost use Rattle.basics.specs.Tests.{allTo, allBelow};
-ghost use Rattle.job.specs.Job.{jobOf, dueSlot, sizeIn, Accepted};
-ghost use Rattle.fetch.specs.Rows.{rowsOf, markByte};
+ghost use lib.Dec.{leb, eqb};
+ghost use Rattle.basics.specs.Tests.{allTo};
+ghost use Rattle.job.specs.Job.{jobOf, dueSlot, Accepted};
+ghost use Rattle.fetch.specs.Rows.{rowsOf};
 ghost use Rattle.fetch.specs.Handed.{Whole};
 ghost use Rattle.fetch.specs.Verdict.{lowest, verdict};
 ghost use Rattle.fetch.specs.Marks.{withLayer};
 ghost use Rattle.checker.specs.Checked.{checked};
-ghost use Rattle.checker.specs.Tables.{cap, inRange, onTime, Tallied, Passed, wholeBy, carriedBy, lowerBy, SeenChunk, SeenAll, heldBy, Marked};
+ghost use Rattle.checker.specs.Tables.{cap, inRange, Passed, SeenChunk, SeenAll, heldBy, Marked};
 
 // The verdict 0 to 7, or the number of a refusal.
 pub enum Checked {
@@ -231,13 +231,7 @@ fn see_chunk(sizes: &[u32], depth: usize, layersum: &[u64; 2000], i: u16) -> See
 }
 
 // Rules 2, 3 and 7, chunk by chunk.
-fn see_all(
-    sizes: &[u32],
-    depth: usize,
-    layersum: &[u64; 2000],
-    marks: &[u8],
-    count: u16,
-) -> Layers
+fn see_all(sizes: &[u32], depth: usize, layersum: &[u64; 2000], marks: &[u8], count: u16) -> Layers
     requires { ⌜ (depth ≤ 4) × (count ≤ 500) × (length (now marks) ≡ count) ⌝ }
     ensures { λ r. ⌜ SeenAll (now (sizes .entry)) (now (layersum .entry)) (now (marks .entry)) depth count r ⌝ }
 {
@@ -406,5 +400,15 @@ pub fn check(
         return Checked::Refused(list);
     }
     let depth = sizes.len();
-    Checked::Verdict(verdict_of(p, sizes, depth, forecast, marks, slots, chunks, layers, bytes))
+    Checked::Verdict(verdict_of(
+        p,
+        sizes,
+        depth,
+        forecast,
+        marks,
+        slots,
+        chunks,
+        layers,
+        bytes,
+    ))
 }

@@ -1,51 +1,34 @@
+-- Refusals 5, 6, 7, then 8, else the verdict.
 use borrow.Author.Needs.{needs}
 use Rattle.checker.proofs.check.Statement.{statement}
 use Rattle.checker.proofs.check.Tie as tie
-use Rattle.checker.proofs.check.Reads as reads
-use Rattle.checker.proofs.check.Lts as lts
-use Rattle.checker.proofs.verdict_of.Reads as verdict-of-reads
-use Rattle.fetch.proofs.handed_refusal.Reads as handed-refusal-reads
-use Rattle.job.proofs.refusal.Reads as refusal-reads
-use mathlib.Core.Path.{_≡_, refl, sym, ap, _∙_}
+use mathlib.Core.Path.{refl, sym, _∙_}
 use denote.Ref.{now}
 use borrow.Author.Tests.{ne-eqb, eq-eqb}
 use Rattle.job.specs.Job.{jobOf}
 use Rattle.job.specs.Refusal.{accepted-iff}
 use Rattle.fetch.specs.Handed.{handed-iff}
 
--- src/lib.rt:400:9
 refusal-requires : tie.Need-refusal-requires
 refusal-requires c κs = search needs
 
--- src/lib.rt:402:9
 returns : tie.Need-returns
 returns c = rw (sym (c .before .refusal .ensures), ne-eqb _ _ (c .if1 .taken), ne-eqb _ _ (c .if1 .taken))
 
-
-
--- src/lib.rt:404:9
 handed-refusal-requires : tie.Need-handed-refusal-requires
 handed-refusal-requires c κs = search needs
 
--- src/lib.rt:406:9
 returns-2 : tie.Need-returns-2
 returns-2 c = rw (sym (c .before .before .before .refusal .ensures), eq-eqb _ _ (c .before .before .if1 .left), sym (c .before .handed-refusal .ensures), ne-eqb _ _ (c .if2 .taken))
 
-
-
--- src/lib.rt:409:22
 verdict-of-requires : tie.Need-verdict-of-requires
 verdict-of-requires c κs =
-    let a = c .before .before .before .before .before .before .before .before .before .before .before .args in
-    (
+    let a = c .before .before .before .before .before .before .before .before .before .before .before .args in (
       accepted-iff (jobOf (a .p) (now (a .sizes)) (now (a .forecast))) .0 (sym (c .before .before .before .refusal .ensures) ∙ c .before .before .if1 .left),
       refl,
       handed-iff (a .p .chunks) (now (a .marks)) (now (a .slots)) (now (a .chunks)) (now (a .layers)) (now (a .bytes)) .0 (sym (c .before .handed-refusal .ensures) ∙ c .if2 .left),
     )
 
-
-
--- src/lib.rt:388:1
 returns-3 : tie.Need-returns-3
 returns-3 c = rw (sym (c .before .before .before .before .refusal .ensures), eq-eqb _ _ (c .before .before .before .if1 .left), sym (c .before .before .handed-refusal .ensures), eq-eqb _ _ (c .before .if2 .left), c .verdict-of .ensures)
 

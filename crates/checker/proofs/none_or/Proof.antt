@@ -1,15 +1,11 @@
+-- `none_or` is rule 2 of one layer.
 use Rattle.checker.proofs.none_or.Statement.{statement}
 use Rattle.checker.proofs.none_or.Tie as tie
-use Rattle.checker.proofs.none_or.Reads as reads
-use Rattle.checker.proofs.none_or.Lts as lts
 use borrow.Author.Tests.{eq-eqb, ne-eqb}
 
--- src/lib.rt:193:9
 returns : tie.Need-returns
 returns c = rw (eq-eqb _ _ (c .if1 .taken))
 
-
--- src/lib.rt:189:1
 returns-2 : tie.Need-returns-2
 returns-2 c = rw (ne-eqb _ _ (c .if1 .left))
 

@@ -1,10 +1,6 @@
+-- Rule 6 of the first t slots, by how many are held at the end of slot t.
 use Rattle.checker.proofs.sweep.Statement.{statement}
 use Rattle.checker.proofs.sweep.Tie as tie
-use Rattle.checker.proofs.sweep.Reads as reads
-use Rattle.checker.proofs.sweep.Lts as lts
-use Rattle.checker.proofs.mark_times.Reads as mark-times-reads
-use Rattle.checker.proofs.wide.Reads as wide-reads
-use Rattle.job.proofs.held_most.Reads as held-most-reads
 use Prim.Native.Nat.{_-_}
 use mathlib.Core.Path.{_≡_, refl, sym, _∙_}
 use native.Mathlib.Omega.{arith}
@@ -15,86 +11,57 @@ use Rattle.checker.proofs.Held.{Sweeping, sweeping-start, sweeping-fine
 abbrev Inv-loop : tie.InvT-loop
 Inv-loop last first most begins ends held₀ t₀ held t = Sweeping last most begins ends held t
 
-
 abbrev μ-loop : tie.MeasureT-loop
 μ-loop last first most begins ends held₀ t₀ held t = last - t
 
-
--- src/lib.rt:303:21
 held-most-requires : tie.Need-held-most-requires Inv-loop μ-loop
 held-most-requires c κs = search needs
 
-
--- src/lib.rt:303:9
 wide-requires : tie.Need-wide-requires Inv-loop μ-loop
 wide-requires c κs = search needs
 
-
--- src/lib.rt:306:5
 mark-times-requires : tie.Need-mark-times-requires Inv-loop μ-loop
 mark-times-requires c κs = (c .before .before .before .before .pre .0, c .before .before .before .before .pre .2, refl, refl)
 
-
--- src/lib.rt:309:5
 loop-holds : tie.Need-loop-holds Inv-loop μ-loop
 loop-holds c =
     let a = c .before .before .before .before .before .args in
     let o = c .before .before .before .before .before .pre in
     sweeping-start (a .p) (now (a .first)) _ _ (o .0) (o .3) (c .mark-times .ensures) (a .last) _ (o .1)
 
-
--- src/lib.rt:310:17
 add-u : tie.Need-add-u Inv-loop μ-loop
 add-u c = omega arith
 
-
--- src/lib.rt:311:32
 mul-wide : tie.Need-mul-wide Inv-loop μ-loop
 mul-wide c = omega arith
 
-
--- src/lib.rt:311:32
 array-read-wide : tie.Need-array-read-wide Inv-loop μ-loop
 array-read-wide c = omega arith
 
-
--- src/lib.rt:311:27
 wide-requires-2 : tie.Need-wide-requires-2 Inv-loop μ-loop
 wide-requires-2 c κs = search needs
 
-
--- src/lib.rt:311:20
 add-more : tie.Need-add-more Inv-loop μ-loop
 add-more c =
     let l = c .before .before .loop in
     let f = sweeping-fine _ _ _ _ (l .held) (l .t) (l .inv) (c .before .loop-test .taken) in
     omega (arith, f, l .inv .now-held, c .wide2 .ensures)
 
-
--- src/lib.rt:312:28
 mul-wide-2 : tie.Need-mul-wide-2 Inv-loop μ-loop
 mul-wide-2 c = omega (arith, c .before .loop-test .taken, c .before .before .loop .inv .short)
 
-
--- src/lib.rt:312:28
 array-read-wide-2 : tie.Need-array-read-wide-2 Inv-loop μ-loop
 array-read-wide-2 c = omega (arith, c .before .loop-test .taken, c .before .before .loop .inv .short)
 
-
--- src/lib.rt:312:23
 wide-requires-3 : tie.Need-wide-requires-3 Inv-loop μ-loop
 wide-requires-3 c κs = search needs
 
-
--- src/lib.rt:312:16
 sub-held : tie.Need-sub-held Inv-loop μ-loop
 sub-held c =
     let l = c .before .before .before .loop in
     let f = sweeping-fine _ _ _ _ (l .held) (l .t) (l .inv) (c .before .before .loop-test .taken) in
     omega (arith, f, l .inv .now-held, c .before .wide2 .ensures, c .wide3 .ensures)
 
-
--- src/lib.rt:314:13
 returns : tie.Need-returns Inv-loop μ-loop
 returns c =
     let a = c .before .before .before .before .before .before .before .before .before .before .args in
@@ -103,21 +70,15 @@ returns c =
     sym (sweeping-stop (a .last) _ _ _ (l .held) (l .t) (l .inv) (c .before .before .before .loop-test .taken) (rw (c .before .before .wide2 .ensures, c .before .wide3 .ensures) at (c .if1 .taken)))
     ∙ sweep-is (a .p) (now (a .first)) _ _ (o .0) (o .3) (c .before .before .before .before .before .mark-times .ensures) (a .last) _ (o .1) (c .before .before .before .before .before .before .before .before .wide .ensures ∙ c .before .before .before .before .before .before .before .before .before .held-most .ensures)
 
-
--- src/lib.rt:309:5
 loop-less : tie.Need-loop-less Inv-loop μ-loop
 loop-less c = omega (arith, c .before .before .before .loop-test .taken)
 
-
--- src/lib.rt:309:5
 loop-again : tie.Need-loop-again Inv-loop μ-loop
 loop-again c =
     let l = c .before .before .before .before .loop in
     rw (c .before .before .wide2 .ensures, c .before .wide3 .ensures)
     (sweeping-more _ _ _ _ (l .held) (l .t) (l .inv) (c .before .before .before .loop-test .taken) (rw (c .before .before .wide2 .ensures, c .before .wide3 .ensures) at (c .if1 .left)))
 
-
--- src/lib.rt:299:1
 returns-2 : tie.Need-returns-2 Inv-loop μ-loop
 returns-2 c =
     let a = c .before .before .before .before .before .before .before .args in

@@ -1,13 +1,8 @@
+-- The pass over the rows: after i rows the tables hold the first i, and rules 1 and 5 are known of them.
 use Rattle.checker.proofs.tally.Statement.{statement}
 use Rattle.checker.proofs.tally.Tie as tie
-use Rattle.checker.proofs.tally.Reads as reads
-use Rattle.checker.proofs.tally.Lts as lts
-use Rattle.checker.proofs.add_row.Reads as add-row-reads
-use Rattle.checker.proofs.both.Reads as both-reads
-use Rattle.checker.proofs.in_range.Reads as in-range-reads
-use Rattle.checker.proofs.on_time.Reads as on-time-reads
 use Prim.Native.Nat.{_-_}
-use mathlib.Core.Path.{_≡_, sym, _∙_}
+use mathlib.Core.Path.{sym, _∙_}
 use native.Mathlib.Omega.{arith}
 use lib.ListN.{length}
 use denote.Ref.{now}
@@ -19,71 +14,46 @@ abbrev Inv-loop : tie.InvT-loop
 Inv-loop p last depth slots chunks layers bytes slotsum₀ layersum₀ first₀ timely₀ i₀ slotsum layersum first timely i =
     Tallying p last depth slots chunks layers bytes slotsum layersum first timely i
 
-
 abbrev μ-loop : tie.MeasureT-loop
 μ-loop p last depth slots chunks layers bytes slotsum₀ layersum₀ first₀ timely₀ i₀ slotsum layersum first timely i =
     length slots - i
 
-
--- src/lib.rt:160:5
 loop-holds : tie.Need-loop-holds Inv-loop μ-loop
 loop-holds c =
     let a = c .before .before .before .before .args in
     let o = c .before .before .before .before .pre in
     tallying-start (a .p) (a .last) (a .depth) (now (a .slots)) (now (a .chunks)) (now (a .layers)) (now (a .bytes)) _ _ _ (o .6) (o .7) (o .8)
 
-
--- src/lib.rt:161:17
 mul-s : tie.Need-mul-s Inv-loop μ-loop
 mul-s c = omega arith
 
-
--- src/lib.rt:161:17
 shared-slice-read-s : tie.Need-shared-slice-read-s Inv-loop μ-loop
 shared-slice-read-s c = omega arith
 
-
--- src/lib.rt:162:17
 mul-c : tie.Need-mul-c Inv-loop μ-loop
 mul-c c = omega arith
 
-
--- src/lib.rt:162:17
 shared-slice-read-c : tie.Need-shared-slice-read-c Inv-loop μ-loop
 shared-slice-read-c c = omega arith
 
-
--- src/lib.rt:163:17
 shared-slice-read-l : tie.Need-shared-slice-read-l Inv-loop μ-loop
 shared-slice-read-l c = omega arith
 
-
--- src/lib.rt:164:17
 mul-b : tie.Need-mul-b Inv-loop μ-loop
 mul-b c = omega arith
 
-
--- src/lib.rt:164:17
 shared-slice-read-b : tie.Need-shared-slice-read-b Inv-loop μ-loop
 shared-slice-read-b c = omega arith
 
-
--- src/lib.rt:165:12
 in-range-requires : tie.Need-in-range-requires Inv-loop μ-loop
 in-range-requires c κs = search needs
 
-
--- src/lib.rt:166:35
 on-time-requires : tie.Need-on-time-requires Inv-loop μ-loop
 on-time-requires c κs = search needs
 
-
--- src/lib.rt:166:13
 both-requires : tie.Need-both-requires Inv-loop μ-loop
 both-requires c κs = search needs
 
-
--- src/lib.rt:167:13
 add-row-requires : tie.Need-add-row-requires Inv-loop μ-loop
 add-row-requires c κs =
     let a = c .before .before .before .before .before .before .before .before .before .before .before .before .before .before .before .before .before .args in
@@ -94,18 +64,12 @@ add-row-requires c κs =
     let s = tallying-small (a .p) (a .last) (a .depth) (now (a .slots)) (now (a .chunks)) (now (a .layers)) (now (a .bytes)) (l .slotsum) (l .layersum) (l .first) (l .timely) (l .i) (l .inv) f in
     (f .slot-high, f .chunk-low, f .chunk-high, f .layer-in, s .0, s .1)
 
-
--- src/lib.rt:168:17
 add-i : tie.Need-add-i Inv-loop μ-loop
 add-i c = omega arith
 
-
--- src/lib.rt:160:5
 loop-less : tie.Need-loop-less Inv-loop μ-loop
 loop-less c = omega arith
 
-
--- src/lib.rt:160:5
 loop-again : tie.Need-loop-again Inv-loop μ-loop
 loop-again c =
     let a = c .before .before .before .before .before .before .before .before .before .before .before .before .before .before .before .before .before .before .args in
@@ -118,16 +82,12 @@ loop-again c =
     rw (e .0, e .1, e .2, c .before .before .before .before .both .ensures, c .before .before .before .before .before .on-time .ensures)
     (tallying-more (a .p) (a .last) (a .depth) (now (a .slots)) (now (a .chunks)) (now (a .layers)) (now (a .bytes)) (l .slotsum) (l .layersum) (l .first) (l .timely) (l .i) (l .inv) (c .before .before .before .before .before .before .before .before .before .before .before .before .loop-test .taken) f r)
 
-
--- src/lib.rt:170:13
 returns : tie.Need-returns Inv-loop μ-loop
 returns c =
     let a = c .before .before .before .before .before .before .before .before .before .before .before .before .args in
     let l = c .before .before .before .before .before .before .before .loop in
     tallying-stop (a .p) (a .last) (a .depth) (now (a .slots)) (now (a .chunks)) (now (a .layers)) (now (a .bytes)) (l .slotsum) (l .layersum) (l .first) (l .timely) (l .i) (l .inv) (c .before .before .before .before .before .before .loop-test .taken) (sym (c .before .in-range .ensures) ∙ c .if1 .left)
 
-
--- src/lib.rt:143:1
 returns-2 : tie.Need-returns-2 Inv-loop μ-loop
 returns-2 c =
     let a = c .before .before .before .before .before .before .args in

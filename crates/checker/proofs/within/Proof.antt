@@ -1,7 +1,6 @@
+-- Rule 4 of the first t slots.
 use Rattle.checker.proofs.within.Statement.{statement}
 use Rattle.checker.proofs.within.Tie as tie
-use Rattle.checker.proofs.within.Reads as reads
-use Rattle.checker.proofs.within.Lts as lts
 use Prim.Native.Nat.{ℕ, _+_, _-_, _≤_}
 use mathlib.Core.Path.{_≡_, refl, sym}
 use mathlib.Core.Bool.{Bool, true}
@@ -23,47 +22,30 @@ back-one t = omega arith
 abbrev Inv-loop : tie.InvT-loop
 Inv-loop forecast slotsum t₀ t = (t ≤ length forecast) × (allTo t (fits-at forecast slotsum) ≡ true)
 
-
 abbrev μ-loop : tie.MeasureT-loop
 μ-loop forecast slotsum t₀ t = length forecast - t
 
-
--- src/lib.rt:266:5
 loop-holds : tie.Need-loop-holds Inv-loop μ-loop
 loop-holds c = (omega arith, refl)
 
-
--- src/lib.rt:267:17
 add-u : tie.Need-add-u Inv-loop μ-loop
 add-u c = omega (arith, c .before .before .pre)
 
-
--- src/lib.rt:268:13
 mul-if1 : tie.Need-mul-if1 Inv-loop μ-loop
 mul-if1 c = omega (arith, c .before .before .pre)
 
-
--- src/lib.rt:268:13
 shared-slice-read-if1 : tie.Need-shared-slice-read-if1 Inv-loop μ-loop
 shared-slice-read-if1 c = omega arith
 
-
--- src/lib.rt:268:13
 cast-if1 : tie.Need-cast-if1 Inv-loop μ-loop
 cast-if1 c = omega (arith, c .shared-slice-known .given (c .before .before .loop .t))
 
-
--- src/lib.rt:268:35
 mul-if1-2 : tie.Need-mul-if1-2 Inv-loop μ-loop
 mul-if1-2 c = omega (arith, c .before .before .before .pre)
 
-
--- src/lib.rt:268:35
 element-copy-out-if1 : tie.Need-element-copy-out-if1 Inv-loop μ-loop
 element-copy-out-if1 c = omega (arith, c .before .before .before .pre)
 
-
--- src/lib.rt:269:13
 returns : tie.Need-returns Inv-loop μ-loop
 returns c =
     let f = now (c .before .before .before .before .before .args .forecast) in
@@ -71,13 +53,9 @@ returns c =
     let t = c .before .before .before .before .loop .t in
     sym (allTo-not t (length f) (fits-at f s) (c .before .before .before .loop-test .taken) (rw (back-one t) (lt-leb (getD s (t + 1) 0) (getD f t 0) (c .if1 .taken))))
 
-
--- src/lib.rt:266:5
 loop-less : tie.Need-loop-less Inv-loop μ-loop
 loop-less c = omega arith
 
-
--- src/lib.rt:266:5
 loop-again : tie.Need-loop-again Inv-loop μ-loop
 loop-again c =
     let f = now (c .before .before .before .before .before .args .forecast) in
@@ -85,8 +63,6 @@ loop-again c =
     let l = c .before .before .before .before .loop in
     (omega arith, allTo-holds (l .t) (fits-at f s) (l .inv .1) (rw (back-one (l .t)) (le-leb (getD s (l .t + 1) 0) (getD f (l .t) 0) (c .if1 .left))))
 
-
--- src/lib.rt:261:1
 returns-2 : tie.Need-returns-2 Inv-loop μ-loop
 returns-2 c =
     let l = c .before .loop in
