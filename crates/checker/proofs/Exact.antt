@@ -12,7 +12,7 @@ use borrow.Author.Tests.{le-leb, lt-leb, leb-true, leb-false, eq-eqb, ne-eqb, eq
 use Rattle.basics.specs.Tests.{All, allTo, allBelow, allTo-iff, same-test, eqb-iff}
 use Rattle.basics.specs.Lists.{upTo, length-upTo, getD-upTo}
 use Rattle.job.specs.declared.Programme.{Programme}
-use Rattle.job.specs.Job.{Job, Within, Accepted, dueSlot, lastDue, chunks, layers}
+use Rattle.job.specs.Job.{Job, Within, Accepted, dueSlot, lastDue, chunks, layers, size}
 use Rattle.fetch.specs.Rows.{Row, begun, held, heldCount, carried, markByte, bytesInSlot, bytesOfLayer}
 use Rattle.fetch.specs.Marks.{mark-cong}
 use Rattle.fetch.specs.Verdict.{rule1, rule2, rule3, rule4, rule6, rule7, lowerCarried, same, same-iff, lowest, verdict}
@@ -72,11 +72,14 @@ at-most lo hi [] a k = omega arith
 at-most lo hi (x ∷ l) a zero = a .0 .high
 at-most lo hi (x ∷ l) a (suc k) = at-most lo hi l (a .1) k
 
+size-most : (j : Job) → Accepted j → (i n : ℕ) → size j i n ≤ 16777216
+size-most j ok i n = at-most 1 16777216 (j .sizes) (ok .sizes-in) n
+
 module _ (j : Job) (rows : List Row) (S L F : List ℕ) (ok : Accepted j) (t : Tallied rows S L F) where
   carried-is : (i n : ℕ) → 1 ≤ i → i ≤ chunks j → n < layers j → carriedBy (j .sizes) L i n ≡ carried j rows i n
   carried-is i n u v w =
-      ap (λ (s : ℕ). eqb s (getD (j .sizes) n 0)) (t .by-layer i n u (omega (arith, ok .chunks-in .high)) (omega (arith, ok .layers-in .high)))
-      ∙ eqb-cap (bytesOfLayer rows i n) (getD (j .sizes) n 0) (omega (arith, at-most 1 16777216 (j .sizes) (ok .sizes-in) n))
+      ap (λ (s : ℕ). eqb s (size j i n)) (t .by-layer i n u (omega (arith, ok .chunks-in .high)) (omega (arith, ok .layers-in .high)))
+      ∙ eqb-cap (bytesOfLayer rows i n) (size j i n) (omega (arith, size-most j ok i n))
 
   whole-is : (i n : ℕ) → 1 ≤ i → i ≤ chunks j → n < layers j → wholeBy (j .sizes) L i n ≡ eqb (bytesOfLayer rows i n) 0 || carried j rows i n
   whole-is i n u v w =

@@ -7,19 +7,13 @@ use mathlib.Core.Logic.{⊎-elim}
 use native.Mathlib.Omega.{arith}
 use lib.ListN.{length, getD}
 use lib.Dec.{T, eqb}
-use Rattle.basics.specs.Tests.{All, all, any, In, here, there, test}
+use Rattle.basics.specs.Tests.{All, all, any, In, here, there, test, T-or-iff}
 use Rattle.job.specs.Job.{Job, Layer, Within, Accepted, size}
-use Rattle.fetch.specs.Rows.{Row, bytesIf, Carried}
+use Rattle.fetch.specs.Rows.{Row, bytesIf, Carried, Permuted, none, keep, swap, next}
 use Rattle.fetch.specs.Rules.{LowerCarried}
 use Rattle.fetch.specs.Verdict.{lowerCarried}
 
 -- ---- the same rows in another order
-
-pub data Permuted : List Row → List Row → Type 0 where
-  none : Permuted [] []
-  keep : {x : Row} {a b : List Row} → Permuted a b → Permuted (x ∷ a) (x ∷ b)
-  swap : {x y : Row} {a : List Row} → Permuted (x ∷ (y ∷ a)) (y ∷ (x ∷ a))
-  next : {a b c : List Row} → Permuted a b → Permuted b c → Permuted a c
 
 pub bytes-permuted : (p : Row → Bool) {a b : List Row} → Permuted a b → bytesIf p a ≡ bytesIf p b
 bytes-permuted p none = refl
@@ -73,20 +67,20 @@ pub record Some (p : Row → Bool) (l : List Row) : Type 0 where
   pub listed : In row l
   pub passes : T (p row)
 
+later : (p : Row → Bool) {x : Row} {l : List Row} → Some p l → Some p (x ∷ l)
+later p s = record { row = s .row; listed = there (s .listed); passes = s .passes }
+
+pub any-some : (p : Row → Bool) (l : List Row) → T (any p l) → Some p l
+any-some p [] t = absurd t
+any-some p (x ∷ l) t = ⊎-elim (λ u. record { row = x; listed = here; passes = u }) (λ u. later p (any-some p l u)) (T-or-iff (p x) (any p l) .0 t)
+
 -- A sum above 0 has a row.
 pub some-row : (p : Row → Bool) (l : List Row) → 1 ≤ bytesIf p l → Some p l
 some-row p [] h = absurd (omega arith)
-some-row p (x ∷ l) h = ⊎-elim
-    (λ t. record { row = x; listed = here; passes = t })
-    (λ t. further (some-row p l (rest (p x) t h)))
-    (test (p x))
-  where
-    rest : (b : Bool) → T (not b) → 1 ≤ cond b (x .bytes) 0 + bytesIf p l → 1 ≤ bytesIf p l
-    rest true t h = absurd t
-    rest false t h = omega arith
-
-    further : Some p l → Some p (x ∷ l)
-    further s = record { row = s .row; listed = there (s .listed); passes = s .passes }
+some-row p (x ∷ l) h = ⊎-elim (λ t. record { row = x; listed = here; passes = t }) (λ t. later p (some-row p l (rest (p x) t h))) (test (p x)) where
+  rest : (b : Bool) → T (not b) → 1 ≤ cond b (x .bytes) 0 + bytesIf p l → 1 ≤ bytesIf p l
+  rest true t h = absurd t
+  rest false t h = omega arith
 
 -- ---- the base
 

@@ -67,7 +67,7 @@ returns c =
     let a = c .before .before .before .before .before .before .before .before .before .before .args in
     let o = c .before .before .before .before .before .before .before .before .before .before .pre in
     let l = c .before .before .before .before .loop in
-    sym (sweeping-stop (a .last) _ _ _ (l .held) (l .t) (l .inv) (c .before .before .before .loop-test .taken) (rw (c .before .before .wide2 .ensures, c .before .wide3 .ensures) at (c .if1 .taken)))
+    sym (sweeping-stop (a .last) _ _ _ (l .held) (l .t) (l .inv) (c .before .before .before .loop-test .taken) (omega (arith, c .before .before .wide2 .ensures, c .before .wide3 .ensures, c .if1 .taken)))
     ∙ sweep-is (a .p) (now (a .first)) _ _ (o .0) (o .3) (c .before .before .before .before .before .mark-times .ensures) (a .last) _ (o .1) (c .before .before .before .before .before .before .before .before .wide .ensures ∙ c .before .before .before .before .before .before .before .before .before .held-most .ensures)
 
 loop-less : tie.Need-loop-less Inv-loop μ-loop
@@ -77,7 +77,7 @@ loop-again : tie.Need-loop-again Inv-loop μ-loop
 loop-again c =
     let l = c .before .before .before .before .loop in
     rw (c .before .before .wide2 .ensures, c .before .wide3 .ensures)
-    (sweeping-more _ _ _ _ (l .held) (l .t) (l .inv) (c .before .before .before .loop-test .taken) (rw (c .before .before .wide2 .ensures, c .before .wide3 .ensures) at (c .if1 .left)))
+    (sweeping-more _ _ _ _ (l .held) (l .t) (l .inv) (c .before .before .before .loop-test .taken) (omega (arith, c .before .before .wide2 .ensures, c .before .wide3 .ensures, c .if1 .left)))
 
 returns-2 : tie.Need-returns-2 Inv-loop μ-loop
 returns-2 c =
