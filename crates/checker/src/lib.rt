@@ -28,13 +28,14 @@ struct Pass {
     timely: bool,
 }
 
-// The layers of one chunk: its mark byte, rules 2 and 3. Of all chunks: rules 2, 3 and 7.
+// The layers of one chunk: its mark byte, rules 2 and 3.
 struct Seen {
     mark: u8,
     whole: bool,
     lower: bool,
 }
 
+// The layers of all chunks: rules 2, 3 and 7.
 struct Layers {
     whole: bool,
     lower: bool,
