@@ -1,0 +1,4 @@
+pub mod Records
+pub mod PlanFile
+pub mod Calls
+pub mod Scan

@@ -1,0 +1,68 @@
+-- Meaning. A plan file: what its records say, the refusal of each, and the file of a plan. Document 01, "KP chunk h, marks b, for
+-- chunk 1 to C; then FT ..; EN", refusal 8 "KP records not for 1 to C in turn, before every FT, and complete by EN", and "The plan
+-- writer keeps the rows as handed". C comes from the job.
+use Prim.Native.Nat.{ℕ, _+_}
+use mathlib.Core.Bool.{Bool, _&&_}
+use mathlib.Core.List.{List, [], _∷_, _++_, map}
+use lib.ListN.{length, getD}
+use lib.Dec.{leb, eqb}
+use Rattle.basics.specs.Lists.{upTo}
+use Rattle.basics.specs.Refusals.{unless}
+use Rattle.records.specs.File.{Format, split}
+use Rattle.records.specs.Written.{encodeAll}
+use Rattle.fetch.specs.Rows.{Row}
+use Rattle.planfile.specs.Records.{encode, front, isEnd}
+use Rattle.planfile.specs.declared.Record.{Record}
+use Rattle.planfile.specs.declared.Record.the-variants.{Kp, Ft, En}
+
+-- The marks of the KP records, in order.
+abbrev pub marksIn : List Record → List ℕ
+marksIn [] = []
+marksIn (Kp chunk marks ∷ rs) = marks ∷ marksIn rs
+marksIn (Ft slot chunk layer bytes ∷ rs) = marksIn rs
+marksIn (En ∷ rs) = marksIn rs
+
+-- The rows of the FT records, in order.
+abbrev pub rowsIn : List Record → List Row
+rowsIn [] = []
+rowsIn (Kp chunk marks ∷ rs) = rowsIn rs
+rowsIn (Ft slot chunk layer bytes ∷ rs) = record { slot = slot; chunk = chunk; layer = layer; bytes = bytes } ∷ rowsIn rs
+rowsIn (En ∷ rs) = rowsIn rs
+
+-- The refusal of a record after those before it: a KP is for the next chunk, up to C, and stands before every FT.
+abbrev pub fault : ℕ → List Record → Record → ℕ
+fault count before (Kp chunk marks) =
+    unless 8 (eqb chunk (length (marksIn before) + 1) && (leb chunk count && eqb (length (rowsIn before)) 0))
+fault count before (Ft slot chunk layer bytes) = 0
+fault count before En = 0
+
+-- At EN there is a KP for each chunk.
+abbrev pub lacking : ℕ → List Record → ℕ
+lacking count rs = unless 8 (eqb (length (marksIn rs)) count)
+
+-- Plan files of a job of so many chunks.
+abbrev pub format : ℕ → Format Record
+format count = record { front = front; isEnd = isEnd; fault = fault count; lacking = lacking count }
+
+-- A plan on file: a mark byte a chunk, and rows.
+pub record Plan : Type 0 where
+  pub marks : List ℕ
+  pub rows : List Row
+
+-- What a file says.
+unfoldable pub planIn : ℕ → List ℕ → Plan
+planIn count file = record { marks = marksIn (split (format count) file .records); rows = rowsIn (split (format count) file .records) }
+
+-- KP for chunk 1 to C, FT for the rows as handed.
+abbrev pub kps : List ℕ → List Record
+kps marks = upTo (λ k. Kp (k + 1) (getD marks k 0)) (length marks)
+
+abbrev pub ftOf : Row → Record
+ftOf x = Ft (x .slot) (x .chunk) (x .layer) (x .bytes)
+
+abbrev pub recordsOf : Plan → List Record
+recordsOf plan = kps (plan .marks) ++ map ftOf (plan .rows)
+
+-- The file of a plan.
+unfoldable pub fileOf : ℕ → Plan → List ℕ
+fileOf count plan = encodeAll (format count) encode (recordsOf plan) ++ encode En
