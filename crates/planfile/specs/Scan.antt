@@ -9,7 +9,7 @@ use native.Mathlib.Numerals.{add-one}
 use lib.ListN.{length, getD, drop, length-drop, length-append}
 use lib.Seq.{getD-drop}
 use lib.Dec.{T, leb, eqb, leb→le, eqb→eq}
-use borrow.Author.Tests.{eq-eqb, ne-eqb}
+use borrow.Author.Tests.{eq-eqb, ne-eqb, le-leb, lt-leb}
 use Rattle.basics.specs.Tests.{by-cond, and-T, T-true, not-T-false, same-test, eqb-iff, tests}
 use Rattle.basics.specs.Lists.{upTo, length-upTo}
 use Rattle.basics.specs.Refusals.{unless, _orElse_, unless-iff, orElse-iff}
@@ -56,12 +56,12 @@ stands s =
     let one : 0 < 1 = omega arith in
     by-cond (Stands s) (leb 2 (length s))
     (λ t. by-cond (Stands s) (marked kp s)
-      (λ _. by-cond (Stands s) (leb 5 (length s)) (λ u. (refl, leb→le 5 (length s) u, refl)) (λ _. one))
-      (λ _. by-cond (Stands s) (marked ft s)
-        (λ _. by-cond (Stands s) (leb 11 (length s)) (λ u. (refl, leb→le 11 (length s) u, refl, refl, refl, refl)) (λ _. one))
-        (λ _. by-cond (Stands s) (marked en s)
-          (λ _. by-cond (Stands s) (leb 2 (length s)) (λ u. (refl, leb→le 2 (length s) u)) (λ _. one))
-          (λ _. omega arith))))
+    (λ _. by-cond (Stands s) (leb 5 (length s)) (λ u. (refl, leb→le 5 (length s) u, refl)) (λ _. one))
+    (λ _. by-cond (Stands s) (marked ft s)
+    (λ _. by-cond (Stands s) (leb 11 (length s)) (λ u. (refl, leb→le 11 (length s) u, refl, refl, refl, refl)) (λ _. one))
+    (λ _. by-cond (Stands s) (marked en s)
+    (λ _. by-cond (Stands s) (leb 2 (length s)) (λ u. (refl, leb→le 2 (length s) u)) (λ _. one))
+    (λ _. omega arith))))
     (λ _. one)
 
 -- ---- a turn
@@ -69,6 +69,15 @@ stands s =
 -- The number of rows, or a refusal.
 abbrev pub answerOf : ℕ → ℕ → PlanRead
 answerOf refused rows = cond (eqb refused 0) (Rows rows) (Refused refused)
+
+-- What the cases that go on leave out.
+abbrev pub refusalOf : Read → ℕ
+refusalOf (read.Got r n) = 0
+refusalOf (read.Refused n) = n
+
+abbrev pub endOf : Turn → PlanRead
+endOf (More next kept rows) = Refused 0
+endOf (End a) = a
 
 -- A KP for the next chunk, up to C, before every FT.
 abbrev pub inTurn : ℕ → ℕ → ℕ → ℕ → Bool
@@ -139,10 +148,11 @@ abbrev Next : ℕ → List ℕ → ℕ → Turn → Type 0
 Next count file at (More next kept rows) = Scanned count file next kept rows × (at < next) × (next ≤ length file)
 Next count file at (End a) = Done count file (recordsRefusal (format count) file) a
 
-module _ (count : ℕ) (file : List ℕ) (at kept rows : ℕ) (i : Scanned count file at kept rows) where
-  refused : (n : ℕ) → 0 < n → recordsRefusal (format count) file ≡ n → Done count file (recordsRefusal (format count) file) (Refused n)
-  refused n p e = record { answer = rw (e, ne-eqb n 0 (λ z. omega arith)); laid = λ z. absurd (omega arith) }
+-- A file that is refused.
+refused : (count : ℕ) (file : List ℕ) (r n : ℕ) → 0 < n → r ≡ n → Done count file r (Refused n)
+refused count file r n p e = record { answer = rw (e, ne-eqb n 0 (λ z. omega arith)); laid = λ z. absurd (omega arith) }
 
+module _ (count : ℕ) (file : List ℕ) (at kept rows : ℕ) (i : Scanned count file at kept rows) where
   module _ (chunk marks n : ℕ) (e : front (drop at file) ≡ got (Kp chunk marks) n) (k : Stands (drop at file) (got (Kp chunk marks) n)) where
     turns : inTurn count kept rows chunk ≡ eqb chunk (length (marksIn (i .before)) + 1) && (leb chunk count && eqb (length (rowsIn (i .before))) 0)
     turns = rw (← i .kept-is, ← i .rows-is)
@@ -153,21 +163,24 @@ module _ (count : ℕ) (file : List ℕ) (at kept rows : ℕ) (i : Scanned count
         let no-fault : fault count (i .before) (Kp chunk marks) ≡ 0 = rw (← turns, T-true (inTurn count kept rows chunk) t) in
         let s : chunk ≡ suc kept = omega (arith, u .0) in
         let r : rows ≡ 0 = u .1 .1 in
-        let m : marks ≡ markOn file kept = k .2 ∙ sym (byte-on file at 4 (5 * kept + 4) (omega (arith, i .place))) in
-        (record {
-          before = i .before ++ (Kp chunk marks ∷ []);
-          reads = reads-more (format count) file at (i .before) (i .reads) (Kp chunk marks) n e refl (omega arith) (k .1) no-fault;
-          kept-is = omega (arith, i .kept-is, ap length (marks-append (i .before) (Kp chunk marks ∷ [])), length-append (marksIn (i .before)) (marks ∷ []));
-          rows-is = i .rows-is ∙ sym (ap length (rows-append (i .before) (Kp chunk marks ∷ []) ∙ append-nil (rowsIn (i .before))));
-          place = omega (arith, i .place);
-          marks-are = marks-append (i .before) (Kp chunk marks ∷ []) ∙ rw (i .marks-are, s, m);
-          rows-are = rows-append (i .before) (Kp chunk marks ∷ []) ∙ append-nil (rowsIn (i .before)) ∙ i .rows-are ∙ rw r;
-        }, omega arith, omega (arith, length-drop at file, i .reads .inside))
+        let m : marks ≡ markOn file kept = k .2 ∙ sym (byte-on file at 4 (5 * kept + 4) (omega (arith, i .place))) in (
+          record {
+            before = i .before ++ (Kp chunk marks ∷ []);
+            reads = reads-more (format count) file at (i .before) (i .reads) (Kp chunk marks) n e refl (omega arith) (k .1) no-fault;
+            kept-is = omega (arith, i .kept-is, ap length (marks-append (i .before) (Kp chunk marks ∷ [])), length-append (marksIn (i .before)) (marks ∷ []));
+            rows-is = i .rows-is ∙ sym (ap length (rows-append (i .before) (Kp chunk marks ∷ []) ∙ append-nil (rowsIn (i .before))));
+            place = omega (arith, i .place);
+            marks-are = marks-append (i .before) (Kp chunk marks ∷ []) ∙ rw (i .marks-are, s, m);
+            rows-are = rows-append (i .before) (Kp chunk marks ∷ []) ∙ append-nil (rowsIn (i .before)) ∙ i .rows-are ∙ rw r;
+          },
+          omega arith,
+          omega (arith, length-drop at file, i .reads .inside),
+        )
 
     kp-fault : T (not (inTurn count kept rows chunk)) → Next count file at (End (Refused 8))
     kp-fault t =
         let f : fault count (i .before) (Kp chunk marks) ≡ 8 = rw (← turns, not-T-false (inTurn count kept rows chunk) t) in
-        refused 8 (omega arith) (reads-fault (format count) file at (i .before) (i .reads) (Kp chunk marks) n e refl (λ z. omega (arith, f, z)) ∙ f)
+        refused count file (recordsRefusal (format count) file) 8 (omega arith) (reads-fault (format count) file at (i .before) (i .reads) (Kp chunk marks) n e refl (λ z. omega (arith, f, z)) ∙ f)
 
   ft-next : (slot chunk layer bytes n : ℕ) → front (drop at file) ≡ got (Ft slot chunk layer bytes) n → Stands (drop at file) (got (Ft slot chunk layer bytes) n) → Next count file at (More (at + n) kept (rows + 1))
   ft-next slot chunk layer bytes n e k =
@@ -177,16 +190,19 @@ module _ (count : ℕ) (file : List ℕ) (at kept rows : ℕ) (i : Scanned count
         k .3 ∙ sym (h-on file at 4 (5 * kept + 11 * rows + 4) (omega (arith, i .place))),
         k .4 ∙ sym (byte-on file at 6 (5 * kept + 11 * rows + 6) (omega (arith, i .place))),
         k .5 ∙ sym (w-on file at 7 (5 * kept + 11 * rows + 7) (omega (arith, i .place))),
-      ) in
-      (record {
-        before = i .before ++ (r ∷ []);
-        reads = reads-more (format count) file at (i .before) (i .reads) r n e refl (omega arith) (k .1) refl;
-        kept-is = i .kept-is ∙ sym (ap length (marks-append (i .before) (r ∷ []) ∙ append-nil (marksIn (i .before))));
-        rows-is = omega (arith, i .rows-is, ap length (rows-append (i .before) (r ∷ [])), length-append (rowsIn (i .before)) (record { slot = slot; chunk = chunk; layer = layer; bytes = bytes } ∷ []));
-        place = omega (arith, i .place);
-        marks-are = marks-append (i .before) (r ∷ []) ∙ append-nil (marksIn (i .before)) ∙ i .marks-are;
-        rows-are = rows-append (i .before) (r ∷ []) ∙ rw (i .rows-are, row, add-one rows);
-      }, omega arith, omega (arith, length-drop at file, i .reads .inside))
+      ) in (
+        record {
+          before = i .before ++ (r ∷ []);
+          reads = reads-more (format count) file at (i .before) (i .reads) r n e refl (omega arith) (k .1) refl;
+          kept-is = i .kept-is ∙ sym (ap length (marks-append (i .before) (r ∷ []) ∙ append-nil (marksIn (i .before))));
+          rows-is = omega (arith, i .rows-is, ap length (rows-append (i .before) (r ∷ [])), length-append (rowsIn (i .before)) (record { slot = slot; chunk = chunk; layer = layer; bytes = bytes } ∷ []));
+          place = omega (arith, i .place);
+          marks-are = marks-append (i .before) (r ∷ []) ∙ append-nil (marksIn (i .before)) ∙ i .marks-are;
+          rows-are = rows-append (i .before) (r ∷ []) ∙ rw (i .rows-are, row, add-one rows);
+        },
+        omega arith,
+        omega (arith, length-drop at file, i .reads .inside),
+      )
 
   en-next : (n : ℕ) → front (drop at file) ≡ got En n → Stands (drop at file) (got En n) → Next count file at (End (answerOf (unless 3 (eqb (length file) (at + n)) orElse unless 8 (eqb kept count)) rows))
   unfolding planIn
@@ -206,7 +222,7 @@ module _ (count : ℕ) (file : List ℕ) (at kept rows : ℕ) (i : Scanned count
       }
 
   by-front : (x : Front Record) → front (drop at file) ≡ x → Stands (drop at file) x → Next count file at (turnBy count file kept rows (readOf at x))
-  by-front (none n) e k = refused n k (reads-none (format count) file at (i .before) (i .reads) n e)
+  by-front (none n) e k = refused count file (recordsRefusal (format count) file) n k (reads-none (format count) file at (i .before) (i .reads) n e)
   by-front (got (Kp chunk marks) n) e k = by-cond (Next count file at) (inTurn count kept rows chunk) (kp-next chunk marks n e k) (kp-fault chunk marks n e k)
   by-front (got (Ft slot chunk layer bytes) n) e k = ft-next slot chunk layer bytes n e k
   by-front (got En n) e k = en-next n e k
@@ -220,3 +236,14 @@ module _ (count : ℕ) (file : List ℕ) (at kept rows : ℕ) (i : Scanned count
 
   pub scanned-end : (a : PlanRead) → turnOf count file at kept rows ≡ End a → Done count file (recordsRefusal (format count) file) a
   scanned-end a e = subst (Next count file at) e turned
+
+-- ---- 9 first
+
+module _ (count : ℕ) (file : List ℕ) where
+  pub too-long : 65536 < length file → Done count file (fileRefusal (format count) file) (Refused 9)
+  unfolding fileRefusal
+  too-long l = refused count file (fileRefusal (format count) file) 9 (omega arith) (rw (lt-leb (length file) 65536 l))
+
+  pub not-long : length file ≤ 65536 → (a : PlanRead) → Done count file (recordsRefusal (format count) file) a → Done count file (fileRefusal (format count) file) a
+  unfolding fileRefusal
+  not-long l a d = rw (le-leb (length file) 65536 l) d

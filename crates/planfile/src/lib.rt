@@ -1,10 +1,18 @@
 // Plan files: the marks of every chunk and the rows of a fetch list, read and written.
 ghost use mathlib.Core.Path.{_≡_};
+ghost use Prim.Native.Nat.{_*_, _≤_};
+ghost use lib.ListN.{length};
+ghost use Rattle.records.specs.File.{recordsRefusal, fileRefusal};
 ghost use Rattle.planfile.specs.Records.{readAt};
+ghost use Rattle.planfile.specs.PlanFile.{format};
+ghost use Rattle.planfile.specs.Scan.{refusalOf, endOf, inTurn, answerOf, turnOf, Done};
 
 // A record without its mark.
 pub enum Record {
-    Kp { chunk: u16, marks: u8 },
+    Kp {
+        chunk: u16,
+        marks: u8,
+    },
     Ft {
         slot: u16,
         chunk: u16,
@@ -30,6 +38,12 @@ pub enum PlanRead {
 pub enum Written {
     Bytes(usize),
     Refused(u8),
+}
+
+// What a turn makes of a record: the next place with the KPs and FTs taken so far, or the end.
+enum Turn {
+    More(usize, u16, usize),
+    End(PlanRead),
 }
 
 // The record at a place: 1 where the file ends before its mark or within it, 2 for an unknown mark.
@@ -74,8 +88,106 @@ fn record_at(s: &[u8], at: usize) -> Read
     Read::Refused(2)
 }
 
-// What a turn makes of a record: the next place with the KPs and FTs taken so far, or the end.
-pub enum Turn {
-    More(usize, u16, usize),
-    End(PlanRead),
+fn refusal_of(read: Read) -> u8
+    ensures { λ r. ⌜ r ≡ refusalOf read ⌝ }
+{
+    match read {
+        Read::Refused(n) => n,
+        Read::Got(_, _) => 0,
+    }
+}
+
+// Whether a KP is for the next chunk, up to C, and before every FT.
+fn in_turn(count: u16, kept: u16, rows: usize, chunk: u16) -> bool
+    ensures { λ r. ⌜ r ≡ inTurn count kept rows chunk ⌝ }
+{
+    if chunk == 0 {
+        return false;
+    }
+    if chunk - 1 != kept {
+        return false;
+    }
+    if count < chunk {
+        return false;
+    }
+    rows == 0
+}
+
+fn answer(refused: u8, rows: usize) -> PlanRead
+    ensures { λ r. ⌜ r ≡ answerOf refused rows ⌝ }
+{
+    if refused == 0 {
+        return PlanRead::Rows(rows);
+    }
+    PlanRead::Refused(refused)
+}
+
+// One record taken, after so many KPs and FTs.
+fn one_turn(count: u16, file: &[u8], at: usize, kept: u16, rows: usize) -> Turn
+    requires { ⌜ 11 * rows ≤ length (now file) ⌝ }
+    ensures { λ r. ⌜ r ≡ turnOf count (now (file .entry)) at kept rows ⌝ }
+{
+    let read = record_at(file, at);
+    let Read::Got(record, next) = read else {
+        return Turn::End(PlanRead::Refused(refusal_of(read)));
+    };
+    match record {
+        Record::Kp { chunk, marks: _ } => {
+            if in_turn(count, kept, rows, chunk) {
+                return Turn::More(next, chunk, rows);
+            }
+            return Turn::End(PlanRead::Refused(8));
+        }
+        Record::Ft {
+            slot: _,
+            chunk: _,
+            layer: _,
+            bytes: _,
+        } => {
+            let more = rows + 1;
+            return Turn::More(next, kept, more);
+        }
+        Record::En => {
+            let after = job::refuse_unless(3, file.len() == next);
+            let lacking = job::refuse_unless(8, kept == count);
+            return Turn::End(answer(job::or_else(after, lacking), rows));
+        }
+    }
+}
+
+fn end_of(turn: Turn) -> PlanRead
+    ensures { λ r. ⌜ r ≡ endOf turn ⌝ }
+{
+    match turn {
+        Turn::End(a) => a,
+        Turn::More(_, _, _) => PlanRead::Refused(0),
+    }
+}
+
+// The records of a file, one a turn.
+fn all_turns(count: u16, file: &[u8]) -> PlanRead
+    ensures { λ r. ⌜ Done count (now (file .entry)) (recordsRefusal (format count) (now (file .entry))) r ⌝ }
+{
+    let mut at: usize = 0;
+    let mut kept: u16 = 0;
+    let mut rows: usize = 0;
+    loop {
+        let turn = one_turn(count, file, at, kept, rows);
+        let Turn::More(next, chunk, more) = turn else {
+            return end_of(turn);
+        };
+        at = next;
+        kept = chunk;
+        rows = more;
+    }
+}
+
+// The rows of a file, or its refusal.
+fn file_rows(count: u16, file: &[u8]) -> PlanRead
+    ensures { λ r. ⌜ Done count (now (file .entry)) (fileRefusal (format count) (now (file .entry))) r ⌝ }
+{
+    if 65536 < file.len() {
+        return PlanRead::Refused(9);
+    }
+    all_turns(count, file)
 }
