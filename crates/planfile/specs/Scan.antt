@@ -3,11 +3,11 @@
 use Prim.Native.Nat.{ℕ, zero, suc, _+_, _*_, _-_, _≤_, _<_}
 use mathlib.Core.Path.{_≡_, refl, sym, ap, subst, _∙_}
 use mathlib.Core.Bool.{Bool, true, false, not, cond, _&&_}
-use mathlib.Core.List.{List, [], _∷_, _++_, append-nil}
+use mathlib.Core.List.{List, [], _∷_, _++_, append-nil, append-assoc}
 use native.Mathlib.Omega.{arith}
 use native.Mathlib.Numerals.{add-one}
-use lib.ListN.{length, getD, drop, length-drop, length-append}
-use lib.Seq.{getD-drop}
+use lib.ListN.{length, getD, set, drop, length-drop, length-append, length-set}
+use lib.Seq.{getD-drop, drop-cons, set-at}
 use lib.Dec.{T, leb, eqb, leb→le, eqb→eq}
 use borrow.Author.Tests.{eq-eqb, ne-eqb, le-leb, lt-leb}
 use Rattle.basics.specs.Tests.{by-cond, and-T, T-true, not-T-false, same-test, eqb-iff, tests}
@@ -247,3 +247,27 @@ module _ (count : ℕ) (file : List ℕ) where
   pub not-long : length file ≤ 65536 → (a : PlanRead) → Done count file (recordsRefusal (format count) file) a → Done count file (fileRefusal (format count) file) a
   unfolding fileRefusal
   not-long l a d = rw (le-leb (length file) 65536 l) d
+
+-- ---- filling a lent slice
+
+-- f 0, .., f (n - 1), then the old contents.
+abbrev pub filled : (ℕ → ℕ) → ℕ → List ℕ → List ℕ
+filled f n old = upTo f n ++ drop n old
+
+-- A slice that is filled so far.
+pub record Filled (f : ℕ → ℕ) (n : ℕ) (old now : List ℕ) : Type 0 where
+  pub long : length now ≡ length old
+  pub is : now ≡ filled f n old
+
+pub filled-start : (f : ℕ → ℕ) (old : List ℕ) → Filled f 0 old old
+filled-start f old = record { long = refl; is = refl }
+
+pub filled-more : (f : ℕ → ℕ) (n : ℕ) (old now : List ℕ) → Filled f n old now → n < length old → (v : ℕ) → v ≡ f n → Filled f (n + 1) old (set now n v)
+filled-more f n old now i l v e =
+    record {
+      long = length-set now n v ∙ i .long;
+      is = rw (i .is, e, drop-cons old n 0 l, add-one n) (set-at (upTo f n) (getD old n 0) (drop (suc n) old) (f n) n (length-upTo f n) ∙ sym (append-assoc (upTo f n) (f n ∷ []) (drop (suc n) old)));
+    }
+
+pub filled-end : (f : ℕ → ℕ) (n m : ℕ) (old now : List ℕ) → Filled f n old now → n ≡ m → now ≡ filled f m old
+filled-end f n m old now i e = rw e at (i .is)

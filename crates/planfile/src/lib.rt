@@ -1,11 +1,16 @@
 // Plan files: the marks of every chunk and the rows of a fetch list, read and written.
 ghost use mathlib.Core.Path.{_≡_};
-ghost use Prim.Native.Nat.{_*_, _≤_};
+ghost use mathlib.Core.Bool.{_&&_};
+ghost use Prim.Native.Nat.{_+_, _*_, _≤_};
 ghost use lib.ListN.{length};
+ghost use lib.Dec.{leb};
+ghost use Rattle.job.specs.Job.{jobOf};
 ghost use Rattle.records.specs.File.{recordsRefusal, fileRefusal};
 ghost use Rattle.planfile.specs.Records.{readAt};
 ghost use Rattle.planfile.specs.PlanFile.{format};
-ghost use Rattle.planfile.specs.Scan.{refusalOf, endOf, inTurn, answerOf, turnOf, Done};
+ghost use Rattle.planfile.specs.Calls.{slicesOf, readAnswer, readLent};
+ghost use Rattle.planfile.specs.Scan.{refusalOf, endOf, inTurn, answerOf, turnOf, Done, markOn, rowOn, filled};
+use job::Programme;
 
 // A record without its mark.
 pub enum Record {
@@ -190,4 +195,115 @@ fn file_rows(count: u16, file: &[u8]) -> PlanRead
         return PlanRead::Refused(9);
     }
     all_turns(count, file)
+}
+
+// Whether the lent slices hold the marks of count chunks and so many rows.
+fn has_room(
+    count: usize,
+    rows: usize,
+    marks: usize,
+    slots: usize,
+    chunks: usize,
+    layers: usize,
+    bytes: usize,
+) -> bool
+    ensures { λ r. ⌜ r ≡ leb count marks && (leb rows slots && (leb rows chunks && (leb rows layers && leb rows bytes))) ⌝ }
+{
+    if marks < count {
+        return false;
+    }
+    if slots < rows {
+        return false;
+    }
+    if chunks < rows {
+        return false;
+    }
+    if layers < rows {
+        return false;
+    }
+    rows <= bytes
+}
+
+// The marks of an accepted file.
+fn copy_marks(file: &[u8], count: usize, marks: &mut [u8])
+    requires { ⌜ (count ≤ length (now marks)) × (5 * count ≤ length (now file)) ⌝ }
+    ensures { λ _. ⌜ now (marks .exit) ≡ filled (markOn (now (file .entry))) count (now (marks .entry)) ⌝ }
+{
+    let mut i: usize = 0;
+    while i < count {
+        let at = 5 * i + 4;
+        marks[i] = records::byte_at(file, at);
+        i += 1;
+    }
+}
+
+// The rows of an accepted file.
+fn copy_rows(
+    file: &[u8],
+    count: usize,
+    rows: usize,
+    slots: &mut [u16],
+    chunks: &mut [u16],
+    layers: &mut [u8],
+    bytes: &mut [u32],
+)
+    requires { ⌜ (rows ≤ length (now slots)) × (rows ≤ length (now chunks)) × (rows ≤ length (now layers)) × (rows ≤ length (now bytes)) × (5 * count + 11 * rows ≤ length (now file)) ⌝ }
+    ensures slots { λ _. ⌜ now (slots .exit) ≡ filled (λ i. rowOn (now (file .entry)) count i .slot) rows (now (slots .entry)) ⌝ }
+    ensures chunks { λ _. ⌜ now (chunks .exit) ≡ filled (λ i. rowOn (now (file .entry)) count i .chunk) rows (now (chunks .entry)) ⌝ }
+    ensures layers { λ _. ⌜ now (layers .exit) ≡ filled (λ i. rowOn (now (file .entry)) count i .layer) rows (now (layers .entry)) ⌝ }
+    ensures bytes { λ _. ⌜ now (bytes .exit) ≡ filled (λ i. rowOn (now (file .entry)) count i .bytes) rows (now (bytes .entry)) ⌝ }
+{
+    let mut i: usize = 0;
+    while i < rows {
+        let at = 5 * count + 11 * i;
+        let slot = at + 2;
+        let chunk = at + 4;
+        let layer = at + 6;
+        let size = at + 7;
+        slots[i] = records::h_at(file, slot);
+        chunks[i] = records::h_at(file, chunk);
+        layers[i] = records::byte_at(file, layer);
+        bytes[i] = records::w_at(file, size);
+        i += 1;
+    }
+}
+
+// A plan file's marks and rows into the lent slices: how many rows, or the refusal.
+pub fn read_plan(
+    p: Programme,
+    sizes: &[u32],
+    forecast: &[u32],
+    file: &[u8],
+    marks: &mut [u8],
+    slots: &mut [u16],
+    chunks: &mut [u16],
+    layers: &mut [u8],
+    bytes: &mut [u32],
+) -> PlanRead
+    ensures answer { λ r. ⌜ r ≡ readAnswer (jobOf p (now (sizes .entry)) (now (forecast .entry))) (now (file .entry)) (slicesOf (now (marks .entry)) (now (slots .entry)) (now (chunks .entry)) (now (layers .entry)) (now (bytes .entry))) ⌝ }
+    ensures lent { λ _. ⌜ slicesOf (now (marks .exit)) (now (slots .exit)) (now (chunks .exit)) (now (layers .exit)) (now (bytes .exit)) ≡ readLent (jobOf p (now (sizes .entry)) (now (forecast .entry))) (now (file .entry)) (slicesOf (now (marks .entry)) (now (slots .entry)) (now (chunks .entry)) (now (layers .entry)) (now (bytes .entry))) ⌝ }
+{
+    let refused = job::refusal(p, sizes, forecast);
+    if refused != 0 {
+        return PlanRead::Refused(refused);
+    }
+    let read = file_rows(p.chunks, file);
+    let PlanRead::Rows(rows) = read else {
+        return read;
+    };
+    let count = p.chunks as usize;
+    if has_room(
+        count,
+        rows,
+        marks.len(),
+        slots.len(),
+        chunks.len(),
+        layers.len(),
+        bytes.len(),
+    ) {
+        copy_marks(file, count, marks);
+        copy_rows(file, count, rows, slots, chunks, layers, bytes);
+        return PlanRead::Rows(rows);
+    }
+    PlanRead::Refused(11)
 }
