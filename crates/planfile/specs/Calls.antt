@@ -76,14 +76,14 @@ unfoldable pub writeRefusal : Job → Slices → List ℕ → ℕ
 writeRefusal j handed out =
     refusal j
     orElse handedRefusal (chunks j) (handed .marks) (handed .slots) (handed .chunks) (handed .layers) (handed .bytes)
-    orElse unless 9 (leb (length (fileOf (chunks j) (planOf handed))) 65536)
-    orElse unless 11 (leb (length (fileOf (chunks j) (planOf handed))) (length out))
+    orElse unless 9 (leb (length (fileOf (planOf handed))) 65536)
+    orElse unless 11 (leb (length (fileOf (planOf handed))) (length out))
 
 -- The number of bytes, or the refusal.
 abbrev pub writeAnswer : Job → Slices → List ℕ → Written
 writeAnswer j handed out =
-    cond (eqb (writeRefusal j handed out) 0) (written.Bytes (length (fileOf (chunks j) (planOf handed)))) (written.Refused (writeRefusal j handed out))
+    cond (eqb (writeRefusal j handed out) 0) (written.Bytes (length (fileOf (planOf handed)))) (written.Refused (writeRefusal j handed out))
 
 -- The plan's file at the front of the lent buffer.
 abbrev pub writeLent : Job → Slices → List ℕ → List ℕ
-writeLent j handed out = lentAfter (writeRefusal j handed out) (fileOf (chunks j) (planOf handed)) out
+writeLent j handed out = lentAfter (writeRefusal j handed out) (fileOf (planOf handed)) out

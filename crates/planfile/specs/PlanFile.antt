@@ -3,13 +3,12 @@
 -- writer keeps the rows as handed". C comes from the job.
 use Prim.Native.Nat.{ℕ, _+_}
 use mathlib.Core.Bool.{Bool, _&&_}
-use mathlib.Core.List.{List, [], _∷_, _++_, map}
+use mathlib.Core.List.{List, [], _∷_, _++_, map, flatMap}
 use lib.ListN.{length, getD}
 use lib.Dec.{leb, eqb}
 use Rattle.basics.specs.Lists.{upTo}
 use Rattle.basics.specs.Refusals.{unless}
 use Rattle.records.specs.File.{Format, split}
-use Rattle.records.specs.Written.{encodeAll}
 use Rattle.fetch.specs.Rows.{Row}
 use Rattle.planfile.specs.Records.{encode, front, isEnd}
 use Rattle.planfile.specs.declared.Record.{Record}
@@ -63,6 +62,6 @@ ftOf x = Ft (x .slot) (x .chunk) (x .layer) (x .bytes)
 abbrev pub recordsOf : Plan → List Record
 recordsOf plan = kps (plan .marks) ++ map ftOf (plan .rows)
 
--- The file of a plan.
-unfoldable pub fileOf : ℕ → Plan → List ℕ
-fileOf count plan = encodeAll (format count) encode (recordsOf plan) ++ encode En
+-- The file of a plan: its records one after the other, then EN.
+unfoldable pub fileOf : Plan → List ℕ
+fileOf plan = flatMap encode (recordsOf plan) ++ encode En

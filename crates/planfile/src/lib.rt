@@ -1,14 +1,19 @@
 // Plan files: the marks of every chunk and the rows of a fetch list, read and written.
 ghost use mathlib.Core.Path.{_≡_};
 ghost use mathlib.Core.Bool.{_&&_};
-ghost use Prim.Native.Nat.{_+_, _*_, _≤_};
+ghost use mathlib.Core.List.{map};
+ghost use Prim.Native.Nat.{_+_, _*_, _≤_, _<_};
 ghost use lib.ListN.{length};
 ghost use lib.Dec.{leb};
 ghost use Rattle.job.specs.Job.{jobOf};
 ghost use Rattle.records.specs.File.{recordsRefusal, fileRefusal};
-ghost use Rattle.planfile.specs.Records.{readAt};
-ghost use Rattle.planfile.specs.PlanFile.{format};
-ghost use Rattle.planfile.specs.Calls.{slicesOf, readAnswer, readLent};
+ghost use Rattle.basics.specs.Refusals.{unless};
+ghost use Rattle.records.specs.Fields.{written};
+ghost use Rattle.fetch.specs.Rows.{rowsOf};
+ghost use Rattle.planfile.specs.Records.{encode, readAt};
+ghost use Rattle.planfile.specs.PlanFile.{format, kps, ftOf};
+ghost use Rattle.planfile.specs.Calls.{slicesOf, readAnswer, readLent, writeAnswer, writeLent};
+ghost use Rattle.planfile.specs.Writing.{bytesOf};
 ghost use Rattle.planfile.specs.Scan.{refusalOf, endOf, inTurn, answerOf, turnOf, Done, markOn, rowOn, filled};
 use job::Programme;
 
@@ -306,4 +311,116 @@ pub fn read_plan(
         return PlanRead::Rows(rows);
     }
     PlanRead::Refused(11)
+}
+
+// 9: a file above 65,536 bytes. More than 5,957 rows are too many for any file, so the sum doesn't wrap.
+fn size_refusal(count: u16, rows: usize) -> u8
+    ensures { λ r. ⌜ r ≡ unless 9 (leb (5 * count + 11 * rows + 2) 65536) ⌝ }
+{
+    if 5957 < rows {
+        return 9;
+    }
+    let size = 5 * (count as usize) + 11 * rows + 2;
+    job::refuse_unless(9, size <= 65536)
+}
+
+fn put_kp(out: &mut [u8], at: usize, chunk: u16, marks: u8)
+    requires { ⌜ at + 5 ≤ length (now out) ⌝ }
+    ensures { λ _. ⌜ now (out .exit) ≡ written (now (out .entry)) at (encode (Record.Kp chunk marks)) ⌝ }
+{
+    let next = at + 2;
+    let body = [(chunk % 256) as u8, (chunk / 256 % 256) as u8, marks];
+    records::put(out, at, b"KP");
+    records::put(out, next, &body);
+}
+
+fn put_ft(out: &mut [u8], at: usize, slot: u16, chunk: u16, layer: u8, bytes: u32)
+    requires { ⌜ at + 11 ≤ length (now out) ⌝ }
+    ensures { λ _. ⌜ now (out .exit) ≡ written (now (out .entry)) at (encode (Record.Ft slot chunk layer bytes)) ⌝ }
+{
+    let next = at + 2;
+    let body = [
+        (slot % 256) as u8,
+        (slot / 256 % 256) as u8,
+        (chunk % 256) as u8,
+        (chunk / 256 % 256) as u8,
+        layer,
+        (bytes % 256) as u8,
+        (bytes / 256 % 256) as u8,
+        (bytes / 65536 % 256) as u8,
+        (bytes / 16777216 % 256) as u8,
+    ];
+    records::put(out, at, b"FT");
+    records::put(out, next, &body);
+}
+
+// KP for every chunk.
+fn put_kps(out: &mut [u8], marks: &[u8])
+    requires { ⌜ (5 * length (now marks) ≤ length (now out)) × (length (now marks) < 65536) ⌝ }
+    ensures { λ _. ⌜ now (out .exit) ≡ written (now (out .entry)) 0 (bytesOf (kps (now (marks .entry)))) ⌝ }
+{
+    let mut i: usize = 0;
+    while i < marks.len() {
+        let at = 5 * i;
+        let chunk = i + 1;
+        put_kp(out, at, chunk as u16, marks[i]);
+        i = chunk;
+    }
+}
+
+// FT for every row, from a place on.
+fn put_fts(
+    out: &mut [u8],
+    from: usize,
+    slots: &[u16],
+    chunks: &[u16],
+    layers: &[u8],
+    bytes: &[u32],
+)
+    requires { ⌜ (length (now slots) ≡ length (now chunks)) × (length (now slots) ≡ length (now layers)) × (length (now slots) ≡ length (now bytes)) × (from + 11 * length (now slots) ≤ length (now out)) ⌝ }
+    ensures { λ _. ⌜ now (out .exit) ≡ written (now (out .entry)) from (bytesOf (map ftOf (rowsOf (now (slots .entry)) (now (chunks .entry)) (now (layers .entry)) (now (bytes .entry))))) ⌝ }
+{
+    let mut i: usize = 0;
+    while i < slots.len() {
+        let at = from + 11 * i;
+        put_ft(out, at, slots[i], chunks[i], layers[i], bytes[i]);
+        i += 1;
+    }
+}
+
+// A plan's file into the lent buffer: how many bytes, or the refusal.
+pub fn write_plan(
+    p: Programme,
+    sizes: &[u32],
+    forecast: &[u32],
+    marks: &[u8],
+    slots: &[u16],
+    chunks: &[u16],
+    layers: &[u8],
+    bytes: &[u32],
+    out: &mut [u8],
+) -> Written
+    ensures answer { λ r. ⌜ r ≡ writeAnswer (jobOf p (now (sizes .entry)) (now (forecast .entry))) (slicesOf (now (marks .entry)) (now (slots .entry)) (now (chunks .entry)) (now (layers .entry)) (now (bytes .entry))) (now (out .entry)) ⌝ }
+    ensures lent { λ _. ⌜ now (out .exit) ≡ writeLent (jobOf p (now (sizes .entry)) (now (forecast .entry))) (slicesOf (now (marks .entry)) (now (slots .entry)) (now (chunks .entry)) (now (layers .entry)) (now (bytes .entry))) (now (out .entry)) ⌝ }
+{
+    let handed = fetch::handed_refusal(p.chunks, marks, slots, chunks, layers, bytes);
+    let rows = slots.len();
+    let size = size_refusal(p.chunks, rows);
+    let refused = job::or_else(
+        job::refusal(p, sizes, forecast),
+        job::or_else(handed, size),
+    );
+    if refused != 0 {
+        return Written::Refused(refused);
+    }
+    let from = 5 * marks.len();
+    let last = from + 11 * rows;
+    let end = last + 2;
+    if out.len() < end {
+        return Written::Refused(11);
+    }
+    put_kps(out, marks);
+    put_fts(out, from, slots, chunks, layers, bytes);
+    records::put(out, last, b"EN");
+    Written::Bytes(end)
 }
