@@ -313,14 +313,17 @@ pub fn read_plan(
     PlanRead::Refused(11)
 }
 
-// 9: a file above 65,536 bytes. More than 5,957 rows are too many for any file, so the sum doesn't wrap.
-fn size_refusal(count: u16, rows: usize) -> u8
-    ensures { λ r. ⌜ r ≡ unless 9 (leb (5 * count + 11 * rows + 2) 65536) ⌝ }
+// 9: a file above 65,536 bytes. So many marks or rows are too many for any file, so the sum doesn't wrap.
+fn size_refusal(marks: usize, rows: usize) -> u8
+    ensures { λ r. ⌜ r ≡ unless 9 (leb (5 * marks + 11 * rows + 2) 65536) ⌝ }
 {
-    if 5957 < rows {
+    if 65535 < marks {
         return 9;
     }
-    let size = 5 * (count as usize) + 11 * rows + 2;
+    if 65535 < rows {
+        return 9;
+    }
+    let size = 5 * marks + 11 * rows + 2;
     job::refuse_unless(9, size <= 65536)
 }
 
@@ -369,14 +372,7 @@ fn put_kps(out: &mut [u8], marks: &[u8])
 }
 
 // FT for every row, from a place on.
-fn put_fts(
-    out: &mut [u8],
-    from: usize,
-    slots: &[u16],
-    chunks: &[u16],
-    layers: &[u8],
-    bytes: &[u32],
-)
+fn put_fts(out: &mut [u8], from: usize, slots: &[u16], chunks: &[u16], layers: &[u8], bytes: &[u32])
     requires { ⌜ (length (now slots) ≡ length (now chunks)) × (length (now slots) ≡ length (now layers)) × (length (now slots) ≡ length (now bytes)) × (from + 11 * length (now slots) ≤ length (now out)) ⌝ }
     ensures { λ _. ⌜ now (out .exit) ≡ written (now (out .entry)) from (bytesOf (map ftOf (rowsOf (now (slots .entry)) (now (chunks .entry)) (now (layers .entry)) (now (bytes .entry))))) ⌝ }
 {
@@ -405,11 +401,8 @@ pub fn write_plan(
 {
     let handed = fetch::handed_refusal(p.chunks, marks, slots, chunks, layers, bytes);
     let rows = slots.len();
-    let size = size_refusal(p.chunks, rows);
-    let refused = job::or_else(
-        job::refusal(p, sizes, forecast),
-        job::or_else(handed, size),
-    );
+    let size = size_refusal(marks.len(), rows);
+    let refused = job::or_else(job::refusal(p, sizes, forecast), job::or_else(handed, size));
     if refused != 0 {
         return Written::Refused(refused);
     }

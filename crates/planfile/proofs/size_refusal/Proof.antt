@@ -10,33 +10,45 @@ use borrow.Author.Tests.{lt-leb}
 
 -- src/lib.rt:321:9
 returns : tie.Need-returns
-returns c = let a = c .before .args in rw (lt-leb (5 * a .count + 11 * a .rows + 2) 65536 (omega arith))
+returns c = let a = c .before .args in rw (lt-leb (5 * a .marks + 11 * a .rows + 2) 65536 (omega arith))
 
--- src/lib.rt:323:16
+-- src/lib.rt:324:9
+returns-2 : tie.Need-returns-2
+returns-2 c = let a = c .before .before .args in rw (lt-leb (5 * a .marks + 11 * a .rows + 2) 65536 (omega arith))
+
+-- src/lib.rt:326:16
 mul-size : tie.Need-mul-size
 mul-size c = search needs
 
--- src/lib.rt:323:39
+-- src/lib.rt:326:28
 mul-size-2 : tie.Need-mul-size-2
 mul-size-2 c = search needs
 
--- src/lib.rt:323:16
+-- src/lib.rt:326:16
 add-size : tie.Need-add-size
 add-size c = search needs
 
--- src/lib.rt:323:16
+-- src/lib.rt:326:16
 add-size-2 : tie.Need-add-size-2
 add-size-2 c = search needs
 
--- src/lib.rt:324:5
+-- src/lib.rt:327:5
 refuse-unless-requires : tie.Need-refuse-unless-requires
 refuse-unless-requires c κs = search needs
 
 -- src/lib.rt:317:1
-returns-2 : tie.Need-returns-2
-returns-2 c = search needs
+returns-3 : tie.Need-returns-3
+returns-3 c = search needs
 
 pub size-refusal-spec : {M : Type 1} → statement M
 size-refusal-spec =
     tie.close
-    (tie.spec returns mul-size mul-size-2 add-size add-size-2 refuse-unless-requires returns-2)
+    (tie.spec
+    returns
+    returns-2
+    mul-size
+    mul-size-2
+    add-size
+    add-size-2
+    refuse-unless-requires
+    returns-3)

@@ -10,6 +10,14 @@ use Rattle.planfile.proofs.put_fts.Reads as put-fts-reads
 use Rattle.planfile.proofs.put_kps.Reads as put-kps-reads
 use Rattle.planfile.proofs.size_refusal.Reads as size-refusal-reads
 use Rattle.records.proofs.put.Reads as put-reads
+use Prim.Native.Nat.{ℕ, _+_, _*_, _<_}
+use mathlib.Core.Path.{_≡_, sym, ap, _∙_}
+use native.Mathlib.Omega.{arith}
+use lib.ListN.{length}
+use denote.Ref.{now}
+use Rattle.job.specs.Job.{Job, jobOf}
+use Rattle.planfile.specs.Calls.{Slices, slicesOf}
+use Rattle.planfile.proofs.Writer.{handedIn, input-refused, whole-rows, in-file, short, wrote}
 
 -- src/lib.rt:406:9
 handed-refusal-requires : tie.Need-handed-refusal-requires
@@ -33,35 +41,76 @@ or-else-requires-2 c κs = search needs
 
 -- src/lib.rt:414:9
 returns : tie.Need-returns
-returns c = ?
+returns c =
+    let a = c .before .before .before .before .before .before .before .before .before .before .before .before .before .before .args in
+    let j = jobOf (a .p) (now (a .sizes)) (now (a .forecast)) in
+    let s = slicesOf (now (a .marks)) (now (a .slots)) (now (a .chunks)) (now (a .layers)) (now (a .bytes)) in
+    input-refused j s (now (a .out)) (c .before .or-else2 .result) (cc) (c .if1 .taken)
 
 -- src/lib.rt:416:16
 mul-from : tie.Need-mul-from
-mul-from c = ?
+mul-from c =
+    let a = c .before .before .before .before .before .before .before .before .before .before .before .before .before .before .args in
+    let j = jobOf (a .p) (now (a .sizes)) (now (a .forecast)) in
+    let s = slicesOf (now (a .marks)) (now (a .slots)) (now (a .chunks)) (now (a .layers)) (now (a .bytes)) in
+    let e : c .before .or-else2 .result ≡ handedIn j s = cc in
+    omega (arith, in-file j s (now (a .out)) (c .before .or-else2 .result) e (c .if1 .left))
 
 -- src/lib.rt:417:23
 mul-last : tie.Need-mul-last
-mul-last c = ?
+mul-last c =
+    let a = c .before .before .before .before .before .before .before .before .before .before .before .before .before .before .args in
+    let j = jobOf (a .p) (now (a .sizes)) (now (a .forecast)) in
+    let s = slicesOf (now (a .marks)) (now (a .slots)) (now (a .chunks)) (now (a .layers)) (now (a .bytes)) in
+    let e : c .before .or-else2 .result ≡ handedIn j s = cc in
+    omega (arith, in-file j s (now (a .out)) (c .before .or-else2 .result) e (c .if1 .left))
 
 -- src/lib.rt:417:16
 add-last : tie.Need-add-last
-add-last c = ?
+add-last c =
+    let a = c .before .before .before .before .before .before .before .before .before .before .before .before .before .before .args in
+    let j = jobOf (a .p) (now (a .sizes)) (now (a .forecast)) in
+    let s = slicesOf (now (a .marks)) (now (a .slots)) (now (a .chunks)) (now (a .layers)) (now (a .bytes)) in
+    let e : c .before .or-else2 .result ≡ handedIn j s = cc in
+    omega (arith, in-file j s (now (a .out)) (c .before .or-else2 .result) e (c .if1 .left))
 
 -- src/lib.rt:418:15
 add-end : tie.Need-add-end
-add-end c = ?
+add-end c =
+    let a = c .before .before .before .before .before .before .before .before .before .before .before .before .before .before .args in
+    let j = jobOf (a .p) (now (a .sizes)) (now (a .forecast)) in
+    let s = slicesOf (now (a .marks)) (now (a .slots)) (now (a .chunks)) (now (a .layers)) (now (a .bytes)) in
+    let e : c .before .or-else2 .result ≡ handedIn j s = cc in
+    omega (arith, in-file j s (now (a .out)) (c .before .or-else2 .result) e (c .if1 .left))
 
 -- src/lib.rt:420:9
 returns-2 : tie.Need-returns-2
-returns-2 c = ?
+returns-2 c =
+    let a = c .before .before .before .before .before .before .before .before .before .before .before .before .before .before .before .args in
+    let j = jobOf (a .p) (now (a .sizes)) (now (a .forecast)) in
+    let s = slicesOf (now (a .marks)) (now (a .slots)) (now (a .chunks)) (now (a .layers)) (now (a .bytes)) in
+    let e : c .before .before .or-else2 .result ≡ handedIn j s = cc in
+    short j s (now (a .out)) (c .before .before .or-else2 .result) e (c .before .if1 .left) (c .if2 .taken)
 
 -- src/lib.rt:422:5
 put-kps-requires : tie.Need-put-kps-requires
-put-kps-requires c κs = ?
+put-kps-requires c κs =
+    let a = c .before .before .before .before .before .before .before .before .before .before .before .before .before .before .before .before .args in
+    let j = jobOf (a .p) (now (a .sizes)) (now (a .forecast)) in
+    let s = slicesOf (now (a .marks)) (now (a .slots)) (now (a .chunks)) (now (a .layers)) (now (a .bytes)) in
+    let e : c .before .before .before .or-else2 .result ≡ handedIn j s = cc in
+    let small = in-file j s (now (a .out)) (c .before .before .before .or-else2 .result) e (c .before .before .if1 .left) in
+    (omega arith, omega arith)
 
 -- src/lib.rt:423:5
 put-fts-requires : tie.Need-put-fts-requires
-put-fts-requires c κs = ?
+put-fts-requires c κs =
+    let a = c .before .before .before .before .before .before .before .before .before .before .before .before .before .before .before .before .before .before .before .before .args in
+    let j = jobOf (a .p) (now (a .sizes)) (now (a .forecast)) in
+    let s = slicesOf (now (a .marks)) (now (a .slots)) (now (a .chunks)) (now (a .layers)) (now (a .bytes)) in
+    let e : c .before .before .before .before .before .before .before .or-else2 .result ≡ handedIn j s = cc in
+    let w = whole-rows j s (now (a .out)) (c .before .before .before .before .before .before .before .or-else2 .result) e (c .before .before .before .before .before .before .if1 .left) in
+    (w .chunk-each, w .layer-each, w .bytes-each, omega (arith, c .before .before .before .put-kps .kept .0))
 
 -- src/lib.rt:424:29
 slice-aggregate-put : tie.Need-slice-aggregate-put
@@ -77,7 +126,12 @@ same-length c = search needs
 
 -- src/lib.rt:392:1
 returns-3 : tie.Need-returns-3
-returns-3 c = ?
+returns-3 c =
+    let a = c .before .before .before .before .before .before .before .before .before .before .before .before .before .before .before .before .before .before .before .before .before .before .before .before .before .before .before .before .args in
+    let j = jobOf (a .p) (now (a .sizes)) (now (a .forecast)) in
+    let s = slicesOf (now (a .marks)) (now (a .slots)) (now (a .chunks)) (now (a .layers)) (now (a .bytes)) in
+    let e : c .before .before .before .before .before .before .before .before .before .before .before .before .before .before .before .or-else2 .result ≡ handedIn j s = cc in
+    wrote j s (now (a .out)) (c .before .before .before .before .before .before .before .before .before .before .before .before .before .before .before .or-else2 .result) e (c .before .before .before .before .before .before .before .before .before .before .before .before .before .before .if1 .left) (c .before .before .before .before .before .before .before .before .before .before .before .before .before .if2 .left) _ _ _ (c .before .before .before .before .before .before .before .before .before .before .before .put-kps .ensures) (c .before .before .before .before .before .before .before .put-fts .ensures) (c .before .before .put .ensures)
 
 pub write-plan-spec : {M : Type 1} → statement M
 write-plan-spec =
