@@ -3,12 +3,10 @@ use Prim.Native.Nat.{ℕ, _+_, _*_, _≤_, _<_}
 use mathlib.Core.Path.{_≡_, refl, sym, ap, _∙_}
 use mathlib.Core.Bool.{Bool, cond}
 use mathlib.Core.List.{List, _++_, map}
-use mathlib.Core.Logic.{⊎-elim}
 use native.Mathlib.Omega.{arith}
 use lib.ListN.{length, drop, length-append}
 use lib.Dec.{leb, eqb, leb→le}
 use borrow.Author.Tests.{eq-eqb, ne-eqb, le-leb, lt-leb}
-use Rattle.basics.specs.Tests.{test, T-true, not-T-false}
 use Rattle.basics.specs.Lists.{length-upTo}
 use Rattle.basics.specs.Refusals.{unless, _orElse_, unless-iff, orElse-iff}
 use Rattle.records.specs.Fields.{written}
@@ -19,16 +17,9 @@ use Rattle.fetch.specs.Handed.{Whole, handedRefusal, handed-iff}
 use Rattle.planfile.specs.Records.{en}
 use Rattle.planfile.specs.PlanFile.{kps, ftOf, fileOf}
 use Rattle.planfile.specs.Calls.{Slices, planOf, lentAfter, writeRefusal, writeAnswer, writeLent}
-use Rattle.planfile.specs.Writing.{bytesOf, file-parts, length-file, length-kps, length-fts, two-puts, written-whole}
+use Rattle.planfile.specs.Writing.{orElse-assoc, bytesOf, file-parts, length-file, length-kps, length-fts, two-puts, written-whole}
 use Rattle.planfile.specs.declared.Written.{Written}
 use Rattle.planfile.specs.declared.Written.the-variants.{Bytes, Refused}
-
-orElse-assoc : (a b c : ℕ) → ((a orElse b) orElse c) ≡ (a orElse (b orElse c))
-orElse-assoc a b c =
-    ⊎-elim
-    (λ t. rw (T-true (eqb a 0) t))
-    (λ t. let n = not-T-false (eqb a 0) t in rw (n, n))
-    (test (eqb a 0))
 
 -- The length of the file by the handed slices.
 abbrev pub sizeOf : Slices → ℕ

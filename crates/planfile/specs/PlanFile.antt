@@ -1,11 +1,12 @@
 -- Meaning. A plan file: what its records say, the refusal of each, and the file of a plan. Document 01, "KP chunk h, marks b, for
 -- chunk 1 to C; then FT ..; EN", refusal 8 "KP records not for 1 to C in turn, before every FT, and complete by EN", and "The plan
 -- writer keeps the rows as handed". C comes from the job.
-use Prim.Native.Nat.{ℕ, _+_}
+use Prim.Native.Nat.{ℕ, _+_, _<_}
 use mathlib.Core.Bool.{Bool, _&&_}
 use mathlib.Core.List.{List, [], _∷_, _++_, map, flatMap}
 use lib.ListN.{length, getD}
 use lib.Dec.{leb, eqb}
+use Rattle.basics.specs.Tests.{All}
 use Rattle.basics.specs.Lists.{upTo}
 use Rattle.basics.specs.Refusals.{unless}
 use Rattle.records.specs.File.{Format, split}
@@ -47,6 +48,17 @@ format count = record { front = front; isEnd = isEnd; fault = fault count; lacki
 pub record Plan : Type 0 where
   pub marks : List ℕ
   pub rows : List Row
+
+-- Marks and rows of the widths that their fields have on file.
+pub record RowInWidth (x : Row) : Type 0 where
+  pub slot-in : x .slot < 65536
+  pub chunk-in : x .chunk < 65536
+  pub layer-in : x .layer < 256
+  pub bytes-in : x .bytes < 4294967296
+
+pub record InWidth (plan : Plan) : Type 0 where
+  pub marks-in : All (λ m. m < 256) (plan .marks)
+  pub rows-in : All RowInWidth (plan .rows)
 
 -- What a file says.
 unfoldable pub planIn : ℕ → List ℕ → Plan

@@ -127,13 +127,13 @@ pub record Scanned (count : ℕ) (file : List ℕ) (at kept rows : ℕ) : Type 0
 
 -- ---- one more record
 
-marks-append : (a b : List Record) → marksIn (a ++ b) ≡ marksIn a ++ marksIn b
+pub marks-append : (a b : List Record) → marksIn (a ++ b) ≡ marksIn a ++ marksIn b
 marks-append [] b = refl
 marks-append (Kp chunk marks ∷ a) b = ap (λ (l : List ℕ). marks ∷ l) (marks-append a b)
 marks-append (Ft slot chunk layer bytes ∷ a) b = marks-append a b
 marks-append (En ∷ a) b = marks-append a b
 
-rows-append : (a b : List Record) → rowsIn (a ++ b) ≡ rowsIn a ++ rowsIn b
+pub rows-append : (a b : List Record) → rowsIn (a ++ b) ≡ rowsIn a ++ rowsIn b
 rows-append [] b = refl
 rows-append (Kp chunk marks ∷ a) b = rows-append a b
 rows-append (Ft slot chunk layer bytes ∷ a) b = ap (λ (l : List Row). record { slot = slot; chunk = chunk; layer = layer; bytes = bytes } ∷ l) (rows-append a b)
