@@ -3,23 +3,28 @@ use Prim.Native.Nat.{ℕ, zero, suc, _+_, _*_, _/_, _%_, _≤_, _<_}
 use mathlib.Core.Path.{_≡_, refl, sym, ap, _∙_}
 use mathlib.Core.Bool.{Bool, true, false, cond, _&&_}
 use mathlib.Core.List.{List, [], _∷_, _++_, map, append-assoc, append-nil}
+use mathlib.Core.Logic.{_↔_, ⊎-elim}
 use native.Mathlib.Omega.{arith}
 use native.Mathlib.Numerals.{add-one}
 use lib.ListN.{length, getD, length-append, length-map}
 use lib.Seq.{ext-getD}
-use lib.Dec.{leb, eqb}
-use borrow.Author.Tests.{eq-eqb, le-leb}
-use Rattle.basics.specs.Tests.{All, all-append}
-use Rattle.basics.specs.Lists.{upTo, length-upTo, getD-upTo}
-use Rattle.basics.specs.Refusals.{unless, _orElse_, orElse-none}
+use lib.Dec.{T, leb, eqb, leb→le, nleb→lt}
+use borrow.Author.Tests.{eq-eqb, le-leb, lt-leb}
+use Rattle.basics.specs.Tests.{All, all-append, test, T-true}
+use Rattle.basics.specs.Lists.{upTo, length-upTo, getD-upTo, upTo-cong}
+use Rattle.basics.specs.Refusals.{unless, _orElse_, unless-iff, orElse-iff}
 use Rattle.records.specs.Fields.{h, w, hAt, wAt, marked}
 use Rattle.records.specs.File.{Format, Front, got, none, split, firstFault, fileRefusal}
 use Rattle.records.specs.Written.{encodeAll, h-back, w-back, ReadsBack, Plain, split-written, refusal-written}
-use Rattle.fetch.specs.Rows.{Row}
+use Rattle.job.specs.Job.{Job, chunks}
+use Rattle.job.specs.Refusal.{refusal}
+use Rattle.fetch.specs.Rows.{Row, rowAt}
+use Rattle.fetch.specs.Handed.{Whole, handedRefusal, handed-iff}
 use Rattle.planfile.specs.Records.{encode, front}
 use Rattle.planfile.specs.PlanFile.{marksIn, rowsIn, fault, lacking, format, Plan, RowInWidth, InWidth, planIn, kps, ftOf, recordsOf, fileOf}
+use Rattle.planfile.specs.Calls.{Slices, room, readRefusal, planOf, writeRefusal}
 use Rattle.planfile.specs.Scan.{marks-append, rows-append}
-use Rattle.planfile.specs.Writing.{orElse-assoc, bytesOf, bytes-all, all-upTo, length-file}
+use Rattle.planfile.specs.Writing.{orElse-assoc, bytesOf, bytes-all, all-upTo, map-upTo, length-file}
 use Rattle.planfile.specs.declared.Record.{Record}
 use Rattle.planfile.specs.declared.Record.the-variants.{Kp, Ft, En}
 
@@ -143,3 +148,50 @@ module _ (count : ℕ) (plan : Plan) (i : InWidth plan) (e : length (plan .marks
       let s = split-written (format count) encode En (en-back count) refl (recordsOf plan) plain in
       let r : split (format count) (fileOf plan) .records ≡ recordsOf plan = rw (file-all, s) in
       rw (r, marks-said plan, rows-said plan)
+
+-- ---- the calls
+
+-- What a writer that does not refuse has found.
+pub record Accepts (j : Job) (s : Slices) : Type 0 where
+  pub job-in : refusal j ≡ 0
+  pub whole : Whole (chunks j) (s .marks) (s .slots) (s .chunks) (s .layers) (s .bytes)
+  pub fits : length (fileOf (planOf s)) ≤ 65536
+
+pub accepts : (j : Job) (s : Slices) (out : List ℕ) → writeRefusal j s out ≡ 0 → Accepts j s
+unfolding writeRefusal
+accepts j s out e =
+    let handed = handedRefusal (chunks j) (s .marks) (s .slots) (s .chunks) (s .layers) (s .bytes) in
+    let long = length (fileOf (planOf s)) in
+    let nine = unless 9 (leb long 65536) in
+    let eleven = unless 11 (leb long (length out)) in
+    let a = orElse-iff (refusal j) (handed orElse nine orElse eleven) .0 e in
+    let b = orElse-iff handed (nine orElse eleven) .0 (a .1) in
+    let c = orElse-iff nine eleven .0 (b .1) in
+    record {
+      job-in = a .0;
+      whole = handed-iff (chunks j) (s .marks) (s .slots) (s .chunks) (s .layers) (s .bytes) .0 (b .0);
+      fits = leb→le long 65536 (unless-iff 9 (leb long 65536) (omega arith) .0 (c .0));
+    }
+
+-- The fields of the rows that four slices of one length hand over are those slices.
+pub field : (f : Row → ℕ) (s : Slices) (l : List ℕ) → ((k : ℕ) → f (rowAt (s .slots) (s .chunks) (s .layers) (s .bytes) k) ≡ getD l k 0) → length (s .slots) ≡ length l → map f (planOf s .rows) ≡ l
+field f s l h e =
+    map-upTo f (rowAt (s .slots) (s .chunks) (s .layers) (s .bytes)) (length (s .slots))
+    ∙ upTo-cong (λ k. f (rowAt (s .slots) (s .chunks) (s .layers) (s .bytes) k)) (λ k. getD l k 0) (length (s .slots)) (λ k u. h k)
+    ∙ rw e (upTo-getD l)
+
+-- A file that is accepted, says that plan and has room isn't refused.
+pub not-short : (j : Job) (s lent : Slices) → refusal j ≡ 0 → fileRefusal (format (chunks j)) (fileOf (planOf s)) ≡ 0 → planIn (chunks j) (fileOf (planOf s)) ≡ planOf s → length (planOf s .rows) ≡ length (s .slots) → T (room lent (chunks j) (length (s .slots))) → readRefusal j (fileOf (planOf s)) lent ≡ 0
+unfolding readRefusal
+not-short j s lent z f p n t = rw (z, f, p, n, T-true (room lent (chunks j) (length (s .slots))) t)
+
+-- 9 by the size alone, whatever the room.
+pub nine-by-size : (n m : ℕ) → ((unless 9 (leb n 65536) orElse unless 11 (leb n m)) ≡ 9) ↔ (65536 < n)
+nine-by-size n m = (
+  λ e. ⊎-elim (λ t. absurd (eleven (leb n m) (rw (T-true (leb n 65536) t) at e))) (λ t. nleb→lt n 65536 t) (test (leb n 65536)),
+  λ l. rw (lt-leb n 65536 l),
+)
+  where
+    eleven : (b : Bool) → unless 11 b ≡ 9 → ⊥
+    eleven true e = omega arith
+    eleven false e = omega arith
