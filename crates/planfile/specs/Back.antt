@@ -119,12 +119,12 @@ fts-fault : (count : ℕ) (before : List Record) (rows : List Row) → firstFaul
 fts-fault count before [] = refl
 fts-fault count before (x ∷ rows) = fts-fault count (before ++ (ftOf x ∷ [])) rows
 
-no-fault : (count : ℕ) (plan : Plan) → length (plan .marks) ≡ count → firstFault (format count) [] (recordsOf plan) ≡ 0
+pub no-fault : (count : ℕ) (plan : Plan) → length (plan .marks) ≡ count → firstFault (format count) [] (recordsOf plan) ≡ 0
 no-fault count plan e =
     fault-append (format count) [] (kps (plan .marks)) (map ftOf (plan .rows))
     ∙ rw (kps-fault count (λ k. getD (plan .marks) k 0) (length (plan .marks)) (omega arith), fts-fault count (kps (plan .marks)) (plan .rows))
 
-nothing-lacks : (count : ℕ) (plan : Plan) → length (plan .marks) ≡ count → lacking count (recordsOf plan) ≡ 0
+pub nothing-lacks : (count : ℕ) (plan : Plan) → length (plan .marks) ≡ count → lacking count (recordsOf plan) ≡ 0
 nothing-lacks count plan e = rw (marks-said plan, eq-eqb (length (plan .marks)) count e)
 
 -- ---- the file of a plan

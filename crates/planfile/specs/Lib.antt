@@ -5,3 +5,4 @@ pub mod Theorems
 pub mod Scan
 pub mod Writing
 pub mod Back
+pub mod Order

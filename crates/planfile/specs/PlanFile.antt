@@ -6,6 +6,7 @@ use mathlib.Core.Bool.{Bool, _&&_}
 use mathlib.Core.List.{List, [], _∷_, _++_, map, flatMap}
 use lib.ListN.{length, getD}
 use lib.Dec.{leb, eqb}
+use mathlib.Core.Path.{_≡_}
 use Rattle.basics.specs.Tests.{All}
 use Rattle.basics.specs.Lists.{upTo}
 use Rattle.basics.specs.Refusals.{unless}
@@ -60,9 +61,12 @@ pub record InWidth (plan : Plan) : Type 0 where
   pub marks-in : All (λ m. m < 256) (plan .marks)
   pub rows-in : All RowInWidth (plan .rows)
 
--- What a file says.
+-- What some records say, and what a file says.
+abbrev pub said : List Record → Plan
+said rs = record { marks = marksIn rs; rows = rowsIn rs }
+
 unfoldable pub planIn : ℕ → List ℕ → Plan
-planIn count file = record { marks = marksIn (split (format count) file .records); rows = rowsIn (split (format count) file .records) }
+planIn count file = said (split (format count) file .records)
 
 -- KP for chunk 1 to C, FT for the rows as handed.
 abbrev pub kps : List ℕ → List Record
@@ -73,6 +77,11 @@ ftOf x = Ft (x .slot) (x .chunk) (x .layer) (x .bytes)
 
 abbrev pub recordsOf : Plan → List Record
 recordsOf plan = kps (plan .marks) ++ map ftOf (plan .rows)
+
+-- The KP records are for 1 to C in turn, before every FT, and complete.
+pub record InOrder (count : ℕ) (rs : List Record) : Type 0 where
+  pub in-turn : rs ≡ recordsOf (said rs)
+  pub complete : length (marksIn rs) ≡ count
 
 -- The file of a plan: its records one after the other, then EN.
 unfoldable pub fileOf : Plan → List ℕ

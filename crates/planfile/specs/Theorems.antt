@@ -17,10 +17,11 @@ use Rattle.job.specs.Job.{Job, Accepted, chunks}
 use Rattle.job.specs.Refusal.{refusal}
 use Rattle.fetch.specs.Rows.{Row, rowAt, rowsOf}
 use Rattle.fetch.specs.Handed.{Whole, handedRefusal, handed-iff}
-use Rattle.planfile.specs.PlanFile.{format, marksIn, rowsIn, Plan, InWidth, planIn, recordsOf, fileOf}
+use Rattle.planfile.specs.PlanFile.{format, marksIn, rowsIn, Plan, InWidth, InOrder, planIn, recordsOf, fileOf}
 use Rattle.planfile.specs.Calls.{Slices, slicesOf, room, readRefusal, readAnswer, readLent, planOf, writeRefusal}
 use Rattle.planfile.specs.Writing.{length-file, map-upTo}
 use Rattle.planfile.specs.Back.{file-accepted, file-says, accepts, field, not-short, nine-by-size}
+use Rattle.planfile.specs.Order.{in-order-accepted, accepted-in-order, none-or-eight}
 use Rattle.planfile.specs.declared.PlanRead.{PlanRead}
 use Rattle.planfile.specs.declared.PlanRead.the-variants.{Rows, Refused}
 
@@ -59,6 +60,19 @@ reads-what-was-written j s out lent i e t =
       answer = rw (none, back .says, n);
       lent-after = rw (none, back .says, field (λ x. x .slot) s (s .slots) (λ k. refl) refl, field (λ x. x .chunk) s (s .chunks) (λ k. refl) (a .whole .chunk-each), field (λ x. x .layer) s (s .layers) (λ k. refl) (a .whole .layer-each), field (λ x. x .bytes) s (s .bytes) (λ k. refl) (a .whole .bytes-each));
     }
+
+-- ---- 8 of the reader
+
+-- "KP records not for 1 to C in turn, before every FT, and complete by EN": a file of at most 65,536 bytes whose records end at EN, with
+-- nothing behind it, is refused by 8 exactly if its records aren't so, and is accepted if they are.
+pub eight-iff : (count : ℕ) (file : List ℕ) → length file ≤ 65536 → split (format count) file .stop ≡ ended 0 → (fileRefusal (format count) file ≡ 8) ↔ (InOrder count (split (format count) file .records) → ⊥)
+eight-iff count file l e = (
+  λ r o. omega (arith, accepted-in-order count file l e o),
+  λ n. ⊎-elim (λ z. absurd (n (in-order-accepted count file l e z))) (λ r. r) (none-or-eight count file l e),
+)
+
+pub accepted-iff-in-order : (count : ℕ) (file : List ℕ) → length file ≤ 65536 → split (format count) file .stop ≡ ended 0 → (fileRefusal (format count) file ≡ 0) ↔ InOrder count (split (format count) file .records)
+accepted-iff-in-order count file l e = (in-order-accepted count file l e, accepted-in-order count file l e)
 
 -- ---- 9 of the writer
 
