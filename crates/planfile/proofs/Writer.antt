@@ -16,8 +16,8 @@ use Rattle.fetch.specs.Rows.{rowAt, rowsOf}
 use Rattle.fetch.specs.Handed.{Whole, handedRefusal, handed-iff}
 use Rattle.planfile.specs.Records.{en}
 use Rattle.planfile.specs.PlanFile.{kps, ftOf, fileOf}
-use Rattle.planfile.specs.Calls.{Slices, planOf, lentAfter, writeRefusal, writeAnswer, writeLent}
-use Rattle.planfile.specs.Writing.{orElse-assoc, bytesOf, file-parts, length-file, length-kps, length-fts, two-puts, written-whole}
+use Rattle.planfile.specs.Calls.{Slices, planOf, lentAfter, writeInput, writeRefusal, writeAnswer, writeLent}
+use Rattle.planfile.specs.Writing.{bytesOf, file-parts, length-file, length-kps, length-fts, two-puts, written-whole}
 use Rattle.planfile.specs.declared.Written.{Written}
 use Rattle.planfile.specs.declared.Written.the-variants.{Bytes, Refused}
 
@@ -28,12 +28,10 @@ sizeOf s = 5 * length (s .marks) + 11 * length (s .slots) + 2
 length-planOf : (s : Slices) → length (fileOf (planOf s)) ≡ sizeOf s
 length-planOf s = omega (arith, length-file (planOf s), length-upTo (rowAt (s .slots) (s .chunks) (s .layers) (s .bytes)) (length (s .slots)))
 
--- The input's refusals, as the code finds them.
-abbrev pub handedIn : Job → Slices → ℕ
-handedIn j s =
-    refusal j
-    orElse handedRefusal (chunks j) (s .marks) (s .slots) (s .chunks) (s .layers) (s .bytes)
-    orElse unless 9 (leb (sizeOf s) 65536)
+-- The input's refusals as the code finds them.
+pub input-is : (j : Job) (s : Slices) → writeInput j s ≡ (refusal j orElse handedRefusal (chunks j) (s .marks) (s .slots) (s .chunks) (s .layers) (s .bytes) orElse unless 9 (leb (sizeOf s) 65536))
+unfolding writeInput
+input-is j s = rw (length-planOf s)
 
 abbrev pub Writes : Job → Slices → List ℕ → Written → List ℕ → Type 0
 Writes j s out a after = (a ≡ writeAnswer j s out) × (after ≡ writeLent j s out)
@@ -42,15 +40,11 @@ module _ (j : Job) (s : Slices) (out : List ℕ) where
   refuses : (r : ℕ) → (r ≡ 0 → ⊥) → writeRefusal j s out ≡ r → Writes j s out (Refused r) out
   refuses r n e = (rw (e, ne-eqb r 0 n), rw (e, ne-eqb r 0 n))
 
-  in-two : writeRefusal j s out ≡ (handedIn j s orElse unless 11 (leb (sizeOf s) (length out)))
+  in-two : writeRefusal j s out ≡ (writeInput j s orElse unless 11 (leb (sizeOf s) (length out)))
   unfolding writeRefusal
-  in-two =
-      let handed = handedRefusal (chunks j) (s .marks) (s .slots) (s .chunks) (s .layers) (s .bytes) in
-      let nine = unless 9 (leb (sizeOf s) 65536) in
-      let eleven = unless 11 (leb (sizeOf s) (length out)) in
-      rw (length-planOf s) (sym (orElse-assoc (refusal j) (handed orElse nine) eleven ∙ ap (λ (x : ℕ). refusal j orElse x) (orElse-assoc handed nine eleven)))
+  in-two = rw (length-planOf s)
 
-  module _ (r : ℕ) (e : r ≡ handedIn j s) where
+  module _ (r : ℕ) (e : r ≡ writeInput j s) where
     pub input-refused : (r ≡ 0 → ⊥) → Writes j s out (Refused r) out
     input-refused n = refuses r n (in-two ∙ rw (← e, ne-eqb r 0 n))
 
@@ -59,7 +53,7 @@ module _ (j : Job) (s : Slices) (out : List ℕ) where
       parts =
           let handed = handedRefusal (chunks j) (s .marks) (s .slots) (s .chunks) (s .layers) (s .bytes) in
           let nine = unless 9 (leb (sizeOf s) 65536) in
-          let u = orElse-iff (refusal j) (handed orElse nine) .0 (sym e ∙ z) in
+          let u = orElse-iff (refusal j) (handed orElse nine) .0 (sym (input-is j s) ∙ sym e ∙ z) in
           (u .0, orElse-iff handed nine .0 (u .1))
 
       pub whole-rows : Whole (chunks j) (s .marks) (s .slots) (s .chunks) (s .layers) (s .bytes)

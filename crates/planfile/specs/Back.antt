@@ -10,7 +10,7 @@ use lib.ListN.{length, getD, length-append, length-map}
 use lib.Seq.{ext-getD}
 use lib.Dec.{T, leb, eqb, leb→le, nleb→lt}
 use borrow.Author.Tests.{eq-eqb, le-leb, lt-leb}
-use Rattle.basics.specs.Tests.{All, all-append, test, T-true}
+use Rattle.basics.specs.Tests.{All, all-append, test, T-true, not-T-false}
 use Rattle.basics.specs.Lists.{upTo, length-upTo, getD-upTo, upTo-cong}
 use Rattle.basics.specs.Refusals.{unless, _orElse_, unless-iff, orElse-iff}
 use Rattle.records.specs.Fields.{h, w, hAt, wAt, marked}
@@ -22,9 +22,9 @@ use Rattle.fetch.specs.Rows.{Row, rowAt}
 use Rattle.fetch.specs.Handed.{Whole, handedRefusal, handed-iff}
 use Rattle.planfile.specs.Records.{encode, front}
 use Rattle.planfile.specs.PlanFile.{marksIn, rowsIn, fault, lacking, format, Plan, RowInWidth, InWidth, planIn, kps, ftOf, recordsOf, fileOf}
-use Rattle.planfile.specs.Calls.{Slices, room, readRefusal, planOf, writeRefusal}
+use Rattle.planfile.specs.Calls.{Slices, room, readRefusal, planOf, writeInput, writeRefusal}
 use Rattle.planfile.specs.Scan.{marks-append, rows-append}
-use Rattle.planfile.specs.Writing.{orElse-assoc, bytesOf, bytes-all, all-upTo, map-upTo, length-file}
+use Rattle.planfile.specs.Writing.{bytesOf, bytes-all, all-upTo, map-upTo, length-file}
 use Rattle.planfile.specs.declared.Record.{Record}
 use Rattle.planfile.specs.declared.Record.the-variants.{Kp, Ft, En}
 
@@ -101,6 +101,14 @@ rows-said plan = rows-append (kps (plan .marks)) (map ftOf (plan .rows)) ∙ rw 
 
 -- ---- the records of a plan have no fault
 
+-- Of three refusals the first is given, however they are joined.
+orElse-assoc : (a b c : ℕ) → ((a orElse b) orElse c) ≡ (a orElse (b orElse c))
+orElse-assoc a b c =
+    ⊎-elim
+    (λ t. rw (T-true (eqb a 0) t))
+    (λ t. let n = not-T-false (eqb a 0) t in rw (n, n))
+    (test (eqb a 0))
+
 fault-append : {R : Type 0} (F : Format R) (before a b : List R) → firstFault F before (a ++ b) ≡ (firstFault F before a orElse firstFault F (before ++ a) b)
 fault-append F before [] b = rw (append-nil before)
 fault-append F before (r ∷ a) b =
@@ -158,19 +166,18 @@ pub record Accepts (j : Job) (s : Slices) : Type 0 where
   pub fits : length (fileOf (planOf s)) ≤ 65536
 
 pub accepts : (j : Job) (s : Slices) (out : List ℕ) → writeRefusal j s out ≡ 0 → Accepts j s
-unfolding writeRefusal
+unfolding writeRefusal writeInput
 accepts j s out e =
     let handed = handedRefusal (chunks j) (s .marks) (s .slots) (s .chunks) (s .layers) (s .bytes) in
     let long = length (fileOf (planOf s)) in
     let nine = unless 9 (leb long 65536) in
-    let eleven = unless 11 (leb long (length out)) in
-    let a = orElse-iff (refusal j) (handed orElse nine orElse eleven) .0 e in
-    let b = orElse-iff handed (nine orElse eleven) .0 (a .1) in
-    let c = orElse-iff nine eleven .0 (b .1) in
+    let input = orElse-iff (refusal j orElse handed orElse nine) (unless 11 (leb long (length out))) .0 e .0 in
+    let a = orElse-iff (refusal j) (handed orElse nine) .0 input in
+    let b = orElse-iff handed nine .0 (a .1) in
     record {
       job-in = a .0;
       whole = handed-iff (chunks j) (s .marks) (s .slots) (s .chunks) (s .layers) (s .bytes) .0 (b .0);
-      fits = leb→le long 65536 (unless-iff 9 (leb long 65536) (omega arith) .0 (c .0));
+      fits = leb→le long 65536 (unless-iff 9 (leb long 65536) (omega arith) .0 (b .1));
     }
 
 -- The fields of the rows that four slices of one length hand over are those slices.

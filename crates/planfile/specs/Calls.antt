@@ -71,13 +71,16 @@ readLent j file lent =
 abbrev pub planOf : Slices → Plan
 planOf s = record { marks = s .marks; rows = rowsOf (s .slots) (s .chunks) (s .layers) (s .bytes) }
 
--- The handed job's 5, 6, 7, then 8, then 9 for a file above 65,536 bytes, then 11.
-unfoldable pub writeRefusal : Job → Slices → List ℕ → ℕ
-writeRefusal j handed out =
+-- The handed job's 5, 6, 7, then 8, then 9 for a file above 65,536 bytes.
+unfoldable pub writeInput : Job → Slices → ℕ
+writeInput j handed =
     refusal j
     orElse handedRefusal (chunks j) (handed .marks) (handed .slots) (handed .chunks) (handed .layers) (handed .bytes)
     orElse unless 9 (leb (length (fileOf (planOf handed))) 65536)
-    orElse unless 11 (leb (length (fileOf (planOf handed))) (length out))
+
+-- The refusals that come from the input, then 11.
+unfoldable pub writeRefusal : Job → Slices → List ℕ → ℕ
+writeRefusal j handed out = writeInput j handed orElse unless 11 (leb (length (fileOf (planOf handed))) (length out))
 
 -- The number of bytes, or the refusal.
 abbrev pub writeAnswer : Job → Slices → List ℕ → Written

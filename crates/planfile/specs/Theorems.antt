@@ -18,7 +18,7 @@ use Rattle.job.specs.Refusal.{refusal}
 use Rattle.fetch.specs.Rows.{Row, rowAt, rowsOf}
 use Rattle.fetch.specs.Handed.{Whole, handedRefusal, handed-iff}
 use Rattle.planfile.specs.PlanFile.{format, marksIn, rowsIn, Plan, InWidth, InOrder, planIn, recordsOf, fileOf}
-use Rattle.planfile.specs.Calls.{Slices, slicesOf, room, readRefusal, readAnswer, readLent, planOf, writeRefusal}
+use Rattle.planfile.specs.Calls.{Slices, slicesOf, room, readRefusal, readAnswer, readLent, planOf, writeInput, writeRefusal}
 use Rattle.planfile.specs.Writing.{length-file, map-upTo}
 use Rattle.planfile.specs.Back.{file-accepted, file-says, accepts, field, not-short, nine-by-size}
 use Rattle.planfile.specs.Order.{in-order-accepted, accepted-in-order, none-or-eight}
@@ -78,7 +78,7 @@ accepted-iff-in-order count file l e = (in-order-accepted count file l e, accept
 
 -- 9 exactly if 5 bytes a chunk, 11 a row and 2 for EN are more than 65,536, after 5 to 8.
 pub nine-iff : (j : Job) (s : Slices) (out : List ℕ) → refusal j ≡ 0 → Whole (chunks j) (s .marks) (s .slots) (s .chunks) (s .layers) (s .bytes) → (writeRefusal j s out ≡ 9) ↔ (65536 < 5 * chunks j + 11 * length (s .slots) + 2)
-unfolding writeRefusal
+unfolding writeRefusal writeInput
 nine-iff j s out z w =
     let handed = handed-iff (chunks j) (s .marks) (s .slots) (s .chunks) (s .layers) (s .bytes) .1 w in
     let long : length (fileOf (planOf s)) ≡ 5 * chunks j + 11 * length (s .slots) + 2 = omega (arith, length-file (planOf s), length-upTo (rowAt (s .slots) (s .chunks) (s .layers) (s .bytes)) (length (s .slots)), w .byte-each) in

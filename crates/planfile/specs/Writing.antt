@@ -3,15 +3,13 @@ use Prim.Native.Nat.{ℕ, zero, suc, _+_, _*_, _≤_, _<_}
 use mathlib.Core.Path.{_≡_, refl, sym, ap, _∙_}
 use mathlib.Core.Bool.{cond}
 use mathlib.Core.List.{List, [], _∷_, _++_, map, map-append, flatMap, append-assoc, append-nil}
-use mathlib.Core.Logic.{⊎-elim}
 use native.Mathlib.Omega.{arith}
 use native.Mathlib.Numerals.{add-one}
 use lib.ListN.{length, getD, take, drop, length-append, length-drop, length-map, take-append-drop}
 use lib.Seq.{length-take-le, take-at, drop-at, drop-drop}
-use lib.Dec.{leb, leb→le, eqb}
+use lib.Dec.{leb, leb→le}
 use borrow.Author.Tests.{le-leb}
-use Rattle.basics.specs.Tests.{All, all-append, by-cond, test, T-true, not-T-false}
-use Rattle.basics.specs.Refusals.{_orElse_}
+use Rattle.basics.specs.Tests.{All, all-append, by-cond}
 use Rattle.basics.specs.Lists.{upTo, length-upTo}
 use Rattle.records.specs.Fields.{written}
 use Rattle.records.specs.Written.{encodeAll}
@@ -21,14 +19,7 @@ use Rattle.planfile.specs.PlanFile.{format, Plan, kps, ftOf, recordsOf, 
 use Rattle.planfile.specs.declared.Record.{Record}
 use Rattle.planfile.specs.declared.Record.the-variants.{Kp, Ft, En}
 
--- ---- refusals and lists by index
-
-pub orElse-assoc : (a b c : ℕ) → ((a orElse b) orElse c) ≡ (a orElse (b orElse c))
-orElse-assoc a b c =
-    ⊎-elim
-    (λ t. rw (T-true (eqb a 0) t))
-    (λ t. let n = not-T-false (eqb a 0) t in rw (n, n))
-    (test (eqb a 0))
+-- ---- lists by index
 
 module _ {A : Type 0} where
   pub all-upTo : (P : A → Type 0) (f : ℕ → A) (n : ℕ) → ((k : ℕ) → k < n → P (f k)) → All P (upTo f n)

@@ -12,7 +12,7 @@ ghost use Rattle.records.specs.Fields.{written};
 ghost use Rattle.fetch.specs.Rows.{rowsOf};
 ghost use Rattle.planfile.specs.Records.{encode, readAt};
 ghost use Rattle.planfile.specs.PlanFile.{format, kps, ftOf};
-ghost use Rattle.planfile.specs.Calls.{slicesOf, readAnswer, readLent, writeAnswer, writeLent};
+ghost use Rattle.planfile.specs.Calls.{slicesOf, readAnswer, readLent, writeInput, writeAnswer, writeLent};
 ghost use Rattle.planfile.specs.Writing.{bytesOf};
 ghost use Rattle.planfile.specs.Scan.{refusalOf, endOf, inTurn, answerOf, turnOf, Done, markOn, rowOn, filled};
 use job::Programme;
@@ -384,6 +384,25 @@ fn put_fts(out: &mut [u8], from: usize, slots: &[u16], chunks: &[u16], layers: &
     }
 }
 
+// The refusals of a plan to be written that come from the input.
+fn write_input(
+    p: Programme,
+    sizes: &[u32],
+    forecast: &[u32],
+    marks: &[u8],
+    slots: &[u16],
+    chunks: &[u16],
+    layers: &[u8],
+    bytes: &[u32],
+) -> u8
+    ensures { λ r. ⌜ r ≡ writeInput (jobOf p (now (sizes .entry)) (now (forecast .entry))) (slicesOf (now (marks .entry)) (now (slots .entry)) (now (chunks .entry)) (now (layers .entry)) (now (bytes .entry))) ⌝ }
+{
+    let nine = size_refusal(marks.len(), slots.len());
+    let eight = fetch::handed_refusal(p.chunks, marks, slots, chunks, layers, bytes);
+    let job = job::refusal(p, sizes, forecast);
+    job::or_else(job, job::or_else(eight, nine))
+}
+
 // A plan's file into the lent buffer: how many bytes, or the refusal.
 pub fn write_plan(
     p: Programme,
@@ -399,15 +418,12 @@ pub fn write_plan(
     ensures answer { λ r. ⌜ r ≡ writeAnswer (jobOf p (now (sizes .entry)) (now (forecast .entry))) (slicesOf (now (marks .entry)) (now (slots .entry)) (now (chunks .entry)) (now (layers .entry)) (now (bytes .entry))) (now (out .entry)) ⌝ }
     ensures lent { λ _. ⌜ now (out .exit) ≡ writeLent (jobOf p (now (sizes .entry)) (now (forecast .entry))) (slicesOf (now (marks .entry)) (now (slots .entry)) (now (chunks .entry)) (now (layers .entry)) (now (bytes .entry))) (now (out .entry)) ⌝ }
 {
-    let handed = fetch::handed_refusal(p.chunks, marks, slots, chunks, layers, bytes);
-    let rows = slots.len();
-    let size = size_refusal(marks.len(), rows);
-    let refused = job::or_else(job::refusal(p, sizes, forecast), job::or_else(handed, size));
+    let refused = write_input(p, sizes, forecast, marks, slots, chunks, layers, bytes);
     if refused != 0 {
         return Written::Refused(refused);
     }
     let from = 5 * marks.len();
-    let last = from + 11 * rows;
+    let last = from + 11 * slots.len();
     let end = last + 2;
     if out.len() < end {
         return Written::Refused(11);
