@@ -1,19 +1,16 @@
 -- What the record reader answers at a place of a file, case by case. Assumes nothing.
-use Prim.Native.Nat.{ℕ, _+_, _*_, _-_, _≤_, _<_}
-use mathlib.Core.Path.{_≡_, refl, sym, ap, _∙_}
-use mathlib.Core.Bool.{Bool, true, false, cond}
+use Prim.Native.Nat.{ℕ, _+_, _≤_, _<_}
+use mathlib.Core.Path.{_≡_, refl, sym, _∙_}
+use mathlib.Core.Bool.{Bool, true, false}
 use mathlib.Core.List.{List}
 use native.Mathlib.Omega.{arith}
 use lib.ListN.{length, getD, drop, length-drop}
 use lib.Dec.{leb}
 use borrow.Author.Tests.{le-leb, lt-leb}
 use Rattle.records.specs.Fields.{hAt, wAt, marked}
-use Rattle.records.specs.File.{Front, got, none}
 use Rattle.planfile.specs.Scan.{byte-on, h-on, w-on}
 use Rattle.planfile.specs.Records.{kp, ft, en, front, readAt}
-use Rattle.planfile.specs.declared.Record.{Record}
 use Rattle.planfile.specs.declared.Record.the-variants.{Kp, Ft, En}
-use Rattle.planfile.specs.declared.Read.{Read}
 use Rattle.planfile.specs.declared.Read.the-variants.{Got, Refused}
 
 -- What a test on a call's result says of what the call ensures.

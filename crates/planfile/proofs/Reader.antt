@@ -1,36 +1,37 @@
 -- What the plan reader hands over, by where it stops: the job's refusal, the file's, 11, or the plan. Assumes nothing.
-use Prim.Native.Nat.{ℕ, zero, suc, _+_, _*_, _≤_}
-use mathlib.Core.Path.{_≡_, refl, sym, ap, _∙_}
-use mathlib.Core.Bool.{Bool, true, false, not, cond, _&&_}
-use mathlib.Core.List.{List, [], _∷_, _++_, map, map-append}
+use Prim.Native.Nat.{ℕ, _+_, _*_, _≤_}
+use mathlib.Core.Path.{_≡_, sym, ap, _∙_}
+use mathlib.Core.Bool.{true, false}
+use mathlib.Core.List.{List, _++_, map}
 use mathlib.Core.Logic.{⊎-elim}
 use native.Mathlib.Omega.{arith}
 use lib.ListN.{length, drop}
-use lib.Dec.{T, leb, eqb, eqb→eq}
+use lib.Dec.{eqb, eqb→eq}
 use borrow.Author.Tests.{eq-eqb, ne-eqb}
 use Rattle.basics.specs.Tests.{test, not-T-false, T-true, true-T, tests}
 use Rattle.basics.specs.Lists.{upTo, length-upTo}
-use Rattle.basics.specs.Refusals.{unless, _orElse_, orElse-none, orElse-some}
+use Rattle.basics.specs.Refusals.{unless, _orElse_, orElse-some}
 use Rattle.records.specs.File.{fileRefusal}
 use Rattle.job.specs.Job.{Job, chunks}
 use Rattle.job.specs.Refusal.{refusal}
 use Rattle.fetch.specs.Rows.{Row}
 use Rattle.planfile.specs.PlanFile.{format, planIn}
-use Rattle.planfile.specs.Calls.{Slices, slicesOf, lentAfter, room, readRefusal, readAnswer, readLent}
+use Rattle.planfile.specs.Calls.{Slices, slicesOf, room, readRefusal, readAnswer, readLent}
 use Rattle.planfile.specs.Scan.{answerOf, markOn, rowOn, Laid, Done, filled}
+use Rattle.planfile.specs.Writing.{map-upTo}
 use Rattle.planfile.specs.declared.PlanRead.{PlanRead}
 use Rattle.planfile.specs.declared.PlanRead.the-variants.{Rows, Refused}
 
 -- ---- which answer says what
 
-pub answer-refused : (f m n : ℕ) → Refused n ≡ answerOf f m → (f ≡ n) × (f ≡ 0 → ⊥)
+answer-refused : (f m n : ℕ) → Refused n ≡ answerOf f m → (f ≡ n) × (f ≡ 0 → ⊥)
 answer-refused f m n e =
     ⊎-elim
     (λ t. let x : Refused n ≡ Rows m = e ∙ rw (T-true (eqb f 0) t) in let z : _≡_ {A = ℕ} 0 1 = cc in absurd (omega arith))
     (λ t. let x : Refused n ≡ Refused f = e ∙ rw (not-T-false (eqb f 0) t) in (cc, λ z. absurd (rw (eq-eqb f 0 z) at t)))
     (test (eqb f 0))
 
-pub answer-rows : (f m n : ℕ) → Rows n ≡ answerOf f m → (f ≡ 0) × (n ≡ m)
+answer-rows : (f m n : ℕ) → Rows n ≡ answerOf f m → (f ≡ 0) × (n ≡ m)
 answer-rows f m n e =
     ⊎-elim
     (λ t. let x : Rows n ≡ Rows m = e ∙ rw (T-true (eqb f 0) t) in (eqb→eq f 0 t, cc))
@@ -38,10 +39,6 @@ answer-rows f m n e =
     (test (eqb f 0))
 
 -- ---- the values of a laid out file
-
-map-upTo : {A : Type 0} (f : A → ℕ) (g : ℕ → A) (n : ℕ) → map f (upTo g n) ≡ upTo (λ i. f (g i)) n
-map-upTo f g zero = refl
-map-upTo f g (suc n) = map-append f (upTo g n) (g n ∷ []) ∙ ap (λ (l : List ℕ). l ++ (f (g n) ∷ [])) (map-upTo f g n)
 
 over : (f : ℕ → ℕ) (n : ℕ) (vals old : List ℕ) → vals ≡ upTo f n → filled f n old ≡ vals ++ drop (length vals) old
 over f n vals old e = rw (e, length-upTo f n)
@@ -59,18 +56,14 @@ filledAll count file rows lent =
     (filled (λ i. rowOn file count i .layer) rows (lent .layers))
     (filled (λ i. rowOn file count i .bytes) rows (lent .bytes))
 
--- What room says.
-pub record Room (lent : Slices) (marks rows : ℕ) : Type 0 where
-  pub for-marks : marks ≤ length (lent .marks)
+-- What holds where the slices are filled.
+pub record MayCopy (count rows : ℕ) (file : List ℕ) (lent : Slices) : Type 0 where
+  pub for-marks : count ≤ length (lent .marks)
   pub for-slots : rows ≤ length (lent .slots)
   pub for-chunks : rows ≤ length (lent .chunks)
   pub for-layers : rows ≤ length (lent .layers)
   pub for-bytes : rows ≤ length (lent .bytes)
-
-pub has-room : (lent : Slices) (marks rows : ℕ) → room lent marks rows ≡ true → Room lent marks rows
-has-room lent marks rows e =
-    let t = simp tests at (true-T (room lent marks rows) e) in
-    record { for-marks = t .0; for-slots = t .1 .0; for-chunks = t .1 .1 .0; for-layers = t .1 .1 .1 .0; for-bytes = t .1 .1 .1 .1 }
+  pub inside : 5 * count + 11 * rows ≤ length file
 
 abbrev pub HandsOver : Job → List ℕ → Slices → PlanRead → Slices → Type 0
 HandsOver j file lent a after = (a ≡ readAnswer j file lent) × (after ≡ readLent j file lent)
@@ -101,11 +94,20 @@ module _ (j : Job) (file : List ℕ) (lent : Slices) where
       only-room : readRefusal j file lent ≡ unless 11 (room lent (chunks j) n)
       only-room = from-file ∙ rw (accepted .0, ← accepted .1)
 
-      pub laid : Laid (chunks j) file
+      laid : Laid (chunks j) file
       laid = d .laid (accepted .0)
 
-      pub inside : 5 * chunks j + 11 * n ≤ length file
-      inside = rw (accepted .1) (laid .inside)
+      pub may-copy : room lent (chunks j) n ≡ true → MayCopy (chunks j) n file lent
+      may-copy e =
+          let t = simp tests at (true-T (room lent (chunks j) n) e) in
+          record {
+            for-marks = t .0;
+            for-slots = t .1 .0;
+            for-chunks = t .1 .1 .0;
+            for-layers = t .1 .1 .1 .0;
+            for-bytes = t .1 .1 .1 .1;
+            inside = rw (accepted .1) (laid .inside);
+          }
 
       pub short : room lent (chunks j) n ≡ false → HandsOver j file lent (Refused 11) lent
       short t = refuses 11 (λ w. omega arith) (only-room ∙ rw t)

@@ -1,6 +1,6 @@
 -- What a turn of the reader answers, by the record read. Assumes nothing.
 use Prim.Native.Nat.{ℕ, _+_}
-use mathlib.Core.Path.{_≡_, sym, ap, _∙_}
+use mathlib.Core.Path.{_≡_, sym, ap}
 use mathlib.Core.Bool.{true, false}
 use mathlib.Core.List.{List}
 use lib.ListN.{length}
@@ -8,14 +8,11 @@ use lib.Dec.{eqb}
 use Rattle.basics.specs.Refusals.{unless, _orElse_}
 use Rattle.planfile.specs.Records.{readAt}
 use Rattle.planfile.specs.Scan.{inTurn, answerOf, turnBy, turnOf}
-use Rattle.planfile.specs.declared.Record.{Record}
 use Rattle.planfile.specs.declared.Record.the-variants.{Kp, Ft, En}
 use Rattle.planfile.specs.declared.Read.{Read}
 use Rattle.planfile.specs.declared.Read.the-variants as read
-use Rattle.planfile.specs.declared.Turn.{Turn}
 use Rattle.planfile.specs.declared.Turn.the-variants.{More, End}
-use Rattle.planfile.specs.declared.PlanRead.{PlanRead}
-use Rattle.planfile.specs.declared.PlanRead.the-variants.{Rows, Refused}
+use Rattle.planfile.specs.declared.PlanRead.the-variants.{Refused}
 
 module _ (count : ℕ) (file : List ℕ) (at kept rows : ℕ) where
   by-read : (x : Read) → readAt file at ≡ x → turnBy count file kept rows x ≡ turnOf count file at kept rows

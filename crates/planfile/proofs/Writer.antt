@@ -1,12 +1,11 @@
 -- What the plan writer hands over, by where it stops: an input's refusal, 11, or the file. Assumes nothing.
 use Prim.Native.Nat.{ℕ, _+_, _*_, _≤_, _<_}
-use mathlib.Core.Path.{_≡_, refl, sym, ap, _∙_}
-use mathlib.Core.Bool.{Bool, cond}
+use mathlib.Core.Path.{_≡_, sym, ap, _∙_}
 use mathlib.Core.List.{List, _++_, map}
 use native.Mathlib.Omega.{arith}
 use lib.ListN.{length, drop, length-append}
-use lib.Dec.{leb, eqb, leb→le}
-use borrow.Author.Tests.{eq-eqb, ne-eqb, le-leb, lt-leb}
+use lib.Dec.{leb, leb→le}
+use borrow.Author.Tests.{ne-eqb, le-leb, lt-leb}
 use Rattle.basics.specs.Lists.{length-upTo}
 use Rattle.basics.specs.Refusals.{unless, _orElse_, unless-iff, orElse-iff}
 use Rattle.records.specs.Fields.{written}
@@ -16,7 +15,7 @@ use Rattle.fetch.specs.Rows.{rowAt, rowsOf}
 use Rattle.fetch.specs.Handed.{Whole, handedRefusal, handed-iff}
 use Rattle.planfile.specs.Records.{en}
 use Rattle.planfile.specs.PlanFile.{kps, ftOf, fileOf}
-use Rattle.planfile.specs.Calls.{Slices, planOf, lentAfter, writeInput, writeRefusal, writeAnswer, writeLent}
+use Rattle.planfile.specs.Calls.{Slices, planOf, writeInput, writeRefusal, writeAnswer, writeLent}
 use Rattle.planfile.specs.Writing.{bytesOf, file-parts, length-file, length-kps, length-fts, two-puts, written-whole}
 use Rattle.planfile.specs.declared.Written.{Written}
 use Rattle.planfile.specs.declared.Written.the-variants.{Bytes, Refused}

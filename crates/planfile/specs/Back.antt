@@ -1,20 +1,19 @@
 -- Lemmas. The records of a plan, written and read back, have no fault and say the plan. Assumes nothing.
-use Prim.Native.Nat.{ℕ, zero, suc, _+_, _*_, _/_, _%_, _≤_, _<_}
+use Prim.Native.Nat.{ℕ, zero, suc, _+_, _≤_, _<_}
 use mathlib.Core.Path.{_≡_, refl, sym, ap, _∙_}
-use mathlib.Core.Bool.{Bool, true, false, cond, _&&_}
+use mathlib.Core.Bool.{Bool, true, false}
 use mathlib.Core.List.{List, [], _∷_, _++_, map, append-assoc, append-nil}
 use mathlib.Core.Logic.{_↔_, ⊎-elim}
 use native.Mathlib.Omega.{arith}
-use native.Mathlib.Numerals.{add-one}
-use lib.ListN.{length, getD, length-append, length-map}
+use lib.ListN.{length, getD}
 use lib.Seq.{ext-getD}
 use lib.Dec.{T, leb, eqb, leb→le, nleb→lt}
 use borrow.Author.Tests.{eq-eqb, le-leb, lt-leb}
 use Rattle.basics.specs.Tests.{All, all-append, test, T-true, not-T-false}
 use Rattle.basics.specs.Lists.{upTo, length-upTo, getD-upTo, upTo-cong}
 use Rattle.basics.specs.Refusals.{unless, _orElse_, unless-iff, orElse-iff}
-use Rattle.records.specs.Fields.{h, w, hAt, wAt, marked}
-use Rattle.records.specs.File.{Format, Front, got, none, split, firstFault, fileRefusal}
+use Rattle.records.specs.Fields.{h}
+use Rattle.records.specs.File.{Format, got, split, firstFault, fileRefusal}
 use Rattle.records.specs.Written.{encodeAll, h-back, w-back, ReadsBack, Plain, split-written, refusal-written}
 use Rattle.job.specs.Job.{Job, chunks}
 use Rattle.job.specs.Refusal.{refusal}
@@ -24,9 +23,9 @@ use Rattle.planfile.specs.Records.{encode, front}
 use Rattle.planfile.specs.PlanFile.{marksIn, rowsIn, fault, lacking, format, Plan, RowInWidth, InWidth, planIn, kps, ftOf, recordsOf, fileOf}
 use Rattle.planfile.specs.Calls.{Slices, room, readRefusal, planOf, writeInput, writeRefusal}
 use Rattle.planfile.specs.Scan.{marks-append, rows-append}
-use Rattle.planfile.specs.Writing.{bytesOf, bytes-all, all-upTo, map-upTo, length-file}
+use Rattle.planfile.specs.Writing.{bytes-all, all-upTo, map-upTo, length-file}
 use Rattle.planfile.specs.declared.Record.{Record}
-use Rattle.planfile.specs.declared.Record.the-variants.{Kp, Ft, En}
+use Rattle.planfile.specs.declared.Record.the-variants.{Kp, En}
 
 -- ---- a record reads back
 

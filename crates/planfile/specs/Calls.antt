@@ -10,7 +10,7 @@ use Rattle.basics.specs.Refusals.{unless, _orElse_}
 use Rattle.records.specs.File.{fileRefusal}
 use Rattle.job.specs.Job.{Job, chunks}
 use Rattle.job.specs.Refusal.{refusal}
-use Rattle.fetch.specs.Rows.{Row, rowsOf}
+use Rattle.fetch.specs.Rows.{rowsOf}
 use Rattle.fetch.specs.Handed.{handedRefusal}
 use Rattle.planfile.specs.PlanFile.{format, Plan, planIn, fileOf}
 use Rattle.planfile.specs.declared.PlanRead.{PlanRead}

@@ -1,21 +1,21 @@
 -- Lemmas. A file whose records end at EN is accepted exactly if its KPs are in turn, before every FT, and complete. Assumes nothing.
-use Prim.Native.Nat.{ℕ, zero, suc, _+_, _≤_, _<_}
+use Prim.Native.Nat.{ℕ, zero, suc, _+_, _≤_}
 use mathlib.Core.Path.{_≡_, refl, sym, ap, _∙_}
-use mathlib.Core.Bool.{Bool, true, false, cond, _&&_}
+use mathlib.Core.Bool.{Bool, true, false, _&&_}
 use mathlib.Core.List.{List, [], _∷_, _++_, map, map-append, append-assoc, append-nil}
 use mathlib.Core.Logic.{_⊎_, inl, inr, ⊎-elim}
 use native.Mathlib.Omega.{arith}
 use lib.ListN.{length, getD, drop, length-append, List·getD-append}
 use lib.Seq.{getD-at}
-use lib.Dec.{T, leb, eqb, eqb→eq}
-use borrow.Author.Tests.{eq-eqb, le-leb}
-use Rattle.basics.specs.Tests.{All, by-cond, tests}
-use Rattle.basics.specs.Lists.{upTo, upTo-cong}
+use lib.Dec.{leb, eqb, eqb→eq}
+use borrow.Author.Tests.{le-leb}
+use Rattle.basics.specs.Tests.{All, tests}
+use Rattle.basics.specs.Lists.{upTo-cong}
 use Rattle.basics.specs.Refusals.{unless, _orElse_, unless-iff, orElse-iff}
-use Rattle.records.specs.File.{Front, got, none, Stop, ended, broken, Split, splitBy, splitUpTo, split, firstFault, fileRefusal}
+use Rattle.records.specs.File.{Front, got, none, ended, Split, splitBy, splitUpTo, split, firstFault, fileRefusal}
 use Rattle.fetch.specs.Rows.{Row}
 use Rattle.planfile.specs.Records.{front, isEnd}
-use Rattle.planfile.specs.PlanFile.{marksIn, rowsIn, fault, lacking, format, Plan, said, InOrder, kps, ftOf, recordsOf}
+use Rattle.planfile.specs.PlanFile.{marksIn, rowsIn, fault, lacking, format, said, InOrder, kps, ftOf, recordsOf}
 use Rattle.planfile.specs.Scan.{marks-append, rows-append}
 use Rattle.planfile.specs.Back.{no-fault, nothing-lacks}
 use Rattle.planfile.specs.declared.Record.{Record}

@@ -2,7 +2,7 @@
 -- chunk 1 to C; then FT ..; EN", refusal 8 "KP records not for 1 to C in turn, before every FT, and complete by EN", and "The plan
 -- writer keeps the rows as handed". C comes from the job.
 use Prim.Native.Nat.{ℕ, _+_, _<_}
-use mathlib.Core.Bool.{Bool, _&&_}
+use mathlib.Core.Bool.{_&&_}
 use mathlib.Core.List.{List, [], _∷_, _++_, map, flatMap}
 use lib.ListN.{length, getD}
 use lib.Dec.{leb, eqb}

@@ -1,21 +1,21 @@
 -- Lemmas. Going through a plan file a record a turn: how many KPs and FTs are taken, and where each stands in an accepted file.
 -- Assumes nothing.
-use Prim.Native.Nat.{ℕ, zero, suc, _+_, _*_, _-_, _≤_, _<_}
+use Prim.Native.Nat.{ℕ, suc, _+_, _*_, _-_, _≤_, _<_}
 use mathlib.Core.Path.{_≡_, refl, sym, ap, subst, _∙_}
-use mathlib.Core.Bool.{Bool, true, false, not, cond, _&&_}
+use mathlib.Core.Bool.{Bool, not, cond, _&&_}
 use mathlib.Core.List.{List, [], _∷_, _++_, append-nil, append-assoc}
 use native.Mathlib.Omega.{arith}
 use native.Mathlib.Numerals.{add-one}
 use lib.ListN.{length, getD, set, drop, length-drop, length-append, length-set}
 use lib.Seq.{getD-drop, drop-cons, set-at}
 use lib.Dec.{T, leb, eqb, leb→le, eqb→eq}
-use borrow.Author.Tests.{eq-eqb, ne-eqb, le-leb, lt-leb}
-use Rattle.basics.specs.Tests.{by-cond, and-T, T-true, not-T-false, same-test, eqb-iff, tests}
+use borrow.Author.Tests.{ne-eqb, le-leb, lt-leb}
+use Rattle.basics.specs.Tests.{by-cond, T-true, not-T-false, same-test, eqb-iff, tests}
 use Rattle.basics.specs.Lists.{upTo, length-upTo}
 use Rattle.basics.specs.Refusals.{unless, _orElse_, unless-iff, orElse-iff}
 use Rattle.records.specs.Fields.{hAt, wAt, marked}
-use Rattle.records.specs.File.{Front, got, none, split, recordsRefusal, fileRefusal}
-use Rattle.records.specs.Reading.{Reads, reads-start, reads-none, reads-fault, reads-more, reads-end, Ends}
+use Rattle.records.specs.File.{Front, got, none, recordsRefusal, fileRefusal}
+use Rattle.records.specs.Reading.{Reads, reads-start, reads-none, reads-fault, reads-more, reads-end}
 use Rattle.fetch.specs.Rows.{Row}
 use Rattle.planfile.specs.Records.{kp, ft, en, front, readOf, readAt}
 use Rattle.planfile.specs.PlanFile.{marksIn, rowsIn, fault, format, planIn}

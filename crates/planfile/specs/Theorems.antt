@@ -1,29 +1,24 @@
 -- Theorems. Demand 2: "Job and plan files read back as the job and plan written", for plan files. Then refusals 8 and 9 exactly where
 -- document 01 lists them, and that a plan of at most 5,599 rows always fits a file. Assumes nothing.
 use Prim.Native.Nat.{ℕ, _+_, _*_, _≤_, _<_}
-use mathlib.Core.Path.{_≡_, refl, sym, ap, _∙_}
-use mathlib.Core.Bool.{Bool, true, false, cond, _&&_}
-use mathlib.Core.List.{List, _++_, map}
-use mathlib.Core.Logic.{_↔_, _⊎_, inl, inr, ⊎-elim}
+use mathlib.Core.Path.{_≡_, refl}
+use mathlib.Core.List.{List, _++_}
+use mathlib.Core.Logic.{_↔_, ⊎-elim}
 use native.Mathlib.Omega.{arith}
-use lib.ListN.{length, getD, drop}
-use lib.Dec.{T, leb, eqb, leb→le, nleb→lt}
-use borrow.Author.Tests.{eq-eqb, le-leb, lt-leb}
-use Rattle.basics.specs.Tests.{test, T-true}
-use Rattle.basics.specs.Lists.{upTo, length-upTo, upTo-cong}
-use Rattle.basics.specs.Refusals.{unless, _orElse_, unless-iff, orElse-iff}
-use Rattle.records.specs.File.{Stop, ended, split, fileRefusal}
+use lib.ListN.{length, drop}
+use lib.Dec.{T}
+use Rattle.basics.specs.Lists.{length-upTo}
+use Rattle.records.specs.File.{ended, split, fileRefusal}
 use Rattle.job.specs.Job.{Job, Accepted, chunks}
 use Rattle.job.specs.Refusal.{refusal}
-use Rattle.fetch.specs.Rows.{Row, rowAt, rowsOf}
-use Rattle.fetch.specs.Handed.{Whole, handedRefusal, handed-iff}
-use Rattle.planfile.specs.PlanFile.{format, marksIn, rowsIn, Plan, InWidth, InOrder, planIn, recordsOf, fileOf}
+use Rattle.fetch.specs.Rows.{rowAt}
+use Rattle.fetch.specs.Handed.{Whole, handed-iff}
+use Rattle.planfile.specs.PlanFile.{format, Plan, InWidth, InOrder, planIn, fileOf}
 use Rattle.planfile.specs.Calls.{Slices, slicesOf, room, readRefusal, readAnswer, readLent, planOf, writeInput, writeRefusal}
-use Rattle.planfile.specs.Writing.{length-file, map-upTo}
+use Rattle.planfile.specs.Writing.{length-file}
 use Rattle.planfile.specs.Back.{file-accepted, file-says, accepts, field, not-short, nine-by-size}
 use Rattle.planfile.specs.Order.{in-order-accepted, accepted-in-order, none-or-eight}
-use Rattle.planfile.specs.declared.PlanRead.{PlanRead}
-use Rattle.planfile.specs.declared.PlanRead.the-variants.{Rows, Refused}
+use Rattle.planfile.specs.declared.PlanRead.the-variants.{Rows}
 
 -- ---- what is written reads back
 

@@ -1,7 +1,6 @@
 -- Lemmas. Records written one after the other: how long they are, and what a lent buffer holds after each. Assumes nothing.
 use Prim.Native.Nat.{ℕ, zero, suc, _+_, _*_, _≤_, _<_}
 use mathlib.Core.Path.{_≡_, refl, sym, ap, _∙_}
-use mathlib.Core.Bool.{cond}
 use mathlib.Core.List.{List, [], _∷_, _++_, map, map-append, flatMap, append-assoc, append-nil}
 use native.Mathlib.Omega.{arith}
 use native.Mathlib.Numerals.{add-one}
@@ -15,9 +14,9 @@ use Rattle.records.specs.Fields.{written}
 use Rattle.records.specs.Written.{encodeAll}
 use Rattle.fetch.specs.Rows.{Row, rowAt, rowsOf}
 use Rattle.planfile.specs.Records.{encode}
-use Rattle.planfile.specs.PlanFile.{format, Plan, kps, ftOf, recordsOf, fileOf}
+use Rattle.planfile.specs.PlanFile.{format, Plan, kps, ftOf, fileOf}
 use Rattle.planfile.specs.declared.Record.{Record}
-use Rattle.planfile.specs.declared.Record.the-variants.{Kp, Ft, En}
+use Rattle.planfile.specs.declared.Record.the-variants.{Kp, En}
 
 -- ---- lists by index
 

@@ -1,15 +1,10 @@
+-- The four slices are filled row by row (`Filled`). Assumes nothing.
 use Rattle.planfile.proofs.copy_rows.Statement.{statement}
 use Rattle.planfile.proofs.copy_rows.Tie as tie
-use Rattle.planfile.proofs.copy_rows.Reads as reads
-use Rattle.planfile.proofs.copy_rows.Lts as lts
-use Rattle.records.proofs.byte_at.Reads as byte-at-reads
-use Rattle.records.proofs.h_at.Reads as h-at-reads
-use Rattle.records.proofs.w_at.Reads as w-at-reads
 use Prim.Native.Nat.{ℕ, _-_, _≤_}
 use mathlib.Core.List.{List}
 use mathlib.Core.Path.{_≡_}
 use native.Mathlib.Omega.{arith}
-use lib.ListN.{length}
 use denote.Ref.{now}
 use borrow.Author.Needs.{needs}
 use Rattle.planfile.specs.Scan.{rowOn, Filled, filled-start, filled-more, filled-end}
@@ -34,7 +29,6 @@ Inv-loop file count rows slots₀ chunks₀ layers₀ bytes₀ i₀ slots chunks
 abbrev μ-loop : tie.MeasureT-loop
 μ-loop file count rows slots₀ chunks₀ layers₀ bytes₀ i₀ slots chunks layers bytes i = rows - i
 
--- src/lib.rt:258:5
 loop-holds : tie.Need-loop-holds Inv-loop μ-loop
 loop-holds c =
     let a = c .before .before .before .before .before .args in
@@ -46,87 +40,66 @@ loop-holds c =
       filled-start (bytesOn file (a .count)) (now (a .bytes)),
     )
 
--- src/lib.rt:259:18
 mul-at : tie.Need-mul-at Inv-loop μ-loop
 mul-at c = omega arith
 
--- src/lib.rt:259:30
 mul-at-2 : tie.Need-mul-at-2 Inv-loop μ-loop
 mul-at-2 c = omega arith
 
--- src/lib.rt:259:18
 add-at : tie.Need-add-at Inv-loop μ-loop
 add-at c = omega arith
 
--- src/lib.rt:260:20
 add-slot : tie.Need-add-slot Inv-loop μ-loop
 add-slot c = omega arith
 
--- src/lib.rt:261:21
 add-chunk : tie.Need-add-chunk Inv-loop μ-loop
 add-chunk c = omega arith
 
--- src/lib.rt:262:21
 add-layer : tie.Need-add-layer Inv-loop μ-loop
 add-layer c = omega arith
 
--- src/lib.rt:263:20
 add-size : tie.Need-add-size Inv-loop μ-loop
 add-size c = omega arith
 
--- src/lib.rt:264:20
 h-at-requires : tie.Need-h-at-requires Inv-loop μ-loop
 h-at-requires c κs = search needs
 
--- src/lib.rt:264:9
 mul-slots : tie.Need-mul-slots Inv-loop μ-loop
 mul-slots c = omega (arith, c .before .before .loop .inv .1 .long)
 
--- src/lib.rt:264:9
 slice-write-slots : tie.Need-slice-write-slots Inv-loop μ-loop
 slice-write-slots c = omega (arith, c .before .before .loop .inv .1 .long)
 
--- src/lib.rt:265:21
 h-at-requires-2 : tie.Need-h-at-requires-2 Inv-loop μ-loop
 h-at-requires-2 c κs = search needs
 
--- src/lib.rt:265:9
 mul-chunks : tie.Need-mul-chunks Inv-loop μ-loop
 mul-chunks c = omega (arith, c .before .before .before .loop .inv .2 .long)
 
--- src/lib.rt:265:9
 slice-write-chunks : tie.Need-slice-write-chunks Inv-loop μ-loop
 slice-write-chunks c = omega (arith, c .before .before .before .loop .inv .2 .long)
 
--- src/lib.rt:266:21
 byte-at-requires : tie.Need-byte-at-requires Inv-loop μ-loop
 byte-at-requires c κs = search needs
 
--- src/lib.rt:266:9
 slice-write-layers : tie.Need-slice-write-layers Inv-loop μ-loop
 slice-write-layers c = omega (arith, c .before .before .before .before .loop .inv .3 .long)
 
--- src/lib.rt:267:20
 w-at-requires : tie.Need-w-at-requires Inv-loop μ-loop
 w-at-requires c κs = search needs
 
--- src/lib.rt:267:9
 mul-bytes : tie.Need-mul-bytes Inv-loop μ-loop
 mul-bytes c = omega (arith, c .before .before .before .before .before .loop .inv .4 .long)
 
--- src/lib.rt:267:9
 slice-write-bytes : tie.Need-slice-write-bytes Inv-loop μ-loop
 slice-write-bytes c = omega (arith, c .before .before .before .before .before .loop .inv .4 .long)
 
--- src/lib.rt:268:9
 add-i : tie.Need-add-i Inv-loop μ-loop
 add-i c = omega arith
 
--- src/lib.rt:258:5
 loop-less : tie.Need-loop-less Inv-loop μ-loop
 loop-less c = omega arith
 
--- src/lib.rt:258:5
 loop-again : tie.Need-loop-again Inv-loop μ-loop
 loop-again c =
     let a = c .before .before .before .before .before .before .before .before .before .before .before .args in
@@ -139,23 +112,18 @@ loop-again c =
       filled-more (bytesOn file (a .count)) (l .i) (now (a .bytes)) (l .bytes) (l .inv .4) (omega arith) (c .w-at .result) (c .w-at .ensures),
     )
 
--- src/lib.rt:242:1
 same-length : tie.Need-same-length Inv-loop μ-loop
 same-length c = c .before .loop .inv .1 .long
 
--- src/lib.rt:242:1
 same-length-2 : tie.Need-same-length-2 Inv-loop μ-loop
 same-length-2 c = c .before .loop .inv .2 .long
 
--- src/lib.rt:242:1
 same-length-3 : tie.Need-same-length-3 Inv-loop μ-loop
 same-length-3 c = c .before .loop .inv .3 .long
 
--- src/lib.rt:242:1
 same-length-4 : tie.Need-same-length-4 Inv-loop μ-loop
 same-length-4 c = c .before .loop .inv .4 .long
 
--- src/lib.rt:242:1
 returns : tie.Need-returns Inv-loop μ-loop
 returns c =
     let a = c .before .before .before .before .before .before .before .args in

@@ -1,39 +1,27 @@
+-- The size by marks and rows is the file's length. Assumes nothing.
 use borrow.Author.Needs.{needs}
 use Rattle.planfile.proofs.write_input.Statement.{statement}
 use Rattle.planfile.proofs.write_input.Tie as tie
-use Rattle.planfile.proofs.write_input.Reads as reads
-use Rattle.planfile.proofs.write_input.Lts as lts
-use Rattle.fetch.proofs.handed_refusal.Reads as handed-refusal-reads
-use Rattle.job.proofs.or_else.Reads as or-else-reads
-use Rattle.job.proofs.refusal.Reads as refusal-reads
-use Rattle.planfile.proofs.size_refusal.Reads as size-refusal-reads
-use mathlib.Core.Path.{_≡_, sym, _∙_}
 use denote.Ref.{now}
 use Rattle.job.specs.Job.{jobOf}
 use Rattle.planfile.specs.Calls.{slicesOf}
 use Rattle.planfile.proofs.Writer.{input-is}
 
--- src/lib.rt:400:9
 size-refusal-requires : tie.Need-size-refusal-requires
 size-refusal-requires c κs = search needs
 
--- src/lib.rt:401:9
 handed-refusal-requires : tie.Need-handed-refusal-requires
 handed-refusal-requires c κs = search needs
 
--- src/lib.rt:402:9
 refusal-requires : tie.Need-refusal-requires
 refusal-requires c κs = search needs
 
--- src/lib.rt:403:23
 or-else-requires : tie.Need-or-else-requires
 or-else-requires c κs = search needs
 
--- src/lib.rt:403:5
 or-else-requires-2 : tie.Need-or-else-requires-2
 or-else-requires-2 c κs = search needs
 
--- src/lib.rt:388:1
 returns : tie.Need-returns
 returns c =
     let a = c .before .before .before .before .before .before .before .before .before .before .before .before .args in
