@@ -25,7 +25,7 @@ add-end : tie.Need-add-end
 add-end c = omega (arith, in-file _ _ (now (c .before .before .before .before .before .before .before .before .before .before .args .out)) (c .before .write-input .result) (c .before .write-input .ensures) (c .if1 .left))
 
 returns-2 : tie.Need-returns-2
-returns-2 c = short _ _ (now (c .before .before .before .before .before .before .before .before .before .before .before .args .out)) (c .before .before .write-input .result) (c .before .before .write-input .ensures) (c .before .if1 .left) (c .if2 .taken)
+returns-2 c = short _ _ (now (c .before .before .before .before .before .before .before .before .before .before .before .args .out)) (c .before .before .write-input .result) (c .before .before .write-input .ensures) (c .before .if1 .left) (omega arith)
 
 put-kps-requires : tie.Need-put-kps-requires
 put-kps-requires c κs =
@@ -47,7 +47,7 @@ same-length : tie.Need-same-length
 same-length c = search needs
 
 returns-3 : tie.Need-returns-3
-returns-3 c = wrote _ _ (now (c .before .before .before .before .before .before .before .before .before .before .before .before .before .before .before .before .before .before .before .before .before .before .before .before .args .out)) (c .before .before .before .before .before .before .before .before .before .before .before .before .before .before .before .write-input .result) (c .before .before .before .before .before .before .before .before .before .before .before .before .before .before .before .write-input .ensures) (c .before .before .before .before .before .before .before .before .before .before .before .before .before .before .if1 .left) (c .before .before .before .before .before .before .before .before .before .before .before .before .before .if2 .left) _ _ _ (c .before .before .before .before .before .before .before .before .before .before .before .put-kps .ensures) (c .before .before .before .before .before .before .before .put-fts .ensures) (c .before .before .put .ensures)
+returns-3 c = wrote _ _ (now (c .before .before .before .before .before .before .before .before .before .before .before .before .before .before .before .before .before .before .before .before .before .before .before .before .args .out)) (c .before .before .before .before .before .before .before .before .before .before .before .before .before .before .before .write-input .result) (c .before .before .before .before .before .before .before .before .before .before .before .before .before .before .before .write-input .ensures) (c .before .before .before .before .before .before .before .before .before .before .before .before .before .before .if1 .left) (omega arith) _ _ _ (c .before .before .before .before .before .before .before .before .before .before .before .put-kps .ensures) (c .before .before .before .before .before .before .before .put-fts .ensures) (c .before .before .put .ensures)
 
 pub write-plan-spec : {M : Type 1} → statement M
 write-plan-spec =
