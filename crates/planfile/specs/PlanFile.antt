@@ -2,11 +2,11 @@
 -- chunk 1 to C; then FT ..; EN", refusal 8 "KP records not for 1 to C in turn, before every FT, and complete by EN", and "The plan
 -- writer keeps the rows as handed". C comes from the job.
 use Prim.Native.Nat.{ℕ, _+_, _<_}
+use mathlib.Core.Path.{_≡_}
 use mathlib.Core.Bool.{_&&_}
 use mathlib.Core.List.{List, [], _∷_, _++_, map, flatMap}
 use lib.ListN.{length, getD}
 use lib.Dec.{leb, eqb}
-use mathlib.Core.Path.{_≡_}
 use Rattle.basics.specs.Tests.{All}
 use Rattle.basics.specs.Lists.{upTo}
 use Rattle.basics.specs.Refusals.{unless}
