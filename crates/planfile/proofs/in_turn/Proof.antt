@@ -16,10 +16,10 @@ returns-2 : tie.Need-returns-2
 returns-2 c = let a = c .before .before .args in rw (ne-eqb (a .chunk) (a .kept + 1) (λ e. c .if2 .taken (omega arith)))
 
 returns-3 : tie.Need-returns-3
-returns-3 c = let a = c .before .before .before .args in rw (eq-eqb (a .chunk) (a .kept + 1) (omega arith), lt-leb (a .chunk) (a .count) (c .if3 .taken))
+returns-3 c = let a = c .before .before .before .args in rw (eq-eqb (a .chunk) (a .kept + 1) (omega arith), lt-leb (a .chunk) (a .count) (omega arith))
 
 returns-4 : tie.Need-returns-4
-returns-4 c = let a = c .before .before .before .args in rw (eq-eqb (a .chunk) (a .kept + 1) (omega arith), le-leb (a .chunk) (a .count) (c .if3 .left))
+returns-4 c = let a = c .before .before .before .args in rw (eq-eqb (a .chunk) (a .kept + 1) (omega arith), le-leb (a .chunk) (a .count) (omega arith))
 
 pub in-turn-spec : {M : Type 1} → statement M
 in-turn-spec = tie.close (tie.spec returns sub-if2 returns-2 returns-3 returns-4)
