@@ -1,0 +1,4 @@
+pub mod Records
+pub mod Says
+pub mod Refusal
+pub mod Reader
