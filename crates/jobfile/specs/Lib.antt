@@ -2,3 +2,4 @@ pub mod Records
 pub mod Says
 pub mod Refusal
 pub mod Reader
+pub mod Reading

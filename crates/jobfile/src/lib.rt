@@ -2,7 +2,9 @@
 ghost use mathlib.Core.Path.{_≡_};
 ghost use Prim.Native.Nat.{_+_, _<_};
 ghost use lib.ListN.{length};
-ghost use Rattle.jobfile.specs.Records.{front};
+ghost use Rattle.jobfile.specs.Records.{front, isEnd};
+ghost use Rattle.jobfile.specs.Refusal.{programmeFault, layerFault, runFault, endRefusal};
+ghost use Rattle.jobfile.specs.Reading.{faultAfter, endedBy};
 ghost use Rattle.jobfile.specs.Reader.{readFront, readWhole, readAt};
 use job::Programme;
 
@@ -18,6 +20,36 @@ pub enum Record {
 pub enum Read {
     Got(Record, usize),
     Refused(u8),
+}
+
+// What reading a job file gives: the job, whose sizes and forecast are in the lent buffers, or a refusal.
+pub enum JobRead {
+    Job {
+        programme: Programme,
+        layers: usize,
+        slots: usize,
+    },
+    Refused(u8),
+}
+
+// What the records so far say beside the sizes and the forecast, which stand in tables.
+struct Sofar {
+    seen: bool,
+    programme: Programme,
+    layers: usize,
+    slots: usize,
+}
+
+// Where the records end: a whole job, or a refusal.
+enum Ending {
+    Whole(Sofar),
+    Broken(u8),
+}
+
+// What a record does: on from a place, or the end.
+enum Turn {
+    On(Sofar, usize),
+    Over(Ending),
 }
 
 // The record of n bytes, where so many are left from at.
@@ -71,4 +103,92 @@ fn record_at(file: &[u8], at: usize) -> Read
         return Read::Refused(1);
     }
     record_in(&file[at..], at)
+}
+
+// 4, then 5, of a PG.
+fn programme_fault(seen: bool, p: Programme) -> u8
+    ensures { λ r. ⌜ r ≡ programmeFault seen p ⌝ }
+{
+    let second = job::refuse_unless(4, !seen);
+    let due = job::last_due_refusal(p);
+    job::or_else(second, job::or_else(job::fields_refusal(p), due))
+}
+
+// 6 of an LY after so many layers.
+fn layer_fault(layers: usize, size: u32) -> u8
+    ensures { λ r. ⌜ r ≡ layerFault layers size ⌝ }
+{
+    if size < 1 {
+        return 6;
+    }
+    if 16777216 < size {
+        return 6;
+    }
+    if layers < 4 {
+        return 0;
+    }
+    6
+}
+
+// 7 of a BW after so many slots.
+fn run_fault(slots: usize, count: u16, bytes: u32) -> u8
+    ensures { λ r. ⌜ r ≡ runFault slots count bytes ⌝ }
+{
+    if count < 1 {
+        return 7;
+    }
+    if 3600 < slots {
+        return 7;
+    }
+    if 3600 - slots < (count as usize) {
+        return 7;
+    }
+    if 16777216 < bytes {
+        return 7;
+    }
+    0
+}
+
+// 4, 6, 7 at EN.
+fn end_refusal(seen: bool, p: Programme, layers: usize, slots: usize) -> u8
+    ensures { λ r. ⌜ r ≡ endRefusal seen p layers slots ⌝ }
+{
+    let bare = job::refuse_unless(6, 1 <= layers);
+    let total = job::refuse_unless(7, slots == job::last_due(p));
+    job::or_else(job::refuse_unless(4, seen), job::or_else(bare, total))
+}
+
+// The fault of a record after those that the state stands for.
+fn fault_of(j: Sofar, record: Record) -> u8
+    ensures { λ r. ⌜ r ≡ faultAfter j «record» ⌝ }
+{
+    match record {
+        Record::Pg(p) => programme_fault(j.seen, p),
+        Record::Ly(size) => layer_fault(j.layers, size),
+        Record::Bw { count, bytes } => run_fault(j.slots, count, bytes),
+        Record::En => 0,
+    }
+}
+
+fn is_end(record: Record) -> bool
+    ensures { λ r. ⌜ r ≡ isEnd «record» ⌝ }
+{
+    match record {
+        Record::En => true,
+        Record::Pg(_) => false,
+        Record::Ly(_) => false,
+        Record::Bw { count: _, bytes: _ } => false,
+    }
+}
+
+// EN with so many bytes after it.
+fn ended(j: Sofar, after: usize) -> Ending
+    ensures { λ r. ⌜ r ≡ endedBy j after ⌝ }
+{
+    let lacking = end_refusal(j.seen, j.programme, j.layers, j.slots);
+    let n = job::or_else(job::refuse_unless(3, after == 0), lacking);
+    if n == 0 {
+        return Ending::Whole(j);
+    }
+    Ending::Broken(n)
 }
