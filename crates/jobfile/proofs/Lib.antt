@@ -1,1 +1,2 @@
 mod Fronts
+mod Turns

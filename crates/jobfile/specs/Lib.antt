@@ -3,3 +3,4 @@ pub mod Says
 pub mod Refusal
 pub mod Reader
 pub mod Reading
+pub mod Joined

@@ -1,10 +1,11 @@
 // Job files: reader and writer. Document 01, "Records on file".
 ghost use mathlib.Core.Path.{_≡_};
-ghost use Prim.Native.Nat.{_+_, _<_};
-ghost use lib.ListN.{length};
+ghost use Prim.Native.Nat.{_+_, _≤_, _<_};
+ghost use lib.ListN.{length, replicate};
+ghost use lib.Seq.{paste};
 ghost use Rattle.jobfile.specs.Records.{front, isEnd};
 ghost use Rattle.jobfile.specs.Refusal.{programmeFault, layerFault, runFault, endRefusal};
-ghost use Rattle.jobfile.specs.Reading.{faultAfter, endedBy};
+ghost use Rattle.jobfile.specs.Reading.{faultAfter, endedBy, Room, Takes};
 ghost use Rattle.jobfile.specs.Reader.{readFront, readWhole, readAt};
 use job::Programme;
 
@@ -191,4 +192,56 @@ fn ended(j: Sofar, after: usize) -> Ending
         return Ending::Whole(j);
     }
     Ending::Broken(n)
+}
+
+// So many numbers from a place on become v.
+fn fill(slots: &mut [u32], from: usize, count: usize, v: u32)
+    requires { ⌜ from + count ≤ length (now slots) ⌝ }
+    ensures { λ _. ⌜ now (slots .exit) ≡ paste (now (slots .entry)) from (replicate count v) count ⌝ }
+{
+    let mut i: usize = 0;
+    while i < count {
+        slots[from + i] = v;
+        i += 1;
+    }
+}
+
+// A record without a fault goes into the state and the tables.
+fn take_record(j: Sofar, record: Record, sizes: &mut [u32], slots: &mut [u32]) -> Sofar
+    requires { ⌜ Room j (now sizes) (now slots) ⌝ }
+    requires { ⌜ faultAfter j «record» ≡ 0 ⌝ }
+    ensures { λ r. ⌜ Takes j (now (sizes .entry)) (now (slots .entry)) «record» r (now (sizes .exit)) (now (slots .exit)) ⌝ }
+{
+    let n = j.layers;
+    let from = j.slots;
+    let seen = j.seen;
+    let p = j.programme;
+    match record {
+        Record::Pg(programme) => Sofar {
+            seen: true,
+            programme,
+            layers: n,
+            slots: from,
+        },
+        Record::Ly(size) => {
+            sizes[n] = size;
+            Sofar {
+                seen,
+                programme: p,
+                layers: n + 1,
+                slots: from,
+            }
+        }
+        Record::Bw { count, bytes } => {
+            let more = count as usize;
+            fill(slots, from, more, bytes);
+            Sofar {
+                seen,
+                programme: p,
+                layers: n,
+                slots: from + more,
+            }
+        }
+        Record::En => j,
+    }
 }
