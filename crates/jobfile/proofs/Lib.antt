@@ -1,2 +1,4 @@
 mod Fronts
 mod Turns
+mod Turned
+mod Copies

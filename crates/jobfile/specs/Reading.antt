@@ -11,13 +11,27 @@ use Rattle.records.specs.File.{split, recordsRefusal}
 use Rattle.records.specs.Reading.{Reads}
 use Rattle.jobfile.specs.declared.Record.{Record}
 use Rattle.jobfile.specs.declared.Record.the-variants.{Pg, Ly, Bw, En}
+use Rattle.jobfile.specs.declared.Read.{Read}
+use Rattle.jobfile.specs.declared.Read.the-variants.{Got, Refused}
 use Rattle.jobfile.specs.declared.Sofar.{Sofar}
 use Rattle.jobfile.specs.declared.Ending.{Ending}
 use Rattle.jobfile.specs.declared.Ending.the-variants.{Whole, Broken}
 use Rattle.jobfile.specs.declared.Turn.{Turn}
 use Rattle.jobfile.specs.declared.Turn.the-variants.{On, Over}
-use Rattle.jobfile.specs.Says.{hasProgramme, programmeIn, sizesIn, forecastIn}
+use Rattle.jobfile.specs.Says.{hasProgramme, noProgramme, programmeIn, sizesIn, forecastIn}
 use Rattle.jobfile.specs.Refusal.{programmeFault, layerFault, runFault, endRefusal, format}
+
+abbrev pub noRecords : Sofar
+noRecords = record { seen = false; programme = noProgramme; layers = 0; slots = 0 }
+
+-- The refusal in an answer, 0 for none.
+abbrev pub readRefusalOf : Read → ℕ
+readRefusalOf (Got r next) = 0
+readRefusalOf (Refused n) = n
+
+abbrev pub endRefusalOf : Ending → ℕ
+endRefusalOf (Whole j) = 0
+endRefusalOf (Broken n) = n
 
 -- The fault of a record, by the state.
 abbrev pub faultAfter : Sofar → Record → ℕ

@@ -1,12 +1,13 @@
 // Job files: reader and writer. Document 01, "Records on file".
 ghost use mathlib.Core.Path.{_≡_};
 ghost use Prim.Native.Nat.{_+_, _≤_, _<_};
-ghost use lib.ListN.{length, replicate};
+ghost use mathlib.Core.List.{_++_};
+ghost use lib.ListN.{length, replicate, take, drop};
 ghost use lib.Seq.{paste};
 ghost use Rattle.jobfile.specs.Records.{front, isEnd};
 ghost use Rattle.jobfile.specs.Refusal.{programmeFault, layerFault, runFault, endRefusal};
-ghost use Rattle.jobfile.specs.Reading.{faultAfter, endedBy, Room, Takes};
-ghost use Rattle.jobfile.specs.Reader.{readFront, readWhole, readAt};
+ghost use Rattle.jobfile.specs.Reading.{noRecords, faultAfter, endedBy, readRefusalOf, endRefusalOf, Room, Takes, Going, Turned, Ended};
+ghost use Rattle.jobfile.specs.Reader.{readFront, readWhole, readAt, readAnswer, sizesRead, forecastRead};
 use job::Programme;
 
 // A record of a job file, without its mark.
@@ -243,5 +244,124 @@ fn take_record(j: Sofar, record: Record, sizes: &mut [u32], slots: &mut [u32]) -
             }
         }
         Record::En => j,
+    }
+}
+
+fn refusal_of(read: Read) -> u8
+    ensures { λ r. ⌜ r ≡ readRefusalOf read ⌝ }
+{
+    match read {
+        Read::Refused(n) => n,
+        Read::Got(_, _) => 0,
+    }
+}
+
+// One record read, judged and taken.
+fn one_turn(file: &[u8], at: usize, j: Sofar, sizes: &mut [u32], slots: &mut [u32]) -> Turn
+    requires { ⌜ Going (now file) at j (now sizes) (now slots) ⌝ }
+    ensures { λ r. ⌜ Turned (now (file .entry)) at (now (sizes .exit)) (now (slots .exit)) r ⌝ }
+{
+    let read = record_at(file, at);
+    let Read::Got(record, next) = read else {
+        return Turn::Over(Ending::Broken(refusal_of(read)));
+    };
+    if is_end(record) {
+        let after = file.len() - next;
+        return Turn::Over(ended(j, after));
+    }
+    let n = fault_of(j, record);
+    if n != 0 {
+        return Turn::Over(Ending::Broken(n));
+    }
+    Turn::On(take_record(j, record, sizes, slots), next)
+}
+
+// Every record, one a turn.
+fn read_all(file: &[u8], sizes: &mut [u32], slots: &mut [u32]) -> Ending
+    requires { ⌜ (length (now sizes) ≡ 4) × (length (now slots) ≡ 3600) ⌝ }
+    ensures { λ r. ⌜ Ended (now (file .entry)) (now (sizes .exit)) (now (slots .exit)) r ⌝ }
+{
+    let mut j = nothing();
+    let mut at: usize = 0;
+    loop {
+        match one_turn(file, at, j, sizes, slots) {
+            Turn::On(more, next) => {
+                j = more;
+                at = next;
+            }
+            Turn::Over(end) => return end,
+        }
+    }
+}
+
+fn nothing() -> Sofar
+    ensures { λ r. ⌜ r ≡ noRecords ⌝ }
+{
+    let programme = Programme {
+        chunks: 0,
+        span: 0,
+        delay: 0,
+        limit: 0,
+    };
+    Sofar {
+        seen: false,
+        programme,
+        layers: 0,
+        slots: 0,
+    }
+}
+
+// The first n numbers of a table go to the start of a lent buffer.
+fn copy(from: &[u32], to: &mut [u32], n: usize)
+    requires { ⌜ (n ≤ length (now from)) × (n ≤ length (now to)) ⌝ }
+    ensures { λ _. ⌜ now (to .exit) ≡ take n (now (from .entry)) ++ drop n (now (to .entry)) ⌝ }
+{
+    let mut i: usize = 0;
+    while i < n {
+        to[i] = from[i];
+        i += 1;
+    }
+}
+
+fn refusal_at(end: Ending) -> u8
+    ensures { λ r. ⌜ r ≡ endRefusalOf end ⌝ }
+{
+    match end {
+        Ending::Broken(n) => n,
+        Ending::Whole(_) => 0,
+    }
+}
+
+// Reads a job file into the lent sizes and forecast. Refusals: 9, then record by record, at EN 3, 4, 6, 7; then 11 where a buffer is
+// shorter than the job's sizes or slots. On a refusal both buffers stay as they are.
+pub fn read_job(file: &[u8], sizes: &mut [u32], forecast: &mut [u32]) -> JobRead
+    ensures answer { λ r. ⌜ r ≡ readAnswer (now (file .entry)) (length (now (sizes .entry))) (length (now (forecast .entry))) ⌝ }
+    ensures sizes { λ r. ⌜ now (sizes .exit) ≡ sizesRead (now (file .entry)) (now (sizes .entry)) (now (forecast .entry)) ⌝ }
+    ensures forecast { λ r. ⌜ now (forecast .exit) ≡ forecastRead (now (file .entry)) (now (sizes .entry)) (now (forecast .entry)) ⌝ }
+{
+    if 65536 < file.len() {
+        return JobRead::Refused(9);
+    }
+    let mut layer_table = [0u32; 4];
+    let mut slot_table = [0u32; 3600];
+    let end = read_all(file, &mut layer_table, &mut slot_table);
+    let Ending::Whole(j) = end else {
+        return JobRead::Refused(refusal_at(end));
+    };
+    let layers = j.layers;
+    let slots = j.slots;
+    if sizes.len() < layers {
+        return JobRead::Refused(11);
+    }
+    if forecast.len() < slots {
+        return JobRead::Refused(11);
+    }
+    copy(&layer_table, sizes, layers);
+    copy(&slot_table, forecast, slots);
+    let programme = j.programme;
+    JobRead::Job {
+        programme,
+        layers,
+        slots,
     }
 }
