@@ -2,3 +2,4 @@ mod Fronts
 mod Turns
 mod Turned
 mod Copies
+mod Answers
