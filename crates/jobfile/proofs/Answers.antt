@@ -17,7 +17,7 @@ use Rattle.jobfile.specs.declared.Sofar.{Sofar}
 use Rattle.jobfile.specs.declared.Ending.{Ending}
 use Rattle.jobfile.specs.declared.Ending.the-variants.{Whole, Broken}
 use Rattle.jobfile.specs.Refusal.{format, refusalOf, jobOfFile}
-use Rattle.jobfile.specs.Reader.{roomRefusal, readRefusal, jobAnswer, readAnswer, handed, sizesRead, forecastRead}
+use Rattle.jobfile.specs.Reader.{roomRefusal, readRefusal, jobAnswer, readAnswer, sizesRead, forecastRead}
 use Rattle.jobfile.specs.Reading.{StandsFor, Complete, Refuses, Ended}
 use Rattle.jobfile.proofs.Turned.{layers-are, slots-are}
 

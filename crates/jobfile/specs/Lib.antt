@@ -1,6 +1,9 @@
 pub mod Records
 pub mod Says
 pub mod Refusal
+pub mod Lent
 pub mod Reader
+pub mod Writer
 pub mod Reading
 pub mod Joined
+pub mod Puts

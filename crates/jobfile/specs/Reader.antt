@@ -3,7 +3,7 @@
 -- longer one the bytes past the result stay unchanged".
 use Prim.Native.Nat.{ℕ, _+_}
 use mathlib.Core.Bool.{Bool, cond, _&&_}
-use mathlib.Core.List.{List, _++_}
+use mathlib.Core.List.{List}
 use lib.ListN.{length, drop}
 use lib.Dec.{leb, eqb}
 use Rattle.records.specs.File.{Front, got, none}
@@ -15,6 +15,7 @@ use Rattle.jobfile.specs.declared.Record.{Record}
 use Rattle.jobfile.specs.declared.Read.{Read}
 use Rattle.jobfile.specs.declared.Read.the-variants.{Got, Refused}
 use Rattle.jobfile.specs.Records.{front}
+use Rattle.jobfile.specs.Lent.{handed}
 use Rattle.jobfile.specs.Refusal.{refusalOf, jobOfFile}
 
 -- What stands in front of the bytes from a place on, with the place after it.
@@ -44,10 +45,7 @@ jobAnswer s = jobRead.Job (jobOfFile s .programme) (layers (jobOfFile s)) (lengt
 unfoldable pub readAnswer : List ℕ → ℕ → ℕ → JobRead
 readAnswer s sizes slots = cond (eqb (readRefusal s sizes slots) 0) (jobAnswer s) (jobRead.Refused (readRefusal s sizes slots))
 
--- A lent buffer afterwards: the result, then the old contents; all of it unchanged on a refusal.
-abbrev pub handed : ℕ → List ℕ → List ℕ → List ℕ
-handed n result old = cond (eqb n 0) (result ++ drop (length result) old) old
-
+-- The lent sizes and forecast afterwards.
 unfoldable pub sizesRead : List ℕ → List ℕ → List ℕ → List ℕ
 sizesRead s sizes forecast = handed (readRefusal s (length sizes) (length forecast)) (jobOfFile s .sizes) sizes
 

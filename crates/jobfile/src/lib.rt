@@ -4,8 +4,10 @@ ghost use Prim.Native.Nat.{_+_, _≤_, _<_};
 ghost use mathlib.Core.List.{_++_};
 ghost use lib.ListN.{length, replicate, take, drop};
 ghost use lib.Seq.{paste};
-ghost use Rattle.jobfile.specs.Records.{front, isEnd};
+ghost use Rattle.records.specs.Fields.{h, w};
+ghost use Rattle.jobfile.specs.Records.{encode, front, isEnd};
 ghost use Rattle.jobfile.specs.Refusal.{programmeFault, layerFault, runFault, endRefusal};
+ghost use Rattle.jobfile.specs.Puts.{Puts};
 ghost use Rattle.jobfile.specs.Reading.{noRecords, faultAfter, endedBy, readRefusalOf, endRefusalOf, Room, Takes, Going, Turned, Ended};
 ghost use Rattle.jobfile.specs.Reader.{readFront, readWhole, readAt, readAnswer, sizesRead, forecastRead};
 use job::Programme;
@@ -31,6 +33,12 @@ pub enum JobRead {
         layers: usize,
         slots: usize,
     },
+    Refused(u8),
+}
+
+// What writing a job file gives: the number of bytes written, or a refusal.
+pub enum Written {
+    Bytes(usize),
     Refused(u8),
 }
 
@@ -364,4 +372,67 @@ pub fn read_job(file: &[u8], sizes: &mut [u32], forecast: &mut [u32]) -> JobRead
         layers,
         slots,
     }
+}
+
+// Bytes go to a place of a buffer; the answer is the place after them.
+fn put_bytes(out: &mut [u8], at: usize, bytes: &[u8]) -> usize
+    requires { ⌜ at + length (now bytes) ≤ length (now out) ⌝ }
+    ensures { λ r. ⌜ Puts (now (out .entry)) at (now (bytes .entry)) (now (out .exit)) r ⌝ }
+{
+    records::put(out, at, bytes);
+    at + bytes.len()
+}
+
+// A field h.
+fn put_h(out: &mut [u8], at: usize, x: u16) -> usize
+    requires { ⌜ at + 2 ≤ length (now out) ⌝ }
+    ensures { λ r. ⌜ Puts (now (out .entry)) at (h x) (now (out .exit)) r ⌝ }
+{
+    let field = [(x % 256) as u8, (x / 256 % 256) as u8];
+    put_bytes(out, at, &field)
+}
+
+// A field w.
+fn put_w(out: &mut [u8], at: usize, x: u32) -> usize
+    requires { ⌜ at + 4 ≤ length (now out) ⌝ }
+    ensures { λ r. ⌜ Puts (now (out .entry)) at (w x) (now (out .exit)) r ⌝ }
+{
+    let field = [
+        (x % 256) as u8,
+        (x / 256 % 256) as u8,
+        (x / 65536 % 256) as u8,
+        (x / 16777216 % 256) as u8,
+    ];
+    put_bytes(out, at, &field)
+}
+
+// A PG record: its mark, then its fields.
+fn put_programme(out: &mut [u8], at: usize, p: Programme) -> usize
+    requires { ⌜ at + 10 ≤ length (now out) ⌝ }
+    ensures { λ r. ⌜ Puts (now (out .entry)) at (encode (Record.Pg p)) (now (out .exit)) r ⌝ }
+{
+    let chunks = put_bytes(out, at, b"PG");
+    let span = put_h(out, chunks, p.chunks);
+    let delay = put_h(out, span, p.span);
+    let limit = put_h(out, delay, p.delay);
+    put_h(out, limit, p.limit)
+}
+
+// An LY record.
+fn put_layer(out: &mut [u8], at: usize, size: u32) -> usize
+    requires { ⌜ at + 6 ≤ length (now out) ⌝ }
+    ensures { λ r. ⌜ Puts (now (out .entry)) at (encode (Record.Ly size)) (now (out .exit)) r ⌝ }
+{
+    let field = put_bytes(out, at, b"LY");
+    put_w(out, field, size)
+}
+
+// A BW record.
+fn put_run(out: &mut [u8], at: usize, count: u16, bytes: u32) -> usize
+    requires { ⌜ at + 8 ≤ length (now out) ⌝ }
+    ensures { λ r. ⌜ Puts (now (out .entry)) at (encode (Record.Bw count bytes)) (now (out .exit)) r ⌝ }
+{
+    let field = put_bytes(out, at, b"BW");
+    let last = put_h(out, field, count);
+    put_w(out, last, bytes)
 }
