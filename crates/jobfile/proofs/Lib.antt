@@ -3,3 +3,4 @@ mod Turns
 mod Turned
 mod Copies
 mod Answers
+mod Queues

@@ -7,3 +7,4 @@ pub mod Writer
 pub mod Reading
 pub mod Joined
 pub mod Puts
+pub mod Runs

@@ -1,13 +1,15 @@
 // Job files: reader and writer. Document 01, "Records on file".
 ghost use mathlib.Core.Path.{_≡_};
 ghost use Prim.Native.Nat.{_+_, _≤_, _<_};
-ghost use mathlib.Core.List.{_++_};
+ghost use mathlib.Core.List.{_++_, map};
 ghost use lib.ListN.{length, replicate, take, drop};
 ghost use lib.Seq.{paste};
 ghost use Rattle.records.specs.Fields.{h, w};
 ghost use Rattle.jobfile.specs.Records.{encode, front, isEnd};
 ghost use Rattle.jobfile.specs.Refusal.{programmeFault, layerFault, runFault, endRefusal};
-ghost use Rattle.jobfile.specs.Puts.{Puts};
+ghost use Rattle.jobfile.specs.Puts.{Puts, bytesOf};
+ghost use Rattle.jobfile.specs.Writer.{runs, layerRecord, runRecord};
+ghost use Rattle.jobfile.specs.Runs.{runEnd};
 ghost use Rattle.jobfile.specs.Reading.{noRecords, faultAfter, endedBy, readRefusalOf, endRefusalOf, Room, Takes, Going, Turned, Ended};
 ghost use Rattle.jobfile.specs.Reader.{readFront, readWhole, readAt, readAnswer, sizesRead, forecastRead};
 use job::Programme;
@@ -435,4 +437,64 @@ fn put_run(out: &mut [u8], at: usize, count: u16, bytes: u32) -> usize
     let field = put_bytes(out, at, b"BW");
     let last = put_h(out, field, count);
     put_w(out, last, bytes)
+}
+
+// The slot after the run that starts at a slot.
+fn run_end(forecast: &[u32], from: usize) -> usize
+    requires { ⌜ from < length (now forecast) ⌝ }
+    ensures { λ r. ⌜ r ≡ runEnd (now (forecast .entry)) from ⌝ }
+{
+    let x = forecast[from];
+    let mut end = from + 1;
+    while end < forecast.len() {
+        if forecast[end] != x {
+            return end;
+        }
+        end += 1;
+    }
+    end
+}
+
+// How many longest runs a forecast has.
+fn count_runs(forecast: &[u32]) -> usize
+    ensures { λ r. ⌜ r ≡ length (runs (now (forecast .entry))) ⌝ }
+{
+    let mut n: usize = 0;
+    let mut i: usize = 0;
+    while i < forecast.len() {
+        i = run_end(forecast, i);
+        n += 1;
+    }
+    n
+}
+
+// The LYs.
+fn put_layers(out: &mut [u8], at: usize, sizes: &[u32]) -> usize
+    requires { ⌜ at + length (bytesOf (map layerRecord (now sizes))) ≤ length (now out) ⌝ }
+    ensures { λ r. ⌜ Puts (now (out .entry)) at (bytesOf (map layerRecord (now (sizes .entry)))) (now (out .exit)) r ⌝ }
+{
+    let mut next = at;
+    let mut i: usize = 0;
+    while i < sizes.len() {
+        next = put_layer(out, next, sizes[i]);
+        i += 1;
+    }
+    next
+}
+
+// One BW per longest run.
+fn put_runs(out: &mut [u8], at: usize, forecast: &[u32]) -> usize
+    requires { ⌜ at + length (bytesOf (map runRecord (runs (now forecast)))) ≤ length (now out) ⌝ }
+    requires { ⌜ length (now forecast) < 65536 ⌝ }
+    ensures { λ r. ⌜ Puts (now (out .entry)) at (bytesOf (map runRecord (runs (now (forecast .entry))))) (now (out .exit)) r ⌝ }
+{
+    let mut next = at;
+    let mut i: usize = 0;
+    while i < forecast.len() {
+        let end = run_end(forecast, i);
+        let count = (end - i) as u16;
+        next = put_run(out, next, count, forecast[i]);
+        i = end;
+    }
+    next
 }
