@@ -59,5 +59,8 @@ module _ (out : List ℕ) (at : ℕ) (f : List ℕ) (fits : at + length (bytesOf
     pub run-fits : here + 8 ≤ length out′
     run-fits = next-fits out at (map runRecord (runs f)) fits (runsFrom f i) (Bw (runEnd f i - i) (getD f i 0)) (runsFrom f (runEnd f i)) (runs-next f i h) out′ here u
 
-    pub run-more : (out″ : List ℕ) (next : ℕ) → Puts out′ here (encode (Bw (runEnd f i - i) (getD f i 0))) out″ next → Underway out at (map runRecord (runs f)) (runsFrom f (runEnd f i)) out″ next
-    run-more = next-more out at (map runRecord (runs f)) fits (runsFrom f i) (Bw (runEnd f i - i) (getD f i 0)) (runsFrom f (runEnd f i)) (runs-next f i h) out′ here u
+    pub run-more : (end : ℕ) → end ≡ runEnd f i → (out″ : List ℕ) (next : ℕ) → Puts out′ here (encode (Bw (end - i) (getD f i 0))) out″ next → Underway out at (map runRecord (runs f)) (runsFrom f end) out″ next
+    run-more end e out″ next p =
+        rw e
+        (next-more out at (map runRecord (runs f)) fits (runsFrom f i) (Bw (runEnd f i - i) (getD f i 0)) (runsFrom f (runEnd f i)) (runs-next f i h) out′ here u out″ next
+        (rw e at p))
