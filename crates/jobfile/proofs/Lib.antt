@@ -4,3 +4,4 @@ mod Turned
 mod Copies
 mod Answers
 mod Queues
+mod Writes

@@ -8,3 +8,4 @@ pub mod Reading
 pub mod Joined
 pub mod Puts
 pub mod Runs
+pub mod FileLength

@@ -5,10 +5,11 @@ ghost use mathlib.Core.List.{_++_, map};
 ghost use lib.ListN.{length, replicate, take, drop};
 ghost use lib.Seq.{paste};
 ghost use Rattle.records.specs.Fields.{h, w};
+ghost use Rattle.job.specs.Job.{jobOf};
 ghost use Rattle.jobfile.specs.Records.{encode, front, isEnd};
 ghost use Rattle.jobfile.specs.Refusal.{programmeFault, layerFault, runFault, endRefusal};
 ghost use Rattle.jobfile.specs.Puts.{Puts, bytesOf};
-ghost use Rattle.jobfile.specs.Writer.{runs, layerRecord, runRecord};
+ghost use Rattle.jobfile.specs.Writer.{runs, layerRecord, runRecord, jobFile, writeAnswer, fileWritten};
 ghost use Rattle.jobfile.specs.Runs.{runEnd};
 ghost use Rattle.jobfile.specs.Reading.{noRecords, faultAfter, endedBy, readRefusalOf, endRefusalOf, Room, Takes, Going, Turned, Ended};
 ghost use Rattle.jobfile.specs.Reader.{readFront, readWhole, readAt, readAnswer, sizesRead, forecastRead};
@@ -497,4 +498,34 @@ fn put_runs(out: &mut [u8], at: usize, forecast: &[u32]) -> usize
         i = end;
     }
     next
+}
+
+// The whole file of a job, where it fits.
+fn put_job(p: Programme, sizes: &[u32], forecast: &[u32], out: &mut [u8]) -> usize
+    requires { ⌜ length (jobFile (jobOf p (now sizes) (now forecast))) ≤ length (now out) ⌝ }
+    requires { ⌜ length (now forecast) < 65536 ⌝ }
+    ensures { λ r. ⌜ Puts (now (out .entry)) 0 (jobFile (jobOf p (now (sizes .entry)) (now (forecast .entry)))) (now (out .exit)) r ⌝ }
+{
+    let layers = put_programme(out, 0, p);
+    let runs = put_layers(out, layers, sizes);
+    let end = put_runs(out, runs, forecast);
+    put_bytes(out, end, b"EN")
+}
+
+// Writes the file of a job into a lent buffer. Refusals: 5, 6, 7, then 11 where the buffer is shorter than the file; 9 can't happen to
+// an accepted job, whose file has at most 28,836 bytes. On a refusal the buffer stays as it is.
+pub fn write_job(p: Programme, sizes: &[u32], forecast: &[u32], out: &mut [u8]) -> Written
+    ensures answer { λ r. ⌜ r ≡ writeAnswer (jobOf p (now (sizes .entry)) (now (forecast .entry))) (length (now (out .entry))) ⌝ }
+    ensures buffer { λ r. ⌜ now (out .exit) ≡ fileWritten (jobOf p (now (sizes .entry)) (now (forecast .entry))) (now (out .entry)) ⌝ }
+{
+    let n = job::refusal(p, sizes, forecast);
+    if n != 0 {
+        return Written::Refused(n);
+    }
+    let layer_bytes = 6 * sizes.len();
+    let run_bytes = 8 * count_runs(forecast);
+    if out.len() < 12 + layer_bytes + run_bytes {
+        return Written::Refused(11);
+    }
+    Written::Bytes(put_job(p, sizes, forecast, out))
 }
