@@ -23,30 +23,13 @@ use Rattle.jobfile.specs.declared.Ending.the-variants.{Whole, Broken}
 use Rattle.jobfile.specs.declared.Turn.{Turn}
 use Rattle.jobfile.specs.declared.Turn.the-variants.{On, Over}
 use Rattle.jobfile.specs.Records.{PG, LY, BW, EN, programmeAt, layerAt, runAt, whole, byMark, front, isEnd}
+use Rattle.jobfile.specs.Sound.{Sound, front-sound}
 use Rattle.jobfile.specs.Says.{hasProgramme, programmeIn, sizesIn, forecastIn}
 use Rattle.jobfile.specs.Refusal.{fault, endRefusal, lacking, format}
 use Rattle.jobfile.specs.Reader.{readFront, readAt}
 use Rattle.jobfile.specs.Reading.{noRecords, faultAfter, endCode, endedBy, Room, StandsFor, Takes, Going, Complete, Refuses, Ended, Turned}
 
 -- ---- what stands in front
-
--- A record lies within the bytes, and where there is none the refusal is not 0.
-abbrev Sound : List ℕ → Front Record → Type 0
-Sound s (got r n) = (0 < n) × (n ≤ length s)
-Sound s (none n) = n ≡ 0 → ⊥
-
-whole-sound : (s : List ℕ) (n : ℕ) (r : Record) → 0 < n → Sound s (whole s n r)
-whole-sound s n r h = by-cond (Sound s) (leb n (length s)) (λ t. (h, leb→le n (length s) t)) (λ t e. omega arith)
-
-front-sound : (s : List ℕ) → Sound s (front s)
-unfolding front
-front-sound s =
-    by-cond (Sound s) (leb 2 (length s))
-    (λ t. by-cond (Sound s) (marked PG s) (λ u. whole-sound s 10 (programmeAt s) (omega arith))
-    (λ u. by-cond (Sound s) (marked LY s) (λ v. whole-sound s 6 (layerAt s) (omega arith))
-    (λ v. by-cond (Sound s) (marked BW s) (λ w. whole-sound s 8 (runAt s) (omega arith))
-    (λ w. by-cond (Sound s) (marked EN s) (λ x. whole-sound s 2 En (omega arith)) (λ x e. omega arith)))))
-    (λ t e. omega arith)
 
 -- The record that was read stands in front, and ends in the file.
 pub record Stands (s : List ℕ) (at : ℕ) (r : Record) (next : ℕ) : Type 0 where

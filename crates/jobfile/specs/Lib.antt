@@ -9,3 +9,5 @@ pub mod Joined
 pub mod Puts
 pub mod Runs
 pub mod FileLength
+pub mod Sound
+pub mod Back
