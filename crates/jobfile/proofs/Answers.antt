@@ -1,14 +1,13 @@
 -- Lemmas. The answer of the reader and the lent buffers afterwards, by what the loop found. Assumes nothing.
 use Prim.Native.Nat.{ℕ, _+_, _-_, _≤_, _<_}
-use mathlib.Core.Path.{_≡_, refl, sym, ap, _∙_}
-use mathlib.Core.Bool.{Bool, true, false, cond, _&&_}
+use mathlib.Core.Path.{_≡_, sym, _∙_}
+use mathlib.Core.Bool.{_&&_}
 use mathlib.Core.List.{List, _++_}
-use mathlib.Core.Logic.{_⊎_, inl, inr}
 use native.Mathlib.Omega.{arith}
 use lib.ListN.{length, take, drop}
-use lib.Dec.{leb, eqb}
-use borrow.Author.Tests.{eq-eqb, ne-eqb, le-leb, lt-leb}
-use Rattle.basics.specs.Refusals.{unless, _orElse_, orElse-none, orElse-some}
+use lib.Dec.{leb}
+use borrow.Author.Tests.{ne-eqb, le-leb, lt-leb}
+use Rattle.basics.specs.Refusals.{unless, orElse-none, orElse-some}
 use Rattle.records.specs.File.{split, recordsRefusal, fileRefusal}
 use Rattle.job.specs.Job.{layers}
 use Rattle.jobfile.specs.declared.JobRead.{JobRead}
@@ -18,7 +17,7 @@ use Rattle.jobfile.specs.declared.Ending.{Ending}
 use Rattle.jobfile.specs.declared.Ending.the-variants.{Whole, Broken}
 use Rattle.jobfile.specs.Refusal.{format, refusalOf, jobOfFile}
 use Rattle.jobfile.specs.Reader.{roomRefusal, readRefusal, jobAnswer, readAnswer, sizesRead, forecastRead}
-use Rattle.jobfile.specs.Reading.{StandsFor, Complete, Refuses, Ended}
+use Rattle.jobfile.specs.Reading.{Complete, Refuses, Ended}
 use Rattle.jobfile.proofs.Turned.{layers-are, slots-are}
 
 module _ (s z f : List ℕ) where

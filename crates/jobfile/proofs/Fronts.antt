@@ -1,8 +1,8 @@
 -- Lemmas. What stands in front of some bytes, by its mark, as the record reader answers it. Assumes nothing.
-use Prim.Native.Nat.{ℕ, _+_, _-_, _≤_, _<_}
-use mathlib.Core.Path.{_≡_, refl, sym, ap, _∙_}
-use mathlib.Core.Bool.{Bool, true, false, cond}
-use mathlib.Core.List.{List, []}
+use Prim.Native.Nat.{ℕ, _-_, _≤_, _<_}
+use mathlib.Core.Path.{_≡_, refl, sym, _∙_}
+use mathlib.Core.Bool.{Bool, true, false}
+use mathlib.Core.List.{List}
 use native.Mathlib.Omega.{arith}
 use lib.ListN.{length, take, drop, length-drop, drop-of-length-le}
 use lib.Seq.{take-all}
@@ -11,7 +11,6 @@ use borrow.Author.Tests.{le-leb, lt-leb}
 use Rattle.records.specs.Fields.{marked}
 use Rattle.jobfile.specs.declared.Record.{Record}
 use Rattle.jobfile.specs.declared.Record.the-variants.{En}
-use Rattle.jobfile.specs.declared.Read.{Read}
 use Rattle.jobfile.specs.declared.Read.the-variants.{Refused}
 use Rattle.jobfile.specs.Records.{PG, LY, BW, EN, whole, programmeAt, layerAt, runAt, byMark, front}
 use Rattle.jobfile.specs.Reader.{readFront, readAt, readWhole}

@@ -1,6 +1,6 @@
 -- Lemmas. The records still to be written, a record at a time. Assumes nothing.
 use Prim.Native.Nat.{ℕ, _+_, _-_, _≤_, _<_}
-use mathlib.Core.Path.{_≡_, refl, sym, ap, _∙_}
+use mathlib.Core.Path.{_≡_, ap}
 use mathlib.Core.List.{List, [], _∷_, map}
 use native.Mathlib.Numerals.{add-one}
 use lib.ListN.{length, getD, drop, drop-of-length-le}
@@ -8,7 +8,7 @@ use lib.Seq.{drop-cons}
 use Rattle.jobfile.specs.declared.Record.{Record}
 use Rattle.jobfile.specs.declared.Record.the-variants.{Ly, Bw}
 use Rattle.jobfile.specs.Records.{encode}
-use Rattle.jobfile.specs.Writer.{Run, runs, layerRecord, runRecord}
+use Rattle.jobfile.specs.Writer.{runs, layerRecord, runRecord}
 use Rattle.jobfile.specs.Runs.{runEnd, run-at}
 use Rattle.jobfile.specs.Puts.{Puts, bytesOf, Underway, underway-fits, underway-more, underway-end}
 

@@ -4,30 +4,26 @@ use mathlib.Core.Path.{_≡_, refl, sym, ap, _∙_}
 use mathlib.Core.Bool.{Bool, true, false, cond}
 use mathlib.Core.List.{List, [], _∷_, _++_}
 use native.Mathlib.Omega.{arith}
-use lib.ListN.{length, take, drop, length-drop}
+use lib.ListN.{length, drop, length-drop}
 use lib.Seq.{length-take-le}
-use lib.Dec.{leb, eqb, leb→le, eqb→eq}
+use lib.Dec.{eqb}
 use borrow.Author.Tests.{eqb-true, eqb-false}
-use Rattle.basics.specs.Tests.{by-cond}
-use Rattle.basics.specs.Refusals.{unless, _orElse_}
-use Rattle.records.specs.Fields.{marked}
 use Rattle.records.specs.File.{Front, got, none, recordsRefusal, split}
-use Rattle.records.specs.Reading.{Reads, Ends, reads-start, reads-none, reads-end, reads-fault, reads-more}
+use Rattle.records.specs.Reading.{reads-start, reads-none, reads-end, reads-fault, reads-more}
 use Rattle.jobfile.specs.declared.Record.{Record}
 use Rattle.jobfile.specs.declared.Record.the-variants.{Pg, Ly, Bw, En}
-use Rattle.jobfile.specs.declared.Read.{Read}
 use Rattle.jobfile.specs.declared.Read.the-variants.{Got, Refused}
 use Rattle.jobfile.specs.declared.Sofar.{Sofar}
 use Rattle.jobfile.specs.declared.Ending.{Ending}
 use Rattle.jobfile.specs.declared.Ending.the-variants.{Whole, Broken}
 use Rattle.jobfile.specs.declared.Turn.{Turn}
 use Rattle.jobfile.specs.declared.Turn.the-variants.{On, Over}
-use Rattle.jobfile.specs.Records.{PG, LY, BW, EN, programmeAt, layerAt, runAt, whole, byMark, front, isEnd}
-use Rattle.jobfile.specs.Sound.{Sound, front-sound}
-use Rattle.jobfile.specs.Says.{hasProgramme, programmeIn, sizesIn, forecastIn}
+use Rattle.jobfile.specs.Records.{front, isEnd}
+use Rattle.jobfile.specs.Sound.{front-sound}
+use Rattle.jobfile.specs.Says.{sizesIn, forecastIn}
 use Rattle.jobfile.specs.Refusal.{fault, endRefusal, lacking, format}
 use Rattle.jobfile.specs.Reader.{readFront, readAt}
-use Rattle.jobfile.specs.Reading.{noRecords, faultAfter, endCode, endedBy, Room, StandsFor, Takes, Going, Complete, Refuses, Ended, Turned}
+use Rattle.jobfile.specs.Reading.{noRecords, faultAfter, endCode, endedBy, StandsFor, Takes, Going, Refuses, Ended, Turned}
 
 -- ---- what stands in front
 

@@ -1,22 +1,20 @@
 -- Lemmas. The answer of the writer and the lent buffer afterwards. Assumes nothing.
 use Prim.Native.Nat.{ℕ, _+_, _≤_, _<_}
-use mathlib.Core.Path.{_≡_, refl, sym, ap, _∙_}
-use mathlib.Core.Bool.{Bool, cond}
-use mathlib.Core.List.{List, [], _∷_, _++_, map, append-assoc}
+use mathlib.Core.Path.{_≡_, sym, ap, _∙_}
+use mathlib.Core.List.{List, _∷_, _++_, map}
 use native.Mathlib.Omega.{arith}
-use lib.ListN.{length, take, drop, length-append}
-use lib.Dec.{leb, eqb}
+use lib.ListN.{length, length-append}
 use borrow.Author.Tests.{ne-eqb, le-leb, lt-leb}
-use Rattle.basics.specs.Refusals.{unless, _orElse_, orElse-none, orElse-some}
-use Rattle.job.specs.Job.{Job, Accepted, layers}
+use Rattle.basics.specs.Refusals.{_orElse_, orElse-none, orElse-some}
+use Rattle.job.specs.Job.{Job, Accepted}
 use Rattle.job.specs.Refusal.{refusal, accepted-iff}
-use Rattle.jobfile.specs.declared.Record.the-variants.{Pg, En}
+use Rattle.jobfile.specs.declared.Record.the-variants.{Pg}
 use Rattle.jobfile.specs.declared.Written.{Written}
 use Rattle.jobfile.specs.declared.Written.the-variants.{Bytes, Refused}
 use Rattle.jobfile.specs.Records.{EN, encode}
 use Rattle.jobfile.specs.Writer.{runs, layerRecord, runRecord, jobFile, longRefusal, shortRefusal, writeRefusal, writeAnswer, fileWritten}
 use Rattle.jobfile.specs.Puts.{Puts, bytesOf, bytes-append, puts-then, length-puts, written-fits}
-use Rattle.jobfile.specs.FileLength.{file-length, short-file}
+use Rattle.jobfile.specs.FileLength.{short-file}
 
 module _ (j : Job) (out : List ℕ) where
   -- What the writer hands over.

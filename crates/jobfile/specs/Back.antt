@@ -1,24 +1,24 @@
 -- Lemmas. The records of an accepted job read back, without a fault, as that job. Assumes nothing.
-use Prim.Native.Nat.{ℕ, zero, suc, _+_, _*_, _/_, _%_, _≤_, _<_}
+use Prim.Native.Nat.{ℕ, suc, _+_, _≤_, _<_}
 use mathlib.Core.Path.{_≡_, refl, sym, ap, _∙_}
-use mathlib.Core.Bool.{Bool, true, false, not, cond, _&&_}
+use mathlib.Core.Bool.{Bool, true, false}
 use mathlib.Core.List.{List, [], _∷_, _++_, map, append-assoc, append-nil}
 use native.Mathlib.Omega.{arith}
 use lib.ListN.{length, length-append, length-replicate, replicate}
-use lib.Dec.{T, leb, eqb}
-use borrow.Author.Tests.{le-leb, eq-eqb, eqb-true}
+use lib.Dec.{eqb}
+use borrow.Author.Tests.{le-leb, eq-eqb}
 use Rattle.basics.specs.Tests.{All, all-map, all-append, by-cond}
-use Rattle.basics.specs.Refusals.{unless, _orElse_, orElse-none, orElse-iff}
-use Rattle.records.specs.Fields.{h, w, hAt, wAt}
-use Rattle.records.specs.File.{Front, got, none, firstFault}
+use Rattle.basics.specs.Refusals.{_orElse_}
+use Rattle.records.specs.Fields.{h}
+use Rattle.records.specs.File.{firstFault}
 use Rattle.records.specs.Written.{h-back, w-back, ReadsBack, Plain}
 use Rattle.job.specs.declared.Programme.{Programme}
 use Rattle.job.specs.Job.{Job, Within, Accepted, layers, lastSlot}
-use Rattle.job.specs.Refusal.{fieldsRefusal, lastDueRefusal, filmRefusal, delayRefusal, film-iff, delay-iff, last-due-iff}
+use Rattle.job.specs.Refusal.{film-iff, delay-iff, last-due-iff}
 use Rattle.jobfile.specs.declared.Record.{Record}
 use Rattle.jobfile.specs.declared.Record.the-variants.{Pg, Ly, Bw, En}
 use Rattle.jobfile.specs.Records.{encode, front}
-use Rattle.jobfile.specs.Says.{hasProgramme, programmeIn, sizesIn, forecastIn, jobIn}
+use Rattle.jobfile.specs.Says.{sizesIn, forecastIn, jobIn}
 use Rattle.jobfile.specs.Refusal.{fault, programmeFault, layerFault, runFault, lacking, format}
 use Rattle.jobfile.specs.Writer.{Run, inFront, runs, layerRecord, runRecord, recordsOf}
 use Rattle.jobfile.specs.Joined.{sizes-append, forecast-append}

@@ -11,3 +11,6 @@ pub mod Runs
 pub mod FileLength
 pub mod Sound
 pub mod Back
+pub mod Clean
+pub mod Theorems
+pub mod Worked

@@ -2,7 +2,7 @@
 -- enum, record with next cursor or refusal" and "11. A lent buffer is shorter than the whole result, after all input refusals. In a
 -- longer one the bytes past the result stay unchanged".
 use Prim.Native.Nat.{ℕ, _+_}
-use mathlib.Core.Bool.{Bool, cond, _&&_}
+use mathlib.Core.Bool.{cond, _&&_}
 use mathlib.Core.List.{List}
 use lib.ListN.{length, drop}
 use lib.Dec.{leb, eqb}

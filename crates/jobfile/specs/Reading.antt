@@ -1,11 +1,11 @@
 -- Lemmas. The state of the loop that reads a job file, which the contracts of its private functions cite: it stands for the records
 -- read so far. Assumes nothing.
-use Prim.Native.Nat.{ℕ, zero, suc, _+_, _-_, _≤_, _<_}
-use mathlib.Core.Path.{_≡_, refl, sym, ap, _∙_}
-use mathlib.Core.Bool.{Bool, true, false, cond}
+use Prim.Native.Nat.{ℕ, _+_, _-_, _≤_, _<_}
+use mathlib.Core.Path.{_≡_}
+use mathlib.Core.Bool.{false, cond}
 use mathlib.Core.List.{List, [], _∷_, _++_}
-use lib.ListN.{length, take, drop}
-use lib.Dec.{leb, eqb}
+use lib.ListN.{length, take}
+use lib.Dec.{eqb}
 use Rattle.basics.specs.Refusals.{unless, _orElse_}
 use Rattle.records.specs.File.{split, recordsRefusal}
 use Rattle.records.specs.Reading.{Reads}

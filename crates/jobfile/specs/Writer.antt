@@ -1,10 +1,12 @@
 -- Meaning. The job file that the writer puts, its answer and the lent buffer afterwards: document 01, "The job writer puts PG, the LYs,
 -- then one BW per longest run", and the refusals of direct calls, "5, 6, 7, .. and a writer then 9", then 11.
-use Prim.Native.Nat.{ℕ, suc}
-use mathlib.Core.Bool.{Bool, cond}
+use Prim.Native.Nat.{ℕ, suc, _≤_}
+use mathlib.Core.Path.{_≡_}
+use mathlib.Core.Bool.{cond}
 use mathlib.Core.List.{List, [], _∷_, _++_, map}
 use lib.ListN.{length}
 use lib.Dec.{leb, eqb}
+use Rattle.basics.specs.Tests.{All}
 use Rattle.basics.specs.Refusals.{unless, _orElse_}
 use Rattle.records.specs.Written.{encodeAll}
 use Rattle.job.specs.Job.{Job}
@@ -31,6 +33,17 @@ inFront x (r ∷ rs) = cond (eqb x (r .bytes)) (record { count = suc (r .count);
 abbrev pub runs : List ℕ → List Run
 runs [] = []
 runs (x ∷ xs) = inFront x (runs xs)
+
+-- Neighbouring runs differ in their bytes.
+abbrev pub Differ : List Run → Type 0
+Differ [] = Unit {0}
+Differ (r ∷ []) = Unit {0}
+Differ (r ∷ (q ∷ rs)) = (r .bytes ≡ q .bytes → ⊥) × Differ (q ∷ rs)
+
+-- No run is empty and none can be longer.
+pub record Longest (rs : List Run) : Type 0 where
+  pub some : All (λ (r : Run). 1 ≤ r .count) rs
+  pub differ : Differ rs
 
 abbrev pub layerRecord : ℕ → Record
 layerRecord size = Ly size

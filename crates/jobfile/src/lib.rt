@@ -16,7 +16,7 @@ ghost use Rattle.jobfile.specs.Reader.{readFront, readWhole, readAt, rea
 use job::Programme;
 
 // A record of a job file, without its mark.
-pub enum Record {
+enum Record {
     Pg(Programme),
     Ly(u32),
     Bw { count: u16, bytes: u32 },
@@ -24,7 +24,7 @@ pub enum Record {
 }
 
 // A record with the place after it, or a refusal.
-pub enum Read {
+enum Read {
     Got(Record, usize),
     Refused(u8),
 }
