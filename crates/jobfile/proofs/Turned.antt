@@ -21,9 +21,9 @@ use Rattle.jobfile.specs.declared.Turn.the-variants.{On, Over}
 use Rattle.jobfile.specs.Records.{front, isEnd}
 use Rattle.jobfile.specs.Sound.{front-sound}
 use Rattle.jobfile.specs.Says.{sizesIn, forecastIn}
-use Rattle.jobfile.specs.Refusal.{fault, endRefusal, lacking, format}
+use Rattle.jobfile.specs.Refusal.{fault, lacking, format}
 use Rattle.jobfile.specs.Reader.{readFront, readAt}
-use Rattle.jobfile.specs.Reading.{noRecords, faultAfter, endCode, endedBy, StandsFor, Takes, Going, Refuses, Ended, Turned}
+use Rattle.jobfile.specs.Reading.{noRecords, faultAfter, endRefusal, endCode, endedBy, StandsFor, Takes, Going, Refuses, Ended, Turned}
 
 -- ---- what stands in front
 

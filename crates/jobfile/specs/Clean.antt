@@ -6,16 +6,16 @@ use mathlib.Core.List.{List, [], _∷_, _++_, append-assoc, append-nil}
 use native.Mathlib.Omega.{arith}
 use lib.ListN.{length, replicate, length-append}
 use lib.Dec.{leb, eqb}
-use Rattle.basics.specs.Tests.{All, all-append, and-T, not-T-false, leb-iff, eqb-iff, T-true}
+use Rattle.basics.specs.Tests.{All, all-append, and-T, not-T-false, leb-iff, T-true}
 use Rattle.basics.specs.Refusals.{unless, _orElse_, unless-iff, orElse-iff}
 use Rattle.records.specs.File.{Stop, ended, broken, split, firstFault, stopRefusal, recordsRefusal, fileRefusal}
 use Rattle.job.specs.declared.Programme.{Programme}
-use Rattle.job.specs.Job.{Within, Accepted, lastDue}
-use Rattle.job.specs.Refusal.{within, within-iff, fieldsRefusal, lastDueRefusal, filmRefusal, delayRefusal, film-iff, delay-iff, last-due-iff}
+use Rattle.job.specs.Job.{Within, Accepted}
+use Rattle.job.specs.Refusal.{within, within-iff, fieldsRefusal, lastDueRefusal, filmRefusal, delayRefusal, slotsRefusal, film-iff, delay-iff, last-due-iff, slots-iff}
 use Rattle.jobfile.specs.declared.Record.{Record}
 use Rattle.jobfile.specs.declared.Record.the-variants.{Pg, Ly, Bw, En}
 use Rattle.jobfile.specs.Says.{hasProgramme, programmeIn, sizesIn, forecastIn, jobIn}
-use Rattle.jobfile.specs.Refusal.{secondRefusal, programmeFault, layerFault, runFault, fault, missingRefusal, bareRefusal, totalRefusal, lacking, format}
+use Rattle.jobfile.specs.Refusal.{secondRefusal, programmeFault, layerFault, runFault, fault, missingRefusal, bareRefusal, lacking, format}
 use Rattle.jobfile.specs.Joined.{has-same, programme-same, programme-new, sizes-append, forecast-append}
 use Rattle.jobfile.specs.Sound.{broken-some}
 
@@ -110,10 +110,8 @@ none-clean = record { programme = λ e. absurd (let z : _≡_ {A = ℕ} 0 1 = cc
 accepted : (rs : List Record) → Clean rs → lacking rs ≡ 0 → Accepted (jobIn rs)
 accepted rs k e =
     let p = programmeIn rs in
-    let bare = bareRefusal (length (sizesIn rs)) in
-    let total = totalRefusal p (length (forecastIn rs)) in
-    let u = orElse-iff (missingRefusal (hasProgramme rs)) (bare orElse total) .0 e in
-    let v = orElse-iff bare total .0 (u .1) in
+    let u = orElse-iff (missingRefusal rs) (bareRefusal rs orElse slotsRefusal p (forecastIn rs)) .0 e in
+    let v = orElse-iff (bareRefusal rs) (slotsRefusal p (forecastIn rs)) .0 (u .1) in
     let has = T-true (hasProgramme rs) (unless-iff 4 (hasProgramme rs) (omega arith) .0 (u .0)) in
     let good = k .programme has in
     let fields = orElse-iff (filmRefusal p) (delayRefusal p) .0 (good .fields) in
@@ -127,7 +125,7 @@ accepted rs k e =
       layers-in = record { low = leb-iff 1 (length (sizesIn rs)) .0 (unless-iff 6 (leb 1 (length (sizesIn rs))) (omega arith) .0 (v .0)); high = k .few };
       sizes-in = k .sizes;
       forecast-in = k .forecast;
-      slots-in = eqb-iff (length (forecastIn rs)) (lastDue p) .0 (unless-iff 7 (eqb (length (forecastIn rs)) (lastDue p)) (omega arith) .0 (v .1));
+      slots-in = slots-iff p (forecastIn rs) .0 (v .1);
     }
 
 -- A file that is not refused says an accepted job.

@@ -26,10 +26,6 @@ readFront at (none n) = Refused n
 abbrev pub readAt : List ℕ → ℕ → Read
 readAt s at = readFront at (front (drop at s))
 
--- A record of n bytes, where so many are left.
-abbrev pub readWhole : ℕ → ℕ → Record → ℕ → Read
-readWhole left n r at = cond (leb n left) (Got r (at + n)) (Refused 1)
-
 -- 11: sizes shorter than the layers, or a forecast shorter than the slots.
 abbrev pub roomRefusal : List ℕ → ℕ → ℕ → ℕ
 roomRefusal s sizes slots = unless 11 (leb (layers (jobOfFile s)) sizes && leb (length (jobOfFile s .forecast)) slots)

@@ -2,13 +2,15 @@
 -- read so far. Assumes nothing.
 use Prim.Native.Nat.{ℕ, _+_, _-_, _≤_, _<_}
 use mathlib.Core.Path.{_≡_}
-use mathlib.Core.Bool.{false, cond}
+use mathlib.Core.Bool.{Bool, false, cond}
 use mathlib.Core.List.{List, [], _∷_, _++_}
 use lib.ListN.{length, take}
-use lib.Dec.{eqb}
+use lib.Dec.{leb, eqb}
 use Rattle.basics.specs.Refusals.{unless, _orElse_}
 use Rattle.records.specs.File.{split, recordsRefusal}
 use Rattle.records.specs.Reading.{Reads}
+use Rattle.job.specs.declared.Programme.{Programme}
+use Rattle.job.specs.Job.{lastDue}
 use Rattle.jobfile.specs.declared.Record.{Record}
 use Rattle.jobfile.specs.declared.Record.the-variants.{Pg, Ly, Bw, En}
 use Rattle.jobfile.specs.declared.Read.{Read}
@@ -19,10 +21,14 @@ use Rattle.jobfile.specs.declared.Ending.the-variants.{Whole, Broken}
 use Rattle.jobfile.specs.declared.Turn.{Turn}
 use Rattle.jobfile.specs.declared.Turn.the-variants.{On, Over}
 use Rattle.jobfile.specs.Says.{hasProgramme, noProgramme, programmeIn, sizesIn, forecastIn}
-use Rattle.jobfile.specs.Refusal.{programmeFault, layerFault, runFault, endRefusal, format}
+use Rattle.jobfile.specs.Refusal.{programmeFault, layerFault, runFault, format}
 
 abbrev pub noRecords : Sofar
 noRecords = record { seen = false; programme = noProgramme; layers = 0; slots = 0 }
+
+-- A record of n bytes, where so many are left.
+abbrev pub readWhole : ℕ → ℕ → Record → ℕ → Read
+readWhole left n r at = cond (leb n left) (Got r (at + n)) (Refused 1)
 
 -- The refusal in an answer, 0 for none.
 abbrev pub readRefusalOf : Read → ℕ
@@ -39,6 +45,10 @@ faultAfter j (Pg p) = programmeFault (j .seen) p
 faultAfter j (Ly size) = layerFault (j .layers) size
 faultAfter j (Bw count bytes) = runFault (j .slots) count bytes
 faultAfter j En = 0
+
+-- 4, 6, 7 at EN, by the state.
+abbrev pub endRefusal : Bool → Programme → ℕ → ℕ → ℕ
+endRefusal seen p layers slots = unless 4 seen orElse unless 6 (leb 1 layers) orElse unless 7 (eqb slots (lastDue p))
 
 -- EN with so many bytes after it, by the state.
 abbrev pub endCode : Sofar → ℕ → ℕ
