@@ -1,0 +1,125 @@
+use borrow.Author.Needs.{needs}
+use Rattle.jobfile.proofs.read_job.Statement.{statement}
+use Rattle.jobfile.proofs.read_job.Tie as tie
+use Rattle.jobfile.proofs.read_job.Reads as reads
+use Rattle.jobfile.proofs.read_job.Lts as lts
+use Rattle.jobfile.proofs.copy.Reads as copy-reads
+use Rattle.jobfile.proofs.read_all.Reads as read-all-reads
+use Rattle.jobfile.proofs.refusal_at.Reads as refusal-at-reads
+use mathlib.Core.Path.{_≡_, sym, ap, _∙_}
+use Prim.Native.Nat.{ℕ}
+use denote.Ref.{now}
+use Rattle.jobfile.specs.declared.Ending.the-variants.{Broken}
+use Rattle.jobfile.specs.Reading.{endRefusalOf}
+use Rattle.jobfile.proofs.Answers.{handed-long, handed-broken, handed-few-sizes, handed-few-slots, handed-job, layers-inside, slots-inside}
+
+-- src/lib.rt:343:9
+returns : tie.Need-returns
+returns c =
+    let a = c .before .before .before .before .args in
+    let h = handed-long (now (a .file)) (now (a .sizes)) (now (a .forecast)) (c .if1 .taken) in
+    (h .answer, (h .sizes, h .forecast))
+
+-- src/lib.rt:347:30
+slice-aggregate-read-all : tie.Need-slice-aggregate-read-all
+slice-aggregate-read-all c = search needs
+
+-- src/lib.rt:347:48
+slice-aggregate-read-all-2 : tie.Need-slice-aggregate-read-all-2
+slice-aggregate-read-all-2 c = search needs
+
+-- src/lib.rt:347:9
+read-all-requires : tie.Need-read-all-requires
+read-all-requires c κs = search needs
+
+-- src/lib.rt:348:23
+enum-known-end : tie.Need-enum-known-end
+enum-known-end c = search needs
+
+-- src/lib.rt:349:33
+enum-told : tie.Need-enum-told
+enum-told c = search needs
+
+-- src/lib.rt:349:33
+refusal-at-requires : tie.Need-refusal-at-requires
+refusal-at-requires c κs = search needs
+
+-- src/lib.rt:349:9
+returns-2 : tie.Need-returns-2
+returns-2 c =
+    let a = c .before .before .before .before .before .before .before .before .before .before .before .before .args in
+    let told = c .before .enum-told .given .1 in
+    let same = c .refusal-at .ensures ∙ ap endRefusalOf told in
+    let h = handed-broken (now (a .file)) (now (a .sizes)) (now (a .forecast)) (c .before .before .before .before .before .before .before .before .if1 .left) (c .before .before .before .before .before .read-all .result) _ _ (c .refusal-at .result) (c .before .before .before .before .before .read-all .ensures) (told ∙ ap (λ (n : ℕ). Broken n) (sym same)) in
+    (h .answer, (h .sizes, h .forecast))
+
+-- src/lib.rt:354:9
+returns-3 : tie.Need-returns-3
+returns-3 c =
+    let a = c .before .before .before .before .before .before .before .before .before .before .before .before .before .args in
+    let h = handed-few-sizes (now (a .file)) (now (a .sizes)) (now (a .forecast)) (c .before .before .before .before .before .before .before .before .before .if1 .left) (c .before .before .before .before .before .before .read-all .result) _ _ (c .before .before .end .given .0 .0) (c .before .before .before .before .before .before .read-all .ensures) (c .before .before .end .given .1) (c .if2 .taken) in
+    (h .answer, (h .sizes, h .forecast))
+
+-- src/lib.rt:357:9
+returns-4 : tie.Need-returns-4
+returns-4 c =
+    let a = c .before .before .before .before .before .before .before .before .before .before .before .before .before .before .args in
+    let h = handed-few-slots (now (a .file)) (now (a .sizes)) (now (a .forecast)) (c .before .before .before .before .before .before .before .before .before .before .if1 .left) (c .before .before .before .before .before .before .before .read-all .result) _ _ (c .before .before .before .end .given .0 .0) (c .before .before .before .before .before .before .before .read-all .ensures) (c .before .before .before .end .given .1) (c .before .if2 .left) (c .if3 .taken) in
+    (h .answer, (h .sizes, h .forecast))
+
+-- src/lib.rt:359:10
+slice-aggregate-copy : tie.Need-slice-aggregate-copy
+slice-aggregate-copy c = search needs
+
+-- src/lib.rt:359:5
+copy-requires : tie.Need-copy-requires
+copy-requires c κs =
+    let a = c .before .before .before .before .before .before .before .before .before .before .before .before .before .before .before .before .args in
+    (layers-inside (now (a .file)) (now (a .sizes)) (now (a .forecast)) (c .before .before .before .before .before .before .before .before .before .before .before .before .if1 .left) (c .before .before .before .before .before .before .before .before .before .read-all .result) _ _ (c .before .before .before .before .before .end .given .0 .0) (c .before .before .before .before .before .before .before .before .before .read-all .ensures) (c .before .before .before .before .before .end .given .1), c .before .before .before .if2 .left)
+
+-- src/lib.rt:360:10
+slice-aggregate-copy-2 : tie.Need-slice-aggregate-copy-2
+slice-aggregate-copy-2 c = search needs
+
+-- src/lib.rt:360:5
+copy-requires-2 : tie.Need-copy-requires-2
+copy-requires-2 c κs =
+    let a = c .before .before .before .before .before .before .before .before .before .before .before .before .before .before .before .before .before .before .before .before .before .args in
+    (slots-inside (now (a .file)) (now (a .sizes)) (now (a .forecast)) (c .before .before .before .before .before .before .before .before .before .before .before .before .before .before .before .before .before .if1 .left) (c .before .before .before .before .before .before .before .before .before .before .before .before .before .before .read-all .result) _ _ (c .before .before .before .before .before .before .before .before .before .before .end .given .0 .0) (c .before .before .before .before .before .before .before .before .before .before .before .before .before .before .read-all .ensures) (c .before .before .before .before .before .before .before .before .before .before .end .given .1), c .before .before .before .before .before .before .before .if3 .left)
+
+-- src/lib.rt:337:1
+same-length : tie.Need-same-length
+same-length c = search needs
+
+-- src/lib.rt:337:1
+same-length-2 : tie.Need-same-length-2
+same-length-2 c = search needs
+
+-- src/lib.rt:337:1
+returns-5 : tie.Need-returns-5
+returns-5 c =
+    let a = c .before .before .before .before .before .before .before .before .before .before .before .before .before .before .before .before .before .before .before .before .before .before .before .before .before .args in
+    let h = handed-job (now (a .file)) (now (a .sizes)) (now (a .forecast)) (c .before .before .before .before .before .before .before .before .before .before .before .before .before .before .before .before .before .before .before .before .before .if1 .left) (c .before .before .before .before .before .before .before .before .before .before .before .before .before .before .before .before .before .before .read-all .result) _ _ (c .before .before .before .before .before .before .before .before .before .before .before .before .before .before .end .given .0 .0) (c .before .before .before .before .before .before .before .before .before .before .before .before .before .before .before .before .before .before .read-all .ensures) (c .before .before .before .before .before .before .before .before .before .before .before .before .before .before .end .given .1) (c .before .before .before .before .before .before .before .before .before .before .before .before .if2 .left) (c .before .before .before .before .before .before .before .before .before .before .before .if3 .left) in
+    (h .answer, (c .before .before .before .before .before .before .before .before .copy .ensures ∙ h .sizes, c .before .before .before .copy2 .ensures ∙ h .forecast))
+
+pub read-job-spec : {M : Type 1} → statement M
+read-job-spec =
+    tie.close
+    (tie.spec
+    returns
+    slice-aggregate-read-all
+    slice-aggregate-read-all-2
+    read-all-requires
+    enum-known-end
+    enum-told
+    refusal-at-requires
+    returns-2
+    returns-3
+    returns-4
+    slice-aggregate-copy
+    copy-requires
+    slice-aggregate-copy-2
+    copy-requires-2
+    same-length
+    same-length-2
+    returns-5)
