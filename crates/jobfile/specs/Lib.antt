@@ -13,4 +13,3 @@ pub mod Sound
 pub mod Back
 pub mod Clean
 pub mod Theorems
-pub mod Worked
