@@ -24,9 +24,12 @@ chunks j = j .programme .chunks
 abbrev pub layers : Job → ℕ
 layers j = length (j .sizes)
 
--- The bytes of layer n of chunk i: one size for all chunks.
+-- The bytes of layer n of chunk i: one size for all chunks. Only this definition knows how sizes are stored.
+abbrev pub sizeIn : List ℕ → ℕ → ℕ → ℕ
+sizeIn sizes i n = getD sizes n 0
+
 abbrev pub size : Job → ℕ → ℕ → ℕ
-size j i n = getD (j .sizes) n 0
+size j i n = sizeIn (j .sizes) i n
 
 -- B(t), the forecast of slot t; slots are counted from 1.
 abbrev pub forecast : Job → ℕ → ℕ

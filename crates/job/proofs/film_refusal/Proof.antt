@@ -1,0 +1,49 @@
+-- `job::film_refusal` meets its contract. Assumes nothing.
+use borrow.Author.Needs.{needs}
+use Rattle.job.proofs.film_refusal.Statement.{statement}
+use Rattle.job.proofs.film_refusal.Tie as tie
+
+cast-is-within : tie.Need-cast-is-within
+cast-is-within c = search needs
+
+is-within-requires : tie.Need-is-within-requires
+is-within-requires c κs = search needs
+
+cast-is-within-2 : tie.Need-cast-is-within-2
+cast-is-within-2 c = search needs
+
+is-within-requires-2 : tie.Need-is-within-requires-2
+is-within-requires-2 c κs = search needs
+
+cast-is-within-3 : tie.Need-cast-is-within-3
+cast-is-within-3 c = search needs
+
+is-within-requires-3 : tie.Need-is-within-requires-3
+is-within-requires-3 c κs = search needs
+
+both-requires : tie.Need-both-requires
+both-requires c κs = search needs
+
+both-requires-2 : tie.Need-both-requires-2
+both-requires-2 c κs = search needs
+
+refuse-unless-requires : tie.Need-refuse-unless-requires
+refuse-unless-requires c κs = search needs
+
+returns : tie.Need-returns
+returns c = cc
+
+pub film-refusal-spec : {M : Type 1} → statement M
+film-refusal-spec =
+    tie.close
+    (tie.spec
+    cast-is-within
+    is-within-requires
+    cast-is-within-2
+    is-within-requires-2
+    cast-is-within-3
+    is-within-requires-3
+    both-requires
+    both-requires-2
+    refuse-unless-requires
+    returns)

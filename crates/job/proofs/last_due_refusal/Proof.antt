@@ -1,0 +1,16 @@
+-- `job::last_due_refusal` meets its contract. Assumes nothing.
+use borrow.Author.Needs.{needs}
+use Rattle.job.proofs.last_due_refusal.Statement.{statement}
+use Rattle.job.proofs.last_due_refusal.Tie as tie
+
+last-due-requires : tie.Need-last-due-requires
+last-due-requires c κs = search needs
+
+refuse-unless-requires : tie.Need-refuse-unless-requires
+refuse-unless-requires c κs = search needs
+
+returns : tie.Need-returns
+returns c = cc
+
+pub last-due-refusal-spec : {M : Type 1} → statement M
+last-due-refusal-spec = tie.close (tie.spec last-due-requires refuse-unless-requires returns)
