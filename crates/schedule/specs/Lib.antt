@@ -1,3 +1,4 @@
+pub mod Statement
 pub mod Words
 pub mod Count
 pub mod Ascending
