@@ -5,11 +5,14 @@ pub mod Ascending
 pub mod Need
 pub mod Necessity
 pub mod AnyOrder
+pub mod Own
 pub mod Fill
 pub mod Sufficiency
 pub mod Order
 pub mod Kept
 pub mod Choice
+pub mod Release
+pub mod OwnFill
 pub mod Plan
 pub mod Level
 pub mod Base
