@@ -19,6 +19,7 @@ pub mod Base
 pub mod Upper
 pub mod Whole
 pub mod Best
+pub mod Trials
 pub mod Linear
 pub mod Unique
 pub mod Shape
