@@ -21,7 +21,7 @@ use Rattle.schedule.specs.Necessity.{Each, after}
 use Rattle.schedule.specs.Need.{Feas, Tails, need}
 use Rattle.schedule.specs.Plan.{accepted, plan, plan-choice, plan-fits, tried, tried-kept}
 use Rattle.schedule.specs.Sufficiency.{RelOk, each, feas-relok, ones, releases}
-use Rattle.schedule.specs.Trials.{Stack, candidate, keeps, push, bases, levelMark, Kept, rooms, Tried, tryOne, back, chunkOf, bytesOf, keptAt, layerOver, settledTo}
+use Rattle.schedule.specs.Trials.{Stack, candidate, keeps, push, bases, levelMark, Kept, rooms, Tried, tryOne, back, bytesOf, keptAt, onLayer, onLayers, based, keptBases, decided}
 
 -- ---- the base
 
@@ -315,49 +315,56 @@ module _ (j : Job) (n : ℕ) (up : 1 ≤ n) (few : n < 8) (p : ℕ → ℕ) (acc
 
 -- ---- the whole plan
 
+map-same : {A : Type 0} (f g : ℕ → A) (ks : List ℕ) → Each (λ k. f k ≡ g k) ks → map f ks ≡ map g ks
+map-same f g [] a = refl
+map-same f g (k ∷ ks) a = rw (a .0, map-same f g ks (a .1))
+
+pub map-map : {A B : Type 0} (f : A → B) (g : ℕ → A) (ks : List ℕ) → map f (map g ks) ≡ map (λ k. f (g k)) ks
+map-map f g [] = refl
+map-map f g (k ∷ ks) = rw (map-map f g ks)
+
 module _ (j : Job) where
   -- What the plan carries of the layers below n.
   abbrev planBelow : ℕ → ℕ → ℕ
   planBelow n k = min (plan j k) n
 
+  abbrev kept-plan : List ℕ
+  kept-plan = kept j (plan j)
+
   at-layer : (i n : ℕ) → 1 ≤ i → i ≤ chunks j → n < layers j → Layer j i n
   at-layer i n u v w = record { chunk-low = u; chunk-high = v; layer-in = w }
 
   -- The base pass keeps the plan's chunks.
-  pub bases-kept : 0 < layers j → bases (λ k. size j k 0) (due j) (after j) (heldMost j) 0 (chunks j) .chunks ≡ kept j (plan j)
+  pub bases-kept : 0 < layers j → keptBases j ≡ kept j (plan j)
   bases-kept h =
       let a : (i : ℕ) → 1 ≤ i → i ≤ chunks j → (0 < plan j i) ↔ Fits j (tried (plan j) 0 i) = λ i u v. let a = accepted j i 0 (at-layer i 0 u v h) in (λ l. a .0 l .1, λ f. a .1 (omega arith, f)) in
       ap (λ (s : Stack). s .chunks) (bases-are j (plan j) a 0 (chunks j) (omega arith))
 
-  map-same : {A : Type 0} (f g : ℕ → A) (ks : List ℕ) → Each (λ k. f k ≡ g k) ks → map f ks ≡ map g ks
-  map-same f g [] a = refl
-  map-same f g (k ∷ ks) a = rw (a .0, map-same f g ks (a .1))
+  same-levels : (f g : ℕ → ℕ) → ((i : ℕ) → 1 ≤ i → i ≤ chunks j → 1 ≤ plan j i → f i ≡ g i) → map (keptAt j f) kept-plan ≡ map (keptAt j g) kept-plan
+  same-levels f g e =
+      map-same (keptAt j f) (keptAt j g) kept-plan
+      (picked-each (λ i. leb 1 (plan j i)) (λ k. keptAt j f k ≡ keptAt j g k) 0 (chunks j)
+      (λ i u v t. ap (λ (m : ℕ). keptAt j (λ k. m) i) (e i u (omega arith) (leb→le 1 (plan j i) t))))
 
-  -- Each kept chunk has its base.
-  pub based : map (keptAt j (λ k. 1)) (kept j (plan j)) ≡ map (keptAt j (planBelow 1)) (kept j (plan j))
-  based =
-      map-same (keptAt j (λ k. 1)) (keptAt j (planBelow 1)) (kept j (plan j))
-      (picked-each (λ i. leb 1 (plan j i)) (λ k. keptAt j (λ i. 1) k ≡ keptAt j (planBelow 1) k) 0 (chunks j)
-      (λ i u v t. let e : 1 ≡ planBelow 1 i = omega (arith, leb→le 1 (plan j i) t) in ap (λ (m : ℕ). keptAt j (λ k. m) i) e))
-
-  map-map : {A B : Type 0} (f : A → B) (g : ℕ → A) (ks : List ℕ) → map f (map g ks) ≡ map (λ k. f (g k)) ks
-  map-map f g [] = refl
-  map-map f g (k ∷ ks) = rw (map-map f g ks)
-
-  map-id : (ks : List ℕ) → map (λ k. k) ks ≡ ks
-  map-id [] = refl
-  map-id (k ∷ ks) = rw (map-id ks)
+  abbrev releases-plan : List ℕ
+  releases-plan = releases (due j) (heldMost j) kept-plan
 
   -- A pass over the layers below n is the plan up to layer n.
-  pub pass-is : (n : ℕ) → 1 ≤ n → n < layers j → layers j ≤ 8 → layerOver j n (map (keptAt j (planBelow n)) (kept j (plan j))) ≡ map (keptAt j (planBelow (suc n))) (kept j (plan j))
+  pass-is : (n : ℕ) → 1 ≤ n → n < layers j → layers j ≤ 8 → onLayer (size j) (after j) (after j 0) releases-plan n (map (keptAt j (planBelow n)) kept-plan) ≡ map (keptAt j (planBelow (suc n))) kept-plan
   pass-is n u h few =
-      let ks = kept j (plan j) in
-      let here : List Kept = map (keptAt j (planBelow n)) ks in
-      let over : List ℕ → List ℕ → List Kept = λ ws cs. back (size j) (after j) n (rooms (after j) (after j 0) ws (releases (due j) (heldMost j) cs)) here .kept in
-      ap (λ (ws : List ℕ). over ws (map chunkOf here)) (map-map bytesOf (keptAt j (planBelow n)) ks)
-      ∙ ap (over (map (bytes j (planBelow n)) ks)) (map-map chunkOf (keptAt j (planBelow n)) ks ∙ map-id ks)
+      let here : List Kept = map (keptAt j (planBelow n)) kept-plan in
+      ap (λ (ws : List ℕ). back (size j) (after j) n (rooms (after j) (after j 0) ws releases-plan) here .kept) (map-map bytesOf (keptAt j (planBelow n)) kept-plan)
       ∙ ap (λ (o : Tried). o .kept) (layer-is j n u (omega arith) (plan j) (λ i u v. accepted j i n (at-layer i n u v h)) (plan-fits j))
 
-  pub settled-is : (n : ℕ) → n < layers j → layers j ≤ 8 → settledTo j n ≡ map (keptAt j (planBelow (suc n))) (kept j (plan j))
-  settled-is zero h few = ap (map (keptAt j (λ k. 1))) (bases-kept h) ∙ based
-  settled-is (suc n) h few = ap (layerOver j (suc n)) (settled-is n (omega arith) few) ∙ pass-is (suc n) (omega arith) h few
+  passes-are : (n : ℕ) → n < layers j → layers j ≤ 8 → onLayers (size j) (after j) (after j 0) releases-plan n (based j kept-plan) ≡ map (keptAt j (planBelow (suc n))) kept-plan
+  passes-are zero h few = same-levels (λ k. 1) (planBelow 1) (λ i u v t. omega arith)
+  passes-are (suc n) h few =
+      ap (onLayer (size j) (after j) (after j 0) releases-plan (suc n)) (passes-are n (omega arith) few) ∙ pass-is (suc n) (omega arith) h few
+
+  -- The trials decide the plan: its chunks, each with the plan's layers.
+  pub decided-is : 0 < layers j → layers j ≤ 8 → decided j ≡ map (keptAt j (plan j)) (kept j (plan j))
+  decided-is some few =
+      let e : suc (layers j - 1) ≡ layers j = omega arith in
+      ap (λ (ks : List ℕ). onLayers (size j) (after j) (after j 0) (releases (due j) (heldMost j) ks) (layers j - 1) (based j ks)) (bases-kept some)
+      ∙ passes-are (layers j - 1) (omega arith) few
+      ∙ same-levels (planBelow (suc (layers j - 1))) (plan j) (λ i u v t. omega (arith, plan-choice j i u v))
