@@ -1,0 +1,5 @@
+pub mod Tables
+pub mod Sums
+pub mod Bases
+pub mod Rooms
+pub mod Trials
