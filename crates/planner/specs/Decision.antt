@@ -9,10 +9,12 @@ use lib.Dec.{leb, ltb}
 use Rattle.basics.specs.Sums.{pre}
 use Rattle.basics.specs.Tests.{All}
 use Rattle.job.specs.declared.Programme.{Programme}
-use Rattle.job.specs.Job.{Within, sizeIn, dueSlot, lastDue}
+use Rattle.job.specs.Job.{Job, Within, jobOf, sizeIn, due, dueSlot, heldMost, lastDue}
 use Rattle.schedule.specs.Ascending.{Asc}
 use Rattle.schedule.specs.Sufficiency.{releases}
-use Rattle.schedule.specs.Trials.{bases, Kept, rooms, back, onLayers}
+use Rattle.schedule.specs.Choice.{kept}
+use Rattle.schedule.specs.Plan.{plan}
+use Rattle.schedule.specs.Trials.{bases, levelMark, Kept, rooms, back, onLayers}
 
 -- A table read as a function.
 abbrev pub at : List ℕ → ℕ → ℕ
@@ -99,3 +101,49 @@ pub record LayerDone (sizes : List ℕ) (n : ℕ) (after ids dues room : List �
       ≡ back (sizeIn sizes) (at after) n (drop first room) (keptOf (drop first ids) (drop first dues) (drop first bytes) (drop first mark)) .kept
   pub carried : All (λ b. b ≤ suc n * 16777216) (drop first bytes')
   pub long : (length bytes' ≡ 500) × (length mark' ≡ 500)
+
+-- ---- all layers
+
+pub record LayersFrom (layers : ℕ) (sizes : List ℕ) (after ids dues ready : List ℕ) (first : ℕ) (bytes room mark : List ℕ) : Type 0 where
+  pub some : 1 ≤ layers
+  pub few : layers ≤ 4
+  pub small : (i n : ℕ) → sizeIn sizes i n ≤ 16777216
+  pub sums : Sums after
+  pub due-slots : All Slot (drop first dues)
+  pub release-slots : All Slot (drop first ready)
+  pub within : first ≤ 500
+  pub carried : All (λ b. b ≤ 16777216) (drop first bytes)
+  pub long : (length after ≡ 3601) × (length ids ≡ 500) × (length dues ≡ 500) × (length ready ≡ 500) × (length bytes ≡ 500) × (length room ≡ 500) × (length mark ≡ 500)
+
+pub record LayersDone (layers : ℕ) (sizes : List ℕ) (all : ℕ) (after ids dues ready : List ℕ) (first : ℕ) (bytes mark bytes' mark' : List ℕ) : Type 0 where
+  pub kept :
+      keptOf (drop first ids) (drop first dues) (drop first bytes') (drop first mark')
+      ≡ onLayers (sizeIn sizes) (at after) all (drop first ready) (layers - 1) (keptOf (drop first ids) (drop first dues) (drop first bytes) (drop first mark))
+  pub long : (length bytes' ≡ 500) × (length mark' ≡ 500)
+
+-- ---- the whole decision
+
+-- The job of which a part of the forecast is handed.
+abbrev pub jobFrom : Programme → List ℕ → ℕ → List ℕ → Job
+jobFrom p sizes start part = jobOf p sizes (padded start part)
+
+pub record DecideFrom (p : Programme) (layers : ℕ) (sizes : List ℕ) (start : ℕ) (part ids ready mark : List ℕ) : Type 0 where
+  pub few : p .chunks ≤ 500
+  pub late : 1 ≤ p .delay
+  pub ends : lastDue p ≤ 3600
+  pub some : 1 ≤ layers
+  pub few-layers : layers ≤ 4
+  pub all-layers : layers ≡ length sizes
+  pub small : (i n : ℕ) → sizeIn sizes i n ≤ 16777216
+  pub part-in : Part start part
+  pub slots : start - 1 + length part ≡ lastDue p
+  pub long : (length ids ≡ 500) × (length ready ≡ 500)
+  pub marks : mark ≡ replicate 500 1
+
+-- The tables hold the plan's chunks, their releases, and their marks.
+pub record Decides (j : Job) (first : ℕ) (ids ready mark : List ℕ) : Type 0 where
+  pub within : first ≤ 500
+  pub chunks : drop first ids ≡ kept j (plan j)
+  pub releases-are : drop first ready ≡ take (500 - first) (releases (due j) (heldMost j) (kept j (plan j)))
+  pub marks : drop first mark ≡ map (λ k. levelMark (plan j k)) (kept j (plan j))
+  pub long : (length ids ≡ 500) × (length ready ≡ 500) × (length mark ≡ 500)

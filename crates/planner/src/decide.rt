@@ -11,7 +11,7 @@ ghost use Rattle.fetch.specs.Marks.{bit};
 ghost use mathlib.Core.List.{_++_};
 ghost use Rattle.schedule.specs.Sufficiency.{ones};
 ghost use Rattle.schedule.specs.Trials.{rooms};
-ghost use Rattle.planner.specs.Decision.{at, Part, Placed, SumTable, BasesFrom, Bases, Slot, LayerFrom, LayerDone};
+ghost use Rattle.planner.specs.Decision.{at, Part, Placed, SumTable, BasesFrom, Bases, Slot, LayerFrom, LayerDone, LayersFrom, LayersDone, jobFrom, DecideFrom, Decides};
 
 fn larger(a: u64, b: u64) -> u64
     ensures { λ r. ⌜ r ≡ max a b ⌝ }
@@ -219,4 +219,71 @@ fn try_layer(
             q = k;
         }
     }
+}
+
+// All layers above the base.
+fn settle_layers(
+    layers: usize,
+    sizes: &[u32],
+    all: u64,
+    after: &[u64; 3601],
+    ids: &[u16; 500],
+    dues: &[u16; 500],
+    ready: &[u16; 500],
+    first: usize,
+    bytes: &mut [u32; 500],
+    room: &mut [u64; 500],
+    mark: &mut [u8; 500],
+)
+    requires { ⌜ LayersFrom layers (now sizes) (now after) (now ids) (now dues) (now ready) first (now bytes) (now room) (now mark) ⌝ }
+    ensures { λ _. ⌜ LayersDone layers (now (sizes .entry)) all (now (after .entry)) (now (ids .entry)) (now (dues .entry)) (now (ready .entry)) first (now (bytes .entry)) (now (mark .entry)) (now (bytes .exit)) (now (mark .exit)) ⌝ }
+{
+    let mut n: usize = 1;
+    while n < layers {
+        let layer = n as u8;
+        find_rooms(all, after, ready, bytes, first, room);
+        try_layer(sizes, layer, after, ids, dues, room, first, bytes, mark);
+        n = n + 1;
+    }
+}
+
+// The decision over a part of the forecast that starts at slot start: the kept chunks, their releases and their marks, from the
+// place handed back on.
+pub fn decide(
+    p: Programme,
+    layers: usize,
+    sizes: &[u32],
+    part: &[u32],
+    start: usize,
+    ids: &mut [u16; 500],
+    ready: &mut [u16; 500],
+    mark: &mut [u8; 500],
+) -> usize
+    requires { ⌜ DecideFrom p layers (now sizes) start (now part) (now ids) (now ready) (now mark) ⌝ }
+    ensures { λ r. ⌜ Decides (jobFrom p (now (sizes .entry)) start (now (part .entry))) r (now (ids .exit)) (now (ready .exit)) (now (mark .exit)) ⌝ }
+{
+    let held = job::held_most(p) as usize;
+    let unset = part.len() as u64;
+    let mut after = [unset; 3601];
+    let mut room = [unset; 500];
+    let mut dues = [0u16; 500];
+    let mut bytes = [0u32; 500];
+    sum_after(part, start, &mut after);
+    let all = after[0];
+    let first = keep_bases(p, sizes, &after, ids, &mut dues, &mut bytes, &mut room);
+    set_releases(held, &dues, first, ready);
+    settle_layers(
+        layers,
+        sizes,
+        all,
+        &after,
+        ids,
+        &dues,
+        ready,
+        first,
+        &mut bytes,
+        &mut room,
+        mark,
+    );
+    first
 }
