@@ -5,3 +5,5 @@ pub mod Rooms
 pub mod Trials
 pub mod Settle
 pub mod Decided
+pub mod Over
+pub mod Pieces

@@ -44,10 +44,10 @@ placed-more from k v old new p h =
 
 -- ---- what is left after a slot
 
-left-none : (f : List ℕ) (t : ℕ) → length f ≤ t → leftAfter f t ≡ 0
+pub left-none : (f : List ℕ) (t : ℕ) → length f ≤ t → leftAfter f t ≡ 0
 left-none f t h = omega (arith, pre-mono (λ u. at f (u - 1)) (length f) t h)
 
-left-step : (f : List ℕ) (t : ℕ) → t < length f → leftAfter f t ≡ leftAfter f (t + 1) + getD f t 0
+pub left-step : (f : List ℕ) (t : ℕ) → t < length f → leftAfter f t ≡ leftAfter f (t + 1) + getD f t 0
 left-step f t h =
     let e : suc t - 1 ≡ t = omega arith in
     let s : pre (λ u. at f (u - 1)) (suc t) ≡ pre (λ u. at f (u - 1)) t + getD f t 0 = rw e in

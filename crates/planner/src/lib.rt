@@ -1,2 +1,3 @@
 // The plan of a job.
 mod decide;
+mod fill;
