@@ -7,3 +7,4 @@ pub mod Settle
 pub mod Decided
 pub mod Over
 pub mod Pieces
+pub mod Chunks

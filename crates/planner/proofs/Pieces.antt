@@ -44,7 +44,7 @@ module _ (start : ℕ) (part : List ℕ) where
     onward-part e z h = rw (le-leb _ _ e, lt-ltb 0 c z, lt-leb _ _ h)
 
   -- The slots before a release pass.
-  jump : (d t c : ℕ) (p : Piece) (ps : List Piece) → p .ready ≡ t + suc d → p .ready ≤ lastOf start part → onward start part t c (p ∷ ps) ≡ onward start part (p .ready) (bytesAt start part (p .ready)) (p ∷ ps)
+  pub jump : (d t c : ℕ) (p : Piece) (ps : List Piece) → p .ready ≡ t + suc d → p .ready ≤ lastOf start part → onward start part t c (p ∷ ps) ≡ onward start part (p .ready) (bytesAt start part (p .ready)) (p ∷ ps)
   jump zero t c p ps e h =
       let a : t + 1 ≡ p .ready = omega arith in
       onward-late t c p ps (omega arith) ∙ onward-next t (p ∷ ps) (omega arith) ∙ ap (λ (n : ℕ). onward start part n (bytesAt start part n) (p ∷ ps)) a

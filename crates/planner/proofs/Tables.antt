@@ -45,6 +45,10 @@ below-next k q h o = ⊎-elim (λ t. ltb→lt k q t) (λ t. absurd (o (omega (ar
 pub above-next : (k q : ℕ) → q ≤ k → (k ≡ q → ⊥) → q + 1 ≤ k
 above-next k q h o = ⊎-elim (λ t. omega (arith, ltb→lt q k t)) (λ t. absurd (o (omega (arith, nltb→le q k t)))) (test (ltb q k))
 
+-- One place fewer is left of a table.
+pub fewer : (n q : ℕ) → q < n → n - (q + 1) < n - q
+fewer n q h = omega arith
+
 -- ---- what holds of each
 
 pub all-at : (P : ℕ → Type 0) (l : List ℕ) (k : ℕ) → k < length l → All P l → P (getD l k 0)

@@ -135,7 +135,17 @@ pub fn put_all(
     let mut q = first;
     while q < 500 {
         at = put_chunk(
-            part, start, sizes, at, ready[q], ids[q], mark[q], slots, chunks, layers, bytes,
+            part,
+            start,
+            sizes,
+            at,
+            ready[q],
+            ids[q],
+            mark[q],
+            slots,
+            chunks,
+            layers,
+            bytes,
         );
         q = q + 1;
     }

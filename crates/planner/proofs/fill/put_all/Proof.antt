@@ -1,76 +1,62 @@
+-- `put_all` meets its contract: the pieces of the chunks before place q are placed.
+use Prim.Native.Nat.{_-_}
+use native.Mathlib.Omega.{arith}
+use denote.Ref.{now}
+use Rattle.planner.proofs.Chunks.{Placing, placing-start, placing-end, chunk-from, placing-more}
+use Rattle.planner.proofs.Tables.{fewer}
 use Rattle.planner.proofs.fill.put_all.Statement.{statement}
 use Rattle.planner.proofs.fill.put_all.Tie as tie
-use Rattle.planner.proofs.fill.put_all.Reads as reads
-use Rattle.planner.proofs.fill.put_all.Lts as lts
-use Rattle.planner.proofs.fill.put_chunk.Reads as put-chunk-reads
 
 abbrev Inv-loop : tie.InvT-loop
-Inv-loop part start sizes ids ready mark first slots₀ chunks₀ layers₀ bytes₀ at₀ q₀ slots chunks layers bytes at q =
-    ?
+Inv-loop part start sizes ids ready mark first slots₀ chunks₀ layers₀ bytes₀ at₀ q₀ slots chunks layers bytes at q = Placing start part sizes ids ready mark first at₀ slots₀ chunks₀ layers₀ bytes₀ slots chunks layers bytes at q
 
 abbrev μ-loop : tie.MeasureT-loop
-μ-loop part start sizes ids ready mark first slots₀ chunks₀ layers₀ bytes₀ at₀ q₀ slots chunks layers bytes at q =
-    ?
+μ-loop part start sizes ids ready mark first slots₀ chunks₀ layers₀ bytes₀ at₀ q₀ slots chunks layers bytes at q = 500 - q
 
--- src/fill.rt:136:5
 loop-holds : tie.Need-loop-holds Inv-loop μ-loop
-loop-holds c = ?
+loop-holds c = let a = c .before .before .before .before .before .before .args in placing-start (a .start) (now (a .part)) (now (a .sizes)) (now (a .ids)) (now (a .ready)) (now (a .mark)) (a .first) (a .from) (now (a .slots)) (now (a .chunks)) (now (a .layers)) (now (a .bytes)) (c .before .before .before .before .before .before .pre)
 
--- src/fill.rt:138:37
 mul-put-chunk : tie.Need-mul-put-chunk Inv-loop μ-loop
-mul-put-chunk c = ?
+mul-put-chunk c = omega arith
 
--- src/fill.rt:138:37
 element-copy-out-put-chunk : tie.Need-element-copy-out-put-chunk Inv-loop μ-loop
-element-copy-out-put-chunk c = ?
+element-copy-out-put-chunk c = omega (arith, c .before .before .before .before .before .before .before .before .pre .long .1)
 
--- src/fill.rt:138:47
 mul-put-chunk-2 : tie.Need-mul-put-chunk-2 Inv-loop μ-loop
-mul-put-chunk-2 c = ?
+mul-put-chunk-2 c = omega arith
 
--- src/fill.rt:138:47
 element-copy-out-put-chunk-2 : tie.Need-element-copy-out-put-chunk-2 Inv-loop μ-loop
-element-copy-out-put-chunk-2 c = ?
+element-copy-out-put-chunk-2 c = omega (arith, c .before .before .before .before .before .before .before .before .before .pre .long .0)
 
--- src/fill.rt:138:55
 element-copy-out-put-chunk-3 : tie.Need-element-copy-out-put-chunk-3 Inv-loop μ-loop
-element-copy-out-put-chunk-3 c = ?
+element-copy-out-put-chunk-3 c = omega (arith, c .before .before .before .before .before .before .before .before .before .before .pre .long .2)
 
--- src/fill.rt:137:9
 put-chunk-requires : tie.Need-put-chunk-requires Inv-loop μ-loop
-put-chunk-requires c κs = ?
+put-chunk-requires c κs = let a = c .before .before .before .before .before .before .before .before .before .before .before .before .before .before .before .args in let l = c .before .before .before .before .before .before .before .before .loop in chunk-from (a .start) (now (a .part)) (now (a .sizes)) (now (a .ids)) (now (a .ready)) (now (a .mark)) (a .first) (a .from) (now (a .slots)) (now (a .chunks)) (now (a .layers)) (now (a .bytes)) (c .before .before .before .before .before .before .before .before .before .before .before .before .before .before .before .pre) (l .slots) (l .chunks) (l .layers) (l .bytes) (l .at) (l .q) (l .inv) (c .before .before .before .before .before .before .before .loop-test .taken)
 
--- src/fill.rt:140:13
 add-q : tie.Need-add-q Inv-loop μ-loop
-add-q c = ?
+add-q c = omega arith
 
--- src/fill.rt:136:5
 loop-less : tie.Need-loop-less Inv-loop μ-loop
-loop-less c = ?
+loop-less c = fewer 500 (c .before .before .before .before .before .before .before .before .before .before .before .before .before .before .before .before .before .loop .q) (c .before .before .before .before .before .before .before .before .before .before .before .before .before .before .before .before .loop-test .taken)
 
--- src/fill.rt:136:5
 loop-again : tie.Need-loop-again Inv-loop μ-loop
-loop-again c = ?
+loop-again c = let a = c .before .before .before .before .before .before .before .before .before .before .before .before .before .before .before .before .before .before .before .before .before .before .before .before .args in let l = c .before .before .before .before .before .before .before .before .before .before .before .before .before .before .before .before .before .loop in placing-more (a .start) (now (a .part)) (now (a .sizes)) (now (a .ids)) (now (a .ready)) (now (a .mark)) (a .first) (a .from) (now (a .slots)) (now (a .chunks)) (now (a .layers)) (now (a .bytes)) (c .before .before .before .before .before .before .before .before .before .before .before .before .before .before .before .before .before .before .before .before .before .before .before .before .pre) (l .slots) (l .chunks) (l .layers) (l .bytes) (l .at) (l .q) (l .inv) (c .before .before .before .before .before .before .before .before .before .before .before .before .before .before .before .before .loop-test .taken) _ _ _ _ _ (c .before .before .before .before .before .before .before .before .put-chunk .ensures)
 
--- src/fill.rt:117:1
 same-length : tie.Need-same-length Inv-loop μ-loop
-same-length c = ?
+same-length c = c .before .loop .inv .puts .long .s
 
--- src/fill.rt:117:1
 same-length-2 : tie.Need-same-length-2 Inv-loop μ-loop
-same-length-2 c = ?
+same-length-2 c = c .before .loop .inv .puts .long .c
 
--- src/fill.rt:117:1
 same-length-3 : tie.Need-same-length-3 Inv-loop μ-loop
-same-length-3 c = ?
+same-length-3 c = c .before .loop .inv .puts .long .l
 
--- src/fill.rt:117:1
 same-length-4 : tie.Need-same-length-4 Inv-loop μ-loop
-same-length-4 c = ?
+same-length-4 c = c .before .loop .inv .puts .long .b
 
--- src/fill.rt:117:1
 returns : tie.Need-returns Inv-loop μ-loop
-returns c = ?
+returns c = let a = c .before .before .before .before .before .before .before .before .args in let l = c .before .loop in placing-end (a .start) (now (a .part)) (now (a .sizes)) (now (a .ids)) (now (a .ready)) (now (a .mark)) (a .first) (a .from) (now (a .slots)) (now (a .chunks)) (now (a .layers)) (now (a .bytes)) (c .before .before .before .before .before .before .before .before .pre) (l .slots) (l .chunks) (l .layers) (l .bytes) (l .at) (l .q) (l .inv) (c .loop-test .left)
 
 pub put-all-spec : {M : Type 1} → statement M
 put-all-spec =

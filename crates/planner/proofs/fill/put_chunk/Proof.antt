@@ -1,75 +1,79 @@
+-- `put_chunk` meets its contract: the layers below n are placed.
+use mathlib.Core.Path.{sym, _∙_}
+use Prim.Native.Nat.{_-_}
+use native.Mathlib.Omega.{arith}
+use borrow.Author.Needs.{needs}
+use denote.Ref.{now}
+use Rattle.planner.specs.Listing.{levelOf}
+use Rattle.planner.proofs.Chunks.{Layering, layering-start, layering-end, below-level, layer-room, layer-some, layer-fits, layering-more}
 use Rattle.planner.proofs.fill.put_chunk.Statement.{statement}
 use Rattle.planner.proofs.fill.put_chunk.Tie as tie
-use Rattle.planner.proofs.fill.put_chunk.Reads as reads
-use Rattle.planner.proofs.fill.put_chunk.Lts as lts
-use Rattle.fetch.proofs.has.Reads as has-reads
-use Rattle.job.proofs.size_of.Reads as size-of-reads
-use Rattle.planner.proofs.fill.begin.Reads as begin-reads
-use Rattle.planner.proofs.fill.put_piece.Reads as put-piece-reads
 
 abbrev Inv-loop : tie.InvT-loop
-Inv-loop part start sizes ready chunk mark slots₀ chunks₀ layers₀ bytes₀ at₀ n₀ slots chunks layers bytes at n =
-    ?
+Inv-loop part start sizes ready chunk mark slots₀ chunks₀ layers₀ bytes₀ at₀ n₀ slots chunks layers bytes at n = Layering start part sizes chunk ready mark at₀ slots₀ chunks₀ layers₀ bytes₀ slots chunks layers bytes at n
 
 abbrev μ-loop : tie.MeasureT-loop
-μ-loop part start sizes ready chunk mark slots₀ chunks₀ layers₀ bytes₀ at₀ n₀ slots chunks layers bytes at n =
-    ?
+μ-loop part start sizes ready chunk mark slots₀ chunks₀ layers₀ bytes₀ at₀ n₀ slots chunks layers bytes at n = levelOf mark - n
 
--- src/fill.rt:109:9
 begin-requires : tie.Need-begin-requires Inv-loop μ-loop
-begin-requires c κs = ?
+begin-requires c κs = let o = c .before .before .before .before .before .before .pre in (o .room .part-in, o .room .low, o .by)
 
--- src/fill.rt:111:5
 loop-holds : tie.Need-loop-holds Inv-loop μ-loop
-loop-holds c = ?
+loop-holds c = let a = c .before .before .before .before .before .before .before .args in layering-start (a .start) (now (a .part)) (now (a .sizes)) (a .chunk) (a .ready) (a .mark) (a .from) (now (a .slots)) (now (a .chunks)) (now (a .layers)) (now (a .bytes)) (c .before .before .before .before .before .before .before .pre) (c .begin .result) (c .begin .ensures)
 
--- src/fill.rt:111:11
 has-requires : tie.Need-has-requires Inv-loop μ-loop
-has-requires c κs = ?
+has-requires c κs = search needs
 
--- src/fill.rt:112:44
 cast-size-of : tie.Need-cast-size-of Inv-loop μ-loop
-cast-size-of c = ?
+cast-size-of c = omega arith
 
--- src/fill.rt:112:13
 size-of-requires : tie.Need-size-of-requires Inv-loop μ-loop
-size-of-requires c κs = ?
+size-of-requires c κs = search needs
 
--- src/fill.rt:113:9
 put-piece-requires : tie.Need-put-piece-requires Inv-loop μ-loop
-put-piece-requires c κs = ?
+put-piece-requires c κs =
+    let a = c .before .before .before .before .before .before .before .before .before .before .before .before .before .before .before .args in
+    let l = c .before .before .before .before .before .before .before .loop in
+    let o = c .before .before .before .before .before .before .before .before .before .before .before .before .before .before .before .pre in
+    let b = c .before .before .before .before .before .before .before .before .begin in
+    let e = sym (c .before .before .before .before .before .before .has .ensures) ∙ c .before .before .before .before .before .if1 .taken in
+    rw (c .before .before .before .before .size-of .ensures) (layer-room (a .start) (now (a .part)) (now (a .sizes)) (a .chunk) (a .ready) (a .mark) (a .from) (now (a .slots)) (now (a .chunks)) (now (a .layers)) (now (a .bytes)) o (b .result) (b .ensures) (l .slots) (l .chunks) (l .layers) (l .bytes) (l .at) (l .n) (l .inv) e, layer-some (a .start) (now (a .part)) (now (a .sizes)) (a .chunk) (a .ready) (a .mark) (a .from) (now (a .slots)) (now (a .chunks)) (now (a .layers)) (now (a .bytes)) o (b .result) (b .ensures) (l .slots) (l .chunks) (l .layers) (l .bytes) (l .at) (l .n) (l .inv) e, layer-fits (a .start) (now (a .part)) (now (a .sizes)) (a .chunk) (a .ready) (a .mark) (a .from) (now (a .slots)) (now (a .chunks)) (now (a .layers)) (now (a .bytes)) o (b .result) (b .ensures) (l .slots) (l .chunks) (l .layers) (l .bytes) (l .at) (l .n) (l .inv) e)
 
--- src/fill.rt:114:13
 add-n : tie.Need-add-n Inv-loop μ-loop
-add-n c = ?
+add-n c =
+    let a = c .before .before .before .before .before .before .before .before .before .before .before .before .before .before .before .before .before .before .before .before .before .before .before .before .args in
+    let l = c .before .before .before .before .before .before .before .before .before .before .before .before .before .before .before .before .loop in
+    omega (arith, below-level (a .start) (now (a .part)) (now (a .sizes)) (a .chunk) (a .ready) (a .mark) (a .from) (now (a .slots)) (now (a .chunks)) (now (a .layers)) (now (a .bytes)) (c .before .before .before .before .before .before .before .before .before .before .before .before .before .before .before .before .before .before .before .before .before .before .before .before .pre) (c .before .before .before .before .before .before .before .before .before .before .before .before .before .before .before .before .before .begin .result) (c .before .before .before .before .before .before .before .before .before .before .before .before .before .before .before .before .before .begin .ensures) (l .slots) (l .chunks) (l .layers) (l .bytes) (l .at) (l .n) (l .inv) (sym (c .before .before .before .before .before .before .before .before .before .before .before .before .before .before .before .has .ensures) ∙ c .before .before .before .before .before .before .before .before .before .before .before .before .before .before .if1 .taken), c .before .before .before .before .before .before .before .before .before .before .before .before .before .before .before .before .before .before .before .before .before .before .before .before .pre .levels .high)
 
--- src/fill.rt:111:5
 loop-less : tie.Need-loop-less Inv-loop μ-loop
-loop-less c = ?
+loop-less c =
+    let a = c .before .before .before .before .before .before .before .before .before .before .before .before .before .before .before .before .before .before .before .before .before .before .before .before .args in
+    let l = c .before .before .before .before .before .before .before .before .before .before .before .before .before .before .before .before .loop in
+    omega (arith, below-level (a .start) (now (a .part)) (now (a .sizes)) (a .chunk) (a .ready) (a .mark) (a .from) (now (a .slots)) (now (a .chunks)) (now (a .layers)) (now (a .bytes)) (c .before .before .before .before .before .before .before .before .before .before .before .before .before .before .before .before .before .before .before .before .before .before .before .before .pre) (c .before .before .before .before .before .before .before .before .before .before .before .before .before .before .before .before .before .begin .result) (c .before .before .before .before .before .before .before .before .before .before .before .before .before .before .before .before .before .begin .ensures) (l .slots) (l .chunks) (l .layers) (l .bytes) (l .at) (l .n) (l .inv) (sym (c .before .before .before .before .before .before .before .before .before .before .before .before .before .before .before .has .ensures) ∙ c .before .before .before .before .before .before .before .before .before .before .before .before .before .before .if1 .taken))
 
--- src/fill.rt:111:5
 loop-again : tie.Need-loop-again Inv-loop μ-loop
-loop-again c = ?
+loop-again c =
+    let a = c .before .before .before .before .before .before .before .before .before .before .before .before .before .before .before .before .before .before .before .before .before .before .before .before .args in
+    let l = c .before .before .before .before .before .before .before .before .before .before .before .before .before .before .before .before .loop in
+    layering-more (a .start) (now (a .part)) (now (a .sizes)) (a .chunk) (a .ready) (a .mark) (a .from) (now (a .slots)) (now (a .chunks)) (now (a .layers)) (now (a .bytes)) (c .before .before .before .before .before .before .before .before .before .before .before .before .before .before .before .before .before .before .before .before .before .before .before .before .pre) (c .before .before .before .before .before .before .before .before .before .before .before .before .before .before .before .before .before .begin .result) (c .before .before .before .before .before .before .before .before .before .before .before .before .before .before .before .before .before .begin .ensures) (l .slots) (l .chunks) (l .layers) (l .bytes) (l .at) (l .n) (l .inv) (sym (c .before .before .before .before .before .before .before .before .before .before .before .before .before .before .before .has .ensures) ∙ c .before .before .before .before .before .before .before .before .before .before .before .before .before .before .if1 .taken) _ _ _ _ _ (rw (c .before .before .before .before .before .before .before .before .before .before .before .before .before .size-of .ensures) at (c .before .before .before .before .before .before .before .before .put-piece .ensures))
 
--- src/fill.rt:93:1
 same-length : tie.Need-same-length Inv-loop μ-loop
-same-length c = ?
+same-length c = c .before .before .loop .inv .puts .long .s
 
--- src/fill.rt:93:1
 same-length-2 : tie.Need-same-length-2 Inv-loop μ-loop
-same-length-2 c = ?
+same-length-2 c = c .before .before .loop .inv .puts .long .c
 
--- src/fill.rt:93:1
 same-length-3 : tie.Need-same-length-3 Inv-loop μ-loop
-same-length-3 c = ?
+same-length-3 c = c .before .before .loop .inv .puts .long .l
 
--- src/fill.rt:93:1
 same-length-4 : tie.Need-same-length-4 Inv-loop μ-loop
-same-length-4 c = ?
+same-length-4 c = c .before .before .loop .inv .puts .long .b
 
--- src/fill.rt:93:1
 returns : tie.Need-returns Inv-loop μ-loop
-returns c = ?
+returns c =
+    let a = c .before .before .before .before .before .before .before .before .before .before .args in
+    let l = c .before .before .loop in
+    layering-end (a .start) (now (a .part)) (now (a .sizes)) (a .chunk) (a .ready) (a .mark) (a .from) (now (a .slots)) (now (a .chunks)) (now (a .layers)) (now (a .bytes)) (c .before .before .before .before .before .before .before .before .before .before .pre) (c .before .before .before .begin .result) (c .before .before .before .begin .ensures) (l .slots) (l .chunks) (l .layers) (l .bytes) (l .at) (l .n) (l .inv) (sym (c .before .has .ensures) ∙ c .if1 .left)
 
 pub put-chunk-spec : {M : Type 1} → statement M
 put-chunk-spec =
