@@ -8,3 +8,5 @@ pub mod Decided
 pub mod Over
 pub mod Pieces
 pub mod Chunks
+pub mod Marks
+pub mod PlanRows

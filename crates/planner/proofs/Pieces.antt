@@ -14,8 +14,8 @@ use Rattle.fetch.specs.Rows.{Row}
 use Rattle.schedule.specs.Fill.{Piece, Out, row, less, take-slot, fill}
 use Rattle.planner.specs.declared.fill.At.{At}
 use Rattle.planner.specs.Decision.{at, padded, leftAfter, Part}
-use Rattle.planner.specs.Lent.{over}
-use Rattle.planner.specs.Listing.{rowSlot, rowChunk, rowLayer, rowBytes, lastOf, bytesAt, leftAt, onward, Made, Same, Goes, Room, piece, PutsOne, begun}
+use Rattle.planner.specs.Lent.{over, rowSlot, rowChunk, rowLayer, rowBytes}
+use Rattle.planner.specs.Listing.{lastOf, bytesAt, leftAt, onward, Made, Same, Goes, Room, piece, PutsOne, begun}
 use Rattle.planner.proofs.Over.{length-snoc, stored}
 use Rattle.planner.proofs.Sums.{left-none, left-step, padded-long, padded-at}
 

@@ -16,19 +16,7 @@ use Rattle.schedule.specs.Queue.{pieces}
 use Rattle.schedule.specs.Trials.{levelMark}
 use Rattle.planner.specs.declared.fill.At.{At}
 use Rattle.planner.specs.Decision.{at, padded, leftAfter, Part}
-use Rattle.planner.specs.Lent.{over}
-
-abbrev pub rowSlot : Row → ℕ
-rowSlot x = x .slot
-
-abbrev pub rowChunk : Row → ℕ
-rowChunk x = x .chunk
-
-abbrev pub rowLayer : Row → ℕ
-rowLayer x = x .layer
-
-abbrev pub rowBytes : Row → ℕ
-rowBytes x = x .bytes
+use Rattle.planner.specs.Lent.{over, rowSlot, rowChunk, rowLayer, rowBytes}
 
 -- The last slot of a part of the forecast that starts at slot start, and the bytes of slot t.
 abbrev pub lastOf : ℕ → List ℕ → ℕ
