@@ -10,3 +10,4 @@ pub mod Pieces
 pub mod Chunks
 pub mod Marks
 pub mod PlanRows
+pub mod Handing

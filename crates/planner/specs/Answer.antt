@@ -18,7 +18,7 @@ use Rattle.planner.specs.declared.Answer.{Answer}
 use Rattle.planner.specs.declared.Answer.the-variants.{Rows, Refused}
 use Rattle.planner.specs.declared.Order.{Order}
 use Rattle.planner.specs.declared.Order.the-variants.{Less, Same, More}
-use Rattle.planner.specs.declared.Plan.{Plan}
+use Rattle.planner.specs.declared.Planned.{Planned}
 use Rattle.planner.specs.Lent.{over, rowSlot, rowChunk, rowLayer, rowBytes}
 
 -- The plan's own list.
@@ -64,7 +64,7 @@ lentOf marks slots chunks layers bytes =
     record { marks = length marks; slots = length slots; chunks = length chunks; layers = length layers; bytes = length bytes }
 
 -- What a call of the planner hands over, and what it leaves in the lent slices.
-pub record Planned (j : Job) (marks slots chunks layers bytes : List ℕ) (r : Plan) (marks' slots' chunks' layers' bytes' : List ℕ) : Type 0 where
+pub record Handed (j : Job) (marks slots chunks layers bytes : List ℕ) (r : Planned) (marks' slots' chunks' layers' bytes' : List ℕ) : Type 0 where
   pub answer : r .answer ≡ answerOf j (lentOf marks slots chunks layers bytes)
   pub counts : r .counts ≡ countsHanded j (lentOf marks slots chunks layers bytes)
   pub marks-are : marks' ≡ lentAfter j (lentOf marks slots chunks layers bytes) (marksOf j (plan j)) marks
@@ -72,11 +72,15 @@ pub record Planned (j : Job) (marks slots chunks layers bytes : List ℕ) (r : P
   pub chunks-are : chunks' ≡ lentAfter j (lentOf marks slots chunks layers bytes) (map rowChunk (planRows j)) chunks
   pub layers-are : layers' ≡ lentAfter j (lentOf marks slots chunks layers bytes) (map rowLayer (planRows j)) layers
   pub bytes-are : bytes' ≡ lentAfter j (lentOf marks slots chunks layers bytes) (map rowBytes (planRows j)) bytes
-  -- "The plan carries a layer of a chunk if and only if, beside the layers already settled, some fetch list in playing order still
-  -- keeps them all."
-  pub is-plan : refusal j ≡ 0 → IsPlan j (plan j)
-  -- Demand 3: "Take any accepted job of equal chunks".
-  pub best : refusal j ≡ 0 → EqualChunks j → Best j (plan j) (planRows j)
+
+-- "The plan carries a layer of a chunk if and only if, beside the layers already settled, some fetch list in playing order still
+-- keeps them all."
+abbrev pub DecidedByLists : Job → Type 0
+DecidedByLists j = refusal j ≡ 0 → IsPlan j (plan j)
+
+-- Demand 3: "Take any accepted job of equal chunks, whatever its layer sizes, forecast, deadlines and buffer limit."
+abbrev pub BestOfLists : Job → Type 0
+BestOfLists j = refusal j ≡ 0 → EqualChunks j → Best j (plan j) (planRows j)
 
 -- Counts "compared entry by entry from the base": at the first entry where they differ.
 abbrev pub compared : List ℕ → List ℕ → Order

@@ -9,8 +9,7 @@ use Rattle.job.specs.Job.{Job, Accepted, chunks}
 use Rattle.fetch.specs.Marks.{bit}
 use Rattle.schedule.specs.Plan.{plan}
 use Rattle.schedule.specs.Statement.{countsOf, marksOf}
-use Rattle.planner.specs.declared.Answer.the-variants.{Rows}
-use Rattle.planner.specs.declared.Plan.{Plan}
+use Rattle.planner.specs.declared.Filled.{Filled}
 use Rattle.planner.specs.Answer.{planRows}
 use Rattle.planner.specs.Lent.{over, rowSlot, rowChunk, rowLayer, rowBytes}
 
@@ -35,8 +34,8 @@ pub record LaidFrom (j : Job) (marks slots cs layers bytes : List ℕ) : Type 0 
   pub bytes-fit : 5599 ≤ length bytes
 
 -- The plan in the slices.
-pub record Laid (j : Job) (marks slots cs layers bytes : List ℕ) (r : Plan) (marks' slots' cs' layers' bytes' : List ℕ) : Type 0 where
-  pub answer : r .answer ≡ Rows (length (planRows j))
+pub record Laid (j : Job) (marks slots cs layers bytes : List ℕ) (r : Filled) (marks' slots' cs' layers' bytes' : List ℕ) : Type 0 where
+  pub rows : r .rows ≡ length (planRows j)
   pub counts : r .counts ≡ countsOf j (plan j)
   pub marks-are : marks' ≡ over (marksOf j (plan j)) marks
   pub slots-are : slots' ≡ over (map rowSlot (planRows j)) slots

@@ -6,12 +6,13 @@ use job::Programme;
 ghost use mathlib.Core.Path.{_≡_};
 ghost use mathlib.Core.List.{[], _∷_};
 ghost use Prim.Native.Nat.{ℕ, _+_, _≤_};
-ghost use lib.ListN.{length, getD, drop};
-ghost use lib.Dec.{eqb};
+ghost use lib.ListN.{length, getD, take, drop};
+ghost use lib.Dec.{leb, eqb};
+ghost use mathlib.Core.Bool.{_&&_};
 ghost use Rattle.basics.specs.Lists.{upTo};
-ghost use Rattle.job.specs.Job.{jobOf};
+ghost use Rattle.job.specs.Job.{Accepted, jobOf};
 ghost use Rattle.schedule.specs.Ascending.{Asc};
-ghost use Rattle.planner.specs.Answer.{Planned, compared};
+ghost use Rattle.planner.specs.Answer.{Handed, DecidedByLists, BestOfLists, compared};
 ghost use Rattle.planner.specs.Handing.{carriedIn, markIn, LaidFrom, Laid};
 ghost use Rattle.planner.specs.Lent.{over};
 
@@ -22,8 +23,14 @@ pub enum Answer {
 }
 
 // The answer, and how many chunks carry each layer.
-pub struct Plan {
+pub struct Planned {
     pub answer: Answer,
+    pub counts: [u16; 4],
+}
+
+// The rows made of a plan, and its counts.
+pub struct Filled {
+    pub rows: usize,
     pub counts: [u16; 4],
 }
 
@@ -50,12 +57,22 @@ pub fn compare(a: [u16; 4], b: [u16; 4]) -> Order
     Order::Same
 }
 
-fn refused(n: u8) -> Plan
+fn refused(n: u8) -> Planned
     ensures { λ r. ⌜ (r .answer ≡ Answer.Refused n) × (r .counts ≡ 0 ∷ 0 ∷ 0 ∷ 0 ∷ []) ⌝ }
 {
-    Plan {
+    Planned {
         answer: Answer::Refused(n),
         counts: [0u16; 4],
+    }
+}
+
+fn handed(made: Filled) -> Planned
+    ensures { λ r. ⌜ (r .answer ≡ Answer.Rows (made .rows)) × (r .counts ≡ made .counts) ⌝ }
+{
+    let counts = made.counts;
+    Planned {
+        answer: Answer::Rows(made.rows),
+        counts,
     }
 }
 
@@ -136,7 +153,7 @@ fn lay_out(
     chunks: &mut [u16],
     layers: &mut [u8],
     bytes: &mut [u32],
-) -> Plan
+) -> Filled
     requires { ⌜ LaidFrom (jobOf p (now sizes) (now forecast)) (now marks) (now slots) (now chunks) (now layers) (now bytes) ⌝ }
     ensures { λ r. ⌜ Laid (jobOf p (now (sizes .entry)) (now (forecast .entry))) (now (marks .entry)) (now (slots .entry)) (now (chunks .entry)) (now (layers .entry)) (now (bytes .entry)) r (now (marks .exit)) (now (slots .exit)) (now (chunks .exit)) (now (layers .exit)) (now (bytes .exit)) ⌝ }
 {
@@ -172,8 +189,130 @@ fn lay_out(
     );
     spread(&ids, &mark, first, count, marks);
     let counts = count_layers(&marks[..count]);
-    Plan {
-        answer: Answer::Rows(end.n),
+    Filled {
+        rows: end.n,
         counts,
+    }
+}
+
+fn copy8(from: &[u8], n: usize, to: &mut [u8])
+    requires { ⌜ (n ≤ length (now from)) × (n ≤ length (now to)) ⌝ }
+    ensures { λ _. ⌜ now (to .exit) ≡ over (take n (now (from .entry))) (now (to .entry)) ⌝ }
+{
+    let mut i: usize = 0;
+    while i < n {
+        to[i] = from[i];
+        i = i + 1;
+    }
+}
+
+fn copy16(from: &[u16], n: usize, to: &mut [u16])
+    requires { ⌜ (n ≤ length (now from)) × (n ≤ length (now to)) ⌝ }
+    ensures { λ _. ⌜ now (to .exit) ≡ over (take n (now (from .entry))) (now (to .entry)) ⌝ }
+{
+    let mut i: usize = 0;
+    while i < n {
+        to[i] = from[i];
+        i = i + 1;
+    }
+}
+
+fn copy32(from: &[u32], n: usize, to: &mut [u32])
+    requires { ⌜ (n ≤ length (now from)) × (n ≤ length (now to)) ⌝ }
+    ensures { λ _. ⌜ now (to .exit) ≡ over (take n (now (from .entry))) (now (to .entry)) ⌝ }
+{
+    let mut i: usize = 0;
+    while i < n {
+        to[i] = from[i];
+        i = i + 1;
+    }
+}
+
+// Whether each of four lengths is at least n.
+fn all_hold(n: usize, a: usize, b: usize, c: usize, d: usize) -> bool
+    ensures { λ r. ⌜ r ≡ leb n a && (leb n b && (leb n c && leb n d)) ⌝ }
+{
+    if a < n {
+        return false;
+    }
+    if b < n {
+        return false;
+    }
+    if c < n {
+        return false;
+    }
+    n <= d
+}
+
+// The plan of an accepted job into rows that may be too short: laid out aside, and copied if it fits whole.
+fn lay_tight(
+    p: Programme,
+    sizes: &[u32],
+    forecast: &[u32],
+    marks: &mut [u8],
+    slots: &mut [u16],
+    chunks: &mut [u16],
+    layers: &mut [u8],
+    bytes: &mut [u32],
+) -> Planned
+    requires { ⌜ Accepted (jobOf p (now sizes) (now forecast)) × (p .chunks ≤ length (now marks)) ⌝ }
+    ensures { λ r. ⌜ Handed (jobOf p (now (sizes .entry)) (now (forecast .entry))) (now (marks .entry)) (now (slots .entry)) (now (chunks .entry)) (now (layers .entry)) (now (bytes .entry)) r (now (marks .exit)) (now (slots .exit)) (now (chunks .exit)) (now (layers .exit)) (now (bytes .exit)) ⌝ }
+{
+    let mut own_marks = [0u8; 500];
+    let mut own_slots = [0u16; 5599];
+    let mut own_chunks = [0u16; 5599];
+    let mut own_layers = [0u8; 5599];
+    let mut own_bytes = [0u32; 5599];
+    let made = lay_out(
+        p,
+        sizes,
+        forecast,
+        &mut own_marks,
+        &mut own_slots,
+        &mut own_chunks,
+        &mut own_layers,
+        &mut own_bytes,
+    );
+    let n = made.rows;
+    if all_hold(n, slots.len(), chunks.len(), layers.len(), bytes.len()) {
+        let count = p.chunks as usize;
+        copy8(&own_marks, count, marks);
+        copy16(&own_slots, n, slots);
+        copy16(&own_chunks, n, chunks);
+        copy8(&own_layers, n, layers);
+        copy32(&own_bytes, n, bytes);
+        handed(made)
+    } else {
+        refused(11)
+    }
+}
+
+// The plan of a job into lent marks, one a chunk, and rows: by slot, chunk, layer. Refusals 5, 6, 7, then 11 where a slice is shorter than
+// the plan; a refusal writes nothing.
+pub fn plan(
+    p: Programme,
+    sizes: &[u32],
+    forecast: &[u32],
+    marks: &mut [u8],
+    slots: &mut [u16],
+    chunks: &mut [u16],
+    layers: &mut [u8],
+    bytes: &mut [u32],
+) -> Planned
+    ensures handed { λ r. ⌜ Handed (jobOf p (now (sizes .entry)) (now (forecast .entry))) (now (marks .entry)) (now (slots .entry)) (now (chunks .entry)) (now (layers .entry)) (now (bytes .entry)) r (now (marks .exit)) (now (slots .exit)) (now (chunks .exit)) (now (layers .exit)) (now (bytes .exit)) ⌝ }
+    ensures decided { λ _. ⌜ DecidedByLists (jobOf p (now (sizes .entry)) (now (forecast .entry))) ⌝ }
+    ensures best { λ _. ⌜ BestOfLists (jobOf p (now (sizes .entry)) (now (forecast .entry))) ⌝ }
+{
+    let no = job::refusal(p, sizes, forecast);
+    if 0 < no {
+        return refused(no);
+    }
+    if marks.len() < p.chunks as usize {
+        return refused(11);
+    }
+    if all_hold(5599, slots.len(), chunks.len(), layers.len(), bytes.len()) {
+        handed(lay_out(p, sizes, forecast, marks, slots, chunks, layers, bytes))
+    } else {
+        lay_tight(p, sizes, forecast, marks, slots, chunks, layers, bytes)
     }
 }

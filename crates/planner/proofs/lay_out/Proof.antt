@@ -11,7 +11,6 @@ use Rattle.job.specs.Job.{jobOf, chunks}
 use Rattle.schedule.specs.Plan.{plan}
 use Rattle.planner.specs.Handing.{carriedIn}
 use Rattle.planner.proofs.PlanRows.{decide-from, all-from, listed, ascending, laid-marks, laid-long, laid-front, laid-front-long, counts-are}
-use Rattle.planner.specs.declared.Answer.the-variants.{Rows}
 use Rattle.planner.proofs.lay_out.Statement.{statement}
 use Rattle.planner.proofs.lay_out.Tie as tie
 
@@ -62,7 +61,7 @@ returns c =
     let e = c .before .before .before .before .spread .ensures in
     let l = listed (a .p) (now (a .sizes)) (now (a .forecast)) (o .accepted) _ _ _ _ d _ (now (a .slots)) (now (a .chunks)) (now (a .layers)) (now (a .bytes)) _ _ _ _ _ (c .before .before .before .before .before .before .before .before .before .before .before .before .before .before .before .before .put-all .ensures) in
     record {
-      answer = ap Rows (l .counted);
+      rows = l .counted;
       counts = c .count-layers .ensures ∙ ap (λ (m : List ℕ). upTo (λ n. carriedIn n m) 4) (laid-front (a .p) (now (a .sizes)) (now (a .forecast)) (o .accepted) _ _ _ _ d (now (a .marks)) _ (o .marks-fit) e) ∙ counts-are (jobOf (a .p) (now (a .sizes)) (now (a .forecast)));
       marks-are = laid-marks (a .p) (now (a .sizes)) (now (a .forecast)) (o .accepted) _ _ _ _ d (now (a .marks)) _ (o .marks-fit) e;
       slots-are = l .slots;
