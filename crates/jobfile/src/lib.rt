@@ -1,4 +1,5 @@
-// Job files: reader and writer. Document 01, "Records on file".
+// Job files, document 01, "Records on file": a reader of any byte string and a writer of any job, into lent buffers that a refusal
+// leaves as they are. A record is read, judged and taken a turn; sizes and slots stand in tables until every refusal has been ruled out.
 ghost use mathlib.Core.Path.{_≡_};
 ghost use Prim.Native.Nat.{_+_, _≤_, _<_};
 ghost use mathlib.Core.List.{_++_, map};
@@ -287,6 +288,24 @@ fn one_turn(file: &[u8], at: usize, j: Sofar, sizes: &mut [u32], slots: &mut [u3
     Turn::On(take_record(j, record, sizes, slots), next)
 }
 
+// The state before any record.
+fn nothing() -> Sofar
+    ensures { λ r. ⌜ r ≡ noRecords ⌝ }
+{
+    let programme = Programme {
+        chunks: 0,
+        span: 0,
+        delay: 0,
+        limit: 0,
+    };
+    Sofar {
+        seen: false,
+        programme,
+        layers: 0,
+        slots: 0,
+    }
+}
+
 // Every record, one a turn.
 fn read_all(file: &[u8], sizes: &mut [u32], slots: &mut [u32]) -> Ending
     requires { ⌜ (length (now sizes) ≡ 4) × (length (now slots) ≡ 3600) ⌝ }
@@ -302,23 +321,6 @@ fn read_all(file: &[u8], sizes: &mut [u32], slots: &mut [u32]) -> Ending
             }
             Turn::Over(end) => return end,
         }
-    }
-}
-
-fn nothing() -> Sofar
-    ensures { λ r. ⌜ r ≡ noRecords ⌝ }
-{
-    let programme = Programme {
-        chunks: 0,
-        span: 0,
-        delay: 0,
-        limit: 0,
-    };
-    Sofar {
-        seen: false,
-        programme,
-        layers: 0,
-        slots: 0,
     }
 }
 

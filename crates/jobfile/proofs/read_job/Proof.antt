@@ -4,6 +4,7 @@ use Rattle.jobfile.proofs.read_job.Statement.{statement}
 use Rattle.jobfile.proofs.read_job.Tie as tie
 use mathlib.Core.Path.{sym, ap, _∙_}
 use Prim.Native.Nat.{ℕ}
+use native.Mathlib.Omega.{arith}
 use denote.Ref.{now}
 use Rattle.jobfile.specs.declared.Ending.the-variants.{Broken}
 use Rattle.jobfile.specs.Reading.{endRefusalOf}
@@ -12,7 +13,7 @@ use Rattle.jobfile.proofs.Answers.{handed-long, handed-broken, handed-f
 returns : tie.Need-returns
 returns c =
     let a = c .before .before .before .before .args in
-    let h = handed-long (now (a .file)) (now (a .sizes)) (now (a .forecast)) (c .if1 .taken) in
+    let h = handed-long (now (a .file)) (now (a .sizes)) (now (a .forecast)) (omega arith) in
     (h .answer, (h .sizes, h .forecast))
 
 slice-aggregate-read-all : tie.Need-slice-aggregate-read-all
@@ -38,7 +39,7 @@ returns-2 c =
     let a = c .before .before .before .before .before .before .before .before .before .before .before .before .args in
     let told = c .before .enum-told .given .1 in
     let same = c .refusal-at .ensures ∙ ap endRefusalOf told in
-    let h = handed-broken (now (a .file)) (now (a .sizes)) (now (a .forecast)) (c .before .before .before .before .before .before .before .before .if1 .left) (c .before .before .before .before .before .read-all .result) _ _ (c .refusal-at .result) (c .before .before .before .before .before .read-all .ensures) (told ∙ ap (λ (n : ℕ). Broken n) (sym same)) in
+    let h = handed-broken (now (a .file)) (now (a .sizes)) (now (a .forecast)) (omega arith) (c .before .before .before .before .before .read-all .result) _ _ (c .refusal-at .result) (c .before .before .before .before .before .read-all .ensures) (told ∙ ap (λ (n : ℕ). Broken n) (sym same)) in
     (h .answer, (h .sizes, h .forecast))
 
 returns-3 : tie.Need-returns-3

@@ -34,7 +34,7 @@ shared-slice-read-if1 : tie.Need-shared-slice-read-if1 Inv-loop μ-loop
 shared-slice-read-if1 c = omega arith
 
 returns : tie.Need-returns Inv-loop μ-loop
-returns c = omega (arith, c .before .before .before .loop .inv .2, lead-stop (getD (now (c .before .before .before .before .before .args .forecast)) (c .before .before .before .before .before .args .from) 0) (now (c .before .before .before .before .before .args .forecast)) (c .before .before .before .loop .end) (c .before .before .loop-test .taken) (c .if1 .taken))
+returns c = omega (arith, c .before .before .before .loop .inv .2, lead-stop (getD (now (c .before .before .before .before .before .args .forecast)) (c .before .before .before .before .before .args .from) 0) (now (c .before .before .before .before .before .args .forecast)) (c .before .before .before .loop .end) (omega arith) (c .if1 .taken))
 
 add-end-2 : tie.Need-add-end-2 Inv-loop μ-loop
 add-end-2 c = omega arith
@@ -43,10 +43,10 @@ loop-less : tie.Need-loop-less Inv-loop μ-loop
 loop-less c = omega arith
 
 loop-again : tie.Need-loop-again Inv-loop μ-loop
-loop-again c = (omega arith, omega arith, omega (arith, c .before .before .before .loop .inv .2, lead-more (getD (now (c .before .before .before .before .before .args .forecast)) (c .before .before .before .before .before .args .from) 0) (now (c .before .before .before .before .before .args .forecast)) (c .before .before .before .loop .end) (c .before .before .loop-test .taken) (c .if1 .left)))
+loop-again c = (omega arith, omega arith, omega (arith, c .before .before .before .loop .inv .2, lead-more (getD (now (c .before .before .before .before .before .args .forecast)) (c .before .before .before .before .before .args .from) 0) (now (c .before .before .before .before .before .args .forecast)) (c .before .before .before .loop .end) (omega arith) (c .if1 .left)))
 
 returns-2 : tie.Need-returns-2 Inv-loop μ-loop
-returns-2 c = omega (arith, c .before .loop .inv .2, lead-end (getD (now (c .before .before .before .args .forecast)) (c .before .before .before .args .from) 0) (now (c .before .before .before .args .forecast)) (c .before .loop .end) (c .loop-test .left))
+returns-2 c = omega (arith, c .before .loop .inv .2, lead-end (getD (now (c .before .before .before .args .forecast)) (c .before .before .before .args .from) 0) (now (c .before .before .before .args .forecast)) (c .before .loop .end) (omega arith))
 
 pub run-end-spec : {M : Type 1} → statement M
 run-end-spec =
