@@ -12,16 +12,9 @@ fn note(tally: &mut [u64], clause: usize, kept: bool) {
 }
 
 // A table that keeps rules 4 and 5, weighed if it passes.
-pub fn weigh(
-    p: Programme,
-    sizes: &[u32],
-    plan: &[u8],
-    table: &[u32],
-    lacking: &[u32],
-    tally: &mut [u64],
-) {
+pub fn weigh(p: Programme, sizes: &[u32], plan: &[u8], table: &[u32], tally: &mut [u64]) {
     let mut list = [0u8; 3];
-    if lists::read_marks(p, sizes, lacking, &mut list) {
+    if lists::read_marks(p, sizes, table, &mut list) {
         if lists::passes(p, &list, table) {
             tally::add(tally, tally::LISTS, 1);
             any_order(plan, &list, tally);

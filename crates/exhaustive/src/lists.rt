@@ -1,6 +1,7 @@
 // A fetch list as a table, and what document 01 asks of it. Slots and chunks are counted from 0 here: slot t is the paper's slot t + 1,
 // chunk i its chunk i + 1. Lists that only split or repeat rows otherwise are one table: rules 1 to 6 and playing order speak of
-// sums and of first slots.
+// sums and of first slots. A table has 34 numbers: the bytes in each cell (slot, chunk, layer), the bytes that each slot has left, the bytes
+// that each layer of each chunk lacks.
 use job::Programme;
 ghost use Prim.Native.Nat.{_≤_};
 
@@ -24,14 +25,16 @@ pub fn put(s: &mut [u32], k: usize, v: u32) {
     }
 }
 
-// Where the bytes that layer n of chunk i lacks stand.
-pub fn layer_at(i: u16, n: u16) -> usize {
-    2 * (i as usize) + (n as usize)
-}
-
-// Where the bytes of layer n of chunk i in slot t stand.
 fn cell_at(t: u16, i: u16, n: u16) -> usize {
     6 * (t as usize) + 2 * (i as usize) + (n as usize)
+}
+
+pub fn slot_at(t: u16) -> usize {
+    24 + (t as usize)
+}
+
+pub fn layer_at(i: u16, n: u16) -> usize {
+    28 + 2 * (i as usize) + (n as usize)
 }
 
 // The job's layers, of at most LAYERS.
@@ -195,8 +198,8 @@ pub fn in_order(p: Programme, marks: &[u8], table: &[u32]) -> bool {
 }
 
 // Marks a layer that lacks nothing; false for rule 2, if it has some of its bytes and not all.
-fn read_layer(sizes: &[u32], lacking: &[u32], i: u16, n: u16, marks: &mut [u8]) -> bool {
-    let left = at(lacking, layer_at(i, n));
+fn read_layer(sizes: &[u32], table: &[u32], i: u16, n: u16, marks: &mut [u8]) -> bool {
+    let left = at(table, layer_at(i, n));
     if left == 0 {
         mark(marks, i, n);
         return true;
@@ -204,11 +207,11 @@ fn read_layer(sizes: &[u32], lacking: &[u32], i: u16, n: u16, marks: &mut [u8]) 
     left == at(sizes, n as usize)
 }
 
-fn read_chunk(sizes: &[u32], lacking: &[u32], i: u16, marks: &mut [u8]) -> bool {
+fn read_chunk(sizes: &[u32], table: &[u32], i: u16, marks: &mut [u8]) -> bool {
     let count = layers(sizes);
     let mut n: u16 = 0;
     while n < count {
-        if !read_layer(sizes, lacking, i, n, marks) {
+        if !read_layer(sizes, table, i, n, marks) {
             return false;
         }
         n = n + 1;
@@ -217,10 +220,10 @@ fn read_chunk(sizes: &[u32], lacking: &[u32], i: u16, marks: &mut [u8]) -> bool 
 }
 
 // Rule 2, and the marks of a list by what its layers lack.
-pub fn read_marks(p: Programme, sizes: &[u32], lacking: &[u32], marks: &mut [u8]) -> bool {
+pub fn read_marks(p: Programme, sizes: &[u32], table: &[u32], marks: &mut [u8]) -> bool {
     let mut i: u16 = 0;
     while i < p.chunks {
-        if !read_chunk(sizes, lacking, i, marks) {
+        if !read_chunk(sizes, table, i, marks) {
             return false;
         }
         i = i + 1;

@@ -3,43 +3,53 @@
 use crate::bounds;
 use crate::lists;
 use job::Programme;
-ghost use Prim.Native.Nat.{_≤_};
 
 const CELLS: u16 = 24;
 
-// The most bytes that a cell may take: what its slot still has (rule 4) and its layer lacks, and none later than its chunk's due slot
-// (rule 5).
-fn most(p: Programme, cell: u16, a: u32, b: u32) -> u32
-    ensures { λ r. ⌜ (r ≤ a) × (r ≤ b) ⌝ }
-{
+// Less by v, and more by 1, where that is a number. In the search it always is.
+fn lower(s: &mut [u32], k: usize, v: u32) {
+    let x = lists::at(s, k);
+    if v <= x {
+        lists::put(s, k, x - v);
+    }
+}
+
+fn raise(s: &mut [u32], k: usize) {
+    let x = lists::at(s, k);
+    if x < 4294967295 {
+        lists::put(s, k, x + 1);
+    }
+}
+
+// The most bytes that a cell may take: what its slot has left (rule 4) and its layer lacks, and none later than its chunk's due slot (rule 5).
+fn most(p: Programme, cell: u16, table: &[u32]) -> u32 {
     if lists::due(p, cell % 6 / 2) <= ((cell / 6) as usize) {
         return 0;
     }
-    if a < b {
-        return a;
+    let left = lists::at(table, lists::slot_at(cell / 6));
+    let lacks = lists::at(table, lists::layer_at(0, cell % 6));
+    if left < lacks {
+        return left;
     }
-    b
+    lacks
 }
 
-// Sets a cell to v bytes, of a that its slot has for it and b that its layer lacks without it.
-fn place(
-    cell: u16,
-    v: u32,
-    a: u32,
-    b: u32,
-    table: &mut [u32],
-    unspent: &mut [u32],
-    lacking: &mut [u32],
-)
-    requires { ⌜ (v ≤ a) × (v ≤ b) ⌝ }
-{
+// Takes v bytes into an empty cell.
+fn take(cell: u16, v: u32, table: &mut [u32]) {
     lists::put(table, cell as usize, v);
-    lists::put(unspent, (cell / 6) as usize, a - v);
-    lists::put(lacking, (cell % 6) as usize, b - v);
+    lower(table, lists::slot_at(cell / 6), v);
+    lower(table, lists::layer_at(0, cell % 6), v);
 }
 
-// Puts each number of bytes that it may take into each of the first cells of the table, and judges each table once it is whole. `unspent` is
-// what the slots still have, `lacking` what the layers lack. True as soon as a table is accepted.
+// Gives a byte of a cell back.
+fn give_back(cell: u16, table: &mut [u32]) {
+    lower(table, cell as usize, 1);
+    raise(table, lists::slot_at(cell / 6));
+    raise(table, lists::layer_at(0, cell % 6));
+}
+
+// Puts each number of bytes that it may take into each of the first cells of the table, and judges each table once it is whole. True as soon as
+// one is accepted; else the table is as it was.
 fn search(
     p: Programme,
     every: bool,
@@ -47,25 +57,22 @@ fn search(
     marks: &[u8],
     cells: u16,
     table: &mut [u32],
-    unspent: &mut [u32],
-    lacking: &mut [u32],
     tally: &mut [u64],
 ) -> bool {
     if cells == 0 {
-        return judge(p, every, sizes, marks, table, lacking, tally);
+        return judge(p, every, sizes, marks, table, tally);
     }
     let cell = cells - 1;
-    let a = lists::at(unspent, (cell / 6) as usize);
-    let b = lists::at(lacking, (cell % 6) as usize);
-    let mut v = most(p, cell, a, b);
+    let mut v = most(p, cell, table);
+    take(cell, v, table);
     loop {
-        place(cell, v, a, b, table, unspent, lacking);
-        if search(p, every, sizes, marks, cell, table, unspent, lacking, tally) {
+        if search(p, every, sizes, marks, cell, table, tally) {
             return true;
         }
         if v == 0 {
             return false;
         }
+        give_back(cell, table);
         v = v - 1;
     }
 }
@@ -78,14 +85,13 @@ fn judge(
     sizes: &[u32],
     marks: &[u8],
     table: &[u32],
-    lacking: &[u32],
     tally: &mut [u64],
 ) -> bool {
     if every {
-        bounds::weigh(p, sizes, marks, table, lacking, tally);
+        bounds::weigh(p, sizes, marks, table, tally);
         return false;
     }
-    if !none_lacking(lacking) {
+    if !none_lacking(table) {
         return false;
     }
     if lists::passes(p, marks, table) {
@@ -94,10 +100,10 @@ fn judge(
     false
 }
 
-fn none_lacking(lacking: &[u32]) -> bool {
-    let mut k: usize = 0;
-    while k < lacking.len() {
-        if 0 < lacking[k] {
+fn none_lacking(table: &[u32]) -> bool {
+    let mut k = lists::layer_at(0, 0);
+    while k < table.len() {
+        if 0 < table[k] {
             return false;
         }
         k = k + 1;
@@ -105,78 +111,54 @@ fn none_lacking(lacking: &[u32]) -> bool {
     true
 }
 
-fn copy(from: &[u32], to: &mut [u32]) {
-    let mut k: usize = 0;
-    while k < from.len() {
-        lists::put(to, k, from[k]);
-        k = k + 1;
+fn open(forecast: &[u32], table: &mut [u32]) {
+    let mut t: u16 = 0;
+    while t < lists::SLOTS {
+        lists::put(table, lists::slot_at(t), lists::at(forecast, t as usize));
+        t = t + 1;
     }
 }
 
 // What a marked layer lacks while nothing is fetched.
-fn ask_layer(sizes: &[u32], marks: &[u8], i: u16, n: u16, lacking: &mut [u32]) {
+fn ask_layer(sizes: &[u32], marks: &[u8], i: u16, n: u16, table: &mut [u32]) {
     if lists::carries(marks, i, n) {
         let size = lists::at(sizes, n as usize);
-        lists::put(lacking, lists::layer_at(i, n), size);
+        lists::put(table, lists::layer_at(i, n), size);
     }
 }
 
-fn ask_chunk(sizes: &[u32], marks: &[u8], i: u16, lacking: &mut [u32]) {
+fn ask_chunk(sizes: &[u32], marks: &[u8], i: u16, table: &mut [u32]) {
     let mut n: u16 = 0;
     while n < lists::LAYERS {
-        ask_layer(sizes, marks, i, n, lacking);
+        ask_layer(sizes, marks, i, n, table);
         n = n + 1;
     }
 }
 
-fn ask(p: Programme, sizes: &[u32], marks: &[u8], lacking: &mut [u32]) {
+fn ask(p: Programme, sizes: &[u32], marks: &[u8], table: &mut [u32]) {
     let mut i: u16 = 0;
     while i < p.chunks {
-        ask_chunk(sizes, marks, i, lacking);
+        ask_chunk(sizes, marks, i, table);
         i = i + 1;
     }
 }
 
 // Whether some passing list in playing order carries the marked layers and no others.
 fn some_list(p: Programme, sizes: &[u32], forecast: &[u32], marks: &[u8]) -> bool {
-    let mut table = [0u32; 24];
-    let mut unspent = [0u32; 4];
-    let mut lacking = [0u32; 6];
+    let mut table = [0u32; 34];
     let mut tally = [0u64; 1];
-    copy(forecast, &mut unspent);
-    ask(p, sizes, marks, &mut lacking);
-    search(
-        p,
-        false,
-        sizes,
-        marks,
-        CELLS,
-        &mut table,
-        &mut unspent,
-        &mut lacking,
-        &mut tally,
-    )
+    open(forecast, &mut table);
+    ask(p, sizes, marks, &mut table);
+    search(p, false, sizes, marks, CELLS, &mut table, &mut tally)
 }
 
 // Weighs every passing list, in any order, against the plan's marks.
 pub fn every_list(p: Programme, sizes: &[u32], forecast: &[u32], plan: &[u8], tally: &mut [u64]) {
     let all = [3u8; 3];
-    let mut table = [0u32; 24];
-    let mut unspent = [0u32; 4];
-    let mut lacking = [0u32; 6];
-    copy(forecast, &mut unspent);
-    ask(p, sizes, &all, &mut lacking);
-    search(
-        p,
-        true,
-        sizes,
-        plan,
-        CELLS,
-        &mut table,
-        &mut unspent,
-        &mut lacking,
-        tally,
-    );
+    let mut table = [0u32; 34];
+    open(forecast, &mut table);
+    ask(p, sizes, &all, &mut table);
+    search(p, true, sizes, plan, CELLS, &mut table, tally);
 }
 
 // "A chunk that lacks the layer below is passed over. Otherwise the layer is carried exactly if some list in playing order passes that

@@ -8,10 +8,10 @@ use Rattle.exhaustive.proofs.search.ask.Statement.{statement}
 use Rattle.exhaustive.proofs.search.ask.Tie as tie
 
 abbrev Inv-loop : tie.InvT-loop
-Inv-loop p sizes marks lacking₀ i₀ lacking i = (i ≤ p .chunks) × (length lacking ≡ length lacking₀)
+Inv-loop p sizes marks table₀ i₀ table i = (i ≤ p .chunks) × (length table ≡ length table₀)
 
 abbrev μ-loop : tie.MeasureT-loop
-μ-loop p sizes marks lacking₀ i₀ lacking i = p .chunks - i
+μ-loop p sizes marks table₀ i₀ table i = p .chunks - i
 
 loop-holds : tie.Need-loop-holds Inv-loop μ-loop
 loop-holds c = search needs

@@ -8,10 +8,10 @@ use Rattle.exhaustive.proofs.search.ask_chunk.Statement.{statement}
 use Rattle.exhaustive.proofs.search.ask_chunk.Tie as tie
 
 abbrev Inv-loop : tie.InvT-loop
-Inv-loop sizes marks i lacking₀ n₀ lacking n = (n ≤ 2) × (length lacking ≡ length lacking₀)
+Inv-loop sizes marks i table₀ n₀ table n = (n ≤ 2) × (length table ≡ length table₀)
 
 abbrev μ-loop : tie.MeasureT-loop
-μ-loop sizes marks i lacking₀ n₀ lacking n = 2 - n
+μ-loop sizes marks i table₀ n₀ table n = 2 - n
 
 loop-holds : tie.Need-loop-holds Inv-loop μ-loop
 loop-holds c = search needs

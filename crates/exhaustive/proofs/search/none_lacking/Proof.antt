@@ -1,16 +1,19 @@
 -- `exhaustive::search::none_lacking` is safe and ends. Assumes nothing.
 use borrow.Author.Needs.{needs}
 use native.Mathlib.Omega.{arith}
-use Prim.Native.Nat.{_≤_, _-_}
+use Prim.Native.Nat.{_≤_, _-_, zero}
 use lib.ListN.{length}
 use Rattle.exhaustive.proofs.search.none_lacking.Statement.{statement}
 use Rattle.exhaustive.proofs.search.none_lacking.Tie as tie
 
 abbrev Inv-loop : tie.InvT-loop
-Inv-loop lacking k₀ k = k ≤ length lacking
+Inv-loop table k₀ k = zero ≤ k
 
 abbrev μ-loop : tie.MeasureT-loop
-μ-loop lacking k₀ k = length lacking - k
+μ-loop table k₀ k = length table - k
+
+layer-at-requires : tie.Need-layer-at-requires Inv-loop μ-loop
+layer-at-requires c κs = search needs
 
 loop-holds : tie.Need-loop-holds Inv-loop μ-loop
 loop-holds c = search needs
@@ -42,6 +45,7 @@ none-lacking-spec =
     (tie.spec
     Inv-loop
     μ-loop
+    layer-at-requires
     loop-holds
     mul-if1
     shared-slice-read-if1
