@@ -14,20 +14,33 @@ fn note(tally: &mut [u64], clause: usize, kept: bool) {
 // A table that keeps rules 4 and 5, weighed if it passes.
 pub fn weigh(p: Programme, sizes: &[u32], plan: &[u8], table: &[u32], tally: &mut [u64]) {
     let mut list = [0u8; 3];
-    if lists::read_marks(p, sizes, table, &mut list) {
-        if lists::passes(p, &list, table) {
-            tally::add(tally, tally::LISTS, 1);
-            any_order(plan, &list, tally);
-            by_layer(lists::in_order(p, &list, table), sizes, plan, &list, tally);
-            whole(p.chunks <= lists::held_most(p), plan, &list, tally);
-        }
+    if lists::read(p, sizes, table, &mut list) {
+        weigh_list(p, sizes, plan, &list, table, tally);
     }
+}
+
+fn weigh_list(
+    p: Programme,
+    sizes: &[u32],
+    plan: &[u8],
+    list: &[u8],
+    table: &[u32],
+    tally: &mut [u64],
+) {
+    tally::add(tally, tally::LISTS, 1);
+    any_order(plan, list, tally);
+    by_layer(lists::in_order(p, list, table), sizes, plan, list, tally);
+    whole(p.chunks <= lists::held_most(p), plan, list, tally);
+}
+
+fn at_most(plan: &[u8], list: &[u8], n: u16) -> bool {
+    let most = lists::count(plan, n);
+    lists::count(list, n) <= most
 }
 
 // "Every fetch list that passes, in whatever order it fetches, carries the base layer of at most as many chunks as the plan."
 fn any_order(plan: &[u8], list: &[u8], tally: &mut [u64]) {
-    let most = lists::count(plan, 0);
-    note(tally, tally::ANY_ORDER, lists::count(list, 0) <= most);
+    note(tally, tally::ANY_ORDER, at_most(plan, list, 0));
 }
 
 fn carries_base_too(plan: &[u8], list: &[u8]) -> bool {
@@ -46,15 +59,16 @@ fn carries_base_too(plan: &[u8], list: &[u8]) -> bool {
 // "For every layer n, every passing list in playing order that carries all the plan's own layers below n carries layer n for at most as
 // many chunks as the plan."
 fn by_layer(ordered: bool, sizes: &[u32], plan: &[u8], list: &[u8], tally: &mut [u64]) {
-    if !ordered {
-        return;
+    if ordered {
+        note(tally, tally::BY_LAYER, at_most(plan, list, 0));
+        upper_layer(sizes, plan, list, tally);
     }
-    let base = lists::count(plan, 0);
-    note(tally, tally::BY_LAYER, lists::count(list, 0) <= base);
-    if lists::layers(sizes) == 2 {
+}
+
+fn upper_layer(sizes: &[u32], plan: &[u8], list: &[u8], tally: &mut [u64]) {
+    if lists::layers(sizes) == lists::LAYERS {
         if carries_base_too(plan, list) {
-            let upper = lists::count(plan, 1);
-            note(tally, tally::BY_LAYER, lists::count(list, 1) <= upper);
+            note(tally, tally::BY_LAYER, at_most(plan, list, 1));
         }
     }
 }

@@ -219,8 +219,7 @@ fn read_chunk(sizes: &[u32], table: &[u32], i: u16, marks: &mut [u8]) -> bool {
     true
 }
 
-// Rule 2, and the marks of a list by what its layers lack.
-pub fn read_marks(p: Programme, sizes: &[u32], table: &[u32], marks: &mut [u8]) -> bool {
+fn read_chunks(p: Programme, sizes: &[u32], table: &[u32], marks: &mut [u8]) -> bool {
     let mut i: u16 = 0;
     while i < p.chunks {
         if !read_chunk(sizes, table, i, marks) {
@@ -229,4 +228,12 @@ pub fn read_marks(p: Programme, sizes: &[u32], table: &[u32], marks: &mut [u8]) 
         i = i + 1;
     }
     true
+}
+
+// Whether a table passes that keeps rules 4 and 5, and its marks, which are handed blank.
+pub fn read(p: Programme, sizes: &[u32], table: &[u32], marks: &mut [u8]) -> bool {
+    if read_chunks(p, sizes, table, marks) {
+        return passes(p, marks, table);
+    }
+    false
 }

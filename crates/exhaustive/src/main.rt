@@ -27,18 +27,27 @@ fn digit(f: u16) -> u32 {
 
 // The job numbered k, if its forecast has nothing after the last due slot.
 fn one_job(k: u16, tally: &mut [u64]) {
-    let p = programme(k);
-    let shape = k / 48 % 4;
     let f = k / 192;
     let forecast = [digit(f), digit(f / 3), digit(f / 9), digit(f / 27)];
-    let sizes = [1 + (shape % 2) as u32, 1];
+    of_length(k, &forecast, tally);
+}
+
+fn of_length(k: u16, forecast: &[u32], tally: &mut [u64]) {
+    let p = programme(k);
     let slots = lists::due(p, p.chunks - 1);
-    let layers = (1 + shape / 2) as usize;
-    if 4 < slots {
-        return;
+    if slots <= forecast.len() {
+        if none_after(forecast, slots) {
+            of_sizes(p, k / 48 % 4, &forecast[..slots], tally);
+        }
     }
-    if none_after(&forecast, slots) {
-        trial(p, &sizes[..layers], &forecast[..slots], tally);
+}
+
+fn of_sizes(p: Programme, shape: u16, forecast: &[u32], tally: &mut [u64]) {
+    let sizes = [1 + (shape % 2) as u32, 1];
+    if shape < 2 {
+        trial(p, &sizes[..1], forecast, tally);
+    } else {
+        trial(p, &sizes, forecast, tally);
     }
 }
 
@@ -96,7 +105,6 @@ fn differ(a: &[u8], b: &[u8]) -> bool {
     false
 }
 
-// What kind of job it is, beside the forecast's and the limit's smallest cases.
 fn note_job(p: Programme, forecast: &[u32], tally: &mut [u64]) {
     tally::add(tally, tally::JOBS, 1);
     tally::add_if(tally, tally::NONE_HELD, lists::held_most(p) == 0);
@@ -110,12 +118,16 @@ fn note_plan(binding: bool, marks: &[u8], tally: &mut [u64]) {
     tally::add(tally, tally::UPPERS, lists::count(marks, 1));
 }
 
+fn weigh(p: Programme, sizes: &[u32], forecast: &[u32], marks: &[u8], tally: &mut [u64]) {
+    note_job(p, forecast, tally);
+    note_plan(binds(p, sizes, forecast, marks), marks, tally);
+    search::every_list(p, sizes, forecast, marks, tally);
+}
+
 fn trial(p: Programme, sizes: &[u32], forecast: &[u32], tally: &mut [u64]) {
     let mut marks = [0u8; 3];
     search::plan(p, sizes, forecast, &mut marks);
-    note_job(p, forecast, tally);
-    note_plan(binds(p, sizes, forecast, &marks), &marks, tally);
-    search::every_list(p, sizes, forecast, &marks, tally);
+    weigh(p, sizes, forecast, &marks, tally);
 }
 
 fn every_job(tally: &mut [u64]) {
@@ -136,23 +148,27 @@ fn say_jobs(tally: &[u64]) {
     say(b" with H 0 ", tally, tally::NONE_HELD);
     say(b" limit no multiple of L ", tally, tally::UNEVEN);
     say(b" an empty slot ", tally, tally::EMPTY);
+}
+
+fn say_plans(tally: &[u64]) {
     say(b" a binding limit ", tally, tally::BINDING);
     say(b"\nbases ", tally, tally::BASES);
     say(b" layers above ", tally, tally::UPPERS);
+    say(b"\nlists ", tally, tally::LISTS);
 }
 
-fn say_lists(tally: &[u64]) {
-    say(b"\nlists ", tally, tally::LISTS);
+fn say_bounds(tally: &[u64]) {
     say(b" bounds on bases ", tally, tally::ANY_ORDER);
     say(b" by layer ", tally, tally::BY_LAYER);
     say(b" with the whole held ", tally, tally::WHOLE);
     say(b" broken ", tally, tally::BROKEN);
-    io::write_all(STDOUT_FILENO, b"\n");
 }
 
 fn main() {
     let mut tally = [0u64; 12];
     every_job(&mut tally);
     say_jobs(&tally);
-    say_lists(&tally);
+    say_plans(&tally);
+    say_bounds(&tally);
+    io::write_all(STDOUT_FILENO, b"\n");
 }

@@ -26,19 +26,26 @@ fn most(p: Programme, cell: u16, table: &[u32]) -> u32 {
     if lists::due(p, cell % 6 / 2) <= ((cell / 6) as usize) {
         return 0;
     }
-    let left = lists::at(table, lists::slot_at(cell / 6));
-    let lacks = lists::at(table, lists::layer_at(0, cell % 6));
-    if left < lacks {
-        return left;
-    }
-    lacks
+    smaller(
+        lists::at(table, lists::slot_at(cell / 6)),
+        lists::at(table, lists::layer_at(0, cell % 6)),
+    )
 }
 
-// Takes v bytes into an empty cell.
-fn take(cell: u16, v: u32, table: &mut [u32]) {
+fn smaller(a: u32, b: u32) -> u32 {
+    if a < b {
+        return a;
+    }
+    b
+}
+
+// Takes the most bytes into an empty cell, and says how many.
+fn fill(p: Programme, cell: u16, table: &mut [u32]) -> u32 {
+    let v = most(p, cell, table);
     lists::put(table, cell as usize, v);
     lower(table, lists::slot_at(cell / 6), v);
     lower(table, lists::layer_at(0, cell % 6), v);
+    v
 }
 
 // Gives a byte of a cell back.
@@ -63,8 +70,7 @@ fn search(
         return judge(p, every, sizes, marks, table, tally);
     }
     let cell = cells - 1;
-    let mut v = most(p, cell, table);
-    take(cell, v, table);
+    let mut v = fill(p, cell, table);
     loop {
         if search(p, every, sizes, marks, cell, table, tally) {
             return true;
@@ -143,35 +149,42 @@ fn ask(p: Programme, sizes: &[u32], marks: &[u8], table: &mut [u32]) {
     }
 }
 
+// The empty table for the marked layers.
+fn blank(p: Programme, sizes: &[u32], forecast: &[u32], marks: &[u8], table: &mut [u32]) {
+    open(forecast, table);
+    ask(p, sizes, marks, table);
+}
+
 // Whether some passing list in playing order carries the marked layers and no others.
 fn some_list(p: Programme, sizes: &[u32], forecast: &[u32], marks: &[u8]) -> bool {
     let mut table = [0u32; 34];
     let mut tally = [0u64; 1];
-    open(forecast, &mut table);
-    ask(p, sizes, marks, &mut table);
+    blank(p, sizes, forecast, marks, &mut table);
     search(p, false, sizes, marks, CELLS, &mut table, &mut tally)
 }
 
 // Weighs every passing list, in any order, against the plan's marks.
 pub fn every_list(p: Programme, sizes: &[u32], forecast: &[u32], plan: &[u8], tally: &mut [u64]) {
-    let all = [3u8; 3];
     let mut table = [0u32; 34];
-    open(forecast, &mut table);
-    ask(p, sizes, &all, &mut table);
+    blank(p, sizes, forecast, b"\x03\x03\x03", &mut table);
     search(p, true, sizes, plan, CELLS, &mut table, tally);
+}
+
+fn has_below(marks: &[u8], i: u16, n: u16) -> bool {
+    if n == 0 {
+        return true;
+    }
+    lists::carries(marks, i, n - 1)
 }
 
 // "A chunk that lacks the layer below is passed over. Otherwise the layer is carried exactly if some list in playing order passes that
 // carries the layers settled as carried so far, this one and no others."
 fn settle(p: Programme, sizes: &[u32], forecast: &[u32], i: u16, n: u16, marks: &mut [u8]) {
-    if 0 < n {
-        if !lists::carries(marks, i, n - 1) {
-            return;
+    if has_below(marks, i, n) {
+        lists::mark(marks, i, n);
+        if !some_list(p, sizes, forecast, marks) {
+            lists::unmark(marks, i, n);
         }
-    }
-    lists::mark(marks, i, n);
-    if !some_list(p, sizes, forecast, marks) {
-        lists::unmark(marks, i, n);
     }
 }
 

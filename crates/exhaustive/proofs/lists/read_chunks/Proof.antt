@@ -1,11 +1,11 @@
--- `exhaustive::lists::read_marks` is safe and ends. Assumes nothing.
+-- `exhaustive::lists::read_chunks` is safe and ends. Assumes nothing.
 use borrow.Author.Needs.{needs}
 use native.Mathlib.Omega.{arith}
 use Prim.Native.Nat.{_≤_, _-_}
 use lib.ListN.{length}
 use mathlib.Core.Path.{_≡_}
-use Rattle.exhaustive.proofs.lists.read_marks.Statement.{statement}
-use Rattle.exhaustive.proofs.lists.read_marks.Tie as tie
+use Rattle.exhaustive.proofs.lists.read_chunks.Statement.{statement}
+use Rattle.exhaustive.proofs.lists.read_chunks.Tie as tie
 
 abbrev Inv-loop : tie.InvT-loop
 Inv-loop p sizes lacking marks₀ i₀ marks i = (i ≤ p .chunks) × (length marks ≡ length marks₀)
@@ -40,8 +40,8 @@ same-length-2 c = search needs
 returns-2 : tie.Need-returns-2 Inv-loop μ-loop
 returns-2 c = search needs
 
-pub read-marks-spec : {M : Type 1} → statement M
-read-marks-spec =
+pub read-chunks-spec : {M : Type 1} → statement M
+read-chunks-spec =
     tie.close
     (tie.spec
     Inv-loop
