@@ -11,15 +11,8 @@ fn note(tally: &mut [u64], clause: usize, kept: bool) {
     }
 }
 
-// A table that keeps rules 4 and 5, weighed if it passes.
-pub fn weigh(p: Programme, sizes: &[u32], plan: &[u8], table: &[u32], tally: &mut [u64]) {
-    let mut list = [0u8; 3];
-    if lists::read(p, sizes, table, &mut list) {
-        weigh_list(p, sizes, plan, &list, table, tally);
-    }
-}
-
-fn weigh_list(
+// The bounds of a passing list.
+pub fn weigh(
     p: Programme,
     sizes: &[u32],
     plan: &[u8],

@@ -1,7 +1,6 @@
 // A fetch list as a table, and what document 01 asks of it. Slots and chunks are counted from 0 here: slot t is the paper's slot t + 1,
-// chunk i its chunk i + 1. Lists that only split or repeat rows otherwise are one table: rules 1 to 6 and playing order speak of
-// sums and of first slots. A table has 34 numbers: the bytes in each cell (slot, chunk, layer), the bytes that each slot has left, the bytes
-// that each layer of each chunk lacks.
+// chunk i its chunk i + 1. The bytes of layer n of chunk i in slot t stand at 6t + 2i + n. Lists that only split or repeat rows otherwise are
+// one table: rules 1 to 6 and playing order speak of sums and of first slots.
 use job::Programme;
 ghost use Prim.Native.Nat.{_≤_};
 
@@ -29,12 +28,37 @@ fn cell_at(t: u16, i: u16, n: u16) -> usize {
     6 * (t as usize) + 2 * (i as usize) + (n as usize)
 }
 
-pub fn slot_at(t: u16) -> usize {
-    24 + (t as usize)
+fn wide(x: u32) -> u64
+    ensures { λ r. ⌜ r ≤ 4294967295 ⌝ }
+{
+    x as u64
 }
 
-pub fn layer_at(i: u16, n: u16) -> usize {
-    28 + 2 * (i as usize) + (n as usize)
+// The bytes of chunk i in slot t; of all chunks in slot t; of layer n of chunk i in all slots.
+fn in_chunk(table: &[u32], t: u16, i: u16) -> u64
+    ensures { λ r. ⌜ r ≤ 8589934590 ⌝ }
+{
+    wide(at(table, cell_at(t, i, 0))) + wide(at(table, cell_at(t, i, 1)))
+}
+
+pub fn in_slot(table: &[u32], t: u16) -> u64 {
+    let mut sum: u64 = 0;
+    let mut i: u16 = 0;
+    while i < CHUNKS {
+        sum = sum + in_chunk(table, t, i);
+        i = i + 1;
+    }
+    sum
+}
+
+pub fn in_layer(table: &[u32], i: u16, n: u16) -> u64 {
+    let mut sum: u64 = 0;
+    let mut t: u16 = 0;
+    while t < SLOTS {
+        sum = sum + wide(at(table, cell_at(t, i, n)));
+        t = t + 1;
+    }
+    sum
 }
 
 // The job's layers, of at most LAYERS.
@@ -95,6 +119,18 @@ pub fn unmark(marks: &mut [u8], i: u16, n: u16) {
     }
 }
 
+// Whether two lists of marks differ.
+pub fn differ(a: &[u8], b: &[u8]) -> bool {
+    let mut i: u16 = 0;
+    while i < CHUNKS {
+        if mark_at(a, i) != mark_at(b, i) {
+            return true;
+        }
+        i = i + 1;
+    }
+    false
+}
+
 // How many chunks carry layer n.
 pub fn count(marks: &[u8], n: u16) -> u16 {
     let mut c: u16 = 0;
@@ -108,18 +144,11 @@ pub fn count(marks: &[u8], n: u16) -> u16 {
     c
 }
 
-fn has_row(table: &[u32], t: u16, i: u16) -> bool {
-    if 0 < at(table, cell_at(t, i, 0)) {
-        return true;
-    }
-    0 < at(table, cell_at(t, i, 1))
-}
-
 // The first slot in which chunk i has a row; SLOTS if it has none.
 fn begun(table: &[u32], i: u16) -> u16 {
     let mut t: u16 = 0;
     while t < SLOTS {
-        if has_row(table, t, i) {
+        if 0 < in_chunk(table, t, i) {
             return t;
         }
         t = t + 1;
@@ -197,14 +226,14 @@ pub fn in_order(p: Programme, marks: &[u8], table: &[u32]) -> bool {
     true
 }
 
-// Marks a layer that lacks nothing; false for rule 2, if it has some of its bytes and not all.
+// Marks a layer that is carried; false for rule 2, if it has some of its bytes and not all.
 fn read_layer(sizes: &[u32], table: &[u32], i: u16, n: u16, marks: &mut [u8]) -> bool {
-    let left = at(table, layer_at(i, n));
-    if left == 0 {
+    let bytes = in_layer(table, i, n);
+    if bytes == wide(at(sizes, n as usize)) {
         mark(marks, i, n);
         return true;
     }
-    left == at(sizes, n as usize)
+    bytes == 0
 }
 
 fn read_chunk(sizes: &[u32], table: &[u32], i: u16, marks: &mut [u8]) -> bool {

@@ -91,18 +91,7 @@ fn binds(p: Programme, sizes: &[u32], forecast: &[u32], marks: &[u8]) -> bool {
     };
     let mut others = [0u8; 3];
     search::plan(wide, sizes, forecast, &mut others);
-    differ(marks, &others)
-}
-
-fn differ(a: &[u8], b: &[u8]) -> bool {
-    let mut i: u16 = 0;
-    while i < lists::CHUNKS {
-        if lists::mark_at(a, i) != lists::mark_at(b, i) {
-            return true;
-        }
-        i = i + 1;
-    }
-    false
+    lists::differ(marks, &others)
 }
 
 fn note_job(p: Programme, forecast: &[u32], tally: &mut [u64]) {

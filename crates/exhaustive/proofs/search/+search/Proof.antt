@@ -9,85 +9,88 @@ use borrow.Fn.PlainCycle.{Measures, is, falls, and}
 use Rattle.exhaustive.proofs.search.search.Reads as search′
 use Rattle.exhaustive.proofs.search.search.Kinds as search-kinds
 use Rattle.exhaustive.proofs.search.+search.Lts-search as search-lts
-use Rattle.exhaustive.proofs.search.fill.Reads as fill-reads
-use Rattle.exhaustive.proofs.search.give_back.Reads as give-back-reads
+use Rattle.exhaustive.proofs.lists.put.Reads as put-reads
 use Rattle.exhaustive.proofs.search.judge.Reads as judge-reads
+use Rattle.exhaustive.proofs.search.most.Reads as most-reads
 use Rattle.exhaustive.proofs.search.+search.{statement}
 use Rattle.exhaustive.proofs.search.+search.Tie.{close}
 
-abbrev μ-search : Measures 4 search-kinds.ps ℕ
-μ-search κs a = a .1 .1 .1 .1 .0
+abbrev μ-search : Measures 5 search-kinds.ps ℕ
+μ-search κs a = a .1 .1 .1 .1 .1 .0
 
-abbrev search-at : ℕ → In 4 search-kinds.ps
-search-at t = and 4 search-kinds.ps (is 4 search-kinds.ps μ-search t) search′.Pre
+abbrev search-at : ℕ → In 5 search-kinds.ps
+search-at t = and 5 search-kinds.ps (is 5 search-kinds.ps μ-search t) search′.Pre
 
-abbrev search-below : ℕ → In 4 search-kinds.ps
-search-below t = and 4 search-kinds.ps (falls 4 search-kinds.ps _<_ μ-search t) search′.Pre
+abbrev search-below : ℕ → In 5 search-kinds.ps
+search-below t = and 5 search-kinds.ps (falls 5 search-kinds.ps _<_ μ-search t) search′.Pre
 
 abbrev search-Inv-loop : search-lts.InvT-loop
-search-Inv-loop p every sizes marks cells table₀ tally₀ cell v₀ table tally v =
+search-Inv-loop p every sizes forecast marks cells table₀ tally₀ cell v₀ table tally v =
     (length table ≡ length table₀) × (length tally ≡ length tally₀)
 
 abbrev search-μ-loop : search-lts.MeasureT-loop
-search-μ-loop p every sizes marks cells table₀ tally₀ cell v₀ table tally v =
+search-μ-loop p every sizes forecast marks cells table₀ tally₀ cell v₀ table tally v =
     v
 
-search-judge-requires : (t : ℕ) → search-lts.Need-judge-requires (judge-reads.Asked, judge-reads.Learnt, fill-reads.Asked, fill-reads.Learnt, search-below t, search′.Post, give-back-reads.Asked, give-back-reads.Learnt) (search-at t) search′.Post search-Inv-loop search-μ-loop
+search-judge-requires : (t : ℕ) → search-lts.Need-judge-requires (judge-reads.Asked, judge-reads.Learnt, most-reads.Asked, most-reads.Learnt, put-reads.Asked, put-reads.Learnt, search-below t, search′.Post) (search-at t) search′.Post search-Inv-loop search-μ-loop
 search-judge-requires t c κs = search needs
 
-search-same-length : (t : ℕ) → search-lts.Need-same-length (judge-reads.Asked, judge-reads.Learnt, fill-reads.Asked, fill-reads.Learnt, search-below t, search′.Post, give-back-reads.Asked, give-back-reads.Learnt) (search-at t) search′.Post search-Inv-loop search-μ-loop
+search-same-length : (t : ℕ) → search-lts.Need-same-length (judge-reads.Asked, judge-reads.Learnt, most-reads.Asked, most-reads.Learnt, put-reads.Asked, put-reads.Learnt, search-below t, search′.Post) (search-at t) search′.Post search-Inv-loop search-μ-loop
 search-same-length t c = search needs
 
-search-same-length-2 : (t : ℕ) → search-lts.Need-same-length-2 (judge-reads.Asked, judge-reads.Learnt, fill-reads.Asked, fill-reads.Learnt, search-below t, search′.Post, give-back-reads.Asked, give-back-reads.Learnt) (search-at t) search′.Post search-Inv-loop search-μ-loop
+search-same-length-2 : (t : ℕ) → search-lts.Need-same-length-2 (judge-reads.Asked, judge-reads.Learnt, most-reads.Asked, most-reads.Learnt, put-reads.Asked, put-reads.Learnt, search-below t, search′.Post) (search-at t) search′.Post search-Inv-loop search-μ-loop
 search-same-length-2 t c = search needs
 
-search-returns : (t : ℕ) → search-lts.Need-returns (judge-reads.Asked, judge-reads.Learnt, fill-reads.Asked, fill-reads.Learnt, search-below t, search′.Post, give-back-reads.Asked, give-back-reads.Learnt) (search-at t) search′.Post search-Inv-loop search-μ-loop
+search-returns : (t : ℕ) → search-lts.Need-returns (judge-reads.Asked, judge-reads.Learnt, most-reads.Asked, most-reads.Learnt, put-reads.Asked, put-reads.Learnt, search-below t, search′.Post) (search-at t) search′.Post search-Inv-loop search-μ-loop
 search-returns t c = search needs
 
-search-sub-cell : (t : ℕ) → search-lts.Need-sub-cell (judge-reads.Asked, judge-reads.Learnt, fill-reads.Asked, fill-reads.Learnt, search-below t, search′.Post, give-back-reads.Asked, give-back-reads.Learnt) (search-at t) search′.Post search-Inv-loop search-μ-loop
+search-sub-cell : (t : ℕ) → search-lts.Need-sub-cell (judge-reads.Asked, judge-reads.Learnt, most-reads.Asked, most-reads.Learnt, put-reads.Asked, put-reads.Learnt, search-below t, search′.Post) (search-at t) search′.Post search-Inv-loop search-μ-loop
 search-sub-cell t c = search needs
 
-search-fill-requires : (t : ℕ) → search-lts.Need-fill-requires (judge-reads.Asked, judge-reads.Learnt, fill-reads.Asked, fill-reads.Learnt, search-below t, search′.Post, give-back-reads.Asked, give-back-reads.Learnt) (search-at t) search′.Post search-Inv-loop search-μ-loop
-search-fill-requires t c κs = search needs
+search-most-requires : (t : ℕ) → search-lts.Need-most-requires (judge-reads.Asked, judge-reads.Learnt, most-reads.Asked, most-reads.Learnt, put-reads.Asked, put-reads.Learnt, search-below t, search′.Post) (search-at t) search′.Post search-Inv-loop search-μ-loop
+search-most-requires t c κs = search needs
 
-search-loop-holds : (t : ℕ) → search-lts.Need-loop-holds (judge-reads.Asked, judge-reads.Learnt, fill-reads.Asked, fill-reads.Learnt, search-below t, search′.Post, give-back-reads.Asked, give-back-reads.Learnt) (search-at t) search′.Post search-Inv-loop search-μ-loop
+search-loop-holds : (t : ℕ) → search-lts.Need-loop-holds (judge-reads.Asked, judge-reads.Learnt, most-reads.Asked, most-reads.Learnt, put-reads.Asked, put-reads.Learnt, search-below t, search′.Post) (search-at t) search′.Post search-Inv-loop search-μ-loop
 search-loop-holds t c = search needs
 
-search-search-requires : (t : ℕ) → search-lts.Need-search-requires (judge-reads.Asked, judge-reads.Learnt, fill-reads.Asked, fill-reads.Learnt, search-below t, search′.Post, give-back-reads.Asked, give-back-reads.Learnt) (search-at t) search′.Post search-Inv-loop search-μ-loop
+search-cast-put : (t : ℕ) → search-lts.Need-cast-put (judge-reads.Asked, judge-reads.Learnt, most-reads.Asked, most-reads.Learnt, put-reads.Asked, put-reads.Learnt, search-below t, search′.Post) (search-at t) search′.Post search-Inv-loop search-μ-loop
+search-cast-put t c = search needs
+
+search-put-requires : (t : ℕ) → search-lts.Need-put-requires (judge-reads.Asked, judge-reads.Learnt, most-reads.Asked, most-reads.Learnt, put-reads.Asked, put-reads.Learnt, search-below t, search′.Post) (search-at t) search′.Post search-Inv-loop search-μ-loop
+search-put-requires t c κs = search needs
+
+search-search-requires : (t : ℕ) → search-lts.Need-search-requires (judge-reads.Asked, judge-reads.Learnt, most-reads.Asked, most-reads.Learnt, put-reads.Asked, put-reads.Learnt, search-below t, search′.Post) (search-at t) search′.Post search-Inv-loop search-μ-loop
 search-search-requires t c κs = (omega arith, tt)
 
-search-same-length-3 : (t : ℕ) → search-lts.Need-same-length-3 (judge-reads.Asked, judge-reads.Learnt, fill-reads.Asked, fill-reads.Learnt, search-below t, search′.Post, give-back-reads.Asked, give-back-reads.Learnt) (search-at t) search′.Post search-Inv-loop search-μ-loop
+search-same-length-3 : (t : ℕ) → search-lts.Need-same-length-3 (judge-reads.Asked, judge-reads.Learnt, most-reads.Asked, most-reads.Learnt, put-reads.Asked, put-reads.Learnt, search-below t, search′.Post) (search-at t) search′.Post search-Inv-loop search-μ-loop
 search-same-length-3 t c = search needs
 
-search-same-length-4 : (t : ℕ) → search-lts.Need-same-length-4 (judge-reads.Asked, judge-reads.Learnt, fill-reads.Asked, fill-reads.Learnt, search-below t, search′.Post, give-back-reads.Asked, give-back-reads.Learnt) (search-at t) search′.Post search-Inv-loop search-μ-loop
+search-same-length-4 : (t : ℕ) → search-lts.Need-same-length-4 (judge-reads.Asked, judge-reads.Learnt, most-reads.Asked, most-reads.Learnt, put-reads.Asked, put-reads.Learnt, search-below t, search′.Post) (search-at t) search′.Post search-Inv-loop search-μ-loop
 search-same-length-4 t c = search needs
 
-search-returns-2 : (t : ℕ) → search-lts.Need-returns-2 (judge-reads.Asked, judge-reads.Learnt, fill-reads.Asked, fill-reads.Learnt, search-below t, search′.Post, give-back-reads.Asked, give-back-reads.Learnt) (search-at t) search′.Post search-Inv-loop search-μ-loop
+search-returns-2 : (t : ℕ) → search-lts.Need-returns-2 (judge-reads.Asked, judge-reads.Learnt, most-reads.Asked, most-reads.Learnt, put-reads.Asked, put-reads.Learnt, search-below t, search′.Post) (search-at t) search′.Post search-Inv-loop search-μ-loop
 search-returns-2 t c = search needs
 
-search-same-length-5 : (t : ℕ) → search-lts.Need-same-length-5 (judge-reads.Asked, judge-reads.Learnt, fill-reads.Asked, fill-reads.Learnt, search-below t, search′.Post, give-back-reads.Asked, give-back-reads.Learnt) (search-at t) search′.Post search-Inv-loop search-μ-loop
+search-same-length-5 : (t : ℕ) → search-lts.Need-same-length-5 (judge-reads.Asked, judge-reads.Learnt, most-reads.Asked, most-reads.Learnt, put-reads.Asked, put-reads.Learnt, search-below t, search′.Post) (search-at t) search′.Post search-Inv-loop search-μ-loop
 search-same-length-5 t c = search needs
 
-search-same-length-6 : (t : ℕ) → search-lts.Need-same-length-6 (judge-reads.Asked, judge-reads.Learnt, fill-reads.Asked, fill-reads.Learnt, search-below t, search′.Post, give-back-reads.Asked, give-back-reads.Learnt) (search-at t) search′.Post search-Inv-loop search-μ-loop
+search-same-length-6 : (t : ℕ) → search-lts.Need-same-length-6 (judge-reads.Asked, judge-reads.Learnt, most-reads.Asked, most-reads.Learnt, put-reads.Asked, put-reads.Learnt, search-below t, search′.Post) (search-at t) search′.Post search-Inv-loop search-μ-loop
 search-same-length-6 t c = search needs
 
-search-returns-3 : (t : ℕ) → search-lts.Need-returns-3 (judge-reads.Asked, judge-reads.Learnt, fill-reads.Asked, fill-reads.Learnt, search-below t, search′.Post, give-back-reads.Asked, give-back-reads.Learnt) (search-at t) search′.Post search-Inv-loop search-μ-loop
+search-returns-3 : (t : ℕ) → search-lts.Need-returns-3 (judge-reads.Asked, judge-reads.Learnt, most-reads.Asked, most-reads.Learnt, put-reads.Asked, put-reads.Learnt, search-below t, search′.Post) (search-at t) search′.Post search-Inv-loop search-μ-loop
 search-returns-3 t c = search needs
 
-search-give-back-requires : (t : ℕ) → search-lts.Need-give-back-requires (judge-reads.Asked, judge-reads.Learnt, fill-reads.Asked, fill-reads.Learnt, search-below t, search′.Post, give-back-reads.Asked, give-back-reads.Learnt) (search-at t) search′.Post search-Inv-loop search-μ-loop
-search-give-back-requires t c κs = search needs
-
-search-sub-v : (t : ℕ) → search-lts.Need-sub-v (judge-reads.Asked, judge-reads.Learnt, fill-reads.Asked, fill-reads.Learnt, search-below t, search′.Post, give-back-reads.Asked, give-back-reads.Learnt) (search-at t) search′.Post search-Inv-loop search-μ-loop
+search-sub-v : (t : ℕ) → search-lts.Need-sub-v (judge-reads.Asked, judge-reads.Learnt, most-reads.Asked, most-reads.Learnt, put-reads.Asked, put-reads.Learnt, search-below t, search′.Post) (search-at t) search′.Post search-Inv-loop search-μ-loop
 search-sub-v t c = search needs
 
-search-loop-less : (t : ℕ) → search-lts.Need-loop-less (judge-reads.Asked, judge-reads.Learnt, fill-reads.Asked, fill-reads.Learnt, search-below t, search′.Post, give-back-reads.Asked, give-back-reads.Learnt) (search-at t) search′.Post search-Inv-loop search-μ-loop
+search-loop-less : (t : ℕ) → search-lts.Need-loop-less (judge-reads.Asked, judge-reads.Learnt, most-reads.Asked, most-reads.Learnt, put-reads.Asked, put-reads.Learnt, search-below t, search′.Post) (search-at t) search′.Post search-Inv-loop search-μ-loop
 search-loop-less t c = search needs
 
-search-loop-again : (t : ℕ) → search-lts.Need-loop-again (judge-reads.Asked, judge-reads.Learnt, fill-reads.Asked, fill-reads.Learnt, search-below t, search′.Post, give-back-reads.Asked, give-back-reads.Learnt) (search-at t) search′.Post search-Inv-loop search-μ-loop
+search-loop-again : (t : ℕ) → search-lts.Need-loop-again (judge-reads.Asked, judge-reads.Learnt, most-reads.Asked, most-reads.Learnt, put-reads.Asked, put-reads.Learnt, search-below t, search′.Post) (search-at t) search′.Post search-Inv-loop search-μ-loop
 search-loop-again t c = search needs
 
 pub +search-spec : {M : Type 1} → statement M
-+search-spec = close μ-search λ t. search-lts.spec (judge-reads.Asked, judge-reads.Learnt, fill-reads.Asked, fill-reads.Learnt, search-below t, search′.Post, give-back-reads.Asked, give-back-reads.Learnt)
++search-spec = close μ-search λ t. search-lts.spec (judge-reads.Asked, judge-reads.Learnt, most-reads.Asked, most-reads.Learnt, put-reads.Asked, put-reads.Learnt, search-below t, search′.Post)
     (search-at t)
     search′.Post
     search-Inv-loop
@@ -97,8 +100,10 @@ pub +search-spec : {M : Type 1} → statement M
     (search-same-length-2 t)
     (search-returns t)
     (search-sub-cell t)
-    (search-fill-requires t)
+    (search-most-requires t)
     (search-loop-holds t)
+    (search-cast-put t)
+    (search-put-requires t)
     (search-search-requires t)
     (search-same-length-3 t)
     (search-same-length-4 t)
@@ -106,7 +111,6 @@ pub +search-spec : {M : Type 1} → statement M
     (search-same-length-5 t)
     (search-same-length-6 t)
     (search-returns-3 t)
-    (search-give-back-requires t)
     (search-sub-v t)
     (search-loop-less t)
     (search-loop-again t)

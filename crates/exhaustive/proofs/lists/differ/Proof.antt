@@ -1,9 +1,9 @@
--- `exhaustive::differ` is safe and ends. Assumes nothing.
+-- `exhaustive::lists::differ` is safe and ends. Assumes nothing.
 use borrow.Author.Needs.{needs}
 use native.Mathlib.Omega.{arith}
 use Prim.Native.Nat.{_≤_, _-_}
-use Rattle.exhaustive.proofs.differ.Statement.{statement}
-use Rattle.exhaustive.proofs.differ.Tie as tie
+use Rattle.exhaustive.proofs.lists.differ.Statement.{statement}
+use Rattle.exhaustive.proofs.lists.differ.Tie as tie
 
 abbrev Inv-loop : tie.InvT-loop
 Inv-loop a b i₀ i = i ≤ 3
