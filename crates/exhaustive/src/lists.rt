@@ -85,7 +85,7 @@ pub fn held_most(p: Programme) -> u16 {
     p.limit / span
 }
 
-pub fn mark_at(marks: &[u8], i: u16) -> u8 {
+fn mark_at(marks: &[u8], i: u16) -> u8 {
     let k = i as usize;
     if k < marks.len() {
         return marks[k];
@@ -189,7 +189,7 @@ fn holds_few(p: Programme, table: &[u32]) -> bool {
     true
 }
 
-// Rule 3: a carried layer has the layer below carried.
+// Rule 3: a carried layer has the layer below carried. Of two layers, a mark of 2 breaks it.
 fn is_layered(p: Programme, marks: &[u8]) -> bool {
     let mut i: u16 = 0;
     while i < p.chunks {
@@ -202,7 +202,7 @@ fn is_layered(p: Programme, marks: &[u8]) -> bool {
 }
 
 // Whether a table passes that keeps rules 2, 4 and 5 and carries what the marks say.
-pub fn passes(p: Programme, marks: &[u8], table: &[u32]) -> bool {
+fn passes(p: Programme, marks: &[u8], table: &[u32]) -> bool {
     if is_layered(p, marks) {
         return holds_few(p, table);
     }

@@ -10,6 +10,9 @@ use job::Programme;
 use libc::STDOUT_FILENO;
 ghost use Prim.Native.Nat.{_≤_};
 
+// Numbers of jobs: 48 programmes, 4 kinds of sizes, 81 forecasts of four slots.
+const NUMBERS: u16 = 15552;
+
 fn programme(k: u16) -> Programme
     ensures { λ r. ⌜ 1 ≤ r .chunks ⌝ }
 {
@@ -25,7 +28,7 @@ fn digit(f: u16) -> u32 {
     (f % 3) as u32
 }
 
-// The job numbered k, if its forecast has nothing after the last due slot.
+// The job numbered k. Its forecast is k / 192 in digits below 3, and counts once: with nothing after the last due slot.
 fn one_job(k: u16, tally: &mut [u64]) {
     let f = k / 192;
     let forecast = [digit(f), digit(f / 3), digit(f / 9), digit(f / 27)];
@@ -81,7 +84,7 @@ fn is_uneven(p: Programme) -> bool {
     0 < p.limit % span
 }
 
-// Whether the plan would be another if the limit held the whole programme.
+// Whether the plan would be another if the limit held the whole programme, of at most 3 chunks of 2 slots.
 fn binds(p: Programme, sizes: &[u32], forecast: &[u32], marks: &[u8]) -> bool {
     let wide = Programme {
         chunks: p.chunks,
@@ -121,7 +124,7 @@ fn trial(p: Programme, sizes: &[u32], forecast: &[u32], tally: &mut [u64]) {
 
 fn every_job(tally: &mut [u64]) {
     let mut k: u16 = 0;
-    while k < 15552 {
+    while k < NUMBERS {
         one_job(k, tally);
         k = k + 1;
     }

@@ -1,13 +1,12 @@
 -- `exhaustive::none_after` is safe and ends. Assumes nothing.
 use borrow.Author.Needs.{needs}
-use native.Mathlib.Omega.{arith}
-use Prim.Native.Nat.{_≤_, _-_, zero}
+use Prim.Native.Nat.{_≤_, _-_}
 use lib.ListN.{length}
 use Rattle.exhaustive.proofs.none_after.Statement.{statement}
 use Rattle.exhaustive.proofs.none_after.Tie as tie
 
 abbrev Inv-loop : tie.InvT-loop
-Inv-loop forecast slots t₀ t = zero ≤ t
+Inv-loop forecast slots t₀ t = slots ≤ t
 
 abbrev μ-loop : tie.MeasureT-loop
 μ-loop forecast slots t₀ t = length forecast - t

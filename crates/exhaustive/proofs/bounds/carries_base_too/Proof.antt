@@ -1,6 +1,5 @@
 -- `exhaustive::bounds::carries_base_too` is safe and ends. Assumes nothing.
 use borrow.Author.Needs.{needs}
-use native.Mathlib.Omega.{arith}
 use Prim.Native.Nat.{_≤_, _-_}
 use Rattle.exhaustive.proofs.bounds.carries_base_too.Statement.{statement}
 use Rattle.exhaustive.proofs.bounds.carries_base_too.Tie as tie

@@ -1,6 +1,5 @@
 -- `exhaustive::lists::differ` is safe and ends. Assumes nothing.
 use borrow.Author.Needs.{needs}
-use native.Mathlib.Omega.{arith}
 use Prim.Native.Nat.{_≤_, _-_}
 use Rattle.exhaustive.proofs.lists.differ.Statement.{statement}
 use Rattle.exhaustive.proofs.lists.differ.Tie as tie

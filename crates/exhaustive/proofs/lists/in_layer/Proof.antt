@@ -1,6 +1,5 @@
 -- `exhaustive::lists::in_layer` is safe and ends. Assumes nothing.
 use borrow.Author.Needs.{needs}
-use native.Mathlib.Omega.{arith}
 use Prim.Native.Nat.{_≤_, _-_, _*_}
 use Rattle.exhaustive.proofs.lists.in_layer.Statement.{statement}
 use Rattle.exhaustive.proofs.lists.in_layer.Tie as tie
