@@ -144,6 +144,15 @@ pub fn count(marks: &[u8], n: u16) -> u16 {
     c
 }
 
+// A row of the paper's slot t, chunk i and layer n, as one byte.
+pub fn begin(t: u16, i: u16, n: u16, table: &mut [u32]) {
+    if 0 < t {
+        if 0 < i {
+            put(table, cell_at(t - 1, i - 1, n), 1);
+        }
+    }
+}
+
 // The first slot in which chunk i has a row; SLOTS if it has none.
 fn begun(table: &[u32], i: u16) -> u16 {
     let mut t: u16 = 0;

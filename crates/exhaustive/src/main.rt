@@ -1,8 +1,9 @@
-// The plan of document 01 by another planner, which decides each layer by an exhaustive search over fetch lists, and demand 3's bounds against
-// every passing list, on all jobs of a small family: C 1 to 3, L and s 1 or 2, last due slot at most 4, limit 0 to 3, sizes 1; 2; 1, 1; 2, 1,
-// and each forecast of 0, 1 or 2 bytes a slot.
+// The planner against another one, which decides each layer by an exhaustive search over fetch lists, and demand 3's bounds against every
+// passing list, on all jobs of a small family: C 1 to 3, L and s 1 or 2, last due slot at most 4, limit 0 to 3, sizes 1; 2; 1, 1; 2, 1, and each
+// forecast of 0, 1 or 2 bytes a slot.
 mod bounds;
 mod lists;
+mod planned;
 mod search;
 mod tally;
 
@@ -114,6 +115,7 @@ fn weigh(p: Programme, sizes: &[u32], forecast: &[u32], marks: &[u8], tally: &mu
     note_job(p, forecast, tally);
     note_plan(binds(p, sizes, forecast, marks), marks, tally);
     search::every_list(p, sizes, forecast, marks, tally);
+    planned::compare(p, sizes, forecast, marks, tally);
 }
 
 fn trial(p: Programme, sizes: &[u32], forecast: &[u32], tally: &mut [u64]) {
@@ -149,6 +151,13 @@ fn say_plans(tally: &[u64]) {
     say(b"\nlists ", tally, tally::LISTS);
 }
 
+fn say_planned(tally: &[u64]) {
+    say(b"\nplans with the same marks ", tally, tally::SAME_MARKS);
+    say(b" same counts ", tally, tally::SAME_COUNTS);
+    say(b" passing ", tally, tally::PASSED);
+    say(b" in playing order ", tally, tally::ORDERED);
+}
+
 fn say_bounds(tally: &[u64]) {
     say(b" bounds on bases ", tally, tally::ANY_ORDER);
     say(b" by layer ", tally, tally::BY_LAYER);
@@ -157,10 +166,11 @@ fn say_bounds(tally: &[u64]) {
 }
 
 fn main() {
-    let mut tally = [0u64; 12];
+    let mut tally = [0u64; 16];
     every_job(&mut tally);
     say_jobs(&tally);
     say_plans(&tally);
     say_bounds(&tally);
+    say_planned(&tally);
     io::write_all(STDOUT_FILENO, b"\n");
 }

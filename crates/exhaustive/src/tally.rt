@@ -23,6 +23,14 @@ pub const WHOLE: usize = 10;
 
 pub const BROKEN: usize = 11;
 
+pub const SAME_MARKS: usize = 12;
+
+pub const SAME_COUNTS: usize = 13;
+
+pub const PASSED: usize = 14;
+
+pub const ORDERED: usize = 15;
+
 pub fn add(tally: &mut [u64], k: usize, n: u16) {
     if k < tally.len() {
         let x = tally[k];
