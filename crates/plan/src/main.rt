@@ -12,7 +12,7 @@ fn refused(n: u8) {
     io::write_all(STDOUT_FILENO, b"\n");
 }
 
-fn write_first(out: &[u8; 65536], n: usize) {
+fn write_first(out: &[u8; 65537], n: usize) {
     io::write_all(STDOUT_FILENO, parts::bytes(out, n));
 }
 
@@ -25,26 +25,16 @@ fn write_plan(
     chunks: &[u16],
     layers: &[u8],
     bytes: &[u32],
+    out: &mut [u8; 65537],
 ) {
-    let mut out = [0u8; 65536];
-    match planfile::write_plan(
-        p,
-        sizes,
-        forecast,
-        marks,
-        slots,
-        chunks,
-        layers,
-        bytes,
-        &mut out,
-    ) {
+    match planfile::write_plan(p, sizes, forecast, marks, slots, chunks, layers, bytes, out) {
         Written::Refused(n) => refused(n),
-        Written::Bytes(n) => write_first(&out, n),
+        Written::Bytes(n) => write_first(out, n),
     }
 }
 
 // Room for any plan: a mark a chunk, 5,599 rows.
-fn plan_job(p: Programme, sizes: &[u32], forecast: &[u32]) {
+fn plan_job(p: Programme, sizes: &[u32], forecast: &[u32], out: &mut [u8; 65537]) {
     let mut marks = [0u8; 500];
     let mut slots = [0u16; 5599];
     let mut chunks = [0u16; 5599];
@@ -72,11 +62,13 @@ fn plan_job(p: Programme, sizes: &[u32], forecast: &[u32]) {
             parts::halves(&chunks, n),
             parts::bytes(&layers, n),
             parts::words(&bytes, n),
+            out,
         ),
     }
 }
 
-fn job_file(file: &[u8; 65537], n: usize) {
+// The plan file goes where the job file was.
+fn job_file(file: &mut [u8; 65537], n: usize) {
     let mut sizes = [0u32; 4];
     let mut forecast = [0u32; 3600];
     match jobfile::read_job(parts::bytes(file, n), &mut sizes, &mut forecast) {
@@ -89,6 +81,7 @@ fn job_file(file: &[u8; 65537], n: usize) {
             programme,
             parts::words(&sizes, layers),
             parts::words(&forecast, slots),
+            file,
         ),
     }
 }
@@ -97,5 +90,5 @@ fn job_file(file: &[u8; 65537], n: usize) {
 fn main() {
     let mut file = [0u8; 65537];
     let n = io::read_full(STDIN_FILENO, &mut file);
-    job_file(&file, n);
+    job_file(&mut file, n);
 }
