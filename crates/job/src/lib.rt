@@ -2,11 +2,12 @@
 // A refusal is its number, and 0 is none.
 ghost use mathlib.Core.Path.{_≡_};
 ghost use mathlib.Core.Bool.{_&&_};
-ghost use Prim.Native.Nat.{_/_};
+ghost use Prim.Native.Nat.{_/_, max};
 ghost use lib.ListN.{length};
 ghost use Rattle.job.specs.Job.{jobOf, dueSlot, lastDue, sizeIn};
 ghost use Rattle.job.specs.Refusal.{within, filmRefusal, delayRefusal, fieldsRefusal, lastDueRefusal, sizesRefusal, bytesRefusal, slotsRefusal, forecastRefusal, refusal};
 ghost use Rattle.basics.specs.Tests.{all};
+ghost use Rattle.job.specs.Greatest.{greatest};
 ghost use Rattle.basics.specs.Refusals.{unless, _orElse_};
 
 // Document 01's C, L, s and buffer limit.
@@ -150,11 +151,33 @@ pub fn sizes_refusal(sizes: &[u32]) -> u8
     refuse_unless(6, both(both(few, many), all_within(1, 16777216, sizes)))
 }
 
+// The greatest of the numbers, without a branch in the loop: a forecast has up to 3,600.
+fn most(s: &[u32]) -> u32
+    ensures { λ r. ⌜ r ≡ greatest (now (s .entry)) ⌝ }
+{
+    let mut m: u32 = 0;
+    let mut i: usize = 0;
+    while i < s.len() {
+        m = larger(m, s[i]);
+        i += 1;
+    }
+    m
+}
+
+fn larger(a: u32, b: u32) -> u32
+    ensures { λ r. ⌜ r ≡ max a b ⌝ }
+{
+    if a < b {
+        return b;
+    }
+    a
+}
+
 // 7: bytes out of range.
 pub fn bytes_refusal(forecast: &[u32]) -> u8
     ensures { λ r. ⌜ r ≡ bytesRefusal (now (forecast .entry)) ⌝ }
 {
-    refuse_unless(7, all_within(0, 16777216, forecast))
+    refuse_unless(7, most(forecast) <= 16777216)
 }
 
 // 7: a slot total other than d(C).
