@@ -43,6 +43,9 @@ unfolding digits
 digits-more n h =
     in-more n n h ∙ ap (λ (l : List ℕ). l ++ ((48 + n % 10) ∷ [])) (in-same n (suc (n / 10)) (n / 10) (omega arith) (omega arith))
 
+pub digits-length : (n : ℕ) → 10 ≤ n → length (digits n) ≡ length (digits (n / 10)) + 1
+digits-length n h = ap length (digits-more n h) ∙ length-append (digits (n / 10)) ((48 + n % 10) ∷ [])
+
 -- ---- how many
 
 in-few : (p k n : ℕ) → n < 10 ^ suc k → length (digitsIn p n) ≤ suc k

@@ -1,0 +1,30 @@
+use borrow.Author.Needs.{needs}
+use Rattle.report.proofs.put_field.Statement.{statement}
+use Rattle.report.proofs.put_field.Tie as tie
+use Rattle.report.proofs.put_field.Reads as reads
+use Rattle.report.proofs.put_field.Lts as lts
+use Rattle.records.proofs.put.Reads as put-reads
+use Rattle.report.proofs.put_number.Reads as put-number-reads
+
+-- src/lib.rt:44:5
+put-requires : tie.Need-put-requires
+put-requires c κs = search needs
+
+-- src/lib.rt:45:16
+add-next : tie.Need-add-next
+add-next c = search needs
+
+-- src/lib.rt:46:5
+put-number-requires : tie.Need-put-number-requires
+put-number-requires c κs = ?
+
+-- src/lib.rt:40:1
+same-length : tie.Need-same-length
+same-length c = search needs
+
+-- src/lib.rt:40:1
+returns : tie.Need-returns
+returns c = ?
+
+pub put-field-spec : {M : Type 1} → statement M
+put-field-spec = tie.close (tie.spec put-requires add-next put-number-requires same-length returns)
