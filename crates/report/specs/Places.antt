@@ -11,7 +11,7 @@ use borrow.Author.Tests.{le-leb}
 use Rattle.basics.specs.Tests.{last}
 use Rattle.basics.specs.Lists.{upTo}
 use Rattle.records.specs.Fields.{written}
-use Rattle.report.specs.Text.{text, spaced}
+use Rattle.report.specs.Text.{text, ended}
 
 -- A buffer with a text over its bytes from a place on.
 abbrev pub over : List ℕ → ℕ → List ℕ → List ℕ
@@ -43,6 +43,10 @@ over-over old at s t h =
         rw (a, ← e, drop-append-add (take at old ++ s) (drop (length (take at old ++ s)) old) (length t), drop-drop (length t) (length (take at old ++ s)) old) in
     rw (b, d, n, append-assoc (take at old) s (t ++ drop (at + length (s ++ t)) old), append-assoc s t (drop (at + length (s ++ t)) old))
 
+-- Where two texts fit, the first does.
+pub room-first : {n : ℕ} (at : ℕ) (s t : List ℕ) → at + length (s ++ t) ≤ n → at + length s ≤ n
+room-first at s t h = omega (arith, length-append s t)
+
 -- What is left of the room after the first of two texts.
 pub put-room : {old mid : List ℕ} {at k : ℕ} (s t : List ℕ) → at + length (s ++ t) ≤ length old → Put old at s mid k → k + length t ≤ length mid
 put-room {old} {mid} {at} {k} s t h p =
@@ -61,8 +65,11 @@ put-then {old} {mid} {out} {at} {k} {next} s t h p q = record {
 pub put-byte : (old : List ℕ) (at v : ℕ) → at < length old → Put old at (v ∷ []) (set old at v) (at + 1)
 put-byte old at v h = record { buffer = set-split old at v h ∙ rw (add-one at); place = refl }
 
-pub put-written : (old : List ℕ) (at : ℕ) (t : List ℕ) → at + length t ≤ length old → Put old at t (written old at t) (at + length t)
-put-written old at t h = record { buffer = rw (le-leb (at + length t) (length old) h) (append-assoc (take at old) t (drop (at + length t) old)); place = refl }
+pub put-written : (old : List ℕ) {out : List ℕ} (at : ℕ) (t : List ℕ) → at + length t ≤ length old → out ≡ written old at t → Put old at t out (at + length t)
+put-written old at t h e = record {
+  buffer = e ∙ rw (le-leb (at + length t) (length old) h) (append-assoc (take at old) t (drop (at + length t) old));
+  place = refl;
+}
 
 -- ---- texts one after the other, as a loop puts them
 
@@ -70,14 +77,30 @@ pub text-snoc : (xs : List (List ℕ)) (x : List ℕ) → text (xs ++ (x ∷ [])
 text-snoc [] x = append-nil x
 text-snoc (y ∷ xs) x = ap (λ (l : List ℕ). y ++ l) (text-snoc xs x) ∙ sym (append-assoc y (text xs) x)
 
+-- Words after spaces are texts one after the other, and the line feed after them.
+abbrev spaced : List (List ℕ) → List ℕ
+spaced [] = []
+spaced (x ∷ xs) = 32 ∷ (x ++ spaced xs)
+
 spaced-snoc : (xs : List (List ℕ)) (x : List ℕ) → spaced (xs ++ (x ∷ [])) ≡ spaced xs ++ (32 ∷ x)
 spaced-snoc [] x = ap (λ (l : List ℕ). 32 ∷ l) (append-nil x)
-spaced-snoc (y ∷ xs) x = ap (λ (l : List ℕ). 32 ∷ (y ++ l)) (spaced-snoc xs x) ∙ ap (λ (l : List ℕ). 32 ∷ l) (sym (append-assoc y (spaced xs) (32 ∷ x)))
+spaced-snoc (y ∷ xs) x =
+    ap (λ (l : List ℕ). 32 ∷ (y ++ l)) (spaced-snoc xs x) ∙ ap (λ (l : List ℕ). 32 ∷ l) (sym (append-assoc y (spaced xs) (32 ∷ x)))
 
--- Words after spaces are texts one after the other.
-pub spaced-text : (f : ℕ → List ℕ) (n : ℕ) → spaced (upTo f n) ≡ text (upTo (λ k. 32 ∷ f k) n)
+spaced-text : (f : ℕ → List ℕ) (n : ℕ) → spaced (upTo f n) ≡ text (upTo (λ k. 32 ∷ f k) n)
 spaced-text f zero = refl
-spaced-text f (suc n) = spaced-snoc (upTo f n) (f n) ∙ ap (λ (l : List ℕ). l ++ (32 ∷ f n)) (spaced-text f n) ∙ sym (text-snoc (upTo (λ k. 32 ∷ f k) n) (32 ∷ f n))
+spaced-text f (suc n) =
+    spaced-snoc (upTo f n) (f n)
+    ∙ ap (λ (l : List ℕ). l ++ (32 ∷ f n)) (spaced-text f n)
+    ∙ sym (text-snoc (upTo (λ k. 32 ∷ f k) n) (32 ∷ f n))
+
+ended-spaced : (xs : List (List ℕ)) → ended xs ≡ spaced xs ++ (10 ∷ [])
+ended-spaced [] = refl
+ended-spaced (x ∷ xs) =
+    ap (λ (l : List ℕ). 32 ∷ (x ++ l)) (ended-spaced xs) ∙ ap (λ (l : List ℕ). 32 ∷ l) (sym (append-assoc x (spaced xs) (10 ∷ [])))
+
+pub ended-text : (f : ℕ → List ℕ) (n : ℕ) → ended (upTo f n) ≡ text (upTo (λ k. 32 ∷ f k) n) ++ (10 ∷ [])
+ended-text f n = ended-spaced (upTo f n) ∙ ap (λ (l : List ℕ). l ++ (10 ∷ [])) (spaced-text f n)
 
 module _ (f : ℕ → List ℕ) where
   one-more : (n : ℕ) → length (text (upTo f (suc n))) ≡ length (text (upTo f n)) + length (f n)

@@ -5,6 +5,9 @@ use Rattle.report.proofs.put_field.Reads as reads
 use Rattle.report.proofs.put_field.Lts as lts
 use Rattle.records.proofs.put.Reads as put-reads
 use Rattle.report.proofs.put_number.Reads as put-number-reads
+use denote.Ref.{now}
+use Rattle.report.specs.Text.{digits}
+use Rattle.report.specs.Places.{put-room, put-then, put-written, room-first}
 
 -- src/lib.rt:44:5
 put-requires : tie.Need-put-requires
@@ -16,7 +19,10 @@ add-next c = search needs
 
 -- src/lib.rt:46:5
 put-number-requires : tie.Need-put-number-requires
-put-number-requires c κs = ?
+put-number-requires c κs =
+    let a = c .before .before .before .before .before .before .before .args in
+    let w = now (a .word) in
+    put-room w (digits (a .n)) (c .before .before .before .before .before .before .before .pre) (put-written (now (a .out)) (a .at) w (room-first (a .at) w (digits (a .n)) (c .before .before .before .before .before .before .before .pre)) (c .before .before .before .put .ensures))
 
 -- src/lib.rt:40:1
 same-length : tie.Need-same-length
@@ -24,7 +30,10 @@ same-length c = search needs
 
 -- src/lib.rt:40:1
 returns : tie.Need-returns
-returns c = ?
+returns c =
+    let a = c .before .before .before .before .before .before .before .before .before .before .args in
+    let w = now (a .word) in
+    put-then w (digits (a .n)) (c .before .before .before .before .before .before .before .before .before .before .pre) (put-written (now (a .out)) (a .at) w (room-first (a .at) w (digits (a .n)) (c .before .before .before .before .before .before .before .before .before .before .pre)) (c .before .before .before .before .before .before .put .ensures)) (c .before .before .put-number .ensures)
 
 pub put-field-spec : {M : Type 1} → statement M
 put-field-spec = tie.close (tie.spec put-requires add-next put-number-requires same-length returns)

@@ -5,6 +5,22 @@ use Rattle.report.proofs.slots_line.Reads as reads
 use Rattle.report.proofs.slots_line.Lts as lts
 use Rattle.report.proofs.put_end.Reads as put-end-reads
 use Rattle.report.proofs.put_field.Reads as put-field-reads
+use mathlib.Core.List.{List, [], _∷_, _++_}
+use Prim.Native.Nat.{ℕ}
+use Rattle.report.specs.Text.{ascii, digits}
+use Rattle.report.specs.Places.{put-room, put-then, room-first}
+
+abbrev one : ℕ → List ℕ
+one last = ascii "slots " ++ digits last
+
+abbrev two : ℕ → List ℕ
+two count = ascii " chunks " ++ digits count
+
+abbrev three : ℕ → List ℕ
+three held = ascii " held " ++ digits held
+
+abbrev end : List ℕ
+end = 10 ∷ []
 
 -- src/lib.rt:70:36
 slice-aggregate-put-field : tie.Need-slice-aggregate-put-field
@@ -12,7 +28,7 @@ slice-aggregate-put-field c = search needs
 
 -- src/lib.rt:70:9
 put-field-requires : tie.Need-put-field-requires
-put-field-requires c κs = ?
+put-field-requires c κs = let a = c .before .before .before .args in room-first (a .at) (one (a .last)) (two (a .count) ++ (three (a .held) ++ end)) (c .before .before .before .pre)
 
 -- src/lib.rt:71:40
 slice-aggregate-put-field-2 : tie.Need-slice-aggregate-put-field-2
@@ -20,7 +36,10 @@ slice-aggregate-put-field-2 c = search needs
 
 -- src/lib.rt:71:9
 put-field-requires-2 : tie.Need-put-field-requires-2
-put-field-requires-2 c κs = ?
+put-field-requires-2 c κs =
+    let a = c .before .before .before .before .before .before .before .before .args in
+    let r = three (a .held) ++ end in
+    room-first (c .before .before .before .before .put-field .result) (two (a .count)) r (put-room (one (a .last)) (two (a .count) ++ r) (c .before .before .before .before .before .before .before .before .pre) (c .before .before .before .before .put-field .ensures))
 
 -- src/lib.rt:72:38
 slice-aggregate-put-field-3 : tie.Need-slice-aggregate-put-field-3
@@ -28,11 +47,19 @@ slice-aggregate-put-field-3 c = search needs
 
 -- src/lib.rt:72:9
 put-field-requires-3 : tie.Need-put-field-requires-3
-put-field-requires-3 c κs = ?
+put-field-requires-3 c κs =
+    let a = c .before .before .before .before .before .before .before .before .before .before .before .before .before .args in
+    let r = three (a .held) ++ end in
+    let h = put-room (one (a .last)) (two (a .count) ++ r) (c .before .before .before .before .before .before .before .before .before .before .before .before .before .pre) (c .before .before .before .before .before .before .before .before .before .put-field .ensures) in
+    room-first (c .before .before .before .before .put-field2 .result) (three (a .held)) end (put-room (two (a .count)) r h (c .before .before .before .before .put-field2 .ensures))
 
 -- src/lib.rt:73:5
 put-end-requires : tie.Need-put-end-requires
-put-end-requires c κs = ?
+put-end-requires c κs =
+    let a = c .before .before .before .before .before .before .before .before .before .before .before .before .before .before .before .before .before .args in
+    let r = three (a .held) ++ end in
+    let h = put-room (one (a .last)) (two (a .count) ++ r) (c .before .before .before .before .before .before .before .before .before .before .before .before .before .before .before .before .before .pre) (c .before .before .before .before .before .before .before .before .before .before .before .before .before .put-field .ensures) in
+    put-room (three (a .held)) end (put-room (two (a .count)) r h (c .before .before .before .before .before .before .before .before .put-field2 .ensures)) (c .before .before .before .put-field3 .ensures)
 
 -- src/lib.rt:66:1
 same-length : tie.Need-same-length
@@ -40,7 +67,15 @@ same-length c = search needs
 
 -- src/lib.rt:66:1
 returns : tie.Need-returns
-returns c = ?
+returns c =
+    let a = c .before .before .before .before .before .before .before .before .before .before .before .before .before .before .before .before .before .before .before .before .args in
+    let r = three (a .held) ++ end in
+    let p = c .before .before .before .before .before .before .before .before .before .before .before .before .before .before .before .before .put-field .ensures in
+    let q = c .before .before .before .before .before .before .before .before .before .before .before .put-field2 .ensures in
+    let h = put-room (one (a .last)) (two (a .count) ++ r) (c .before .before .before .before .before .before .before .before .before .before .before .before .before .before .before .before .before .before .before .before .pre) p in
+    let k = put-room (two (a .count)) r h q in
+    put-then (one (a .last)) (two (a .count) ++ r) (c .before .before .before .before .before .before .before .before .before .before .before .before .before .before .before .before .before .before .before .before .pre) p
+    (put-then (two (a .count)) r h q (put-then (three (a .held)) end k (c .before .before .before .before .before .before .put-field3 .ensures) (c .before .before .put-end .ensures)))
 
 pub slots-line-spec : {M : Type 1} → statement M
 slots-line-spec =
