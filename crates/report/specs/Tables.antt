@@ -25,6 +25,16 @@ pub record Listed (j : Job) (depth : ℕ) (slots chunks layers′ bytes : List �
   pub few : length slots ≤ 5599
   pub in-range : All (InRange j) (rowsOf slots chunks layers′ bytes)
 
+-- Rows handed as four slices of one length, each with a place in the table.
+pub record Rows (slots chunks layers′ bytes : List ℕ) : Type 0 where
+  pub chunk-each : length slots ≡ length chunks
+  pub layer-each : length slots ≡ length layers′
+  pub bytes-each : length slots ≡ length bytes
+  pub few : length slots ≤ 5599
+  pub chunk-low : (k : ℕ) → k < length slots → 1 ≤ getD chunks k 0
+  pub chunk-high : (k : ℕ) → k < length slots → getD chunks k 0 ≤ 500
+  pub layer-in : (k : ℕ) → k < length slots → getD layers′ k 0 < 4
+
 -- The bytes of layer n of chunk i, by the table.
 abbrev pub bytesAt : List ℕ → ℕ → ℕ → ℕ
 bytesAt table i n = getD table (4 * (i - 1) + n) 0
