@@ -49,7 +49,7 @@ module _ (sizes table : List ℕ) (most : ℕ) (h : (n : ℕ) → getD sizes n 0
 
 -- ---- the table
 
-bytes-snoc : (p : Row → Bool) (l : List Row) (x : Row) → bytesIf p (l ++ (x ∷ [])) ≡ bytesIf p l + cond (p x) (x .bytes) 0
+pub bytes-snoc : (p : Row → Bool) (l : List Row) (x : Row) → bytesIf p (l ++ (x ∷ [])) ≡ bytesIf p l + cond (p x) (x .bytes) 0
 bytes-snoc p [] x = omega arith
 bytes-snoc p (y ∷ l) x = omega (arith, bytes-snoc p l x)
 

@@ -14,7 +14,7 @@ ghost use Rattle.fetch.specs.Rows.{rowsOf};
 ghost use Rattle.report.specs.Text.{ascii, digits, line, text};
 ghost use Rattle.report.specs.Report.{apart, reportOf};
 ghost use Rattle.report.specs.Places.{Put};
-ghost use Rattle.report.specs.Tables.{Rows, Summed, bytesAt, carriedBy, ChunkBy, chunkLineBy, countBy, shownBy, switchBy};
+ghost use Rattle.report.specs.Tables.{Rows, Listed, Summed, bytesAt, carriedBy, ChunkBy, chunkLineBy, countBy, shownBy, switchBy, linesBy};
 
 // What a chunk carries: how many layers and how many bytes.
 struct Chunk {
@@ -246,4 +246,122 @@ fn switch_sum(sizes: &[u32], depth: usize, table: &[u64; 2000], count: u16) -> u
         i = next;
     }
     sum
+}
+
+fn chunk_lines(
+    out: &mut [u8],
+    at: usize,
+    sizes: &[u32],
+    depth: usize,
+    table: &[u64; 2000],
+    count: u16,
+) -> usize
+    requires { ⌜ (depth ≤ 4) × (count ≤ 500) × (at + length (text (upTo (λ k. chunkLineBy (now sizes) (now table) depth (k + 1)) count)) ≤ length (now out)) ⌝ }
+    ensures { λ r. ⌜ Put (now (out .entry)) at (text (upTo (λ k. chunkLineBy (now (sizes .entry)) (now (table .entry)) depth (k + 1)) count)) (now (out .exit)) r ⌝ }
+{
+    let mut next = at;
+    let mut i: u16 = 0;
+    while i < count {
+        let k = i + 1;
+        let chunk = chunk_of(sizes, depth, table, k);
+        next = chunk_line(out, next, k as u64, chunk.layers, chunk.bytes);
+        i = k;
+    }
+    next
+}
+
+// The count of each layer after a space.
+fn layer_counts(
+    out: &mut [u8],
+    at: usize,
+    sizes: &[u32],
+    depth: usize,
+    table: &[u64; 2000],
+    count: u16,
+) -> usize
+    requires { ⌜ (depth ≤ 4) × (count ≤ 500) × (at + length (text (upTo (λ n. 32 ∷ digits (countBy (now sizes) (now table) count n)) depth)) ≤ length (now out)) ⌝ }
+    ensures { λ r. ⌜ Put (now (out .entry)) at (text (upTo (λ n. 32 ∷ digits (countBy (now (sizes .entry)) (now (table .entry)) count n)) depth)) (now (out .exit)) r ⌝ }
+{
+    let mut next = at;
+    let mut n: usize = 0;
+    while n < depth {
+        let carry = layer_count(sizes, table, count, n);
+        next = put_next(out, next, carry);
+        n = n + 1;
+    }
+    next
+}
+
+fn layers_line(
+    out: &mut [u8],
+    at: usize,
+    sizes: &[u32],
+    depth: usize,
+    table: &[u64; 2000],
+    count: u16,
+) -> usize
+    requires { ⌜ (depth ≤ 4) × (count ≤ 500) × (at + length (line (ascii "layers") (upTo (λ n. digits (countBy (now sizes) (now table) count n)) depth)) ≤ length (now out)) ⌝ }
+    ensures { λ r. ⌜ Put (now (out .entry)) at (line (ascii "layers") (upTo (λ n. digits (countBy (now (sizes .entry)) (now (table .entry)) count n)) depth)) (now (out .exit)) r ⌝ }
+{
+    records::put(out, at, b"layers");
+    let from = at + 6;
+    let end = layer_counts(out, from, sizes, depth, table, count);
+    put_end(out, end)
+}
+
+// Truncated: what is left is never below 0.
+fn less(total: u64, spent: u64) -> u64
+    ensures { λ r. ⌜ r ≡ total - spent ⌝ }
+{
+    if total < spent {
+        return 0;
+    }
+    total - spent
+}
+
+// The lines, by the table and the sums.
+fn put_lines(
+    p: Programme,
+    sizes: &[u32],
+    depth: usize,
+    table: &[u64; 2000],
+    spent: u64,
+    left: u64,
+    out: &mut [u8],
+) -> usize
+    requires { ⌜ (depth ≤ 4) × (1 ≤ p .chunks) × (p .chunks ≤ 500) × (length (linesBy p (now sizes) depth (now table) spent left) ≤ length (now out)) ⌝ }
+    ensures { λ r. ⌜ Put (now (out .entry)) 0 (linesBy p (now (sizes .entry)) depth (now (table .entry)) spent left) (now (out .exit)) r ⌝ }
+{
+    let count = p.chunks;
+    let last = job::last_due(p) as u64;
+    let held = job::held_most(p) as u64;
+    let switch = switch_sum(sizes, depth, table, count);
+    let chunks = slots_line(out, 0, last, count as u64, held);
+    let layers = chunk_lines(out, chunks, sizes, depth, table, count);
+    let bytes = layers_line(out, layers, sizes, depth, table, count);
+    let end = bytes_line(out, bytes, spent, left);
+    switch_line(out, end, switch)
+}
+
+// The report of rows handed, into a buffer that holds it.
+fn put_report(
+    p: Programme,
+    sizes: &[u32],
+    depth: usize,
+    forecast: &[u32],
+    slots: &[u16],
+    chunks: &[u16],
+    layers: &[u8],
+    bytes: &[u32],
+    out: &mut [u8],
+) -> usize
+    requires { ⌜ Listed (jobOf p (now sizes) (now forecast)) depth (now slots) (now chunks) (now layers) (now bytes) × (length (reportOf (jobOf p (now sizes) (now forecast)) (rowsOf (now slots) (now chunks) (now layers) (now bytes))) ≤ length (now out)) ⌝ }
+    ensures { λ r. ⌜ Put (now (out .entry)) 0 (reportOf (jobOf p (now (sizes .entry)) (now (forecast .entry))) (rowsOf (now (slots .entry)) (now (chunks .entry)) (now (layers .entry)) (now (bytes .entry)))) (now (out .exit)) r ⌝ }
+{
+    let mut table = [0u64; 2000];
+    add_rows(slots, chunks, layers, bytes, &mut table);
+    let spent = sum_of(bytes);
+    let total = sum_of(forecast);
+    let left = less(total, spent);
+    put_lines(p, sizes, depth, &table, spent, left, out)
 }
