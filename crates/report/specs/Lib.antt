@@ -4,3 +4,6 @@ pub mod Worked
 pub mod Tables
 pub mod Places
 pub mod Numbers
+pub mod Bounds
+pub mod Widths
+pub mod Theorems
