@@ -7,7 +7,7 @@ use Rattle.job.specs.Refusal.{refusal}
 use Rattle.fetch.specs.Rows.{Row, layerCount}
 use Rattle.fetch.specs.Verdict.{verdict}
 
-abbrev row : ℕ → ℕ → ℕ → ℕ → Row
+abbrev pub row : ℕ → ℕ → ℕ → ℕ → Row
 row s c n b = record { slot = s; chunk = c; layer = n; bytes = b }
 
 -- Job A: C 3, L 2, s 2, limit 2, sizes 2 and 1, B = 3, 0, 1, 0, 2, 0.
@@ -19,7 +19,7 @@ unfolding refusal
 A-accepted = refl
 
 -- On A, rows (1,1,0,2) (1,1,1,1) (3,3,0,1) (5,3,0,1) (5,3,1,1) with marks 3, 0, 3: verdict 0. Its counts are 2, 2.
-abbrev better : List Row
+abbrev pub better : List Row
 better = row 1 1 0 2 ∷ row 1 1 1 1 ∷ row 3 3 0 1 ∷ row 5 3 0 1 ∷ row 5 3 1 1 ∷ []
 
 pub better-passes : verdict A (3 ∷ 0 ∷ 3 ∷ []) better ≡ 0

@@ -1,1 +1,0 @@
-// The checker: the verdict of document 01 for any fetch list with its marks.

@@ -1,0 +1,54 @@
+-- Theorems. The refusals of the meter at their edges, by computation on the definitions that the public contracts cite.
+use mathlib.Core.Path.{_≡_, refl}
+use mathlib.Core.List.{[], _∷_, _++_}
+use lib.ListN.{replicate}
+use Rattle.meter.specs.declared.Meter.{Meter}
+use Rattle.meter.specs.declared.Answer.the-variants.{Bytes, Refused}
+use Rattle.meter.specs.Meter.{empty, taken}
+use Rattle.meter.specs.Forecast.{forecastOf, answerOf}
+
+-- A meter that keeps one sample of 9 bytes in slot 5.
+abbrev pub one : Meter
+one = record { slots = 5 ∷ replicate 9 0; bytes = 9 ∷ replicate 9 0; kept = 1 }
+
+-- 16,777,216 bytes are taken, one more are refused by 10; so is slot 0.
+pub bytes-edge : (taken one 6 16777216 .code ≡ 0) × (taken one 6 16777217 .code ≡ 10)
+unfolding taken
+bytes-edge = (refl, refl)
+
+pub slot-edge : (taken empty 1 9 .code ≡ 0) × ((taken empty 0 9 .code ≡ 10) × (taken empty 65535 9 .code ≡ 0))
+unfolding taken
+slot-edge = (refl, (refl, refl))
+
+-- The last one's slot: 13, and the meter as it was; the next slot is taken.
+pub late-edge : (taken one 5 9 .code ≡ 13) × ((taken one 5 9 .meter ≡ one) × (taken one 6 9 .code ≡ 0))
+unfolding taken
+late-edge = (refl, (refl, refl))
+
+-- Kept slots that do not rise, eleven samples, kept bytes out of range: 10 from a sample and from a forecast.
+abbrev pub level : Meter
+level = record { slots = 5 ∷ 5 ∷ replicate 8 0; bytes = 9 ∷ 9 ∷ replicate 8 0; kept = 2 }
+
+abbrev pub eleven : Meter
+eleven = record { slots = 1 ∷ 2 ∷ 3 ∷ 4 ∷ 5 ∷ 6 ∷ 7 ∷ 8 ∷ 9 ∷ 10 ∷ []; bytes = replicate 10 9; kept = 11 }
+
+abbrev pub wide : Meter
+wide = record { slots = 5 ∷ replicate 9 0; bytes = 16777217 ∷ replicate 9 0; kept = 1 }
+
+pub kept-refused : (taken level 9 9 .code ≡ 10) × ((taken eleven 99 9 .code ≡ 10) × (taken wide 9 9 .code ≡ 10))
+unfolding taken
+kept-refused = (refl, (refl, refl))
+
+pub forecast-refused : (answerOf level ≡ Refused 10) × ((answerOf eleven ≡ Refused 10) × (answerOf wide ≡ Refused 10))
+unfolding answerOf
+forecast-refused = (refl, (refl, refl))
+
+-- 10 before 13: late, and out of range as handed or as kept.
+pub ten-before-thirteen : (taken one 5 16777217 .code ≡ 10) × (taken level 5 9 .code ≡ 10)
+unfolding taken
+ten-before-thirteen = (refl, refl)
+
+-- Without samples 12; with one its own bytes.
+pub forecast-edge : (answerOf empty ≡ Refused 12) × (answerOf one ≡ Bytes 9)
+unfolding answerOf forecastOf
+forecast-edge = (refl, refl)

@@ -1,0 +1,155 @@
+"""Writes the trials program's case files (crates/trials/data) and, from `reference.py`, what it has to print (crates/trials/stdout).
+Run it at the root of the repository after changing a case: python3 tools/cases.py"""
+import os
+import shutil
+from reference import *
+
+A = Job(3, 2, 2, 2, [2, 1], [3, 0, 1, 0, 2, 0])
+PG, LY, EN = pg(3, 2, 2, 2), ly(2) + ly(1), b"EN"
+BW = b"".join(bw(1, b) for b in A.forecast)
+
+# (what the case is, its bytes). Each refusal alone, then pairs where two compete and the order decides.
+JOBS = [
+    ("job A", PG + LY + BW + EN),
+    ("the empty file", b""),
+    ("one stray byte", b"P"),
+    ("a mark that no file has", b"XX"),
+    ("a plan's mark", b"KP" + bytes(3)),
+    ("a record without its whole body", PG[:-1]),
+    ("the last record one byte short", PG + LY + BW[:-1]),
+    ("no EN", PG + LY + BW),
+    ("half of EN", PG + LY + BW + b"E"),
+    ("a byte after EN", PG + LY + BW + EN + b"\0"),
+    ("a second PG", PG + LY + PG + BW + EN),
+    ("no PG by EN", LY + BW + EN),
+    ("no chunk", pg(0, 2, 2, 2)),
+    ("500 chunks", pg(500, 1, 1, 9) + ly(1) + bw(500, 1) + EN),
+    ("501 chunks", pg(501, 1, 1, 9) + ly(1) + bw(501, 1) + EN),
+    ("no slot of film a chunk", pg(3, 0, 2, 2)),
+    ("60 slots of film a chunk", pg(2, 60, 1, 0) + ly(1) + bw(61, 0) + EN),
+    ("61 slots of film a chunk", pg(2, 61, 1, 0) + ly(1) + bw(62, 0) + EN),
+    ("no start delay", pg(3, 2, 0, 2)),
+    ("a start delay of 3,600", pg(1, 1, 3600, 65535) + ly(1) + bw(3600, 0) + EN),
+    ("a start delay of 3,601", pg(1, 1, 3601, 0) + ly(1)),
+    ("last due slot 3,600", pg(60, 60, 60, 65535) + ly(1) + bw(3600, 1) + EN),
+    ("last due slot 3,601", pg(60, 60, 61, 65535) + ly(1) + bw(3600, 1) + bw(1, 1) + EN),
+    ("a layer of no bytes", PG + ly(0)),
+    ("a layer of 16,777,216 bytes", PG + ly(1 << 24) + BW + EN),
+    ("a layer of one byte more", PG + ly((1 << 24) + 1) + BW + EN),
+    ("four layers", PG + ly(1) * 4 + BW + EN),
+    ("a fifth layer", PG + ly(1) * 5 + BW + EN),
+    ("no layer by EN", PG + BW + EN),
+    ("a run of no slots", PG + LY + bw(0, 1)),
+    ("16,777,216 bytes in a slot", PG + LY + bw(6, 1 << 24) + EN),
+    ("one byte more in a slot", PG + LY + bw(6, (1 << 24) + 1) + EN),
+    ("runs beyond 3,600 slots", PG + LY + bw(3600, 1) + bw(1, 1)),
+    ("a slot too few", PG + LY + bw(5, 1) + EN),
+    ("a slot too many", PG + LY + bw(7, 1) + EN),
+    ("records mixed, PG last", LY[:6] + BW[:24] + LY[6:] + BW[24:] + PG + EN),
+    ("one run in two records", PG + LY + bw(2, 1) + bw(4, 1) + EN),
+    ("a second PG out of range: 4 before 5", PG + pg(501, 1, 1, 9)),
+    ("a second PG cut off: 1 before 4", PG + PG[:-1]),
+    ("a size out of range, cut off: 1 before 6", PG + ly(0)[:-1]),
+    ("out of range, then an unknown mark: 5 before 2", pg(0, 1, 1, 1) + b"XX"),
+    ("an unknown mark, then out of range: 2 before 5", b"XX" + pg(0, 1, 1, 1)),
+    ("a bad run, then a bad size: 7 before 6", PG + bw(0, 1) + ly(0)),
+    ("bytes after EN and no PG: 3 before 4", LY + EN + b"\0"),
+    ("no PG and no layer: 4 before 6", BW + EN),
+    ("no layer and a slot too few: 6 before 7", PG + bw(5, 1) + EN),
+    ("65,536 bytes", ly(1) + bytes(65530)),
+    ("65,537 bytes: 9 before all", b"XX" + bytes(65535)),
+    ("70,000 bytes", PG + LY + BW + EN + bytes(70000 - 74)),
+]
+
+KP = kp(1, 0) + kp(2, 3) + kp(3, 1)
+PLAN = ft(1, 2, 0, 2) + ft(1, 2, 1, 1) + ft(5, 3, 0, 2)
+BETTER = ft(1, 1, 0, 2) + ft(1, 1, 1, 1) + ft(3, 3, 0, 1) + ft(5, 3, 0, 1) + ft(5, 3, 1, 1)
+
+
+def marked(a, b, c):
+    return kp(1, a) + kp(2, b) + kp(3, c)
+
+
+# Plan files read for job A, then judged.
+PLANS = [
+    ("A's plan", KP + PLAN + EN),
+    ("the list that beats its counts", marked(3, 0, 3) + BETTER + EN),
+    ("nothing fetched", marked(0, 0, 0) + EN),
+    ("the plan's rows in another order", KP + PLAN[22:] + PLAN[:22] + EN),
+    ("the empty file", b""),
+    ("a job's mark", LY),
+    ("a row without its whole body", KP + PLAN[:-1]),
+    ("no EN", KP + PLAN),
+    ("a byte after EN", KP + PLAN + EN + b"\0"),
+    ("chunks from 0", kp(0, 0) + KP + EN),
+    ("a chunk left out", kp(1, 0) + kp(3, 1) + EN),
+    ("a chunk twice", kp(1, 0) + kp(1, 0) + EN),
+    ("a chunk more than the job has", KP + kp(4, 0) + EN),
+    ("a chunk too few", kp(1, 0) + kp(2, 3) + EN),
+    ("a mark after a row", kp(1, 0) + kp(2, 3) + PLAN + kp(3, 1) + EN),
+    ("rows before the marks are complete", kp(1, 0) + PLAN + EN),
+    ("out of turn and cut off: 1 before 8", kp(2, 0)[:-1]),
+    ("out of turn, then an unknown mark: 8 before 2", kp(2, 0) + b"XX"),
+    ("incomplete, with a byte after EN: 3 before 8", EN + b"\0"),
+    ("65,537 bytes: 9 before all", b"XX" + bytes(65535)),
+    ("slot 0", KP + ft(0, 2, 0, 2) + EN),
+    ("slot 7", KP + ft(7, 2, 0, 2) + EN),
+    ("chunk 4", KP + ft(1, 4, 0, 2) + EN),
+    ("layer 2", KP + ft(1, 2, 2, 2) + EN),
+    ("a row of no bytes", KP + PLAN + ft(5, 3, 0, 0) + EN),
+    ("half a layer", KP + PLAN[:-11] + ft(5, 3, 0, 1) + EN),
+    ("a repeated row", KP + PLAN + PLAN[22:] + EN),
+    ("a refinement without its base", marked(2, 0, 0) + ft(1, 1, 1, 1) + EN),
+    ("a byte too many in a slot", marked(1, 1, 0) + ft(1, 1, 0, 2) + ft(1, 2, 0, 2) + EN),
+    ("a row one slot late", marked(1, 0, 0) + ft(3, 1, 0, 1) + ft(1, 1, 0, 1) + EN),
+    ("two held where one is allowed", KP + PLAN[:-11] + ft(3, 3, 0, 1) + ft(5, 3, 0, 1) + EN),
+    ("other marks", marked(0, 1, 1) + PLAN + EN),
+    ("a bit above the layer count", marked(0, 7, 1) + PLAN + EN),
+    ("rules 2 and 4 broken", marked(0, 0, 0) + ft(2, 1, 0, 1) + EN),
+    ("rules 3 and 4 broken", marked(2, 0, 0) + ft(2, 1, 1, 1) + EN),
+    ("rules 4 and 5 broken", marked(1, 0, 0) + ft(4, 1, 0, 2) + EN),
+    ("rules 5 and 7 broken", marked(0, 0, 0) + ft(3, 1, 0, 1) + ft(1, 1, 0, 1) + EN),
+    ("rules 6 and 7 broken", marked(0, 0, 0) + PLAN[:-11] + ft(3, 3, 0, 1) + ft(5, 3, 0, 1) + EN),
+    ("rules 1 and 2 broken", KP + ft(1, 2, 0, 1) + ft(9, 9, 9, 9) + EN),
+]
+
+
+def job_line(data):
+    try:
+        job = read_job(data)
+    except Refused as r:
+        return f"refused {r.number}"
+    return f"chunks {job.chunks} layers {len(job.sizes)} slots {len(job.forecast)} written {len(write_job(job))}"
+
+
+def plan_line(data):
+    try:
+        marks, rows = read_plan(A, data)
+    except Refused as r:
+        return f"refused {r.number}"
+    return f"rows {len(rows)} verdict {verdict(A, rows, marks)}"
+
+
+def main():
+    shutil.rmtree("crates/trials/data", ignore_errors=True)
+    os.makedirs("crates/trials/data")
+    lines = []
+    for kind, cases, line in (("j", JOBS, job_line), ("p", PLANS, plan_line)):
+        for k, (_, data) in enumerate(cases):
+            name = f"{kind}{k:02d}"
+            with open(f"crates/trials/data/{name}", "wb") as f:
+                f.write(data)
+            lines.append(f"{name} {line(data)}")
+    with open("tools/expected_calls.txt") as f:
+        lines += f.read().splitlines()
+    with open("crates/trials/stdout", "w") as f:
+        f.write("\n".join(lines) + "\n")
+    with open("crates/trials/CASES.md", "w") as f:
+        f.write("# The trials' case files\n\nMade by tools/cases.py. `j..` are job files, `p..` plan files for job A.\n\n")
+        for kind, cases in (("j", JOBS), ("p", PLANS)):
+            for k, (what, _) in enumerate(cases):
+                f.write(f"- {kind}{k:02d}: {what}\n")
+    print(len(JOBS), "job files,", len(PLANS), "plan files")
+
+
+main()

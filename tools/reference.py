@@ -1,0 +1,211 @@
+"""Document 01 once more, in plain Python and independent of the proved crates: job and plan files, the seven rules, the plan.
+`cases.py` computes from it what the trials program has to print."""
+from collections import namedtuple
+
+Job = namedtuple("Job", "chunks span delay limit sizes forecast")
+Row = namedtuple("Row", "slot chunk layer bytes")
+
+
+class Refused(Exception):
+    def __init__(self, number):
+        self.number = number
+
+
+def due(job, i):
+    return (i - 1) * job.span + job.delay
+
+
+def check_fields(chunks, span, delay, limit):
+    if not (1 <= chunks <= 500 and 1 <= span <= 60 and 1 <= delay <= 3600):
+        raise Refused(5)
+    if (chunks - 1) * span + delay > 3600:
+        raise Refused(5)
+
+
+def check_job(job):
+    check_fields(job.chunks, job.span, job.delay, job.limit)
+    if not 1 <= len(job.sizes) <= 4 or any(not 1 <= z <= 1 << 24 for z in job.sizes):
+        raise Refused(6)
+    if any(b > 1 << 24 for b in job.forecast) or len(job.forecast) != due(job, job.chunks):
+        raise Refused(7)
+
+
+def number(body):
+    return int.from_bytes(body, "little")
+
+
+def records(data, bodies):
+    """The records of a file, one by one: mark and body."""
+    at = 0
+    while True:
+        mark = data[at:at + 2]
+        if len(mark) < 2:
+            raise Refused(1)
+        if mark not in bodies:
+            raise Refused(2)
+        body = data[at + 2:at + 2 + bodies[mark]]
+        if len(body) < bodies[mark]:
+            raise Refused(1)
+        at += 2 + bodies[mark]
+        if mark == b"EN" and at != len(data):
+            yield b"EN", None
+        else:
+            yield mark, body
+        if mark == b"EN":
+            return
+
+
+def read_job(data):
+    if len(data) > 65536:
+        raise Refused(9)
+    programme, sizes, forecast = None, [], []
+    for mark, body in records(data, {b"PG": 8, b"LY": 4, b"BW": 6, b"EN": 0}):
+        if mark == b"PG":
+            if programme:
+                raise Refused(4)
+            programme = [number(body[k:k + 2]) for k in (0, 2, 4, 6)]
+            check_fields(*programme)
+        elif mark == b"LY":
+            if not 1 <= number(body) <= 1 << 24 or len(sizes) == 4:
+                raise Refused(6)
+            sizes.append(number(body))
+        elif mark == b"BW":
+            count, size = number(body[:2]), number(body[2:])
+            if count == 0 or len(forecast) + count > 3600 or size > 1 << 24:
+                raise Refused(7)
+            forecast += [size] * count
+        elif body is None:
+            raise Refused(3)
+    if not programme:
+        raise Refused(4)
+    if not sizes:
+        raise Refused(6)
+    job = Job(*programme, sizes, forecast)
+    if len(forecast) != due(job, job.chunks):
+        raise Refused(7)
+    return job
+
+
+def write_job(job):
+    out = pg(job.chunks, job.span, job.delay, job.limit) + b"".join(ly(z) for z in job.sizes)
+    k = 0
+    while k < len(job.forecast):
+        n = k
+        while n < len(job.forecast) and job.forecast[n] == job.forecast[k]:
+            n += 1
+        out += bw(n - k, job.forecast[k])
+        k = n
+    return out + b"EN"
+
+
+def read_plan(job, data):
+    check_job(job)
+    if len(data) > 65536:
+        raise Refused(9)
+    marks, rows = [], []
+    for mark, body in records(data, {b"KP": 3, b"FT": 9, b"EN": 0}):
+        if mark == b"KP":
+            if rows or number(body[:2]) != len(marks) + 1 or len(marks) == job.chunks:
+                raise Refused(8)
+            marks.append(body[2])
+        elif mark == b"FT":
+            rows.append(Row(number(body[:2]), number(body[2:4]), body[4], number(body[5:])))
+        elif body is None:
+            raise Refused(3)
+    if len(marks) != job.chunks:
+        raise Refused(8)
+    return marks, rows
+
+
+def pg(c, l, s, limit):
+    return b"PG" + b"".join(x.to_bytes(2, "little") for x in (c, l, s, limit))
+
+
+def ly(size):
+    return b"LY" + size.to_bytes(4, "little")
+
+
+def bw(count, size):
+    return b"BW" + count.to_bytes(2, "little") + size.to_bytes(4, "little")
+
+
+def kp(chunk, marks):
+    return b"KP" + chunk.to_bytes(2, "little") + bytes([marks])
+
+
+def ft(slot, chunk, layer, size):
+    return b"FT" + slot.to_bytes(2, "little") + chunk.to_bytes(2, "little") + bytes([layer]) + size.to_bytes(4, "little")
+
+
+def layer_sum(rows, i, n):
+    return sum(x.bytes for x in rows if x.chunk == i and x.layer == n)
+
+
+def carried(job, rows, i, n):
+    return layer_sum(rows, i, n) == job.sizes[n]
+
+
+def marks_given(job, rows):
+    return [sum(1 << n for n in range(len(job.sizes)) if carried(job, rows, i, n)) for i in range(1, job.chunks + 1)]
+
+
+def held(job, rows, t):
+    return sum(1 for i in range(1, job.chunks + 1) if due(job, i) > t and any(x.chunk == i and x.slot <= t for x in rows))
+
+
+def verdict(job, rows, marks=None):
+    last, layers = due(job, job.chunks), range(len(job.sizes))
+    chunks = range(1, job.chunks + 1)
+    if any(not (1 <= x.slot <= last and 1 <= x.chunk <= job.chunks and x.layer in layers and x.bytes >= 1) for x in rows):
+        return 1
+    if any(layer_sum(rows, i, n) not in (0, job.sizes[n]) for i in chunks for n in layers):
+        return 2
+    if any(carried(job, rows, i, n) and not carried(job, rows, i, n - 1) for i in chunks for n in layers if n):
+        return 3
+    if any(sum(x.bytes for x in rows if x.slot == t) > job.forecast[t - 1] for t in range(1, last + 1)):
+        return 4
+    if any(x.slot > due(job, x.chunk) for x in rows):
+        return 5
+    if any(held(job, rows, t) > job.limit // job.span for t in range(1, last + 1)):
+        return 6
+    if marks is not None and list(marks) != marks_given(job, rows):
+        return 7
+    return 0
+
+
+def fits(job, levels):
+    """Whether some passing list in playing order carries exactly these layers: the fill of theory, slot by slot."""
+    rows = own_list(job, levels)
+    return verdict(job, rows) == 0 and all(layer_sum(rows, i + 1, n) == job.sizes[n] for i, k in enumerate(levels) for n in range(k))
+
+
+def own_list(job, levels):
+    queue = [[i + 1, n, job.sizes[n]] for i, k in enumerate(levels) for n in range(k)]
+    rows, begun = [], []
+    for t in range(1, due(job, job.chunks) + 1):
+        left = job.forecast[t - 1]
+        while queue and left:
+            i, n, size = queue[0]
+            now = begun if i in begun else begun + [i]
+            if sum(1 for k in now if due(job, k) > t) > job.limit // job.span:
+                break
+            begun = now
+            take = min(left, size)
+            rows.append(Row(t, i, n, take))
+            left -= take
+            queue[0][2] -= take
+            if not queue[0][2]:
+                queue.pop(0)
+    return rows
+
+
+def plan(job):
+    levels = [0] * job.chunks
+    for n in range(len(job.sizes)):
+        for i in range(job.chunks, 0, -1):
+            if levels[i - 1] == n:
+                tried = levels[:]
+                tried[i - 1] += 1
+                if fits(job, tried):
+                    levels = tried
+    return levels, own_list(job, levels)
