@@ -7,39 +7,22 @@ use native.Mathlib.Omega.{arith}
 use native.Mathlib.Numerals.{add-one}
 use lib.ListN.{length, getD, set, length-set, replicate, length-replicate, getD-replicate}
 use lib.Seq.{getD-set-same, getD-set-other}
-use lib.Dec.{eqb, eqb→eq}
+use lib.Dec.{eqb}
 use borrow.Author.Tests.{eqb-true, eqb-false}
-use Rattle.basics.specs.Tests.{by-cond}
 use Rattle.basics.specs.Lists.{upTo}
 use Rattle.basics.specs.Sums.{pre, sum}
 use Rattle.job.specs.Job.{sizeIn}
 use Rattle.fetch.specs.Rows.{Row, rowAt, rowsOf, bytesIf, bytesOfLayer}
+use Rattle.report.specs.Bounds.{sum-most, pre-most, cond-most, equal-most, apart-most}
 use Rattle.report.specs.Report.{apart}
 use Rattle.report.specs.Tables.{bytesAt, Summed, carriedBy, bytesBy, shownBy, switchBy}
 
 -- ---- bounds
 
-pub sum-most : (f : ℕ → ℕ) (most n : ℕ) → ((k : ℕ) → f k ≤ most) → sum f n ≤ n * most
-sum-most f most zero h = omega arith
-sum-most f most (suc n) h = omega (arith, sum-most f most n h, h n)
-
-pub pre-most : (f : ℕ → ℕ) (most n : ℕ) → ((k : ℕ) → f k ≤ most) → pre f n ≤ n * most
-pre-most f most zero h = omega arith
-pre-most f most (suc n) h = omega (arith, pre-most f most n h, h (suc n))
-
-pub cond-most : (b : Bool) (x most : ℕ) → x ≤ most → cond b x 0 ≤ most
-cond-most true x most h = h
-cond-most false x most h = omega arith
-
 module _ (sizes table : List ℕ) (most : ℕ) (h : (n : ℕ) → getD sizes n 0 ≤ most) where
   -- A carried layer has the bytes of its size.
   pub carried-most : (i n : ℕ) → cond (carriedBy sizes table i n) (bytesAt table i n) 0 ≤ most
-  carried-most i n =
-      by-cond
-      (λ (x : ℕ). x ≤ most)
-      (carriedBy sizes table i n)
-      (λ t. omega (arith, eqb→eq (bytesAt table i n) (sizeIn sizes i n) t, h n))
-      (λ t. omega arith)
+  carried-most i n = equal-most (bytesAt table i n) (sizeIn sizes i n) most (h n)
 
   pub bytes-most : (depth i : ℕ) → bytesBy sizes table depth i ≤ depth * most
   bytes-most depth i = sum-most (λ n. cond (carriedBy sizes table i n) (bytesAt table i n) 0) most depth (carried-most i)
@@ -125,9 +108,6 @@ module _ (ss cs ls bs : List ℕ) where
     summing-end h = let e : i ≡ length ss = omega (arith, t .within) in rw e at (t .table-is)
 
 -- ---- the switch sum
-
-pub apart-most : (a b most : ℕ) → a ≤ most → b ≤ most → apart a b ≤ most
-apart-most a b most u v = omega arith
 
 module _ (sizes table : List ℕ) (depth : ℕ) where
   pub switch-more : (i : ℕ) → 1 ≤ i → switchBy sizes table depth (i + 1) ≡ switchBy sizes table depth i + apart (shownBy sizes table depth i) (shownBy sizes table depth (i + 1))

@@ -15,20 +15,11 @@ use Rattle.job.specs.declared.Programme.{Programme}
 use Rattle.job.specs.Job.{Job, jobOf, size, chunks, layers, lastSlot, heldMost, forecast}
 use Rattle.fetch.specs.Rows.{Row, rowAt, rowsOf, bytesIf, bytesOfLayer, carried, layerCount}
 use Rattle.fetch.specs.Rules.{InRange}
+use Rattle.schedule.specs.Lists.{pre-cong, sum-cong}
 use Rattle.report.specs.Text.{ascii, digits, line, text}
 use Rattle.report.specs.Report.{slotsLine, layersCarried, bytesCarried, chunkLine, chunkLines, layersLine, bytesInRows, forecastSum, left, bytesLine, apart, shown, switchSum, switchLine, reportOf}
 use Rattle.report.specs.Tables.{Rows, Listed, Summed, bytesAt, carriedBy, layersBy, bytesBy, chunkLineBy, countBy, shownBy, switchBy, linesBy}
 use Rattle.report.proofs.Laws.{bytes-snoc}
-
--- ---- sums of equal numbers
-
-sum-cong : (f g : ℕ → ℕ) (n : ℕ) → ((k : ℕ) → k < n → f k ≡ g k) → sum f n ≡ sum g n
-sum-cong f g zero h = refl
-sum-cong f g (suc n) h = omega (arith, sum-cong f g n (λ k u. h k (omega arith)), h n (omega arith))
-
-pre-cong : (f g : ℕ → ℕ) (n : ℕ) → ((k : ℕ) → 1 ≤ k → k ≤ n → f k ≡ g k) → pre f n ≡ pre g n
-pre-cong f g zero h = refl
-pre-cong f g (suc n) h = omega (arith, pre-cong f g n (λ k u v. h k u (omega arith)), h (suc n) (omega arith) (omega arith))
 
 -- A sum counted from 0 and from 1.
 sum-pre : (f : ℕ → ℕ) (n : ℕ) → sum f n ≡ pre (λ t. f (t - 1)) n

@@ -12,7 +12,8 @@ use Rattle.basics.specs.Sums.{pre, sum}
 use Rattle.job.specs.Job.{Job, Layer, Accepted, chunks, layers, size}
 use Rattle.fetch.specs.Rows.{Row, bytesOfLayer, carried}
 use Rattle.fetch.specs.Rules.{InRange, WholeLayers, WithinForecast}
-use Rattle.report.specs.Bounds.{sum-cong, pre-cong, rows-within, layers-sum}
+use Rattle.schedule.specs.Lists.{pre-cong, sum-cong}
+use Rattle.report.specs.Bounds.{rows-within, layers-sum}
 use Rattle.report.specs.Widths.{slots-width, chunks-width, layers-width, bytes-width, switch-width}
 use Rattle.report.specs.Report.{slotsLine, bytesCarried, chunkLines, layersLine, bytesInRows, forecastSum, left, bytesLine, switchLine, reportOf}
 

@@ -14,7 +14,8 @@ use native.Mathlib.Numerals.{add-one}
 use lib.ListN.{getD}
 use denote.Ref.{now}
 use Rattle.report.specs.Tables.{carriedBy, bytesAt, layersBy, bytesBy}
-use Rattle.report.proofs.Laws.{sum-most, cond-most, bytes-most, carried-most}
+use Rattle.report.specs.Bounds.{sum-most, cond-most}
+use Rattle.report.proofs.Laws.{bytes-most, carried-most}
 
 abbrev Inv-loop : tie.InvT-loop
 Inv-loop sizes depth table i layers₀ bytes₀ n₀ layers bytes n =

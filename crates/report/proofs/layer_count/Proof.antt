@@ -12,7 +12,7 @@ use native.Mathlib.Omega.{arith}
 use native.Mathlib.Numerals.{add-one}
 use denote.Ref.{now}
 use Rattle.report.specs.Tables.{carriedBy, countBy}
-use Rattle.report.proofs.Laws.{pre-most, cond-most}
+use Rattle.report.specs.Bounds.{pre-most, cond-most}
 
 abbrev Inv-loop : tie.InvT-loop
 Inv-loop sizes table count n carry₀ i₀ carry i = (i ≤ count) × (carry ≡ countBy sizes table i n)

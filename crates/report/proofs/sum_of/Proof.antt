@@ -10,7 +10,7 @@ use native.Mathlib.Numerals.{add-one}
 use lib.ListN.{length, getD}
 use denote.Ref.{now}
 use Rattle.basics.specs.Sums.{sum}
-use Rattle.report.proofs.Laws.{sum-most}
+use Rattle.report.specs.Bounds.{sum-most}
 
 abbrev Inv-loop : tie.InvT-loop
 Inv-loop s total₀ i₀ total i = (i ≤ length s) × (total ≡ sum (λ k. getD s k 0) i)

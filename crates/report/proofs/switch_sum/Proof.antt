@@ -12,7 +12,8 @@ use borrow.Author.Needs.{needs}
 use lib.ListN.{getD}
 use denote.Ref.{now}
 use Rattle.report.specs.Tables.{shownBy, switchBy}
-use Rattle.report.proofs.Laws.{shown-most, switch-more, switch-most, apart-most}
+use Rattle.report.specs.Bounds.{apart-most}
+use Rattle.report.proofs.Laws.{shown-most, switch-more, switch-most}
 
 abbrev Inv-loop : tie.InvT-loop
 Inv-loop sizes depth table count sum₀ last₀ i₀ sum last i =
