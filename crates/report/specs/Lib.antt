@@ -7,3 +7,4 @@ pub mod Numbers
 pub mod Bounds
 pub mod Widths
 pub mod Theorems
+pub mod Answer

@@ -60,6 +60,14 @@ put-then {old} {mid} {out} {at} {k} {next} s t h p q = record {
   place = q .place ∙ (omega (arith, p .place, length-append s t));
 }
 
+-- A text at the front of a buffer is what stands there.
+pub put-front : {old out t : List ℕ} {next : ℕ} → Put old 0 t out next → length t ≤ length old → (next ≤ length out) × (take next out ≡ t)
+put-front {old} {out} {t} {next} p h =
+    let z : 0 + length t ≡ length t = omega arith in
+    let room : 0 + length t ≤ length old = omega arith in
+    let e : out ≡ t ++ drop (0 + length t) old = p .buffer in
+    (omega (arith, put-length room p, p .place), rw e (take-at t (drop (0 + length t) old) next (omega (arith, p .place))))
+
 -- ---- a byte, and bytes that are put where they fit
 
 pub put-byte : (old : List ℕ) (at v : ℕ) → at < length old → Put old at (v ∷ []) (set old at v) (at + 1)

@@ -11,10 +11,18 @@ ghost use Rattle.basics.specs.Sums.{sum};
 ghost use Rattle.basics.specs.Lists.{upTo};
 ghost use Rattle.job.specs.Job.{jobOf, lastDue};
 ghost use Rattle.fetch.specs.Rows.{rowsOf};
+ghost use Rattle.fetch.specs.Rules.{WithinForecast};
 ghost use Rattle.report.specs.Text.{ascii, digits, line, text};
 ghost use Rattle.report.specs.Report.{apart, reportOf};
+ghost use Rattle.report.specs.Answer.{Answered};
 ghost use Rattle.report.specs.Places.{Put};
 ghost use Rattle.report.specs.Tables.{Rows, Listed, Summed, bytesAt, carriedBy, ChunkBy, chunkLineBy, countBy, shownBy, switchBy, linesBy};
+
+// The number of bytes written, or the number of a refusal.
+pub enum Written {
+    Bytes(usize),
+    Refused(u8),
+}
 
 // What a chunk carries: how many layers and how many bytes.
 struct Chunk {
@@ -364,4 +372,35 @@ fn put_report(
     let total = sum_of(forecast);
     let left = less(total, spent);
     put_lines(p, sizes, depth, &table, spent, left, out)
+}
+
+// The text over the front of the buffer, if it fits.
+fn hand_over(text: &[u8], out: &mut [u8]) -> Written
+    ensures { λ r. ⌜ Answered (now (text .entry)) (now (out .entry)) (now (out .exit)) r ⌝ }
+{
+    if out.len() < text.len() {
+        return Written::Refused(11);
+    }
+    records::put(out, 0, text);
+    Written::Bytes(text.len())
+}
+
+// The report of rows handed, for a list that takes no more than the forecast.
+fn report_rows(
+    p: Programme,
+    sizes: &[u32],
+    depth: usize,
+    forecast: &[u32],
+    slots: &[u16],
+    chunks: &[u16],
+    layers: &[u8],
+    bytes: &[u32],
+    out: &mut [u8],
+) -> Written
+    requires { ⌜ Listed (jobOf p (now sizes) (now forecast)) depth (now slots) (now chunks) (now layers) (now bytes) × WithinForecast (jobOf p (now sizes) (now forecast)) (rowsOf (now slots) (now chunks) (now layers) (now bytes)) ⌝ }
+    ensures { λ r. ⌜ Answered (reportOf (jobOf p (now (sizes .entry)) (now (forecast .entry))) (rowsOf (now (slots .entry)) (now (chunks .entry)) (now (layers .entry)) (now (bytes .entry)))) (now (out .entry)) (now (out .exit)) r ⌝ }
+{
+    let mut text = [0u8; 7610];
+    let n = put_report(p, sizes, depth, forecast, slots, chunks, layers, bytes, &mut text);
+    hand_over(&text[..n], out)
 }
