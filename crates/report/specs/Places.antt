@@ -40,7 +40,7 @@ over-over old at s t h =
     let b : take (at + length s) (over old at s) ≡ take at old ++ s = rw a (take-at (take at old ++ s) (drop (at + length s) old) (at + length s) e) in
     let n : at + length s + length t ≡ at + length (s ++ t) = omega arith in
     let d : drop (at + length s + length t) (over old at s) ≡ drop (at + length s + length t) old =
-        rw (a, ← e, drop-append-add (take at old ++ s) (drop (length (take at old ++ s)) old) (length t), drop-drop (length t) (length (take at old ++ s)) old) in
+    rw (a, ← e, drop-append-add (take at old ++ s) (drop (length (take at old ++ s)) old) (length t), drop-drop (length t) (length (take at old ++ s)) old) in
     rw (b, d, n, append-assoc (take at old) s (t ++ drop (at + length (s ++ t)) old), append-assoc s t (drop (at + length (s ++ t)) old))
 
 -- Where two texts fit, the first does.

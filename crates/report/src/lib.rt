@@ -139,13 +139,7 @@ fn add_row(table: &mut [u64; 2000], c: u16, l: u8, b: u32)
 }
 
 // The pass over the rows.
-fn add_rows(
-    slots: &[u16],
-    chunks: &[u16],
-    layers: &[u8],
-    bytes: &[u32],
-    table: &mut [u64; 2000],
-)
+fn add_rows(slots: &[u16], chunks: &[u16], layers: &[u8], bytes: &[u32], table: &mut [u64; 2000])
     requires { ⌜ Rows (now slots) (now chunks) (now layers) (now bytes) × (now table ≡ replicate 2000 0) ⌝ }
     ensures { λ _. ⌜ Summed (rowsOf (now (slots .entry)) (now (chunks .entry)) (now (layers .entry)) (now (bytes .entry))) (now (table .exit)) ⌝ }
 {
@@ -401,6 +395,16 @@ fn report_rows(
     ensures { λ r. ⌜ Answered (reportOf (jobOf p (now (sizes .entry)) (now (forecast .entry))) (rowsOf (now (slots .entry)) (now (chunks .entry)) (now (layers .entry)) (now (bytes .entry)))) (now (out .entry)) (now (out .exit)) r ⌝ }
 {
     let mut text = [0u8; 7610];
-    let n = put_report(p, sizes, depth, forecast, slots, chunks, layers, bytes, &mut text);
+    let n = put_report(
+        p,
+        sizes,
+        depth,
+        forecast,
+        slots,
+        chunks,
+        layers,
+        bytes,
+        &mut text,
+    );
     hand_over(&text[..n], out)
 }

@@ -1,3 +1,4 @@
+-- `report::put_number` meets its contract. Assumes nothing.
 use Prim.Native.Nat.{ℕ, _<_}
 use borrow.Fn.Kinds.{In}
 use borrow.Fn.PlainCycle.{Measures, is, falls, and}
@@ -15,7 +16,7 @@ use borrow.Author.Needs.{needs}
 use denote.Ref.{now}
 use Rattle.report.specs.Text.{digits}
 use Rattle.report.specs.Numbers.{digits-one, digits-more, digits-length}
-use Rattle.report.specs.Places.{Put, put-byte, put-then, put-room}
+use Rattle.report.specs.Places.{put-byte, put-then, put-room}
 
 abbrev μ-put-number : Measures 1 put-number-kinds.ps ℕ
 μ-put-number κs a = a .1 .1 .0
@@ -28,7 +29,6 @@ abbrev put-number-below : ℕ → In 1 put-number-kinds.ps
 put-number-below t =
     and 1 put-number-kinds.ps (falls 1 put-number-kinds.ps _<_ μ-put-number t) put-number.Pre
 
--- src/lib.rt:31:25
 put-number-cast-out :
     (t : ℕ) →
     put-number-lts.Need-cast-out
@@ -37,7 +37,6 @@ put-number-cast-out :
     put-number.Post
 put-number-cast-out t c = omega arith
 
--- src/lib.rt:31:19
 put-number-add-out :
     (t : ℕ) →
     put-number-lts.Need-add-out
@@ -46,7 +45,6 @@ put-number-add-out :
     put-number.Post
 put-number-add-out t c = omega arith
 
--- src/lib.rt:31:9
 put-number-slice-write-out : (t : ℕ) → put-number-lts.Need-slice-write-out (
   put-number-below t,
   put-number.Post,
@@ -55,7 +53,6 @@ put-number-slice-write-out t c =
     let a = c .before .before .args in
     omega (arith, c .before .before .pre .1, ap length (digits-one (a .n) (c .if1 .taken)))
 
--- src/lib.rt:32:16
 put-number-add-result : (t : ℕ) → put-number-lts.Need-add-result (
   put-number-below t,
   put-number.Post,
@@ -64,14 +61,12 @@ put-number-add-result t c =
     let a = c .before .before .args in
     omega (arith, c .before .before .pre .1, ap length (digits-one (a .n) (c .if1 .taken)))
 
--- src/lib.rt:32:9
 put-number-same-length : (t : ℕ) → put-number-lts.Need-same-length (
   put-number-below t,
   put-number.Post,
 ) (put-number-at t) put-number.Post
 put-number-same-length t c = search needs
 
--- src/lib.rt:32:9
 put-number-returns :
     (t : ℕ) →
     put-number-lts.Need-returns
@@ -83,7 +78,6 @@ put-number-returns t c =
     let e : digits (a .n) ≡ (48 + a .n) ∷ [] = digits-one (a .n) (c .if1 .taken) in
     rw e (put-byte (now (a .out)) (a .at) (48 + a .n) (omega (arith, c .before .before .pre .1, ap length e)))
 
--- src/lib.rt:34:9
 put-number-put-number-requires : (t : ℕ) → put-number-lts.Need-put-number-requires (
   put-number-below t,
   put-number.Post,
@@ -92,21 +86,18 @@ put-number-put-number-requires t c κs =
     let a = c .before .before .before .args in
     (omega (arith, c .before .before .before .pre .0, c .before .if1 .left), omega (arith, c .before .before .before .pre .1, digits-length (a .n) (c .before .if1 .left)))
 
--- src/lib.rt:35:23
 put-number-cast-out-2 : (t : ℕ) → put-number-lts.Need-cast-out-2 (
   put-number-below t,
   put-number.Post,
 ) (put-number-at t) put-number.Post
 put-number-cast-out-2 t c = omega arith
 
--- src/lib.rt:35:17
 put-number-add-out-2 : (t : ℕ) → put-number-lts.Need-add-out-2 (
   put-number-below t,
   put-number.Post,
 ) (put-number-at t) put-number.Post
 put-number-add-out-2 t c = omega arith
 
--- src/lib.rt:35:5
 put-number-slice-write-out-2 : (t : ℕ) → put-number-lts.Need-slice-write-out-2 (
   put-number-below t,
   put-number.Post,
@@ -115,7 +106,6 @@ put-number-slice-write-out-2 t c =
     let a = c .before .before .before .before .before .before .args in
     omega (arith, c .before .before .before .before .before .before .pre .1, c .before .before .put-number .ensures .place, c .before .before .put-number .kept .0, digits-length (a .n) (c .before .before .before .before .if1 .left))
 
--- src/lib.rt:36:5
 put-number-add-result-2 : (t : ℕ) → put-number-lts.Need-add-result-2 (
   put-number-below t,
   put-number.Post,
@@ -124,14 +114,12 @@ put-number-add-result-2 t c =
     let a = c .before .before .before .before .before .before .args in
     omega (arith, c .before .before .before .before .before .before .pre .1, c .before .before .put-number .ensures .place, c .before .before .before .before .before .before .good, digits-length (a .n) (c .before .before .before .before .if1 .left))
 
--- src/lib.rt:26:1
 put-number-same-length-2 : (t : ℕ) → put-number-lts.Need-same-length-2 (
   put-number-below t,
   put-number.Post,
 ) (put-number-at t) put-number.Post
 put-number-same-length-2 t c = length-set (c .before .before .put-number .last .0) (c .before .before .put-number .result) _ ∙ c .before .before .put-number .kept .0
 
--- src/lib.rt:26:1
 put-number-returns-2 : (t : ℕ) → put-number-lts.Need-returns-2 (
   put-number-below t,
   put-number.Post,

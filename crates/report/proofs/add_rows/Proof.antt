@@ -1,8 +1,6 @@
+-- `report::add_rows` meets its contract. Assumes nothing.
 use Rattle.report.proofs.add_rows.Statement.{statement}
 use Rattle.report.proofs.add_rows.Tie as tie
-use Rattle.report.proofs.add_rows.Reads as reads
-use Rattle.report.proofs.add_rows.Lts as lts
-use Rattle.report.proofs.add_row.Reads as add-row-reads
 use Prim.Native.Nat.{_-_}
 use native.Mathlib.Omega.{arith}
 use lib.ListN.{length, getD}
@@ -15,33 +13,26 @@ Inv-loop slots chunks layers bytes table₀ i₀ table i = Summing slots chunks 
 abbrev μ-loop : tie.MeasureT-loop
 μ-loop slots chunks layers bytes table₀ i₀ table i = length slots - i
 
--- src/lib.rt:145:5
 loop-holds : tie.Need-loop-holds Inv-loop μ-loop
 loop-holds c =
     let a = c .before .before .before .before .args in
     summing-start (now (a .slots)) (now (a .chunks)) (now (a .layers)) (now (a .bytes)) _ (c .before .before .before .before .pre .1)
 
--- src/lib.rt:146:24
 mul-add-row : tie.Need-mul-add-row Inv-loop μ-loop
 mul-add-row c = omega arith
 
--- src/lib.rt:146:24
 shared-slice-read-add-row : tie.Need-shared-slice-read-add-row Inv-loop μ-loop
 shared-slice-read-add-row c = omega arith
 
--- src/lib.rt:146:35
 shared-slice-read-add-row-2 : tie.Need-shared-slice-read-add-row-2 Inv-loop μ-loop
 shared-slice-read-add-row-2 c = omega arith
 
--- src/lib.rt:146:46
 mul-add-row-2 : tie.Need-mul-add-row-2 Inv-loop μ-loop
 mul-add-row-2 c = omega arith
 
--- src/lib.rt:146:46
 shared-slice-read-add-row-3 : tie.Need-shared-slice-read-add-row-3 Inv-loop μ-loop
 shared-slice-read-add-row-3 c = omega arith
 
--- src/lib.rt:146:9
 add-row-requires : tie.Need-add-row-requires Inv-loop μ-loop
 add-row-requires c κs =
     let a = c .before .before .before .before .before .before .before .before .before .before .args in
@@ -58,15 +49,12 @@ add-row-requires c κs =
           (getD (now (a .chunks)) (l .i) 0) (getD (now (a .layers)) (l .i) 0) low high layer (λ k. omega (arith, c .shared-slice-known7 .given k)) (o .few),
     )
 
--- src/lib.rt:147:13
 add-i : tie.Need-add-i Inv-loop μ-loop
 add-i c = omega arith
 
--- src/lib.rt:145:5
 loop-less : tie.Need-loop-less Inv-loop μ-loop
 loop-less c = omega arith
 
--- src/lib.rt:145:5
 loop-again : tie.Need-loop-again Inv-loop μ-loop
 loop-again c =
     let a = c .before .before .before .before .before .before .before .before .before .before .before .args in
@@ -76,7 +64,6 @@ loop-again c =
     rw (c .add-row .ensures)
     (summing-more (now (a .slots)) (now (a .chunks)) (now (a .layers)) (now (a .bytes)) (l .table) (l .i) (l .inv) h (o .chunk-low (l .i) h) (o .chunk-high (l .i) h) (o .layer-in (l .i) h))
 
--- src/lib.rt:134:1
 returns : tie.Need-returns Inv-loop μ-loop
 returns c =
     let a = c .before .before .before .before .before .before .args in

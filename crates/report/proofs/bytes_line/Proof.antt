@@ -1,10 +1,7 @@
+-- `report::bytes_line` meets its contract. Assumes nothing.
 use borrow.Author.Needs.{needs}
 use Rattle.report.proofs.bytes_line.Statement.{statement}
 use Rattle.report.proofs.bytes_line.Tie as tie
-use Rattle.report.proofs.bytes_line.Reads as reads
-use Rattle.report.proofs.bytes_line.Lts as lts
-use Rattle.report.proofs.put_end.Reads as put-end-reads
-use Rattle.report.proofs.put_field.Reads as put-field-reads
 use mathlib.Core.List.{List, [], _∷_, _++_}
 use Prim.Native.Nat.{ℕ}
 use Rattle.report.specs.Text.{ascii, digits}
@@ -19,35 +16,28 @@ two left = ascii " left " ++ digits left
 abbrev end : List ℕ
 end = 10 ∷ []
 
--- src/lib.rt:90:36
 slice-aggregate-put-field : tie.Need-slice-aggregate-put-field
 slice-aggregate-put-field c = search needs
 
--- src/lib.rt:90:9
 put-field-requires : tie.Need-put-field-requires
 put-field-requires c κs = let a = c .before .before .before .args in room-first (a .at) (one (a .spent)) (two (a .left) ++ end) (c .before .before .before .pre)
 
--- src/lib.rt:91:37
 slice-aggregate-put-field-2 : tie.Need-slice-aggregate-put-field-2
 slice-aggregate-put-field-2 c = search needs
 
--- src/lib.rt:91:9
 put-field-requires-2 : tie.Need-put-field-requires-2
 put-field-requires-2 c κs =
     let a = c .before .before .before .before .before .before .before .before .args in
     room-first (c .before .before .before .before .put-field .result) (two (a .left)) end (put-room (one (a .spent)) (two (a .left) ++ end) (c .before .before .before .before .before .before .before .before .pre) (c .before .before .before .before .put-field .ensures))
 
--- src/lib.rt:92:5
 put-end-requires : tie.Need-put-end-requires
 put-end-requires c κs =
     let a = c .before .before .before .before .before .before .before .before .before .before .before .before .args in
     put-room (two (a .left)) end (put-room (one (a .spent)) (two (a .left) ++ end) (c .before .before .before .before .before .before .before .before .before .before .before .before .pre) (c .before .before .before .before .before .before .before .before .put-field .ensures)) (c .before .before .before .put-field2 .ensures)
 
--- src/lib.rt:86:1
 same-length : tie.Need-same-length
 same-length c = search needs
 
--- src/lib.rt:86:1
 returns : tie.Need-returns
 returns c =
     let a = c .before .before .before .before .before .before .before .before .before .before .before .before .before .before .before .args in

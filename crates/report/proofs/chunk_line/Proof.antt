@@ -1,11 +1,7 @@
+-- `report::chunk_line` meets its contract. Assumes nothing.
 use borrow.Author.Needs.{needs}
 use Rattle.report.proofs.chunk_line.Statement.{statement}
 use Rattle.report.proofs.chunk_line.Tie as tie
-use Rattle.report.proofs.chunk_line.Reads as reads
-use Rattle.report.proofs.chunk_line.Lts as lts
-use Rattle.report.proofs.put_end.Reads as put-end-reads
-use Rattle.report.proofs.put_next.Reads as put-next-reads
-use Rattle.report.proofs.put_number.Reads as put-number-reads
 use mathlib.Core.List.{List, [], _∷_, _++_}
 use Prim.Native.Nat.{ℕ}
 use Rattle.report.specs.Text.{digits}
@@ -17,18 +13,15 @@ next n = 32 ∷ digits n
 abbrev end : List ℕ
 end = 10 ∷ []
 
--- src/lib.rt:80:9
 put-number-requires : tie.Need-put-number-requires
 put-number-requires c κs = let a = c .before .before .args in room-first (a .at) (digits (a .i)) (next (a .layers) ++ (next (a .bytes) ++ end)) (c .before .before .pre)
 
--- src/lib.rt:81:9
 put-next-requires : tie.Need-put-next-requires
 put-next-requires c κs =
     let a = c .before .before .before .before .before .before .args in
     let r = next (a .bytes) ++ end in
     room-first (c .before .before .before .put-number .result) (next (a .layers)) r (put-room (digits (a .i)) (next (a .layers) ++ r) (c .before .before .before .before .before .before .pre) (c .before .before .before .put-number .ensures))
 
--- src/lib.rt:82:9
 put-next-requires-2 : tie.Need-put-next-requires-2
 put-next-requires-2 c κs =
     let a = c .before .before .before .before .before .before .before .before .before .before .args in
@@ -36,7 +29,6 @@ put-next-requires-2 c κs =
     let h = put-room (digits (a .i)) (next (a .layers) ++ r) (c .before .before .before .before .before .before .before .before .before .before .pre) (c .before .before .before .before .before .before .before .put-number .ensures) in
     room-first (c .before .before .before .put-next .result) (next (a .bytes)) end (put-room (next (a .layers)) r h (c .before .before .before .put-next .ensures))
 
--- src/lib.rt:83:5
 put-end-requires : tie.Need-put-end-requires
 put-end-requires c κs =
     let a = c .before .before .before .before .before .before .before .before .before .before .before .before .before .before .args in
@@ -44,11 +36,9 @@ put-end-requires c κs =
     let h = put-room (digits (a .i)) (next (a .layers) ++ r) (c .before .before .before .before .before .before .before .before .before .before .before .before .before .before .pre) (c .before .before .before .before .before .before .before .before .before .before .before .put-number .ensures) in
     put-room (next (a .bytes)) end (put-room (next (a .layers)) r h (c .before .before .before .before .before .before .before .put-next .ensures)) (c .before .before .before .put-next2 .ensures)
 
--- src/lib.rt:76:1
 same-length : tie.Need-same-length
 same-length c = search needs
 
--- src/lib.rt:76:1
 returns : tie.Need-returns
 returns c =
     let a = c .before .before .before .before .before .before .before .before .before .before .before .before .before .before .before .before .before .args in

@@ -1,9 +1,6 @@
+-- `report::chunk_lines` meets its contract. Assumes nothing.
 use Rattle.report.proofs.chunk_lines.Statement.{statement}
 use Rattle.report.proofs.chunk_lines.Tie as tie
-use Rattle.report.proofs.chunk_lines.Reads as reads
-use Rattle.report.proofs.chunk_lines.Lts as lts
-use Rattle.report.proofs.chunk_line.Reads as chunk-line-reads
-use Rattle.report.proofs.chunk_of.Reads as chunk-of-reads
 use Prim.Native.Nat.{ℕ, _+_, _-_}
 use mathlib.Core.List.{List}
 use native.Mathlib.Omega.{arith}
@@ -20,49 +17,40 @@ Inv-loop out₀ at sizes depth table count next₀ i₀ out next i = Putting (pi
 abbrev μ-loop : tie.MeasureT-loop
 μ-loop out₀ at sizes depth table count next₀ i₀ out next i = count - i
 
--- src/lib.rt:264:5
 loop-holds : tie.Need-loop-holds Inv-loop μ-loop
 loop-holds c =
     let a = c .before .before .args in
     putting-start (piece (now (a .sizes)) (now (a .table)) (a .depth)) (a .count) (now (a .out)) (a .at) (omega (arith, c .before .before .pre))
 
--- src/lib.rt:265:17
 add-k : tie.Need-add-k Inv-loop μ-loop
 add-k c = omega arith
 
--- src/lib.rt:266:13
 chunk-of-requires : tie.Need-chunk-of-requires Inv-loop μ-loop
 chunk-of-requires c κs = omega arith
 
--- src/lib.rt:267:38
 cast-chunk-line : tie.Need-cast-chunk-line Inv-loop μ-loop
 cast-chunk-line c = omega arith
 
--- src/lib.rt:267:9
 chunk-line-requires : tie.Need-chunk-line-requires Inv-loop μ-loop
 chunk-line-requires c κs =
     let a = c .before .before .before .before .before .before .args in
     rw (c .before .chunk-of .ensures .layers, c .before .chunk-of .ensures .bytes)
     (putting-room (piece (now (a .sizes)) (now (a .table)) (a .depth)) (a .count) (now (a .out)) (a .at) (c .before .before .before .before .before .before .pre .2) (c .before .before .loop-test .taken) (c .before .before .before .loop .inv))
 
--- src/lib.rt:264:5
 loop-less : tie.Need-loop-less Inv-loop μ-loop
 loop-less c = omega arith
 
--- src/lib.rt:264:5
 loop-again : tie.Need-loop-again Inv-loop μ-loop
 loop-again c =
     let a = c .before .before .before .before .before .before .before .before .before .args in
     let p = rw (c .before .before .before .before .chunk-of .ensures .layers, c .before .before .before .before .chunk-of .ensures .bytes) at (c .before .before .chunk-line .ensures) in
     putting-more (piece (now (a .sizes)) (now (a .table)) (a .depth)) (a .count) (now (a .out)) (a .at) (c .before .before .before .before .before .before .before .before .before .pre .2) (c .before .before .before .before .before .loop-test .taken) (c .before .before .before .before .before .before .loop .inv) p
 
--- src/lib.rt:251:1
 same-length : tie.Need-same-length Inv-loop μ-loop
 same-length c =
     let a = c .before .before .before .before .args in
     put-length (c .before .before .before .before .pre .2) (putting-end (piece (now (a .sizes)) (now (a .table)) (a .depth)) (a .count) (now (a .out)) (a .at) (c .loop-test .left) (c .before .loop .inv))
 
--- src/lib.rt:251:1
 returns : tie.Need-returns Inv-loop μ-loop
 returns c =
     let a = c .before .before .before .before .args in

@@ -1,11 +1,7 @@
+-- `report::chunk_of` meets its contract. Assumes nothing.
 use Rattle.report.proofs.chunk_of.Statement.{statement}
 use Rattle.report.proofs.chunk_of.Tie as tie
-use Rattle.report.proofs.chunk_of.Reads as reads
-use Rattle.report.proofs.chunk_of.Lts as lts
-use Rattle.report.proofs.bytes_at.Reads as bytes-at-reads
-use Rattle.report.proofs.is_carried.Reads as is-carried-reads
-use Rattle.report.proofs.only_if.Reads as only-if-reads
-use Prim.Native.Nat.{ℕ, _*_, _-_, _≤_}
+use Prim.Native.Nat.{ℕ, _-_, _≤_}
 use mathlib.Core.Path.{_≡_, refl}
 use mathlib.Core.Bool.{Bool, cond}
 use borrow.Author.Needs.{needs}
@@ -13,7 +9,7 @@ use native.Mathlib.Omega.{arith}
 use native.Mathlib.Numerals.{add-one}
 use lib.ListN.{getD}
 use denote.Ref.{now}
-use Rattle.report.specs.Tables.{carriedBy, bytesAt, layersBy, bytesBy}
+use Rattle.report.specs.Tables.{carriedBy, layersBy, bytesBy}
 use Rattle.report.specs.Bounds.{sum-most, cond-most}
 use Rattle.report.proofs.Laws.{bytes-most, carried-most}
 
@@ -24,19 +20,15 @@ Inv-loop sizes depth table i layers₀ bytes₀ n₀ layers bytes n =
 abbrev μ-loop : tie.MeasureT-loop
 μ-loop sizes depth table i layers₀ bytes₀ n₀ layers bytes n = depth - n
 
--- src/lib.rt:192:5
 loop-holds : tie.Need-loop-holds Inv-loop μ-loop
 loop-holds c = (omega arith, refl, refl)
 
--- src/lib.rt:193:13
 is-carried-requires : tie.Need-is-carried-requires Inv-loop μ-loop
 is-carried-requires c κs = omega arith
 
--- src/lib.rt:194:27
 only-if-requires : tie.Need-only-if-requires Inv-loop μ-loop
 only-if-requires c κs = search needs
 
--- src/lib.rt:194:18
 add-layers : tie.Need-add-layers Inv-loop μ-loop
 add-layers c =
     let a = c .before .before .before .before .before .args in
@@ -50,33 +42,27 @@ add-layers c =
       cond-most (c .before .is-carried .result) 1 1 (omega arith),
     )
 
--- src/lib.rt:195:42
 bytes-at-requires : tie.Need-bytes-at-requires Inv-loop μ-loop
 bytes-at-requires c κs = omega arith
 
--- src/lib.rt:195:25
 only-if-requires-2 : tie.Need-only-if-requires-2 Inv-loop μ-loop
 only-if-requires-2 c κs = search needs
 
--- src/lib.rt:195:17
 add-bytes : tie.Need-add-bytes Inv-loop μ-loop
 add-bytes c =
     let a = c .before .before .before .before .before .before .before .args in
     let l = c .before .before .before .before .before .loop in
     let h : (n : ℕ) → getD (now (a .sizes)) n 0 ≤ 4294967295 = λ n. omega (arith, c .before .before .before .before .before .before .shared-slice-known .given n) in
     let e : c .only-if2 .result ≤ 4294967295 =
-        rw (c .only-if2 .ensures, c .before .bytes-at .ensures, c .before .before .before .is-carried .ensures) (carried-most (now (a .sizes)) (now (a .table)) 4294967295 h (a .i) (l .n)) in
+    rw (c .only-if2 .ensures, c .before .bytes-at .ensures, c .before .before .before .is-carried .ensures) (carried-most (now (a .sizes)) (now (a .table)) 4294967295 h (a .i) (l .n)) in
     omega (arith, l .inv .2, bytes-most (now (a .sizes)) (now (a .table)) 4294967295 h (l .n) (a .i))
 
--- src/lib.rt:196:13
 add-n : tie.Need-add-n Inv-loop μ-loop
 add-n c = omega arith
 
--- src/lib.rt:192:5
 loop-less : tie.Need-loop-less Inv-loop μ-loop
 loop-less c = omega arith
 
--- src/lib.rt:192:5
 loop-again : tie.Need-loop-again Inv-loop μ-loop
 loop-again c =
     let l = c .before .before .before .before .before .loop in (
@@ -85,7 +71,6 @@ loop-again c =
       rw (add-one, c .only-if2 .ensures, c .before .bytes-at .ensures, c .before .before .before .is-carried .ensures, l .inv .2),
     )
 
--- src/lib.rt:185:1
 returns : tie.Need-returns Inv-loop μ-loop
 returns c =
     let l = c .before .loop in

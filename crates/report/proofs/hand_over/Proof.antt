@@ -1,32 +1,26 @@
+-- `report::hand_over` meets its contract. Assumes nothing.
 use borrow.Author.Needs.{needs}
 use Rattle.report.proofs.hand_over.Statement.{statement}
 use Rattle.report.proofs.hand_over.Tie as tie
-use Rattle.report.proofs.hand_over.Reads as reads
-use Rattle.report.proofs.hand_over.Lts as lts
-use Rattle.records.proofs.put.Reads as put-reads
-use Prim.Native.Nat.{_+_, _≤_}
-use mathlib.Core.Path.{_≡_, refl, _∙_}
+use Prim.Native.Nat.{_+_}
+use mathlib.Core.Path.{_≡_, _∙_}
 use native.Mathlib.Omega.{arith}
 use lib.ListN.{length}
 use borrow.Author.Tests.{lt-leb, le-leb}
 use denote.Ref.{now}
 
--- src/lib.rt:382:9
 returns : tie.Need-returns
 returns c =
     let a = c .before .before .before .args in
     let e = lt-leb (length (now (a .text))) (length (now (a .out))) (c .if1 .taken) in
     record { result = rw e; buffer = rw e }
 
--- src/lib.rt:384:5
 put-requires : tie.Need-put-requires
 put-requires c κs = search needs
 
--- src/lib.rt:378:1
 same-length : tie.Need-same-length
 same-length c = search needs
 
--- src/lib.rt:378:1
 returns-2 : tie.Need-returns-2
 returns-2 c =
     let a = c .before .before .before .before .before .before .before .args in

@@ -1,10 +1,7 @@
+-- `report::layer_count` meets its contract. Assumes nothing.
 use Rattle.report.proofs.layer_count.Statement.{statement}
 use Rattle.report.proofs.layer_count.Tie as tie
-use Rattle.report.proofs.layer_count.Reads as reads
-use Rattle.report.proofs.layer_count.Lts as lts
-use Rattle.report.proofs.is_carried.Reads as is-carried-reads
-use Rattle.report.proofs.only_if.Reads as only-if-reads
-use Prim.Native.Nat.{ℕ, _+_, _-_, _≤_}
+use Prim.Native.Nat.{ℕ, _-_, _≤_}
 use mathlib.Core.Path.{_≡_, refl}
 use mathlib.Core.Bool.{Bool, cond}
 use borrow.Author.Needs.{needs}
@@ -20,23 +17,18 @@ Inv-loop sizes table count n carry₀ i₀ carry i = (i ≤ count) × (carry ≡
 abbrev μ-loop : tie.MeasureT-loop
 μ-loop sizes table count n carry₀ i₀ carry i = count - i
 
--- src/lib.rt:208:5
 loop-holds : tie.Need-loop-holds Inv-loop μ-loop
 loop-holds c = (omega arith, refl)
 
--- src/lib.rt:209:20
 add-next : tie.Need-add-next Inv-loop μ-loop
 add-next c = omega arith
 
--- src/lib.rt:210:33
 is-carried-requires : tie.Need-is-carried-requires Inv-loop μ-loop
 is-carried-requires c κs = omega arith
 
--- src/lib.rt:210:25
 only-if-requires : tie.Need-only-if-requires Inv-loop μ-loop
 only-if-requires c κs = search needs
 
--- src/lib.rt:210:17
 add-carry : tie.Need-add-carry Inv-loop μ-loop
 add-carry c =
     let a = c .before .before .before .before .before .args in
@@ -50,11 +42,9 @@ add-carry c =
       cond-most (c .before .is-carried .result) 1 1 (omega arith),
     )
 
--- src/lib.rt:208:5
 loop-less : tie.Need-loop-less Inv-loop μ-loop
 loop-less c = omega arith
 
--- src/lib.rt:208:5
 loop-again : tie.Need-loop-again Inv-loop μ-loop
 loop-again c =
     let l = c .before .before .before .loop in (
@@ -62,7 +52,6 @@ loop-again c =
       rw (c .only-if .ensures, c .before .is-carried .ensures, l .inv .1, add-one),
     )
 
--- src/lib.rt:202:1
 returns : tie.Need-returns Inv-loop μ-loop
 returns c =
     let l = c .before .loop in

@@ -1,9 +1,6 @@
+-- `report::layer_counts` meets its contract. Assumes nothing.
 use Rattle.report.proofs.layer_counts.Statement.{statement}
 use Rattle.report.proofs.layer_counts.Tie as tie
-use Rattle.report.proofs.layer_counts.Reads as reads
-use Rattle.report.proofs.layer_counts.Lts as lts
-use Rattle.report.proofs.layer_count.Reads as layer-count-reads
-use Rattle.report.proofs.put_next.Reads as put-next-reads
 use Prim.Native.Nat.{ℕ, _-_}
 use mathlib.Core.List.{List, _∷_}
 use native.Mathlib.Omega.{arith}
@@ -21,45 +18,37 @@ Inv-loop out₀ at sizes depth table count next₀ n₀ out next n = Putting (pi
 abbrev μ-loop : tie.MeasureT-loop
 μ-loop out₀ at sizes depth table count next₀ n₀ out next n = depth - n
 
--- src/lib.rt:287:5
 loop-holds : tie.Need-loop-holds Inv-loop μ-loop
 loop-holds c =
     let a = c .before .before .args in
     putting-start (piece (now (a .sizes)) (now (a .table)) (a .count)) (a .depth) (now (a .out)) (a .at) (omega (arith, c .before .before .pre))
 
--- src/lib.rt:288:13
 layer-count-requires : tie.Need-layer-count-requires Inv-loop μ-loop
 layer-count-requires c κs = omega arith
 
--- src/lib.rt:289:9
 put-next-requires : tie.Need-put-next-requires Inv-loop μ-loop
 put-next-requires c κs =
     let a = c .before .before .before .before .before .before .args in
     rw (c .before .layer-count .ensures)
     (putting-room (piece (now (a .sizes)) (now (a .table)) (a .count)) (a .depth) (now (a .out)) (a .at) (c .before .before .before .before .before .before .pre .2) (c .before .before .loop-test .taken) (c .before .before .before .loop .inv))
 
--- src/lib.rt:290:13
 add-n : tie.Need-add-n Inv-loop μ-loop
 add-n c = omega arith
 
--- src/lib.rt:287:5
 loop-less : tie.Need-loop-less Inv-loop μ-loop
 loop-less c = omega arith
 
--- src/lib.rt:287:5
 loop-again : tie.Need-loop-again Inv-loop μ-loop
 loop-again c =
     let a = c .before .before .before .before .before .before .before .before .before .args in
     let p = rw (c .before .before .before .before .layer-count .ensures) at (c .before .before .put-next .ensures) in
     putting-more (piece (now (a .sizes)) (now (a .table)) (a .count)) (a .depth) (now (a .out)) (a .at) (c .before .before .before .before .before .before .before .before .before .pre .2) (c .before .before .before .before .before .loop-test .taken) (c .before .before .before .before .before .before .loop .inv) p
 
--- src/lib.rt:274:1
 same-length : tie.Need-same-length Inv-loop μ-loop
 same-length c =
     let a = c .before .before .before .before .args in
     put-length (c .before .before .before .before .pre .2) (putting-end (piece (now (a .sizes)) (now (a .table)) (a .count)) (a .depth) (now (a .out)) (a .at) (c .loop-test .left) (c .before .loop .inv))
 
--- src/lib.rt:274:1
 returns : tie.Need-returns Inv-loop μ-loop
 returns c =
     let a = c .before .before .before .before .args in

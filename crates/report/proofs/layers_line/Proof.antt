@@ -1,15 +1,9 @@
+-- `report::layers_line` meets its contract. Assumes nothing.
 use borrow.Author.Needs.{needs}
 use Rattle.report.proofs.layers_line.Statement.{statement}
 use Rattle.report.proofs.layers_line.Tie as tie
-use Rattle.report.proofs.layers_line.Reads as reads
-use Rattle.report.proofs.layers_line.Lts as lts
-use Rattle.records.proofs.put.Reads as put-reads
-use Rattle.report.proofs.layer_counts.Reads as layer-counts-reads
-use Rattle.report.proofs.put_end.Reads as put-end-reads
 use Prim.Native.Nat.{ℕ, _+_, _≤_}
-use mathlib.Core.Path.{_≡_}
 use mathlib.Core.List.{List, [], _∷_, _++_}
-use native.Mathlib.Omega.{arith}
 use lib.ListN.{length}
 use denote.Ref.{now}
 use Rattle.basics.specs.Lists.{upTo}
@@ -27,19 +21,15 @@ end = 10 ∷ []
 room : (sizes table out : List ℕ) (count depth at : ℕ) → at + length (line (ascii "layers") (upTo (λ n. digits (countBy sizes table count n)) depth)) ≤ length out → at + length (ascii "layers" ++ (counts sizes table count depth ++ end)) ≤ length out
 room sizes table out count depth at h = rw (ended-text (λ n. digits (countBy sizes table count n)) depth) at h
 
--- src/lib.rt:306:27
 slice-aggregate-put : tie.Need-slice-aggregate-put
 slice-aggregate-put c = search needs
 
--- src/lib.rt:306:5
 put-requires : tie.Need-put-requires
 put-requires c κs = search needs
 
--- src/lib.rt:307:16
 add-from : tie.Need-add-from
 add-from c = search needs
 
--- src/lib.rt:308:9
 layer-counts-requires : tie.Need-layer-counts-requires
 layer-counts-requires c κs =
     let a = c .before .before .before .before .before .before .before .before .args in
@@ -48,7 +38,6 @@ layer-counts-requires c κs =
     let p = put-written (now (a .out)) (a .at) (ascii "layers") (room-first (a .at) (ascii "layers") (t ++ end) h) (c .before .before .before .put .ensures) in
     (c .before .before .before .before .before .before .before .before .pre .0, c .before .before .before .before .before .before .before .before .pre .1, room-first (a .at + 6) t end (put-room (ascii "layers") (t ++ end) h p))
 
--- src/lib.rt:309:5
 put-end-requires : tie.Need-put-end-requires
 put-end-requires c κs =
     let a = c .before .before .before .before .before .before .before .before .before .before .before .before .args in
@@ -57,11 +46,9 @@ put-end-requires c κs =
     let p = put-written (now (a .out)) (a .at) (ascii "layers") (room-first (a .at) (ascii "layers") (t ++ end) h) (c .before .before .before .before .before .before .before .put .ensures) in
     put-room t end (put-room (ascii "layers") (t ++ end) h p) (c .before .before .before .layer-counts .ensures)
 
--- src/lib.rt:295:1
 same-length : tie.Need-same-length
 same-length c = search needs
 
--- src/lib.rt:295:1
 returns : tie.Need-returns
 returns c =
     let a = c .before .before .before .before .before .before .before .before .before .before .before .before .before .before .before .args in

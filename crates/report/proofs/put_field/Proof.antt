@@ -1,34 +1,26 @@
+-- `report::put_field` meets its contract. Assumes nothing.
 use borrow.Author.Needs.{needs}
 use Rattle.report.proofs.put_field.Statement.{statement}
 use Rattle.report.proofs.put_field.Tie as tie
-use Rattle.report.proofs.put_field.Reads as reads
-use Rattle.report.proofs.put_field.Lts as lts
-use Rattle.records.proofs.put.Reads as put-reads
-use Rattle.report.proofs.put_number.Reads as put-number-reads
 use denote.Ref.{now}
 use Rattle.report.specs.Text.{digits}
 use Rattle.report.specs.Places.{put-room, put-then, put-written, room-first}
 
--- src/lib.rt:44:5
 put-requires : tie.Need-put-requires
 put-requires c κs = search needs
 
--- src/lib.rt:45:16
 add-next : tie.Need-add-next
 add-next c = search needs
 
--- src/lib.rt:46:5
 put-number-requires : tie.Need-put-number-requires
 put-number-requires c κs =
     let a = c .before .before .before .before .before .before .before .args in
     let w = now (a .word) in
     put-room w (digits (a .n)) (c .before .before .before .before .before .before .before .pre) (put-written (now (a .out)) (a .at) w (room-first (a .at) w (digits (a .n)) (c .before .before .before .before .before .before .before .pre)) (c .before .before .before .put .ensures))
 
--- src/lib.rt:40:1
 same-length : tie.Need-same-length
 same-length c = search needs
 
--- src/lib.rt:40:1
 returns : tie.Need-returns
 returns c =
     let a = c .before .before .before .before .before .before .before .before .before .before .args in

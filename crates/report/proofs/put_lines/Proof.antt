@@ -1,16 +1,7 @@
+-- `report::put_lines` meets its contract. Assumes nothing.
 use borrow.Author.Needs.{needs}
 use Rattle.report.proofs.put_lines.Statement.{statement}
 use Rattle.report.proofs.put_lines.Tie as tie
-use Rattle.report.proofs.put_lines.Reads as reads
-use Rattle.report.proofs.put_lines.Lts as lts
-use Rattle.job.proofs.held_most.Reads as held-most-reads
-use Rattle.job.proofs.last_due.Reads as last-due-reads
-use Rattle.report.proofs.bytes_line.Reads as bytes-line-reads
-use Rattle.report.proofs.chunk_lines.Reads as chunk-lines-reads
-use Rattle.report.proofs.layers_line.Reads as layers-line-reads
-use Rattle.report.proofs.slots_line.Reads as slots-line-reads
-use Rattle.report.proofs.switch_line.Reads as switch-line-reads
-use Rattle.report.proofs.switch_sum.Reads as switch-sum-reads
 use Prim.Native.Nat.{ℕ, _+_, _/_, _≤_}
 use mathlib.Core.Path.{_≡_}
 use mathlib.Core.List.{List, [], _∷_, _++_}
@@ -82,61 +73,49 @@ module _
               rw (← e, ← f, ← g)
               (put-then one (two ++ (three ++ (four ++ five))) room p₁ (put-then two (three ++ (four ++ five)) room₁ p₂ (put-then three (four ++ five) room₂ p₃ (put-then four five room₃ p₄ p₅))))
 
--- src/lib.rt:336:16
 last-due-requires : tie.Need-last-due-requires
 last-due-requires c κs = search needs
 
--- src/lib.rt:337:16
 held-most-requires : tie.Need-held-most-requires
 held-most-requires c κs = search needs
 
--- src/lib.rt:337:16
 cast-held : tie.Need-cast-held
 cast-held c = search needs
 
--- src/lib.rt:338:9
 switch-sum-requires : tie.Need-switch-sum-requires
 switch-sum-requires c κs = search needs
 
--- src/lib.rt:339:43
 cast-slots-line : tie.Need-cast-slots-line
 cast-slots-line c = search needs
 
--- src/lib.rt:339:9
 slots-line-requires : tie.Need-slots-line-requires
 slots-line-requires c κs =
     let a = c .before .before .before .before .before .before .args in
     room-one (a .p) (now (a .sizes)) (now (a .table)) (now (a .out)) (a .depth) (a .spent) (a .left) (c .before .before .before .before .before .before .pre .3) (c .before .before .before .last-due .ensures) (c .before .before .held-most .ensures) (c .before .switch-sum .ensures)
 
--- src/lib.rt:340:9
 chunk-lines-requires : tie.Need-chunk-lines-requires
 chunk-lines-requires c κs =
     let a = c .before .before .before .before .before .before .before .before .before .before .args in
     (c .before .before .before .before .before .before .before .before .before .before .pre .0, c .before .before .before .before .before .before .before .before .before .before .pre .2, room-two (a .p) (now (a .sizes)) (now (a .table)) (now (a .out)) (a .depth) (a .spent) (a .left) (c .before .before .before .before .before .before .before .before .before .before .pre .3) (c .before .before .before .before .before .before .before .last-due .ensures) (c .before .before .before .before .before .before .held-most .ensures) (c .before .before .before .before .before .switch-sum .ensures) (c .before .before .before .slots-line .ensures))
 
--- src/lib.rt:341:9
 layers-line-requires : tie.Need-layers-line-requires
 layers-line-requires c κs =
     let a = c .before .before .before .before .before .before .before .before .before .before .before .before .before .before .args in
     (c .before .before .before .before .before .before .before .before .before .before .before .before .before .before .pre .0, c .before .before .before .before .before .before .before .before .before .before .before .before .before .before .pre .2, room-three (a .p) (now (a .sizes)) (now (a .table)) (now (a .out)) (a .depth) (a .spent) (a .left) (c .before .before .before .before .before .before .before .before .before .before .before .before .before .before .pre .3) (c .before .before .before .before .before .before .before .before .before .before .before .last-due .ensures) (c .before .before .before .before .before .before .before .before .before .before .held-most .ensures) (c .before .before .before .before .before .before .before .before .before .switch-sum .ensures) (c .before .before .before .before .before .before .before .slots-line .ensures) (c .before .before .before .chunk-lines .ensures))
 
--- src/lib.rt:342:9
 bytes-line-requires : tie.Need-bytes-line-requires
 bytes-line-requires c κs =
     let a = c .before .before .before .before .before .before .before .before .before .before .before .before .before .before .before .before .before .before .args in
     room-four (a .p) (now (a .sizes)) (now (a .table)) (now (a .out)) (a .depth) (a .spent) (a .left) (c .before .before .before .before .before .before .before .before .before .before .before .before .before .before .before .before .before .before .pre .3) (c .before .before .before .before .before .before .before .before .before .before .before .before .before .before .before .last-due .ensures) (c .before .before .before .before .before .before .before .before .before .before .before .before .before .before .held-most .ensures) (c .before .before .before .before .before .before .before .before .before .before .before .before .before .switch-sum .ensures) (c .before .before .before .before .before .before .before .before .before .before .before .slots-line .ensures) (c .before .before .before .before .before .before .before .chunk-lines .ensures) (c .before .before .before .layers-line .ensures)
 
--- src/lib.rt:343:5
 switch-line-requires : tie.Need-switch-line-requires
 switch-line-requires c κs =
     let a = c .before .before .before .before .before .before .before .before .before .before .before .before .before .before .before .before .before .before .before .before .before .before .args in
     room-five (a .p) (now (a .sizes)) (now (a .table)) (now (a .out)) (a .depth) (a .spent) (a .left) (c .before .before .before .before .before .before .before .before .before .before .before .before .before .before .before .before .before .before .before .before .before .before .pre .3) (c .before .before .before .before .before .before .before .before .before .before .before .before .before .before .before .before .before .before .before .last-due .ensures) (c .before .before .before .before .before .before .before .before .before .before .before .before .before .before .before .before .before .before .held-most .ensures) (c .before .before .before .before .before .before .before .before .before .before .before .before .before .before .before .before .before .switch-sum .ensures) (c .before .before .before .before .before .before .before .before .before .before .before .before .before .before .before .slots-line .ensures) (c .before .before .before .before .before .before .before .before .before .before .before .chunk-lines .ensures) (c .before .before .before .before .before .before .before .layers-line .ensures) (c .before .before .before .bytes-line .ensures)
 
--- src/lib.rt:323:1
 same-length : tie.Need-same-length
 same-length c = search needs
 
--- src/lib.rt:323:1
 returns : tie.Need-returns
 returns c =
     let a = c .before .before .before .before .before .before .before .before .before .before .before .before .before .before .before .before .before .before .before .before .before .before .before .before .before .args in

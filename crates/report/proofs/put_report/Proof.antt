@@ -1,39 +1,27 @@
+-- `report::put_report` meets its contract. Assumes nothing.
 use borrow.Author.Needs.{needs}
 use Rattle.report.proofs.put_report.Statement.{statement}
 use Rattle.report.proofs.put_report.Tie as tie
-use Rattle.report.proofs.put_report.Reads as reads
-use Rattle.report.proofs.put_report.Lts as lts
-use Rattle.report.proofs.add_rows.Reads as add-rows-reads
-use Rattle.report.proofs.less.Reads as less-reads
-use Rattle.report.proofs.put_lines.Reads as put-lines-reads
-use Rattle.report.proofs.sum_of.Reads as sum-of-reads
-use mathlib.Core.Path.{_≡_, refl, _∙_}
+use mathlib.Core.Path.{refl, _∙_}
 use native.Mathlib.Omega.{arith}
 use denote.Ref.{now}
-use lib.ListN.{length}
-use Prim.Native.Nat.{_≤_}
 use Rattle.job.specs.Job.{jobOf}
 use Rattle.report.proofs.Lines.{listed-rows, report-is}
 
--- src/lib.rt:362:5
 add-rows-requires : tie.Need-add-rows-requires
 add-rows-requires c κs =
     let a = c .before .before .before .before .before .before .before .before .args in
     (listed-rows (jobOf (a .p) (now (a .sizes)) (now (a .forecast))) (a .depth) (now (a .slots)) (now (a .chunks)) (now (a .layers)) (now (a .bytes)) (c .before .before .before .before .before .before .before .before .pre .0), refl)
 
--- src/lib.rt:363:9
 sum-of-requires : tie.Need-sum-of-requires
 sum-of-requires c κs = search needs
 
--- src/lib.rt:364:9
 sum-of-requires-2 : tie.Need-sum-of-requires-2
 sum-of-requires-2 c κs = search needs
 
--- src/lib.rt:365:9
 less-requires : tie.Need-less-requires
 less-requires c κs = search needs
 
--- src/lib.rt:366:5
 put-lines-requires : tie.Need-put-lines-requires
 put-lines-requires c κs =
     let a = c .before .before .before .before .before .before .before .before .before .before .before .before .before .before .args in
@@ -41,11 +29,9 @@ put-lines-requires c κs =
     let e = report-is (jobOf (a .p) (now (a .sizes)) (now (a .forecast))) (a .depth) (now (a .slots)) (now (a .chunks)) (now (a .layers)) (now (a .bytes)) l _ (c .before .before .before .before .before .add-rows .ensures) (c .before .before .before .before .sum-of .result) (c .before .before .less .result) (c .before .before .before .before .sum-of .ensures) (c .before .before .less .ensures ∙ rw (c .before .before .before .sum-of2 .ensures)) in
     (omega (arith, l .depth-is, l .accepted .layers-in .high), l .accepted .chunks-in .low, l .accepted .chunks-in .high, rw e (c .before .before .before .before .before .before .before .before .before .before .before .before .before .before .pre .1))
 
--- src/lib.rt:347:1
 same-length : tie.Need-same-length
 same-length c = search needs
 
--- src/lib.rt:347:1
 returns : tie.Need-returns
 returns c =
     let a = c .before .before .before .before .before .before .before .before .before .before .before .before .before .before .before .before .before .args in

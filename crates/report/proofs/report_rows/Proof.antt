@@ -1,42 +1,30 @@
+-- `report::report_rows` meets its contract. Assumes nothing.
 use borrow.Author.Needs.{needs}
 use Rattle.report.proofs.report_rows.Statement.{statement}
 use Rattle.report.proofs.report_rows.Tie as tie
-use Rattle.report.proofs.report_rows.Reads as reads
-use Rattle.report.proofs.report_rows.Lts as lts
-use Rattle.report.proofs.hand_over.Reads as hand-over-reads
-use Rattle.report.proofs.put_report.Reads as put-report-reads
-use Prim.Native.Nat.{ℕ, _+_, _≤_}
-use mathlib.Core.Path.{_≡_, refl, sym, ap, _∙_}
-use mathlib.Core.List.{List}
-use native.Mathlib.Omega.{arith}
-use lib.ListN.{length, take}
+use mathlib.Core.Path.{sym}
 use denote.Ref.{now}
-use Rattle.job.specs.Job.{Job, jobOf}
-use Rattle.fetch.specs.Rows.{Row, rowsOf}
-use Rattle.report.specs.Report.{reportOf}
+use Rattle.job.specs.Job.{jobOf}
+use Rattle.fetch.specs.Rows.{rowsOf}
 use Rattle.report.specs.Theorems.{report-fits}
 use Rattle.report.specs.Places.{put-front}
 use lib.Seq.{length-take-le}
 
--- src/lib.rt:404:81
 slice-aggregate-put-report : tie.Need-slice-aggregate-put-report
 slice-aggregate-put-report c = search needs
 
--- src/lib.rt:404:9
 put-report-requires : tie.Need-put-report-requires
 put-report-requires c κs =
     let a = c .before .before .before .before .before .before .before .before .args in
     let l = c .before .before .before .before .before .before .before .before .pre .0 in
     (l, report-fits (jobOf (a .p) (now (a .sizes)) (now (a .forecast))) (rowsOf (now (a .slots)) (now (a .chunks)) (now (a .layers)) (now (a .bytes))) (l .accepted) (l .in-range) (c .before .before .before .before .before .before .before .before .pre .1))
 
--- src/lib.rt:405:15
 array-share-prefix-text : tie.Need-array-share-prefix-text
 array-share-prefix-text c =
     let a = c .before .before .before .before .before .before .before .before .before .before .args in
     let l = c .before .before .before .before .before .before .before .before .before .before .pre .0 in
     put-front (c .before .put-report .ensures) (report-fits (jobOf (a .p) (now (a .sizes)) (now (a .forecast))) (rowsOf (now (a .slots)) (now (a .chunks)) (now (a .layers)) (now (a .bytes))) (l .accepted) (l .in-range) (c .before .before .before .before .before .before .before .before .before .before .pre .1)) .0
 
--- src/lib.rt:405:15
 slice-aggregate-hand-over : tie.Need-slice-aggregate-hand-over
 slice-aggregate-hand-over c =
     let a = c .before .before .before .before .before .before .before .before .before .before .before .args in
@@ -44,15 +32,12 @@ slice-aggregate-hand-over c =
     let f = put-front (c .before .before .put-report .ensures) (report-fits (jobOf (a .p) (now (a .sizes)) (now (a .forecast))) (rowsOf (now (a .slots)) (now (a .chunks)) (now (a .layers)) (now (a .bytes))) (l .accepted) (l .in-range) (c .before .before .before .before .before .before .before .before .before .before .before .pre .1)) in
     sym (length-take-le _ _ (f .0))
 
--- src/lib.rt:405:5
 hand-over-requires : tie.Need-hand-over-requires
 hand-over-requires c κs = search needs
 
--- src/lib.rt:389:1
 same-length : tie.Need-same-length
 same-length c = search needs
 
--- src/lib.rt:389:1
 returns : tie.Need-returns
 returns c =
     let a = c .before .before .before .before .before .before .before .before .before .before .before .before .before .before .before .args in

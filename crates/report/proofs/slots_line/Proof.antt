@@ -1,10 +1,7 @@
+-- `report::slots_line` meets its contract. Assumes nothing.
 use borrow.Author.Needs.{needs}
 use Rattle.report.proofs.slots_line.Statement.{statement}
 use Rattle.report.proofs.slots_line.Tie as tie
-use Rattle.report.proofs.slots_line.Reads as reads
-use Rattle.report.proofs.slots_line.Lts as lts
-use Rattle.report.proofs.put_end.Reads as put-end-reads
-use Rattle.report.proofs.put_field.Reads as put-field-reads
 use mathlib.Core.List.{List, [], _∷_, _++_}
 use Prim.Native.Nat.{ℕ}
 use Rattle.report.specs.Text.{ascii, digits}
@@ -22,30 +19,24 @@ three held = ascii " held " ++ digits held
 abbrev end : List ℕ
 end = 10 ∷ []
 
--- src/lib.rt:70:36
 slice-aggregate-put-field : tie.Need-slice-aggregate-put-field
 slice-aggregate-put-field c = search needs
 
--- src/lib.rt:70:9
 put-field-requires : tie.Need-put-field-requires
 put-field-requires c κs = let a = c .before .before .before .args in room-first (a .at) (one (a .last)) (two (a .count) ++ (three (a .held) ++ end)) (c .before .before .before .pre)
 
--- src/lib.rt:71:40
 slice-aggregate-put-field-2 : tie.Need-slice-aggregate-put-field-2
 slice-aggregate-put-field-2 c = search needs
 
--- src/lib.rt:71:9
 put-field-requires-2 : tie.Need-put-field-requires-2
 put-field-requires-2 c κs =
     let a = c .before .before .before .before .before .before .before .before .args in
     let r = three (a .held) ++ end in
     room-first (c .before .before .before .before .put-field .result) (two (a .count)) r (put-room (one (a .last)) (two (a .count) ++ r) (c .before .before .before .before .before .before .before .before .pre) (c .before .before .before .before .put-field .ensures))
 
--- src/lib.rt:72:38
 slice-aggregate-put-field-3 : tie.Need-slice-aggregate-put-field-3
 slice-aggregate-put-field-3 c = search needs
 
--- src/lib.rt:72:9
 put-field-requires-3 : tie.Need-put-field-requires-3
 put-field-requires-3 c κs =
     let a = c .before .before .before .before .before .before .before .before .before .before .before .before .before .args in
@@ -53,7 +44,6 @@ put-field-requires-3 c κs =
     let h = put-room (one (a .last)) (two (a .count) ++ r) (c .before .before .before .before .before .before .before .before .before .before .before .before .before .pre) (c .before .before .before .before .before .before .before .before .before .put-field .ensures) in
     room-first (c .before .before .before .before .put-field2 .result) (three (a .held)) end (put-room (two (a .count)) r h (c .before .before .before .before .put-field2 .ensures))
 
--- src/lib.rt:73:5
 put-end-requires : tie.Need-put-end-requires
 put-end-requires c κs =
     let a = c .before .before .before .before .before .before .before .before .before .before .before .before .before .before .before .before .before .args in
@@ -61,11 +51,9 @@ put-end-requires c κs =
     let h = put-room (one (a .last)) (two (a .count) ++ r) (c .before .before .before .before .before .before .before .before .before .before .before .before .before .before .before .before .before .pre) (c .before .before .before .before .before .before .before .before .before .before .before .before .before .put-field .ensures) in
     put-room (three (a .held)) end (put-room (two (a .count)) r h (c .before .before .before .before .before .before .before .before .put-field2 .ensures)) (c .before .before .before .put-field3 .ensures)
 
--- src/lib.rt:66:1
 same-length : tie.Need-same-length
 same-length c = search needs
 
--- src/lib.rt:66:1
 returns : tie.Need-returns
 returns c =
     let a = c .before .before .before .before .before .before .before .before .before .before .before .before .before .before .before .before .before .before .before .before .args in

@@ -1,10 +1,8 @@
+-- `report::sum_of` meets its contract. Assumes nothing.
 use Rattle.report.proofs.sum_of.Statement.{statement}
 use Rattle.report.proofs.sum_of.Tie as tie
-use Rattle.report.proofs.sum_of.Reads as reads
-use Rattle.report.proofs.sum_of.Lts as lts
-use Rattle.report.proofs.add.Reads as add-reads
-use Prim.Native.Nat.{ℕ, _+_, _-_, _≤_}
-use mathlib.Core.Path.{_≡_, _∙_}
+use Prim.Native.Nat.{_-_, _≤_}
+use mathlib.Core.Path.{_≡_}
 use native.Mathlib.Omega.{arith}
 use native.Mathlib.Numerals.{add-one}
 use lib.ListN.{length, getD}
@@ -18,37 +16,29 @@ Inv-loop s total₀ i₀ total i = (i ≤ length s) × (total ≡ sum (λ k. get
 abbrev μ-loop : tie.MeasureT-loop
 μ-loop s total₀ i₀ total i = length s - i
 
--- src/lib.rt:117:5
 loop-holds : tie.Need-loop-holds Inv-loop μ-loop
 loop-holds c = omega arith
 
--- src/lib.rt:118:28
 mul-add : tie.Need-mul-add Inv-loop μ-loop
 mul-add c = omega arith
 
--- src/lib.rt:118:28
 shared-slice-read-add : tie.Need-shared-slice-read-add Inv-loop μ-loop
 shared-slice-read-add c = omega arith
 
--- src/lib.rt:118:9
 add-requires : tie.Need-add-requires Inv-loop μ-loop
 add-requires c κs =
     let s = now (c .before .before .before .before .args .s) in
     omega (arith, sum-most (λ k. getD s k 0) 4294967295 (c .before .before .loop .i) (λ k. omega (arith, c .shared-slice-known2 .given k)))
 
--- src/lib.rt:119:13
 add-i : tie.Need-add-i Inv-loop μ-loop
 add-i c = omega arith
 
--- src/lib.rt:117:5
 loop-less : tie.Need-loop-less Inv-loop μ-loop
 loop-less c = omega arith
 
--- src/lib.rt:117:5
 loop-again : tie.Need-loop-again Inv-loop μ-loop
 loop-again c = (omega arith, rw add-one (omega (arith, c .add .ensures, c .before .before .before .loop .inv .1)))
 
--- src/lib.rt:111:1
 returns : tie.Need-returns Inv-loop μ-loop
 returns c =
     let e : c .before .loop .i ≡ length (now (c .before .before .before .args .s)) = omega arith in

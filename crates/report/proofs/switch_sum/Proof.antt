@@ -1,13 +1,10 @@
+-- `report::switch_sum` meets its contract. Assumes nothing.
 use Rattle.report.proofs.switch_sum.Statement.{statement}
 use Rattle.report.proofs.switch_sum.Tie as tie
-use Rattle.report.proofs.switch_sum.Reads as reads
-use Rattle.report.proofs.switch_sum.Lts as lts
-use Rattle.report.proofs.distance.Reads as distance-reads
-use Rattle.report.proofs.shown.Reads as shown-reads
 use Prim.Native.Nat.{ℕ, _+_, _*_, _-_, _≤_}
-use mathlib.Core.Path.{_≡_, refl, sym, _∙_}
+use mathlib.Core.Path.{_≡_, refl, sym}
 use native.Mathlib.Omega.{arith}
-use native.Mathlib.Nat.{mul-le-mul-right, mul-le-mul-left}
+use native.Mathlib.Nat.{mul-le-mul-left}
 use borrow.Author.Needs.{needs}
 use lib.ListN.{getD}
 use denote.Ref.{now}
@@ -22,27 +19,21 @@ Inv-loop sizes depth table count sum₀ last₀ i₀ sum last i =
 abbrev μ-loop : tie.MeasureT-loop
 μ-loop sizes depth table count sum₀ last₀ i₀ sum last i = count - i
 
--- src/lib.rt:239:9
 shown-requires : tie.Need-shown-requires Inv-loop μ-loop
 shown-requires c κs = omega arith
 
--- src/lib.rt:241:5
 loop-holds : tie.Need-loop-holds Inv-loop μ-loop
 loop-holds c = (omega arith, omega arith, c .shown .ensures, refl)
 
--- src/lib.rt:242:20
 add-next : tie.Need-add-next Inv-loop μ-loop
 add-next c = omega arith
 
--- src/lib.rt:243:13
 shown-requires-2 : tie.Need-shown-requires-2 Inv-loop μ-loop
 shown-requires-2 c κs = omega arith
 
--- src/lib.rt:244:21
 distance-requires : tie.Need-distance-requires Inv-loop μ-loop
 distance-requires c κs = search needs
 
--- src/lib.rt:244:15
 add-sum : tie.Need-add-sum Inv-loop μ-loop
 add-sum c =
     let a = c .before .before .before .before .before .before .args in
@@ -52,16 +43,14 @@ add-sum c =
     let h : (n : ℕ) → getD s n 0 ≤ 4294967295 = λ n. omega (arith, c .before .before .before .before .before .shared-slice-known .given n) in
     let d : a .depth * 4294967295 ≤ 17179869180 = omega (arith, c .before .before .before .before .before .before .pre) in
     let e : c .distance .result ≤ a .depth * 4294967295 =
-        rw (c .distance .ensures, c .before .shown2 .ensures, l .inv .2)
-        (apart-most (shownBy s t (a .depth) (l .i)) (shownBy s t (a .depth) (l .i + 1)) (a .depth * 4294967295) (shown-most s t 4294967295 h (a .depth) (l .i)) (shown-most s t 4294967295 h (a .depth) (l .i + 1))) in
+    rw (c .distance .ensures, c .before .shown2 .ensures, l .inv .2)
+    (apart-most (shownBy s t (a .depth) (l .i)) (shownBy s t (a .depth) (l .i + 1)) (a .depth * 4294967295) (shown-most s t 4294967295 h (a .depth) (l .i)) (shown-most s t 4294967295 h (a .depth) (l .i + 1))) in
     let m : (l .i - 1) * (a .depth * 4294967295) ≤ (l .i - 1) * 17179869180 = mul-le-mul-left (l .i - 1) d in
     omega (arith, l .inv .3, switch-most s t (a .depth) 4294967295 (l .i) h, c .before .before .before .before .before .before .pre, c .before .before .loop-test .taken)
 
--- src/lib.rt:241:5
 loop-less : tie.Need-loop-less Inv-loop μ-loop
 loop-less c = omega arith
 
--- src/lib.rt:241:5
 loop-again : tie.Need-loop-again Inv-loop μ-loop
 loop-again c =
     let a = c .before .before .before .before .before .before .args in
@@ -72,7 +61,6 @@ loop-again c =
       rw (c .distance .ensures, c .before .shown2 .ensures, l .inv .2, l .inv .3) (sym (switch-more (now (a .sizes)) (now (a .table)) (a .depth) (l .i) (l .inv .0))),
     )
 
--- src/lib.rt:234:1
 returns : tie.Need-returns Inv-loop μ-loop
 returns c =
     let l = c .before .loop in
