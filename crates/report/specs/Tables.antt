@@ -15,7 +15,7 @@ use Rattle.fetch.specs.Rows.{Row, rowsOf, bytesOfLayer}
 use Rattle.fetch.specs.Rules.{InRange}
 use Rattle.report.specs.Text.{ascii, digits, line, text}
 use Rattle.report.specs.Report.{apart}
-use Rattle.report.specs.declared.Chunk.{Chunk}
+use Rattle.report.specs.declared.table.Chunk.{Chunk}
 
 -- Rows handed as four slices of one length, each with a place in the table.
 pub record Rows (slots chunks layers′ bytes : List ℕ) : Type 0 where

@@ -6,7 +6,7 @@ use mathlib.Core.Path.{refl, _∙_}
 use native.Mathlib.Omega.{arith}
 use denote.Ref.{now}
 use Rattle.job.specs.Job.{jobOf}
-use Rattle.report.proofs.Lines.{listed-rows, report-is}
+use Rattle.report.proofs.ByTable.{listed-rows, report-is}
 
 add-rows-requires : tie.Need-add-rows-requires
 add-rows-requires c κs =
