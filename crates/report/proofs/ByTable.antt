@@ -1,6 +1,6 @@
 -- The lines by the table are the report's: each number that is read from the table is the sum over rows that the report's meaning
 -- names. Assumes nothing.
-use Prim.Native.Nat.{ℕ, zero, suc, _+_, _*_, _-_, _≤_, _<_}
+use Prim.Native.Nat.{ℕ, zero, suc, _+_, _-_, _≤_, _<_}
 use mathlib.Core.Path.{_≡_, refl, sym, ap, _∙_}
 use mathlib.Core.Bool.{Bool, true, cond}
 use mathlib.Core.List.{List, [], _∷_, _++_}
@@ -11,14 +11,13 @@ use lib.Dec.{eqb}
 use Rattle.basics.specs.Tests.{All, last}
 use Rattle.basics.specs.Lists.{upTo, upTo-cong}
 use Rattle.basics.specs.Sums.{pre, sum}
-use Rattle.job.specs.declared.Programme.{Programme}
-use Rattle.job.specs.Job.{Job, jobOf, size, chunks, layers, lastSlot, heldMost, forecast}
-use Rattle.fetch.specs.Rows.{Row, rowAt, rowsOf, bytesIf, bytesOfLayer, carried, layerCount}
+use Rattle.job.specs.Job.{Job, size, chunks, layers, lastSlot, forecast}
+use Rattle.fetch.specs.Rows.{Row, rowAt, rowsOf, carried, layerCount}
 use Rattle.fetch.specs.Rules.{InRange}
 use Rattle.schedule.specs.Lists.{pre-cong, sum-cong}
-use Rattle.report.specs.Text.{ascii, digits, line, text}
-use Rattle.report.specs.Report.{slotsLine, layersCarried, bytesCarried, chunkLine, chunkLines, layersLine, bytesInRows, forecastSum, left, bytesLine, apart, shown, switchSum, switchLine, reportOf}
-use Rattle.report.specs.Tables.{Rows, Listed, Summed, bytesAt, carriedBy, layersBy, bytesBy, chunkLineBy, countBy, shownBy, switchBy, linesBy}
+use Rattle.report.specs.Text.{digits}
+use Rattle.report.specs.Report.{layersCarried, bytesCarried, chunkLine, bytesInRows, forecastSum, left, shown, switchSum, reportOf}
+use Rattle.report.specs.Tables.{Rows, Listed, Summed, carriedBy, layersBy, bytesBy, chunkLineBy, countBy, shownBy, switchBy, linesBy}
 use Rattle.report.proofs.Laws.{bytes-snoc}
 
 -- A sum counted from 0 and from 1.

@@ -10,7 +10,7 @@ use lib.Seq.{getD-set-same, getD-set-other}
 use lib.Dec.{eqb}
 use borrow.Author.Tests.{eqb-true, eqb-false}
 use Rattle.basics.specs.Lists.{upTo}
-use Rattle.basics.specs.Sums.{pre, sum}
+use Rattle.basics.specs.Sums.{pre}
 use Rattle.job.specs.Job.{sizeIn}
 use Rattle.fetch.specs.Rows.{Row, rowAt, rowsOf, bytesIf, bytesOfLayer}
 use Rattle.report.specs.Bounds.{sum-most, pre-most, cond-most, equal-most, apart-most}

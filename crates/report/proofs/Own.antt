@@ -1,12 +1,12 @@
 -- The plan's own list as four slices: its rows again, and what the report asks of a list handed. Assumes nothing.
-use Prim.Native.Nat.{ℕ, _<_}
-use mathlib.Core.Path.{_≡_, refl, sym, ap, subst, _∙_}
+use Prim.Native.Nat.{ℕ}
+use mathlib.Core.Path.{_≡_, refl, sym, subst, _∙_}
 use mathlib.Core.List.{List, map}
 use native.Mathlib.Omega.{arith}
 use lib.ListN.{length, getD, length-map, List·getD-map}
 use lib.Seq.{ext-getD}
 use Rattle.basics.specs.Tests.{All}
-use Rattle.basics.specs.Lists.{upTo, length-upTo, getD-upTo}
+use Rattle.basics.specs.Lists.{length-upTo, getD-upTo}
 use Rattle.job.specs.Job.{Job, Accepted, layers}
 use Rattle.fetch.specs.Rows.{Row, rowAt, rowsOf}
 use Rattle.fetch.specs.Rules.{InRange, Keeps, WithinForecast}

@@ -42,6 +42,11 @@ pub record Answered (t old now : List ℕ) (r : Written) : Type 0 where
 abbrev pub reportRefusal : Job → List ℕ → ℕ
 reportRefusal j out = refusal j orElse roomRefusal (planReport j) out
 
+-- What the call hands over, and what it leaves in the lent buffer.
+pub record Reported (j : Job) (old now : List ℕ) (r : Written) : Type 0 where
+  pub result : r ≡ answer (reportRefusal j old) (length (planReport j))
+  pub buffer : now ≡ bufferAfter (reportRefusal j old) (planReport j) old
+
 -- Whichever plan of an accepted job is taken, this is its report.
 pub report-of-plan : (j : Job) (p : ℕ → ℕ) → Accepted j → IsPlan j p → planReport j ≡ reportOf j (ownList j p)
 unfolding planReport

@@ -1,13 +1,12 @@
--- Lemmas and their theorem. Decimal digits: one more, how many there are, and that they read back. Assumes nothing.
+-- Lemmas and their theorems. Decimal digits: one more, how many there are, that they read back and have no leading zero. Assumes nothing.
 use Prim.Native.Nat.{ℕ, zero, suc, _+_, _*_, _-_, _/_, _%_, _^_, _≤_, _<_}
 use mathlib.Core.Path.{_≡_, refl, sym, ap, _∙_}
-use mathlib.Core.Bool.{Bool, true, false, cond}
 use mathlib.Core.List.{List, [], _∷_, _++_}
 use mathlib.Core.Logic.{⊎-elim}
 use native.Mathlib.Omega.{arith}
-use native.Mathlib.Nat.{pow-suc, mul-comm}
-use lib.ListN.{length, length-append, getD}
-use lib.Dec.{T, ltb, ltb→lt, nltb→le}
+use native.Mathlib.Nat.{pow-suc}
+use lib.ListN.{length, getD, length-append, List·getD-append}
+use lib.Dec.{ltb, ltb→lt, nltb→le}
 use borrow.Author.Tests.{lt-ltb, le-ltb}
 use Rattle.basics.specs.Tests.{test}
 use Rattle.report.specs.Text.{digitsIn, digits}
@@ -99,3 +98,32 @@ digits-read n = read-in (suc n) n (omega arith)
 -- Two numbers with the same digits are the same.
 pub digits-injective : (m n : ℕ) → digits m ≡ digits n → m ≡ n
 digits-injective m n e = sym (digits-read m) ∙ ap (readOn 0) e ∙ digits-read n
+
+-- ---- no leading zeros
+
+in-some : (p n : ℕ) → n < p → 1 ≤ length (digitsIn p n)
+in-some zero n h = absurd (omega arith)
+in-some (suc p) n h =
+    ⊎-elim
+    (λ t. omega (arith, ap length (in-one p n (ltb→lt n 10 t))))
+    (λ t.
+    omega (arith, ap length (in-more p n (nltb→le n 10 t)), length-append (digitsIn p (n / 10)) ((48 + n % 10) ∷ [])))
+    (test (ltb n 10))
+
+in-first : (p n : ℕ) → n < p → 1 ≤ n → 49 ≤ getD (digitsIn p n) 0 0
+in-first zero n h l = absurd (omega arith)
+in-first (suc p) n h l =
+    ⊎-elim
+    (λ t. rw (in-one p n (ltb→lt n 10 t)) (omega arith))
+    (λ t.
+    let m = nltb→le n 10 t in
+    let e : getD (digitsIn (suc p) n) 0 0 ≡ getD (digitsIn p (n / 10)) 0 0 =
+    ap (λ (ds : List ℕ). getD ds 0 0) (in-more p n m)
+    ∙ List·getD-append (digitsIn p (n / 10)) ((48 + n % 10) ∷ []) 0 0 (in-some p (n / 10) (omega arith)) in
+    omega (arith, e, in-first p (n / 10) (omega arith) (omega arith)))
+    (test (ltb n 10))
+
+-- The first digit of a number other than 0 is none.
+pub digits-first : (n : ℕ) → 1 ≤ n → 49 ≤ getD (digits n) 0 0
+unfolding digits
+digits-first n l = in-first (suc n) n (omega arith) l

@@ -6,7 +6,7 @@ use mathlib.Core.Logic.{⊎-elim}
 use native.Mathlib.Omega.{arith}
 use native.Mathlib.Numerals.{add-one}
 use lib.ListN.{length, take, drop, set, length-append, length-take, length-drop, take-append-drop}
-use lib.Seq.{set-split, take-at, drop-append-add, drop-drop, take-length, length-take-le, take-take}
+use lib.Seq.{set-split, take-at, drop-append-add, drop-drop, length-take-le}
 use borrow.Author.Tests.{le-leb}
 use Rattle.basics.specs.Tests.{last}
 use Rattle.basics.specs.Lists.{upTo}

@@ -1,6 +1,6 @@
 -- Meaning. The report of a job and a fetch list: document 01, "The report program reads a job on standard input. For A it prints ..".
 -- A report is lines; a line is words and numbers; a number of the list is a sum over its rows.
-use Prim.Native.Nat.{ℕ, suc, _+_, _-_}
+use Prim.Native.Nat.{ℕ, _+_, _-_}
 use mathlib.Core.Bool.{cond, true}
 use mathlib.Core.List.{List, [], _∷_, _++_}
 use Rattle.basics.specs.Lists.{upTo}

@@ -1,13 +1,11 @@
 -- Lemmas. How many bytes each line of an accepted job's report has at most. Assumes nothing.
-use Prim.Native.Nat.{ℕ, suc, _+_, _*_, _-_, _≤_, _<_}
+use Prim.Native.Nat.{ℕ, suc, _+_, _-_, _≤_}
 use mathlib.Core.Path.{_≡_, refl, ap, _∙_}
-use mathlib.Core.List.{List, [], _∷_, _++_}
+use mathlib.Core.List.{List, [], _∷_}
 use native.Mathlib.Omega.{arith}
-use native.Mathlib.Nat.{div-le-self, mul-le-mul-left}
+use native.Mathlib.Nat.{div-le-self}
 use lib.ListN.{length, length-append}
-use lib.Dec.{eqb}
 use Rattle.basics.specs.Lists.{upTo}
-use Rattle.basics.specs.Sums.{pre, sum}
 use Rattle.job.specs.Job.{Job, Accepted, chunks, layers, size, forecast, lastSlot, heldMost}
 use Rattle.fetch.specs.Rows.{Row, bytesOfLayer, carried, layerCount}
 use Rattle.report.specs.Text.{ascii, digits, ended, line, text}
