@@ -1,0 +1,35 @@
+// Plans the largest job (500 chunks, 4 layers, 3,600 slots) by the planner named on the command line and prints the number of rows and
+// a checksum over marks, counts and rows, so that both did the same work.
+#include "plan.h"
+#include <stdio.h>
+
+// The proved planner, as crate `export` hands it to C: a slice is a pointer and a length.
+size_t plan_job(uint16_t chunks, uint16_t span, uint16_t delay, uint16_t limit, const uint32_t *sizes, size_t layers,
+                const uint32_t *forecast, size_t slots, uint8_t *marks, size_t marks_len, uint16_t *row_slots, size_t a,
+                uint16_t *row_chunks, size_t b, uint8_t *row_layers, size_t c, uint32_t *row_bytes, size_t d);
+
+size_t plan_rattle(const struct job *j, struct plan *out)
+{
+    return plan_job(j->chunks, j->span, j->delay, j->limit, j->sizes, j->layers, j->forecast, j->slots, out->marks, 500, out->slots,
+                    5599, out->chunks, 5599, out->layers, 5599, out->bytes, 5599);
+}
+
+int main(int argc, char **argv)
+{
+    static uint32_t forecast[3600];
+    static struct plan out;
+    const uint32_t sizes[4] = {9000, 7000, 5000, 4000};
+    uint32_t x = 12345;
+    for (int t = 0; t < 3600; t++) {
+        x = x * 1664525 + 1013904223;
+        forecast[t] = (x >> 16) % 6000;
+    }
+    struct job j = {500, 7, 107, 28, 4, 3600, sizes, forecast};
+    size_t rows = argc > 1 && argv[1][0] == 'c' ? plan_c(&j, &out) : plan_rattle(&j, &out);
+    uint64_t sum = rows;
+    for (int i = 0; i < 500; i++) sum = sum * 31 + out.marks[i];
+    for (size_t k = 0; k < rows && k < 5599; k++)
+        sum = ((sum * 31 + out.slots[k]) * 31 + out.chunks[k]) * 31 + out.layers[k] + out.bytes[k];
+    printf("rows %zu checksum %016llx\n", rows, (unsigned long long)sum);
+    return 0;
+}

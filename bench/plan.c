@@ -1,0 +1,105 @@
+// The planner of document 01 in plain C, to measure the proved one against: the same linear decisions and one fill, no checks of
+// bounds, no proof.
+#include "plan.h"
+
+static uint64_t after[3601], needs[500], behind[500], from[500], bytes_of[500], room[500];
+static uint16_t ids[500];
+static uint8_t mark_of[500];
+
+static uint64_t more(uint64_t a, uint64_t b) { return a < b ? b : a; }
+
+static int refused(const struct job *j)
+{
+    if (j->chunks < 1 || j->chunks > 500 || j->span < 1 || j->span > 60 || j->delay < 1 || j->delay > 3600) return 5;
+    if ((j->chunks - 1) * j->span + j->delay > 3600) return 5;
+    if (j->layers < 1 || j->layers > 4) return 6;
+    for (size_t n = 0; n < j->layers; n++)
+        if (j->sizes[n] < 1 || j->sizes[n] > 16777216) return 6;
+    for (size_t t = 0; t < j->slots; t++)
+        if (j->forecast[t] > 16777216) return 7;
+    return j->slots == (size_t)((j->chunks - 1) * j->span + j->delay) ? 0 : 7;
+}
+
+static int keep_bases(const struct job *j, int hold)
+{
+    int p = 500;
+    uint64_t last = 0;
+    for (int i = j->chunks; i >= 1; i--) {
+        int due = (i - 1) * j->span + j->delay, q = p - 1;
+        uint64_t need = j->sizes[0] + more(after[due], last);
+        needs[q] = need;
+        if (need > after[0]) continue;
+        if ((q + hold < 500 ? needs[q + hold] : 0) > after[due - 1]) continue;
+        ids[q] = i;
+        behind[q] = after[due];
+        from[q] = after[due - 1];
+        bytes_of[q] = j->sizes[0];
+        mark_of[q] = 1;
+        last = need;
+        p = q;
+    }
+    return p;
+}
+
+static int try_layer(const struct job *j, int n, int p, int hold)
+{
+    uint64_t left = after[0], need = 0;
+    int count = 0;
+    for (int q = p; q < 500; q++) {
+        uint64_t open = q - p < hold ? after[0] : from[q - hold];
+        room[q] = left < open ? left : open;
+        left = room[q] < bytes_of[q] ? 0 : room[q] - bytes_of[q];
+    }
+    for (int q = 499; q >= p; q--) {
+        uint64_t plain = bytes_of[q] + more(behind[q], need), with = plain + j->sizes[n];
+        need = plain;
+        if (mark_of[q] >> (n - 1) & 1 && with <= room[q]) {
+            need = with;
+            bytes_of[q] += j->sizes[n];
+            mark_of[q] |= 1 << n;
+            count++;
+        }
+    }
+    return count;
+}
+
+static size_t fill(const struct job *j, int p, int hold, struct plan *out)
+{
+    size_t rows = 0, t = 1;
+    uint32_t left = j->forecast[0];
+    for (int q = p; q < 500; q++) {
+        size_t ready = q - p < hold ? 1 : (size_t)(ids[q - hold] - 1) * j->span + j->delay;
+        if (t < ready) {
+            t = ready;
+            left = j->forecast[t - 1];
+        }
+        for (size_t n = 0; n < j->layers && mark_of[q] >> n & 1; n++) {
+            uint32_t size = j->sizes[n];
+            while (size) {
+                while (left == 0) left = j->forecast[t++];
+                uint32_t take = size < left ? size : left;
+                out->slots[rows] = t;
+                out->chunks[rows] = ids[q];
+                out->layers[rows] = n;
+                out->bytes[rows++] = take;
+                size -= take;
+                left -= take;
+            }
+        }
+    }
+    return rows;
+}
+
+size_t plan_c(const struct job *j, struct plan *out)
+{
+    if (refused(j)) return (size_t)-1;
+    int hold = j->limit / j->span;
+    after[j->slots] = 0;
+    for (size_t t = j->slots; t > 0; t--) after[t - 1] = after[t] + j->forecast[t - 1];
+    int p = keep_bases(j, hold);
+    out->counts[0] = 500 - p;
+    for (size_t n = 1; n < j->layers; n++) out->counts[n] = try_layer(j, n, p, hold);
+    memset(out->marks, 0, j->chunks);
+    for (int q = p; q < 500; q++) out->marks[ids[q] - 1] = mark_of[q];
+    return fill(j, p, hold, out);
+}

@@ -1,0 +1,5 @@
+mod Ranges
+mod Rows
+mod Held
+mod Seeing
+mod Exact

@@ -1,0 +1,415 @@
+// The checker: document 01's verdict for any fetch list with its marks. One pass over the rows fills tables of sums and of
+// first slots; one pass over the chunks and two over the slots read them.
+use job::Programme;
+ghost use mathlib.Core.Path.{_≡_};
+ghost use mathlib.Core.Bool.{true, not, cond, _&&_, _||_};
+ghost use mathlib.Core.List.{[], _∷_};
+ghost use Prim.Native.Nat.{ℕ, _+_, _*_, _-_, _/_, _<_, _≤_, min};
+ghost use lib.ListN.{length, getD, set, replicate};
+ghost use lib.Dec.{leb, eqb};
+ghost use Rattle.basics.specs.Tests.{allTo};
+ghost use Rattle.job.specs.Job.{jobOf, dueSlot, Accepted};
+ghost use Rattle.fetch.specs.Rows.{rowsOf};
+ghost use Rattle.fetch.specs.Handed.{Whole};
+ghost use Rattle.fetch.specs.Verdict.{lowest, verdict};
+ghost use Rattle.fetch.specs.Marks.{withLayer};
+ghost use Rattle.checker.specs.Checked.{checked};
+ghost use Rattle.checker.specs.Tables.{cap, inRange, Passed, SeenChunk, SeenAll, heldBy, Marked};
+
+// The verdict 0 to 7, or the number of a refusal.
+pub enum Checked {
+    Verdict(u8),
+    Refused(u8),
+}
+
+// What the pass over the rows finds: rule 1, and where it holds rule 5.
+struct Pass {
+    ranged: bool,
+    timely: bool,
+}
+
+// The layers of one chunk: its mark byte, rules 2 and 3.
+struct Seen {
+    mark: u8,
+    whole: bool,
+    lower: bool,
+}
+
+// The layers of all chunks: rules 2, 3 and 7.
+struct Layers {
+    whole: bool,
+    lower: bool,
+    said: bool,
+}
+
+const CAP: u64 = 1099511627776;
+
+fn both(a: bool, b: bool) -> bool
+    ensures { λ r. ⌜ r ≡ a && b ⌝ }
+{
+    if a {
+        return b;
+    }
+    false
+}
+
+// If a, then b.
+fn only_if(a: bool, b: bool) -> bool
+    ensures { λ r. ⌜ r ≡ not a || b ⌝ }
+{
+    if a {
+        return b;
+    }
+    true
+}
+
+// Saturates: a direct call may hand more rows than 64 bits can sum, and any sum above CAP breaks rule 2 or 4 alike.
+fn add(sum: u64, more: u32) -> u64
+    requires { ⌜ sum ≤ cap ⌝ }
+    ensures { λ r. ⌜ r ≡ min cap (sum + more) ⌝ }
+{
+    let next = sum + (more as u64);
+    if CAP < next {
+        return CAP;
+    }
+    next
+}
+
+fn sooner(a: u16, b: u16) -> u16
+    ensures { λ r. ⌜ r ≡ min a b ⌝ }
+{
+    if a < b {
+        return a;
+    }
+    b
+}
+
+fn wide(x: u16) -> usize
+    ensures { λ r. ⌜ r ≡ x ⌝ }
+{
+    x as usize
+}
+
+// Rule 1 of one row.
+fn in_range(last: usize, count: u16, depth: usize, s: u16, c: u16, l: u8, b: u32) -> bool
+    ensures { λ r. ⌜ r ≡ inRange last count depth (record { slot = s; chunk = c; layer = l; bytes = b }) ⌝ }
+{
+    if s < 1 {
+        return false;
+    }
+    if last < (s as usize) {
+        return false;
+    }
+    if c < 1 {
+        return false;
+    }
+    if count < c {
+        return false;
+    }
+    if depth <= (l as usize) {
+        return false;
+    }
+    1 <= b
+}
+
+// Rule 5 of one row.
+fn on_time(p: Programme, s: u16, c: u16) -> bool
+    ensures { λ r. ⌜ r ≡ leb s (dueSlot p c) ⌝ }
+{
+    wide(s) <= job::due_slot(p, c)
+}
+
+// A row goes into the tables.
+fn add_row(
+    slotsum: &mut [u64; 3601],
+    layersum: &mut [u64; 2000],
+    first: &mut [u16; 501],
+    s: u16,
+    c: u16,
+    l: u8,
+    b: u32,
+)
+    requires { ⌜ (s ≤ 3600) × (1 ≤ c) × (c ≤ 500) × (l < 4) × (getD (now slotsum) s 0 ≤ cap) × (getD (now layersum) (4 * (c - 1) + l) 0 ≤ cap) ⌝ }
+    ensures { λ _. ⌜ (now (slotsum .exit) ≡ set (now (slotsum .entry)) s (min cap (getD (now (slotsum .entry)) s 0 + b))) × (now (layersum .exit) ≡ set (now (layersum .entry)) (4 * (c - 1) + l) (min cap (getD (now (layersum .entry)) (4 * (c - 1) + l) 0 + b))) × (now (first .exit) ≡ set (now (first .entry)) c (min (getD (now (first .entry)) c 0) s)) ⌝ }
+{
+    let t = s as usize;
+    let i = c as usize;
+    let at = 4 * (i - 1) + (l as usize);
+    slotsum[t] = add(slotsum[t], b);
+    layersum[at] = add(layersum[at], b);
+    first[i] = sooner(first[i], s);
+}
+
+// One pass over the rows: rule 1, rule 5 and the tables. A row out of range ends it.
+fn tally(
+    p: Programme,
+    last: usize,
+    depth: usize,
+    slots: &[u16],
+    chunks: &[u16],
+    layers: &[u8],
+    bytes: &[u32],
+    slotsum: &mut [u64; 3601],
+    layersum: &mut [u64; 2000],
+    first: &mut [u16; 501],
+) -> Pass
+    requires { ⌜ (last ≤ 3600) × (p .chunks ≤ 500) × (depth ≤ 4) × (length (now slots) ≡ length (now chunks)) × (length (now slots) ≡ length (now layers)) × (length (now slots) ≡ length (now bytes)) × (now slotsum ≡ replicate 3601 0) × (now layersum ≡ replicate 2000 0) × (now first ≡ replicate 501 65535) ⌝ }
+    ensures { λ r. ⌜ Passed p last depth (rowsOf (now (slots .entry)) (now (chunks .entry)) (now (layers .entry)) (now (bytes .entry))) r (now (slotsum .exit)) (now (layersum .exit)) (now (first .exit)) ⌝ }
+{
+    let mut timely = true;
+    let mut i: usize = 0;
+    while i < slots.len() {
+        let s = slots[i];
+        let c = chunks[i];
+        let l = layers[i];
+        let b = bytes[i];
+        if in_range(last, p.chunks, depth, s, c, l, b) {
+            timely = both(timely, on_time(p, s, c));
+            add_row(slotsum, layersum, first, s, c, l, b);
+            i = i + 1;
+        } else {
+            return Pass {
+                ranged: false,
+                timely: false,
+            };
+        }
+    }
+    Pass {
+        ranged: true,
+        timely,
+    }
+}
+
+fn same(sum: u64, size: u32) -> bool
+    ensures { λ r. ⌜ r ≡ eqb sum size ⌝ }
+{
+    sum == (size as u64)
+}
+
+// Rule 2 of one layer: its sum is 0, or it is carried.
+fn none_or(sum: u64, carried: bool) -> bool
+    ensures { λ r. ⌜ r ≡ eqb sum 0 || carried ⌝ }
+{
+    if sum == 0 {
+        return true;
+    }
+    carried
+}
+
+// The mark byte with layer n set if it is carried.
+fn marked(mark: u8, n: usize, carried: bool) -> u8
+    requires { ⌜ n < 4 ⌝ }
+    ensures { λ r. ⌜ r ≡ cond carried (withLayer mark n) mark ⌝ }
+{
+    if carried {
+        return fetch::with(mark, n as u8);
+    }
+    mark
+}
+
+// The layers of chunk i, from the base up.
+fn see_chunk(sizes: &[u32], depth: usize, layersum: &[u64; 2000], i: u16) -> Seen
+    requires { ⌜ (depth ≤ 4) × (1 ≤ i) × (i ≤ 500) ⌝ }
+    ensures { λ r. ⌜ SeenChunk (now (sizes .entry)) (now (layersum .entry)) depth i r ⌝ }
+{
+    let from = 4 * (wide(i) - 1);
+    let mut mark: u8 = 0;
+    let mut whole = true;
+    let mut lower = true;
+    let mut below = true;
+    let mut n: usize = 0;
+    while n < depth {
+        let at = from + n;
+        let sum = layersum[at];
+        let carried = same(sum, job::size_of(sizes, i, n));
+        whole = both(none_or(sum, carried), whole);
+        lower = both(only_if(carried, below), lower);
+        mark = marked(mark, n, carried);
+        below = carried;
+        n = n + 1;
+    }
+    Seen { mark, whole, lower }
+}
+
+// Rules 2, 3 and 7, chunk by chunk.
+fn see_all(sizes: &[u32], depth: usize, layersum: &[u64; 2000], marks: &[u8], count: u16) -> Layers
+    requires { ⌜ (depth ≤ 4) × (count ≤ 500) × (length (now marks) ≡ count) ⌝ }
+    ensures { λ r. ⌜ SeenAll (now (sizes .entry)) (now (layersum .entry)) (now (marks .entry)) depth count r ⌝ }
+{
+    let mut whole = true;
+    let mut lower = true;
+    let mut said = true;
+    let mut i: u16 = 0;
+    while i < count {
+        let at = i as usize;
+        let next = i + 1;
+        let seen = see_chunk(sizes, depth, layersum, next);
+        whole = both(seen.whole, whole);
+        lower = both(seen.lower, lower);
+        said = both(marks[at] == seen.mark, said);
+        i = next;
+    }
+    Layers { whole, lower, said }
+}
+
+// Rule 4, slot by slot.
+fn within(forecast: &[u32], slotsum: &[u64; 3601]) -> bool
+    requires { ⌜ length (now forecast) ≤ 3600 ⌝ }
+    ensures { λ r. ⌜ r ≡ allTo (length (now (forecast .entry))) (λ t. leb (getD (now (slotsum .entry)) t 0) (getD (now (forecast .entry)) (t - 1) 0)) ⌝ }
+{
+    let mut t: usize = 0;
+    while t < forecast.len() {
+        let u = t + 1;
+        if (forecast[t] as u64) < slotsum[u] {
+            return false;
+        }
+        t = u;
+    }
+    true
+}
+
+// The slots in which chunks begin to be held, and in which they cease to be. A chunk begun in its due slot is never held.
+fn mark_times(p: Programme, first: &[u16; 501], begins: &mut [u16; 3601], ends: &mut [u16; 3601])
+    requires { ⌜ (p .chunks ≤ 500) × ((i : ℕ) → i ≤ p .chunks → dueSlot p i ≤ 3600) × (now begins ≡ replicate 3601 0) × (now ends ≡ replicate 3601 0) ⌝ }
+    ensures { λ _. ⌜ Marked p (now (first .entry)) (p .chunks) (now (begins .exit)) (now (ends .exit)) ⌝ }
+{
+    let n = p.chunks;
+    let mut i: u16 = 0;
+    while i < n {
+        let next = i + 1;
+        let k = next as usize;
+        let a = wide(first[k]);
+        let d = job::due_slot(p, next);
+        if a < d {
+            begins[a] = begins[a] + 1;
+            ends[d] = ends[d] + 1;
+            i = next;
+        } else {
+            i = next;
+        }
+    }
+}
+
+// Rule 6, slot by slot.
+fn sweep(p: Programme, last: usize, first: &[u16; 501]) -> bool
+    requires { ⌜ (p .chunks ≤ 500) × (last ≤ 3600) × ((i : ℕ) → i ≤ p .chunks → dueSlot p i ≤ 3600) × ((i : ℕ) → 1 ≤ i → i ≤ 500 → 1 ≤ getD (now first) i 0) ⌝ }
+    ensures { λ r. ⌜ r ≡ allTo last (λ t. leb (heldBy p (now (first .entry)) t) (p .limit / p .span)) ⌝ }
+{
+    let most = wide(job::held_most(p));
+    let mut begins = [0u16; 3601];
+    let mut ends = [0u16; 3601];
+    mark_times(p, first, &mut begins, &mut ends);
+    let mut held: usize = 0;
+    let mut t: usize = 0;
+    while t < last {
+        let u = t + 1;
+        let more = held + wide(begins[u]);
+        held = more - wide(ends[u]);
+        if most < held {
+            return false;
+        }
+        t = u;
+    }
+    true
+}
+
+// The lowest broken rule of 2 to 7, or 0.
+fn lowest_broken(whole: bool, lower: bool, within: bool, timely: bool, few: bool, said: bool) -> u8
+    ensures { λ r. ⌜ r ≡ lowest 2 (whole ∷ lower ∷ within ∷ timely ∷ few ∷ said ∷ []) ⌝ }
+{
+    if !whole {
+        return 2;
+    }
+    if !lower {
+        return 3;
+    }
+    if !within {
+        return 4;
+    }
+    if !timely {
+        return 5;
+    }
+    if !few {
+        return 6;
+    }
+    if !said {
+        return 7;
+    }
+    0
+}
+
+// The verdict of an accepted job's list, its rows whole and its marks one byte a chunk. `depth` is the number of layers.
+fn verdict_of(
+    p: Programme,
+    sizes: &[u32],
+    depth: usize,
+    forecast: &[u32],
+    marks: &[u8],
+    slots: &[u16],
+    chunks: &[u16],
+    layers: &[u8],
+    bytes: &[u32],
+) -> u8
+    requires { ⌜ Accepted (jobOf p (now sizes) (now forecast)) × (depth ≡ length (now sizes)) × Whole (p .chunks) (now marks) (now slots) (now chunks) (now layers) (now bytes) ⌝ }
+    ensures { λ r. ⌜ r ≡ verdict (jobOf p (now (sizes .entry)) (now (forecast .entry))) (now (marks .entry)) (rowsOf (now (slots .entry)) (now (chunks .entry)) (now (layers .entry)) (now (bytes .entry))) ⌝ }
+{
+    let last = job::last_due(p);
+    let mut slotsum = [0u64; 3601];
+    let mut layersum = [0u64; 2000];
+    let mut first = [65535u16; 501];
+    let pass = tally(
+        p,
+        last,
+        depth,
+        slots,
+        chunks,
+        layers,
+        bytes,
+        &mut slotsum,
+        &mut layersum,
+        &mut first,
+    );
+    if pass.ranged {
+        let seen = see_all(sizes, depth, &layersum, marks, p.chunks);
+        let room = within(forecast, &slotsum);
+        let few = sweep(p, last, &first);
+        return lowest_broken(seen.whole, seen.lower, room, pass.timely, few, seen.said);
+    }
+    1
+}
+
+// The verdict for a job, marks and rows: any number of rows in any order, of equal rows each counts.
+// Refused: 5, 6, 7 by the job, then 8 by the marks and rows.
+pub fn check(
+    p: Programme,
+    sizes: &[u32],
+    forecast: &[u32],
+    marks: &[u8],
+    slots: &[u16],
+    chunks: &[u16],
+    layers: &[u8],
+    bytes: &[u32],
+) -> Checked
+    ensures { λ r. ⌜ r ≡ checked (jobOf p (now (sizes .entry)) (now (forecast .entry))) (now (marks .entry)) (now (slots .entry)) (now (chunks .entry)) (now (layers .entry)) (now (bytes .entry)) ⌝ }
+{
+    let job = job::refusal(p, sizes, forecast);
+    if job != 0 {
+        return Checked::Refused(job);
+    }
+    let list = fetch::handed_refusal(p.chunks, marks, slots, chunks, layers, bytes);
+    if list != 0 {
+        return Checked::Refused(list);
+    }
+    let depth = sizes.len();
+    Checked::Verdict(verdict_of(
+        p,
+        sizes,
+        depth,
+        forecast,
+        marks,
+        slots,
+        chunks,
+        layers,
+        bytes,
+    ))
+}
