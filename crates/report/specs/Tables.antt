@@ -13,6 +13,8 @@ use Rattle.job.specs.declared.Programme.{Programme}
 use Rattle.job.specs.Job.{Job, sizeIn, layers, lastDue, Accepted}
 use Rattle.fetch.specs.Rows.{Row, rowsOf, bytesOfLayer}
 use Rattle.fetch.specs.Rules.{InRange}
+use Rattle.planner.specs.declared.Answer.{Answer}
+use Rattle.planner.specs.declared.Answer.the-variants.{Rows as made, Refused as refused}
 use Rattle.report.specs.Text.{ascii, digits, line, text}
 use Rattle.report.specs.Report.{apart}
 use Rattle.report.specs.declared.table.Chunk.{Chunk}
@@ -80,3 +82,8 @@ linesBy p sizes depth table spent left =
     ++ (line (ascii "layers") (upTo (λ n. digits (countBy sizes table (p .chunks) n)) depth)
     ++ (line (ascii "bytes") (digits spent ∷ ascii "left" ∷ digits left ∷ [])
     ++ line (ascii "switch") (digits (switchBy sizes table depth (p .chunks)) ∷ []))))
+
+-- How many rows an answer of the planner says there are.
+abbrev pub rowsIn : Answer → ℕ
+rowsIn (made n) = n
+rowsIn (refused m) = 0

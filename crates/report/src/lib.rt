@@ -1,6 +1,7 @@
 // The report: document 01's lines for a job and its plan, as text in a lent buffer. One pass over the rows fills a table of the bytes
 // of each layer of each chunk; every number of the lines is read from it or is a sum over rows.
 use job::Programme;
+use planner::Answer;
 
 mod lines;
 mod table;
@@ -10,14 +11,14 @@ ghost use mathlib.Core.List.{_∷_};
 ghost use Prim.Native.Nat.{_+_, _-_, _≤_};
 ghost use lib.ListN.{length};
 ghost use Rattle.basics.specs.Lists.{upTo};
-ghost use Rattle.job.specs.Job.{jobOf};
+ghost use Rattle.job.specs.Job.{jobOf, Accepted};
 ghost use Rattle.fetch.specs.Rows.{rowsOf};
 ghost use Rattle.fetch.specs.Rules.{WithinForecast};
 ghost use Rattle.report.specs.Text.{ascii, digits, line, text};
 ghost use Rattle.report.specs.Report.{reportOf};
-ghost use Rattle.report.specs.Answer.{Answered};
+ghost use Rattle.report.specs.Answer.{planReport, Answered, Reported};
 ghost use Rattle.report.specs.Places.{Put};
-ghost use Rattle.report.specs.Tables.{Listed, chunkLineBy, countBy, linesBy};
+ghost use Rattle.report.specs.Tables.{Listed, chunkLineBy, countBy, linesBy, rowsIn};
 
 // The number of bytes written, or the number of a refusal.
 pub enum Written {
@@ -182,4 +183,46 @@ fn report_rows(
         &mut text,
     );
     hand_over(&text[..n], out)
+}
+
+// How many rows the planner made.
+fn rows_in(a: Answer) -> usize
+    ensures { λ r. ⌜ r ≡ rowsIn a ⌝ }
+{
+    match a {
+        Answer::Rows(n) => n,
+        Answer::Refused(_) => 0,
+    }
+}
+
+// The report of an accepted job's plan, made into local slices that have room for any plan.
+fn report_plan(p: Programme, sizes: &[u32], forecast: &[u32], out: &mut [u8]) -> Written
+    requires { ⌜ Accepted (jobOf p (now sizes) (now forecast)) ⌝ }
+    ensures { λ r. ⌜ Answered (planReport (jobOf p (now (sizes .entry)) (now (forecast .entry)))) (now (out .entry)) (now (out .exit)) r ⌝ }
+{
+    let mut marks = [0u8; 500];
+    let mut slots = [0u16; 5599];
+    let mut chunks = [0u16; 5599];
+    let mut layers = [0u8; 5599];
+    let mut bytes = [0u32; 5599];
+    let made = planner::plan(
+        p, sizes, forecast, &mut marks, &mut slots, &mut chunks, &mut layers, &mut bytes,
+    );
+    let answer = made.answer;
+    let n = rows_in(answer);
+    let depth = sizes.len();
+    report_rows(
+        p, sizes, depth, forecast, &slots[..n], &chunks[..n], &layers[..n], &bytes[..n], out,
+    )
+}
+
+// The report of a job's plan. Refused: 5, 6, 7 by the job, then 11 exactly if out is shorter than the text.
+pub fn report(p: Programme, sizes: &[u32], forecast: &[u32], out: &mut [u8]) -> Written
+    ensures { λ r. ⌜ Reported (jobOf p (now (sizes .entry)) (now (forecast .entry))) (now (out .entry)) (now (out .exit)) r ⌝ }
+{
+    let no = job::refusal(p, sizes, forecast);
+    if no != 0 {
+        return Written::Refused(no);
+    }
+    report_plan(p, sizes, forecast, out)
 }

@@ -1,0 +1,89 @@
+-- Meaning. What the planner's public calls hand over: the plan of a job as document 01 decides and lists it, or a refusal's number.
+-- The plan itself, its marks, counts and own list, and demand 3, are stated in schedule: Statement, Own.
+use Prim.Native.Nat.{ℕ, _+_, _≤_}
+use mathlib.Core.Path.{_≡_}
+use mathlib.Core.Bool.{Bool, cond, _&&_}
+use mathlib.Core.List.{List, [], _∷_, map}
+use lib.ListN.{length}
+use lib.Dec.{leb, ltb, eqb}
+use Rattle.basics.specs.Lists.{upTo}
+use Rattle.basics.specs.Refusals.{unless, _orElse_}
+use Rattle.job.specs.Job.{Job, EqualChunks, chunks}
+use Rattle.job.specs.Refusal.{refusal}
+use Rattle.fetch.specs.Rows.{Row}
+use Rattle.schedule.specs.Own.{ownList}
+use Rattle.schedule.specs.Plan.{plan}
+use Rattle.schedule.specs.Statement.{Best, IsPlan, countsOf, marksOf}
+use Rattle.planner.specs.declared.Answer.{Answer}
+use Rattle.planner.specs.declared.Answer.the-variants.{Rows, Refused}
+use Rattle.planner.specs.declared.Order.{Order}
+use Rattle.planner.specs.declared.Order.the-variants.{Less, Same, More}
+use Rattle.planner.specs.declared.Planned.{Planned}
+use Rattle.planner.specs.Lent.{over, rowSlot, rowChunk, rowLayer, rowBytes}
+
+-- The plan's own list.
+abbrev pub planRows : Job → List Row
+planRows j = ownList j (plan j)
+
+-- The lengths of the lent slices: the marks', and the rows' four.
+pub record Lent : Type 0 where
+  pub marks : ℕ
+  pub slots : ℕ
+  pub chunks : ℕ
+  pub layers : ℕ
+  pub bytes : ℕ
+
+-- 11: "A lent buffer is shorter than the whole result": the marks have one byte a chunk, the rows are the plan's own.
+abbrev pub holds : Job → Lent → Bool
+holds j l =
+    let n = length (planRows j) in
+    leb (chunks j) (l .marks) && (leb n (l .slots) && (leb n (l .chunks) && (leb n (l .layers) && leb n (l .bytes))))
+
+-- 5, 6, 7, then 11; 0 for none.
+abbrev pub planRefusal : Job → Lent → ℕ
+planRefusal j l = refusal j orElse unless 11 (holds j l)
+
+-- The plan is handed over.
+abbrev pub given : Job → Lent → Bool
+given j l = eqb (planRefusal j l) 0
+
+-- How many rows, or the refusal's number.
+abbrev pub answerOf : Job → Lent → Answer
+answerOf j l = cond (given j l) (Rows (length (planRows j))) (Refused (planRefusal j l))
+
+-- The four counts; zeros beside a refusal.
+abbrev pub countsHanded : Job → Lent → List ℕ
+countsHanded j l = cond (given j l) (countsOf j (plan j)) (0 ∷ 0 ∷ 0 ∷ 0 ∷ [])
+
+-- A lent slice at exit: the result, then the old contents; on a refusal the old contents alone.
+abbrev pub lentAfter : Job → Lent → List ℕ → List ℕ → List ℕ
+lentAfter j l result old = cond (given j l) (over result old) old
+
+abbrev pub lentOf : List ℕ → List ℕ → List ℕ → List ℕ → List ℕ → Lent
+lentOf marks slots chunks layers bytes =
+    record { marks = length marks; slots = length slots; chunks = length chunks; layers = length layers; bytes = length bytes }
+
+-- What a call of the planner hands over, and what it leaves in the lent slices.
+pub record Handed (j : Job) (marks slots chunks layers bytes : List ℕ) (r : Planned) (marks' slots' chunks' layers' bytes' : List ℕ) : Type 0 where
+  pub answer : r .answer ≡ answerOf j (lentOf marks slots chunks layers bytes)
+  pub counts : r .counts ≡ countsHanded j (lentOf marks slots chunks layers bytes)
+  pub marks-are : marks' ≡ lentAfter j (lentOf marks slots chunks layers bytes) (marksOf j (plan j)) marks
+  pub slots-are : slots' ≡ lentAfter j (lentOf marks slots chunks layers bytes) (map rowSlot (planRows j)) slots
+  pub chunks-are : chunks' ≡ lentAfter j (lentOf marks slots chunks layers bytes) (map rowChunk (planRows j)) chunks
+  pub layers-are : layers' ≡ lentAfter j (lentOf marks slots chunks layers bytes) (map rowLayer (planRows j)) layers
+  pub bytes-are : bytes' ≡ lentAfter j (lentOf marks slots chunks layers bytes) (map rowBytes (planRows j)) bytes
+
+-- "The plan carries a layer of a chunk if and only if, beside the layers already settled, some fetch list in playing order still
+-- keeps them all."
+abbrev pub DecidedByLists : Job → Type 0
+DecidedByLists j = refusal j ≡ 0 → IsPlan j (plan j)
+
+-- Demand 3: "Take any accepted job of equal chunks, whatever its layer sizes, forecast, deadlines and buffer limit."
+abbrev pub BestOfLists : Job → Type 0
+BestOfLists j = refusal j ≡ 0 → EqualChunks j → Best j (plan j) (planRows j)
+
+-- Counts "compared entry by entry from the base": at the first entry where they differ.
+abbrev pub compared : List ℕ → List ℕ → Order
+compared [] bs = Same
+compared (a ∷ as') [] = Same
+compared (a ∷ as') (b ∷ bs) = cond (ltb a b) Less (cond (ltb b a) More (compared as' bs))

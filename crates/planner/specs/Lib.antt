@@ -1,0 +1,5 @@
+pub mod Lent
+pub mod Answer
+pub mod Decision
+pub mod Listing
+pub mod Handing

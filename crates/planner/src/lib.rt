@@ -1,0 +1,318 @@
+// The planner: marks, rows and counts of a job's plan, as document 01 decides and lists them.
+mod decide;
+mod fill;
+
+use job::Programme;
+ghost use mathlib.Core.Path.{_≡_};
+ghost use mathlib.Core.List.{[], _∷_};
+ghost use Prim.Native.Nat.{ℕ, _+_, _≤_};
+ghost use lib.ListN.{length, getD, take, drop};
+ghost use lib.Dec.{leb, eqb};
+ghost use mathlib.Core.Bool.{_&&_};
+ghost use Rattle.basics.specs.Lists.{upTo};
+ghost use Rattle.job.specs.Job.{Accepted, jobOf};
+ghost use Rattle.schedule.specs.Ascending.{Asc};
+ghost use Rattle.planner.specs.Answer.{Handed, DecidedByLists, BestOfLists, compared};
+ghost use Rattle.planner.specs.Handing.{carriedIn, markIn, LaidFrom, Laid};
+ghost use Rattle.planner.specs.Lent.{over};
+
+// How many rows the plan has, or the refusal's number.
+pub enum Answer {
+    Rows(usize),
+    Refused(u8),
+}
+
+// The answer, and how many chunks carry each layer.
+pub struct Planned {
+    pub answer: Answer,
+    pub counts: [u16; 4],
+}
+
+// The rows made of a plan, and its counts.
+pub struct Filled {
+    pub rows: usize,
+    pub counts: [u16; 4],
+}
+
+// How counts stand to others at the first layer, from the base up, where they differ.
+pub enum Order {
+    Less,
+    Same,
+    More,
+}
+
+pub fn compare(a: [u16; 4], b: [u16; 4]) -> Order
+    ensures { λ r. ⌜ r ≡ compared a b ⌝ }
+{
+    let mut n: usize = 0;
+    while n < 4 {
+        if a[n] < b[n] {
+            return Order::Less;
+        }
+        if b[n] < a[n] {
+            return Order::More;
+        }
+        n = n + 1;
+    }
+    Order::Same
+}
+
+fn refused(n: u8) -> Planned
+    ensures { λ r. ⌜ (r .answer ≡ Answer.Refused n) × (r .counts ≡ 0 ∷ 0 ∷ 0 ∷ 0 ∷ []) ⌝ }
+{
+    Planned {
+        answer: Answer::Refused(n),
+        counts: [0u16; 4],
+    }
+}
+
+fn handed(made: Filled) -> Planned
+    ensures { λ r. ⌜ (r .answer ≡ Answer.Rows (made .rows)) × (r .counts ≡ made .counts) ⌝ }
+{
+    let counts = made.counts;
+    Planned {
+        answer: Answer::Rows(made.rows),
+        counts,
+    }
+}
+
+// How many marks have layer n.
+fn carried(marks: &[u8], n: u8) -> u16
+    requires { ⌜ length (now marks) ≤ 500 ⌝ }
+    ensures { λ r. ⌜ r ≡ carriedIn n (now (marks .entry)) ⌝ }
+{
+    let mut sum: u16 = 0;
+    let mut i: usize = 0;
+    while i < marks.len() {
+        if fetch::has(marks[i], n) {
+            sum = sum + 1;
+            i = i + 1;
+        } else {
+            i = i + 1;
+        }
+    }
+    sum
+}
+
+// The counts of all four layers.
+fn count_layers(marks: &[u8]) -> [u16; 4]
+    requires { ⌜ length (now marks) ≤ 500 ⌝ }
+    ensures { λ r. ⌜ r ≡ upTo (λ n. carriedIn n (now (marks .entry))) 4 ⌝ }
+{
+    let base = carried(marks, 0);
+    let first = carried(marks, 1);
+    let second = carried(marks, 2);
+    let third = carried(marks, 3);
+    [base, first, second, third]
+}
+
+fn wide(x: u16) -> usize
+    ensures { λ r. ⌜ r ≡ x ⌝ }
+{
+    x as usize
+}
+
+// Whether the kept chunk at place q is this one.
+fn is_at(ids: &[u16; 500], q: usize, chunk: usize) -> bool
+    requires { ⌜ (1 ≤ chunk) × (length (now ids) ≡ 500) ⌝ }
+    ensures { λ r. ⌜ r ≡ eqb (getD (now (ids .entry)) q 0) chunk ⌝ }
+{
+    if q < 500 {
+        return wide(ids[q]) == chunk;
+    }
+    false
+}
+
+// A mark for each chunk: the one at its place among the kept chunks, or 0.
+fn spread(ids: &[u16; 500], mark: &[u8; 500], first: usize, count: usize, marks: &mut [u8])
+    requires { ⌜ (first ≤ 500) × (count ≤ length (now marks)) × Asc 1 count (drop first (now ids)) × (length (now ids) ≡ 500) × (length (now mark) ≡ 500) ⌝ }
+    ensures { λ _. ⌜ now (marks .exit) ≡ over (upTo (λ i. markIn (i + 1) (drop first (now (ids .entry))) (drop first (now (mark .entry)))) count) (now (marks .entry)) ⌝ }
+{
+    let mut q = first;
+    let mut i: usize = 0;
+    while i < count {
+        let chunk = i + 1;
+        if is_at(ids, q, chunk) {
+            marks[i] = mark[q];
+            q = q + 1;
+            i = chunk;
+        } else {
+            marks[i] = 0;
+            i = chunk;
+        }
+    }
+}
+
+// The plan of an accepted job into slices that have room for any plan.
+fn lay_out(
+    p: Programme,
+    sizes: &[u32],
+    forecast: &[u32],
+    marks: &mut [u8],
+    slots: &mut [u16],
+    chunks: &mut [u16],
+    layers: &mut [u8],
+    bytes: &mut [u32],
+) -> Filled
+    requires { ⌜ LaidFrom (jobOf p (now sizes) (now forecast)) (now marks) (now slots) (now chunks) (now layers) (now bytes) ⌝ }
+    ensures { λ r. ⌜ Laid (jobOf p (now (sizes .entry)) (now (forecast .entry))) (now (marks .entry)) (now (slots .entry)) (now (chunks .entry)) (now (layers .entry)) (now (bytes .entry)) r (now (marks .exit)) (now (slots .exit)) (now (chunks .exit)) (now (layers .exit)) (now (bytes .exit)) ⌝ }
+{
+    let mut ids = [0u16; 500];
+    let mut ready = [0u16; 500];
+    let mut mark = [1u8; 500];
+    let count = p.chunks as usize;
+    let first = decide::decide(
+        p,
+        sizes.len(),
+        sizes,
+        forecast,
+        1,
+        &mut ids,
+        &mut ready,
+        &mut mark,
+    );
+    let c = forecast[0];
+    let from = fill::At { t: 1, c, n: 0 };
+    let end = fill::put_all(
+        forecast,
+        1,
+        sizes,
+        &ids,
+        &ready,
+        &mark,
+        first,
+        from,
+        slots,
+        chunks,
+        layers,
+        bytes,
+    );
+    spread(&ids, &mark, first, count, marks);
+    let counts = count_layers(&marks[..count]);
+    Filled {
+        rows: end.n,
+        counts,
+    }
+}
+
+fn copy8(from: &[u8], n: usize, to: &mut [u8])
+    requires { ⌜ (n ≤ length (now from)) × (n ≤ length (now to)) ⌝ }
+    ensures { λ _. ⌜ now (to .exit) ≡ over (take n (now (from .entry))) (now (to .entry)) ⌝ }
+{
+    let mut i: usize = 0;
+    while i < n {
+        to[i] = from[i];
+        i = i + 1;
+    }
+}
+
+fn copy16(from: &[u16], n: usize, to: &mut [u16])
+    requires { ⌜ (n ≤ length (now from)) × (n ≤ length (now to)) ⌝ }
+    ensures { λ _. ⌜ now (to .exit) ≡ over (take n (now (from .entry))) (now (to .entry)) ⌝ }
+{
+    let mut i: usize = 0;
+    while i < n {
+        to[i] = from[i];
+        i = i + 1;
+    }
+}
+
+fn copy32(from: &[u32], n: usize, to: &mut [u32])
+    requires { ⌜ (n ≤ length (now from)) × (n ≤ length (now to)) ⌝ }
+    ensures { λ _. ⌜ now (to .exit) ≡ over (take n (now (from .entry))) (now (to .entry)) ⌝ }
+{
+    let mut i: usize = 0;
+    while i < n {
+        to[i] = from[i];
+        i = i + 1;
+    }
+}
+
+// Whether each of four lengths is at least n.
+fn all_hold(n: usize, a: usize, b: usize, c: usize, d: usize) -> bool
+    ensures { λ r. ⌜ r ≡ leb n a && (leb n b && (leb n c && leb n d)) ⌝ }
+{
+    if a < n {
+        return false;
+    }
+    if b < n {
+        return false;
+    }
+    if c < n {
+        return false;
+    }
+    n <= d
+}
+
+// The plan of an accepted job into rows that may be too short: laid out aside, and copied if it fits whole.
+fn lay_tight(
+    p: Programme,
+    sizes: &[u32],
+    forecast: &[u32],
+    marks: &mut [u8],
+    slots: &mut [u16],
+    chunks: &mut [u16],
+    layers: &mut [u8],
+    bytes: &mut [u32],
+) -> Planned
+    requires { ⌜ Accepted (jobOf p (now sizes) (now forecast)) × (p .chunks ≤ length (now marks)) ⌝ }
+    ensures { λ r. ⌜ Handed (jobOf p (now (sizes .entry)) (now (forecast .entry))) (now (marks .entry)) (now (slots .entry)) (now (chunks .entry)) (now (layers .entry)) (now (bytes .entry)) r (now (marks .exit)) (now (slots .exit)) (now (chunks .exit)) (now (layers .exit)) (now (bytes .exit)) ⌝ }
+{
+    let mut own_marks = [0u8; 500];
+    let mut own_slots = [0u16; 5599];
+    let mut own_chunks = [0u16; 5599];
+    let mut own_layers = [0u8; 5599];
+    let mut own_bytes = [0u32; 5599];
+    let made = lay_out(
+        p,
+        sizes,
+        forecast,
+        &mut own_marks,
+        &mut own_slots,
+        &mut own_chunks,
+        &mut own_layers,
+        &mut own_bytes,
+    );
+    let n = made.rows;
+    if all_hold(n, slots.len(), chunks.len(), layers.len(), bytes.len()) {
+        let count = p.chunks as usize;
+        copy8(&own_marks, count, marks);
+        copy16(&own_slots, n, slots);
+        copy16(&own_chunks, n, chunks);
+        copy8(&own_layers, n, layers);
+        copy32(&own_bytes, n, bytes);
+        handed(made)
+    } else {
+        refused(11)
+    }
+}
+
+// The plan of a job into lent marks, one a chunk, and rows: by slot, chunk, layer. Refusals 5, 6, 7, then 11 where a slice is shorter than
+// the plan; a refusal writes nothing.
+pub fn plan(
+    p: Programme,
+    sizes: &[u32],
+    forecast: &[u32],
+    marks: &mut [u8],
+    slots: &mut [u16],
+    chunks: &mut [u16],
+    layers: &mut [u8],
+    bytes: &mut [u32],
+) -> Planned
+    ensures handed { λ r. ⌜ Handed (jobOf p (now (sizes .entry)) (now (forecast .entry))) (now (marks .entry)) (now (slots .entry)) (now (chunks .entry)) (now (layers .entry)) (now (bytes .entry)) r (now (marks .exit)) (now (slots .exit)) (now (chunks .exit)) (now (layers .exit)) (now (bytes .exit)) ⌝ }
+    ensures decided { λ _. ⌜ DecidedByLists (jobOf p (now (sizes .entry)) (now (forecast .entry))) ⌝ }
+    ensures best { λ _. ⌜ BestOfLists (jobOf p (now (sizes .entry)) (now (forecast .entry))) ⌝ }
+{
+    let no = job::refusal(p, sizes, forecast);
+    if 0 < no {
+        return refused(no);
+    }
+    if marks.len() < p.chunks as usize {
+        return refused(11);
+    }
+    if all_hold(5599, slots.len(), chunks.len(), layers.len(), bytes.len()) {
+        handed(lay_out(p, sizes, forecast, marks, slots, chunks, layers, bytes))
+    } else {
+        lay_tight(p, sizes, forecast, marks, slots, chunks, layers, bytes)
+    }
+}
