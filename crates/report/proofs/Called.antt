@@ -1,18 +1,14 @@
 -- What a call of the planner with room for any plan leaves in the slices: the plan's own list, in front. Assumes nothing.
-use Prim.Native.Nat.{ℕ, _+_, _≤_}
-use mathlib.Core.Path.{_≡_, refl, sym, ap, _∙_}
-use mathlib.Core.Bool.{Bool, true, cond, _&&_}
-use mathlib.Core.List.{List, map, _++_}
+use Prim.Native.Nat.{ℕ, _≤_}
+use mathlib.Core.Path.{_≡_, sym, ap, _∙_}
+use mathlib.Core.Bool.{true}
+use mathlib.Core.List.{List}
 use native.Mathlib.Omega.{arith}
 use lib.ListN.{length, take, drop, length-append, length-map, replicate, length-replicate}
 use lib.Seq.{take-at, length-take-le}
-use lib.Dec.{leb, eqb}
 use borrow.Author.Tests.{le-leb}
-use Rattle.basics.specs.Refusals.{unless}
 use Rattle.job.specs.Job.{Job, Accepted, chunks}
-use Rattle.job.specs.Refusal.{refusal, accepted-iff}
-use Rattle.fetch.specs.Rows.{Row}
-use Rattle.schedule.specs.Own.{ownList}
+use Rattle.job.specs.Refusal.{accepted-iff}
 use Rattle.schedule.specs.Plan.{plan}
 use Rattle.schedule.specs.Shape.{own-list-rows}
 use Rattle.schedule.specs.Theorems.{plan-exists}

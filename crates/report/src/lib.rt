@@ -206,13 +206,28 @@ fn report_plan(p: Programme, sizes: &[u32], forecast: &[u32], out: &mut [u8]) ->
     let mut layers = [0u8; 5599];
     let mut bytes = [0u32; 5599];
     let made = planner::plan(
-        p, sizes, forecast, &mut marks, &mut slots, &mut chunks, &mut layers, &mut bytes,
+        p,
+        sizes,
+        forecast,
+        &mut marks,
+        &mut slots,
+        &mut chunks,
+        &mut layers,
+        &mut bytes,
     );
     let answer = made.answer;
     let n = rows_in(answer);
     let depth = sizes.len();
     report_rows(
-        p, sizes, depth, forecast, &slots[..n], &chunks[..n], &layers[..n], &bytes[..n], out,
+        p,
+        sizes,
+        depth,
+        forecast,
+        &slots[..n],
+        &chunks[..n],
+        &layers[..n],
+        &bytes[..n],
+        out,
     )
 }
 
