@@ -86,10 +86,10 @@ abbrev pub zeros : ℕ → List ℕ
 zeros n = replicate n 0
 
 pub local-columns :
-    (j : Job) (a : Accepted j) {r : Planned} {marks' slots' cs' layers' bytes' : List ℕ} →
+    {j : Job} (a : Accepted j) {r : Planned} {marks' slots' cs' layers' bytes' : List ℕ} →
     Handed j (zeros 500) (zeros 5599) (zeros 5599) (zeros 5599) (zeros 5599) r marks' slots' cs' layers' bytes' →
-    (n : ℕ) → n ≡ rowsIn (r .answer) → Columns j n slots' cs' layers' bytes'
-local-columns j a p n e =
+    {n : ℕ} → n ≡ rowsIn (r .answer) → Columns j n slots' cs' layers' bytes'
+local-columns {j} a p {n} e =
     let rows : 5599 ≤ length (zeros 5599) = omega (arith, length-replicate {A = ℕ} 5599 0) in
     let marks : 500 ≤ length (zeros 500) = omega (arith, length-replicate {A = ℕ} 500 0) in
     columns j a (zeros 500) (zeros 5599) (zeros 5599) (zeros 5599) (zeros 5599)

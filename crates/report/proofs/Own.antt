@@ -34,7 +34,7 @@ abbrev none : Row
 none = record { slot = 0; chunk = 0; layer = 0; bytes = 0 }
 
 -- The fields of rows, slice by slice, are the rows again.
-pub rows-again : (l : List Row) → rowsOf (slotsOf l) (chunksOf l) (layersOf l) (bytesOf l) ≡ l
+rows-again : (l : List Row) → rowsOf (slotsOf l) (chunksOf l) (layersOf l) (bytesOf l) ≡ l
 rows-again l =
     ext-getD none (rowsOf (slotsOf l) (chunksOf l) (layersOf l) (bytesOf l)) l (length-upTo f (length (slotsOf l)) ∙ length-map l (λ x. x .slot))
     (λ k h. getD-upTo f (length (slotsOf l)) k none (omega (arith, length-upTo f (length (slotsOf l)))) ∙ same k)
@@ -45,7 +45,7 @@ rows-again l =
     same : (k : ℕ) → f k ≡ getD l k none
     same k = rw (List·getD-map (λ x. x .slot) l k none, List·getD-map (λ x. x .chunk) l k none, List·getD-map (λ x. x .layer) l k none, List·getD-map (λ x. x .bytes) l k none)
 
-module _ (j : Job) (a : Accepted j) where
+module _ {j : Job} (a : Accepted j) where
   keeps : Keeps j (marksOf j (plan j)) (ownList j (plan j))
   keeps = plan-carried j (accepted-sized j a) (plan j) (plan-exists j a) .0
 
@@ -64,3 +64,6 @@ module _ (j : Job) (a : Accepted j) where
 
   pub own-within : WithinForecast j (rowsOf (slotsOf (ownList j (plan j))) (chunksOf (ownList j (plan j))) (layersOf (ownList j (plan j))) (bytesOf (ownList j (plan j))))
   own-within = subst (WithinForecast j) (sym (rows-again (ownList j (plan j)))) (keeps .within)
+
+  pub own-again : rowsOf (slotsOf (ownList j (plan j))) (chunksOf (ownList j (plan j))) (layersOf (ownList j (plan j))) (bytesOf (ownList j (plan j))) ≡ ownList j (plan j)
+  own-again = rows-again (ownList j (plan j))

@@ -2,12 +2,9 @@
 use borrow.Author.Needs.{needs}
 use Rattle.report.proofs.report_plan.Statement.{statement}
 use Rattle.report.proofs.report_plan.Tie as tie
-use denote.Ref.{now}
-use Rattle.job.specs.Job.{jobOf}
-use Rattle.schedule.specs.Own.{ownList}
 use Rattle.schedule.specs.Plan.{plan}
 use Rattle.report.specs.Answer.{planReport}
-use Rattle.report.proofs.Own.{rows-again, own-listed, own-within}
+use Rattle.report.proofs.Own.{own-listed, own-within, own-again}
 use Rattle.report.proofs.Called.{local-columns, column-length}
 
 slice-aggregate-plan : tie.Need-slice-aggregate-plan
@@ -32,59 +29,34 @@ rows-in-requires : tie.Need-rows-in-requires
 rows-in-requires c κs = search needs
 
 array-share-prefix-slots : tie.Need-array-share-prefix-slots
-array-share-prefix-slots c =
-    let a = c .before .before .before .before .before .before .before .before .before .before .before .before .before .before .before .args in
-    let s = local-columns (jobOf (a .p) (now (a .sizes)) (now (a .forecast))) (c .before .before .before .before .before .before .before .before .before .before .before .before .before .before .before .pre) (c .before .before .before .before .before .before .plan .ensures .0) (c .rows-in .result) (c .rows-in .ensures) in
-    s .slots-are .fits
+array-share-prefix-slots c = local-columns (c .before .before .before .before .before .before .before .before .before .before .before .before .before .before .before .pre) (c .before .before .before .before .before .before .plan .ensures .0) (c .rows-in .ensures) .slots-are .fits
 
 slice-aggregate-report-rows : tie.Need-slice-aggregate-report-rows
-slice-aggregate-report-rows c =
-    let a = c .before .before .before .before .before .before .before .before .before .before .before .before .before .before .before .before .args in
-    let s = local-columns (jobOf (a .p) (now (a .sizes)) (now (a .forecast))) (c .before .before .before .before .before .before .before .before .before .before .before .before .before .before .before .before .pre) (c .before .before .before .before .before .before .before .plan .ensures .0) (c .before .rows-in .result) (c .before .rows-in .ensures) in
-    column-length (s .slots-are)
+slice-aggregate-report-rows c = column-length (local-columns (c .before .before .before .before .before .before .before .before .before .before .before .before .before .before .before .before .pre) (c .before .before .before .before .before .before .before .plan .ensures .0) (c .before .rows-in .ensures) .slots-are)
 
 array-share-prefix-chunks : tie.Need-array-share-prefix-chunks
-array-share-prefix-chunks c =
-    let a = c .before .before .before .before .before .before .before .before .before .before .before .before .before .before .before .before .args in
-    let s = local-columns (jobOf (a .p) (now (a .sizes)) (now (a .forecast))) (c .before .before .before .before .before .before .before .before .before .before .before .before .before .before .before .before .pre) (c .before .before .before .before .before .before .before .plan .ensures .0) (c .before .rows-in .result) (c .before .rows-in .ensures) in
-    s .chunks-are .fits
+array-share-prefix-chunks c = local-columns (c .before .before .before .before .before .before .before .before .before .before .before .before .before .before .before .before .pre) (c .before .before .before .before .before .before .before .plan .ensures .0) (c .before .rows-in .ensures) .chunks-are .fits
 
 slice-aggregate-report-rows-2 : tie.Need-slice-aggregate-report-rows-2
-slice-aggregate-report-rows-2 c =
-    let a = c .before .before .before .before .before .before .before .before .before .before .before .before .before .before .before .before .before .args in
-    let s = local-columns (jobOf (a .p) (now (a .sizes)) (now (a .forecast))) (c .before .before .before .before .before .before .before .before .before .before .before .before .before .before .before .before .before .pre) (c .before .before .before .before .before .before .before .before .plan .ensures .0) (c .before .before .rows-in .result) (c .before .before .rows-in .ensures) in
-    column-length (s .chunks-are)
+slice-aggregate-report-rows-2 c = column-length (local-columns (c .before .before .before .before .before .before .before .before .before .before .before .before .before .before .before .before .before .pre) (c .before .before .before .before .before .before .before .before .plan .ensures .0) (c .before .before .rows-in .ensures) .chunks-are)
 
 array-share-prefix-layers : tie.Need-array-share-prefix-layers
-array-share-prefix-layers c =
-    let a = c .before .before .before .before .before .before .before .before .before .before .before .before .before .before .before .before .before .args in
-    let s = local-columns (jobOf (a .p) (now (a .sizes)) (now (a .forecast))) (c .before .before .before .before .before .before .before .before .before .before .before .before .before .before .before .before .before .pre) (c .before .before .before .before .before .before .before .before .plan .ensures .0) (c .before .before .rows-in .result) (c .before .before .rows-in .ensures) in
-    s .layers-are .fits
+array-share-prefix-layers c = local-columns (c .before .before .before .before .before .before .before .before .before .before .before .before .before .before .before .before .before .pre) (c .before .before .before .before .before .before .before .before .plan .ensures .0) (c .before .before .rows-in .ensures) .layers-are .fits
 
 slice-aggregate-report-rows-3 : tie.Need-slice-aggregate-report-rows-3
-slice-aggregate-report-rows-3 c =
-    let a = c .before .before .before .before .before .before .before .before .before .before .before .before .before .before .before .before .before .before .args in
-    let s = local-columns (jobOf (a .p) (now (a .sizes)) (now (a .forecast))) (c .before .before .before .before .before .before .before .before .before .before .before .before .before .before .before .before .before .before .pre) (c .before .before .before .before .before .before .before .before .before .plan .ensures .0) (c .before .before .before .rows-in .result) (c .before .before .before .rows-in .ensures) in
-    column-length (s .layers-are)
+slice-aggregate-report-rows-3 c = column-length (local-columns (c .before .before .before .before .before .before .before .before .before .before .before .before .before .before .before .before .before .before .pre) (c .before .before .before .before .before .before .before .before .before .plan .ensures .0) (c .before .before .before .rows-in .ensures) .layers-are)
 
 array-share-prefix-bytes : tie.Need-array-share-prefix-bytes
-array-share-prefix-bytes c =
-    let a = c .before .before .before .before .before .before .before .before .before .before .before .before .before .before .before .before .before .before .args in
-    let s = local-columns (jobOf (a .p) (now (a .sizes)) (now (a .forecast))) (c .before .before .before .before .before .before .before .before .before .before .before .before .before .before .before .before .before .before .pre) (c .before .before .before .before .before .before .before .before .before .plan .ensures .0) (c .before .before .before .rows-in .result) (c .before .before .before .rows-in .ensures) in
-    s .bytes-are .fits
+array-share-prefix-bytes c = local-columns (c .before .before .before .before .before .before .before .before .before .before .before .before .before .before .before .before .before .before .pre) (c .before .before .before .before .before .before .before .before .before .plan .ensures .0) (c .before .before .before .rows-in .ensures) .bytes-are .fits
 
 slice-aggregate-report-rows-4 : tie.Need-slice-aggregate-report-rows-4
-slice-aggregate-report-rows-4 c =
-    let a = c .before .before .before .before .before .before .before .before .before .before .before .before .before .before .before .before .before .before .before .args in
-    let s = local-columns (jobOf (a .p) (now (a .sizes)) (now (a .forecast))) (c .before .before .before .before .before .before .before .before .before .before .before .before .before .before .before .before .before .before .before .pre) (c .before .before .before .before .before .before .before .before .before .before .plan .ensures .0) (c .before .before .before .before .rows-in .result) (c .before .before .before .before .rows-in .ensures) in
-    column-length (s .bytes-are)
+slice-aggregate-report-rows-4 c = column-length (local-columns (c .before .before .before .before .before .before .before .before .before .before .before .before .before .before .before .before .before .before .before .pre) (c .before .before .before .before .before .before .before .before .before .before .plan .ensures .0) (c .before .before .before .before .rows-in .ensures) .bytes-are)
 
 report-rows-requires : tie.Need-report-rows-requires
 report-rows-requires c κs =
-    let a = c .before .before .before .before .before .before .before .before .before .before .before .before .before .before .before .before .before .before .before .before .args in
-    let s = local-columns (jobOf (a .p) (now (a .sizes)) (now (a .forecast))) (c .before .before .before .before .before .before .before .before .before .before .before .before .before .before .before .before .before .before .before .before .pre) (c .before .before .before .before .before .before .before .before .before .before .before .plan .ensures .0) (c .before .before .before .before .before .rows-in .result) (c .before .before .before .before .before .rows-in .ensures) in
-    let j = jobOf (a .p) (now (a .sizes)) (now (a .forecast)) in
-    rw (s .slots-are .is, s .chunks-are .is, s .layers-are .is, s .bytes-are .is) (own-listed j (c .before .before .before .before .before .before .before .before .before .before .before .before .before .before .before .before .before .before .before .before .pre), own-within j (c .before .before .before .before .before .before .before .before .before .before .before .before .before .before .before .before .before .before .before .before .pre))
+    let a = c .before .before .before .before .before .before .before .before .before .before .before .before .before .before .before .before .before .before .before .before .pre in
+    let s = local-columns (c .before .before .before .before .before .before .before .before .before .before .before .before .before .before .before .before .before .before .before .before .pre) (c .before .before .before .before .before .before .before .before .before .before .before .plan .ensures .0) (c .before .before .before .before .before .rows-in .ensures) in
+    rw (s .slots-are .is, s .chunks-are .is, s .layers-are .is, s .bytes-are .is) (own-listed a, own-within a)
 
 same-length : tie.Need-same-length
 same-length c = search needs
@@ -92,10 +64,8 @@ same-length c = search needs
 returns : tie.Need-returns
 unfolding planReport
 returns c =
-    let a = c .before .before .before .before .before .before .before .before .before .before .before .before .before .before .before .before .before .before .before .before .before .before .before .args in
-    let s = local-columns (jobOf (a .p) (now (a .sizes)) (now (a .forecast))) (c .before .before .before .before .before .before .before .before .before .before .before .before .before .before .before .before .before .before .before .before .before .before .before .pre) (c .before .before .before .before .before .before .before .before .before .before .before .before .before .before .plan .ensures .0) (c .before .before .before .before .before .before .before .before .rows-in .result) (c .before .before .before .before .before .before .before .before .rows-in .ensures) in
-    let j = jobOf (a .p) (now (a .sizes)) (now (a .forecast)) in
-    rw (s .slots-are .is, s .chunks-are .is, s .layers-are .is, s .bytes-are .is, rows-again (ownList j (plan j))) at (c .before .before .report-rows .ensures)
+    let s = local-columns (c .before .before .before .before .before .before .before .before .before .before .before .before .before .before .before .before .before .before .before .before .before .before .before .pre) (c .before .before .before .before .before .before .before .before .before .before .before .before .before .before .plan .ensures .0) (c .before .before .before .before .before .before .before .before .rows-in .ensures) in
+    rw (s .slots-are .is, s .chunks-are .is, s .layers-are .is, s .bytes-are .is, own-again (c .before .before .before .before .before .before .before .before .before .before .before .before .before .before .before .before .before .before .before .before .before .before .before .pre)) at (c .before .before .report-rows .ensures)
 
 pub report-plan-spec : {M : Type 1} → statement M
 report-plan-spec =
