@@ -1,0 +1,53 @@
+-- Meaning, then its theorem. What the report call answers, and the lent buffer afterwards: document 01, "Direct calls without files
+-- check 5, 6, 7", then 11 where "a lent buffer is shorter than the whole result. In a longer one the bytes past the result stay unchanged."
+use Prim.Native.Nat.{ℕ}
+use mathlib.Core.Path.{_≡_, ap}
+use mathlib.Core.Bool.{cond}
+use mathlib.Core.List.{List, _++_}
+use lib.ListN.{length, drop}
+use lib.Dec.{leb, eqb}
+use Rattle.basics.specs.Refusals.{unless, _orElse_}
+use Rattle.job.specs.Job.{Job, Accepted}
+use Rattle.job.specs.Refusal.{refusal}
+use Rattle.schedule.specs.Own.{ownList}
+use Rattle.schedule.specs.Plan.{plan}
+use Rattle.schedule.specs.Statement.{IsPlan}
+use Rattle.schedule.specs.Theorems.{plan-exists, plan-rows-unique}
+use Rattle.report.specs.Report.{reportOf}
+use Rattle.report.specs.declared.Written.{Written}
+use Rattle.report.specs.declared.Written.the-variants.{Bytes, Refused}
+
+-- The report of a job is that of its plan's own list.
+unfoldable pub planReport : Job → List ℕ
+planReport j = reportOf j (ownList j (plan j))
+
+-- Document 01's answer: the refusal, or with none the number of bytes written.
+abbrev pub answer : ℕ → ℕ → Written
+answer refused n = cond (eqb refused 0) (Bytes n) (Refused refused)
+
+-- The buffer afterwards: the text, then the old bytes; on a refusal as it was.
+abbrev pub bufferAfter : ℕ → List ℕ → List ℕ → List ℕ
+bufferAfter refused t out = cond (eqb refused 0) (t ++ drop (length t) out) out
+
+-- 11 exactly if the buffer is shorter than the text.
+abbrev pub roomRefusal : List ℕ → List ℕ → ℕ
+roomRefusal t out = unless 11 (leb (length t) (length out))
+
+-- The answer and the buffer afterwards for a text at hand.
+pub record Answered (t old now : List ℕ) (r : Written) : Type 0 where
+  pub result : r ≡ answer (roomRefusal t old) (length t)
+  pub buffer : now ≡ bufferAfter (roomRefusal t old) t old
+
+-- The refusal of the call: 5, 6, 7 by the job, then 11.
+abbrev pub reportRefusal : Job → List ℕ → ℕ
+reportRefusal j out = refusal j orElse roomRefusal (planReport j) out
+
+-- What the call hands over, and what it leaves in the lent buffer.
+pub record Reported (j : Job) (old now : List ℕ) (r : Written) : Type 0 where
+  pub result : r ≡ answer (reportRefusal j old) (length (planReport j))
+  pub buffer : now ≡ bufferAfter (reportRefusal j old) (planReport j) old
+
+-- Whichever plan of an accepted job is taken, this is its report.
+pub report-of-plan : (j : Job) (p : ℕ → ℕ) → Accepted j → IsPlan j p → planReport j ≡ reportOf j (ownList j p)
+unfolding planReport
+report-of-plan j p a is = ap (reportOf j) (plan-rows-unique j (plan j) p (plan-exists j a) is)

@@ -1,0 +1,10 @@
+pub mod Text
+pub mod Report
+pub mod Worked
+pub mod Tables
+pub mod Places
+pub mod Numbers
+pub mod Bounds
+pub mod Widths
+pub mod Theorems
+pub mod Answer

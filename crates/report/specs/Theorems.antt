@@ -1,0 +1,83 @@
+-- Theorems. What the report's numbers say of each other, and how long its text is.
+use Prim.Native.Nat.{ℕ, _+_, _≤_, _<_}
+use mathlib.Core.Path.{_≡_, refl, sym, _∙_}
+use mathlib.Core.Bool.{cond, not}
+use mathlib.Core.List.{List, _++_}
+use mathlib.Core.Logic.{⊎-elim}
+use native.Mathlib.Omega.{arith}
+use lib.ListN.{length, length-append}
+use lib.Dec.{T, T-not, eqb→eq}
+use borrow.Author.Tests.{eq-eqb}
+use Rattle.basics.specs.Tests.{All, by-cond, eqb-iff}
+use Rattle.basics.specs.Sums.{pre, sum}
+use Rattle.job.specs.Job.{Job, Layer, Accepted, chunks, layers, size}
+use Rattle.fetch.specs.Rows.{Row, bytesOfLayer, carried}
+use Rattle.fetch.specs.Rules.{InRange, WholeLayers, LowerCarried, WithinForecast}
+use Rattle.fetch.specs.RowLemmas.{base-carried}
+use Rattle.schedule.specs.Lists.{pre-cong, sum-cong, sum-zero}
+use Rattle.report.specs.Bounds.{rows-within, layers-sum}
+use Rattle.report.specs.Widths.{slots-width, chunks-width, layers-width, bytes-width, switch-width}
+use Rattle.report.specs.Report.{slotsLine, bytesCarried, chunkLines, layersLine, bytesInRows, forecastSum, left, bytesLine, shown, switchLine, reportOf}
+
+-- ---- "bytes in rows and forecast bytes unspent"
+
+-- The two sum to the forecast's sum exactly, for a list that keeps rules 1 and 4.
+pub bytes-and-left : (j : Job) (rows : List Row) → All (InRange j) rows → WithinForecast j rows → bytesInRows rows + left j rows ≡ forecastSum j
+bytes-and-left j rows a w = omega (arith, rows-within j rows a w)
+
+-- ---- "per chunk: number, layers carried, bytes carried"
+
+-- The chunks' bytes sum to the bytes in rows, for a list that keeps rules 1 and 2.
+pub chunks-and-bytes : (j : Job) (rows : List Row) → All (InRange j) rows → WholeLayers j rows → pre (bytesCarried j rows) (chunks j) ≡ bytesInRows rows
+chunks-and-bytes j rows a w =
+    pre-cong (bytesCarried j rows) (λ i. sum (bytesOfLayer rows i) (layers j)) (chunks j)
+    (λ i u v. sum-cong _ (bytesOfLayer rows i) (layers j) (λ n h. whole i n (record { chunk-low = u; chunk-high = v; layer-in = h })))
+    ∙ layers-sum j rows a
+  where
+    whole : (i n : ℕ) → Layer j i n → cond (carried j rows i n) (bytesOfLayer rows i n) 0 ≡ bytesOfLayer rows i n
+    whole i n l =
+        ⊎-elim
+        (λ z. by-cond (λ (m : ℕ). m ≡ bytesOfLayer rows i n) (carried j rows i n) (λ t. refl) (λ t. sym z))
+        (λ e. rw (eq-eqb (bytesOfLayer rows i n) (size j i n) e))
+        (w i n l)
+
+-- ---- "a skipped chunk being 0"
+
+-- For a list that keeps rule 3 the switch sum compares the bytes of the chunks' own lines: a skipped chunk carries none.
+pub shown-is-carried : (j : Job) (rows : List Row) → LowerCarried j rows → (i : ℕ) → 1 ≤ i → i ≤ chunks j → shown j rows i ≡ bytesCarried j rows i
+shown-is-carried j rows lower i u v =
+    by-cond
+    (λ (m : ℕ). m ≡ bytesCarried j rows i)
+    (carried j rows i 0)
+    (λ t. refl)
+    (λ t. sym (sum-cong _ (λ n. 0) (layers j) (λ n h. none t n h) ∙ sum-zero (layers j)))
+  where
+    none : T (not (carried j rows i 0)) → (n : ℕ) → n < layers j → cond (carried j rows i n) (bytesOfLayer rows i n) 0 ≡ 0
+    none t n h =
+        by-cond
+        (λ (m : ℕ). m ≡ 0)
+        (carried j rows i n)
+        (λ c.
+        let e = base-carried j rows lower i n (record { chunk-low = u; chunk-high = v; layer-in = h }) (eqb→eq (bytesOfLayer rows i n) (size j i n) c) in
+        absurd (T-not (carried j rows i 0) t (eqb-iff (bytesOfLayer rows i 0) (size j i 0) .1 e)))
+        (λ c. refl)
+
+-- ---- how long the text is
+
+-- The report of an accepted job and a list that keeps rules 1 and 4 has at most 7,610 bytes, so a local buffer holds it: 33 in line 1,
+-- 15 for each of 500 chunks, 23 for the counts, 35 for bytes and left, 19 for the switch sum.
+pub report-fits : (j : Job) (rows : List Row) → Accepted j → All (InRange j) rows → WithinForecast j rows → length (reportOf j rows) ≤ 7610
+unfolding reportOf
+report-fits j rows ok a w =
+    omega (
+      arith,
+      slots-width j ok,
+      chunks-width j rows ok,
+      layers-width j rows ok,
+      bytes-width j rows ok (rows-within j rows a w),
+      switch-width j rows ok,
+      length-append (slotsLine j) (chunkLines j rows ++ (layersLine j rows ++ (bytesLine j rows ++ switchLine j rows))),
+      length-append (chunkLines j rows) (layersLine j rows ++ (bytesLine j rows ++ switchLine j rows)),
+      length-append (layersLine j rows) (bytesLine j rows ++ switchLine j rows),
+      length-append (bytesLine j rows) (switchLine j rows),
+    )

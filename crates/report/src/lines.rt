@@ -1,0 +1,84 @@
+// Words and numbers into a buffer, and the lines that are made of them alone.
+ghost use mathlib.Core.List.{[], _∷_, _++_};
+ghost use Prim.Native.Nat.{_+_, _≤_};
+ghost use lib.ListN.{length};
+ghost use Rattle.report.specs.Text.{ascii, digits, line};
+ghost use Rattle.report.specs.Places.{Put};
+
+// The digits of n go to out at a place. The place after them.
+fn put_number(out: &mut [u8], at: usize, n: u64) -> usize
+    requires { ⌜ at + length (digits n) ≤ length (now out) ⌝ }
+    ensures { λ r. ⌜ Put (now (out .entry)) at (digits n) (now (out .exit)) r ⌝ }
+{
+    if n < 10 {
+        out[at] = 48 + (n as u8);
+        return at + 1;
+    }
+    let next = put_number(out, at, n / 10);
+    out[next] = 48 + ((n % 10) as u8);
+    next + 1
+}
+
+// A word, and a number after it.
+fn put_field(out: &mut [u8], at: usize, word: &[u8], n: u64) -> usize
+    requires { ⌜ at + length (now word ++ digits n) ≤ length (now out) ⌝ }
+    ensures { λ r. ⌜ Put (now (out .entry)) at (now (word .entry) ++ digits n) (now (out .exit)) r ⌝ }
+{
+    records::put(out, at, word);
+    let next = at + word.len();
+    put_number(out, next, n)
+}
+
+// A number after a space.
+pub fn put_next(out: &mut [u8], at: usize, n: u64) -> usize
+    requires { ⌜ at + length (32 ∷ digits n) ≤ length (now out) ⌝ }
+    ensures { λ r. ⌜ Put (now (out .entry)) at (32 ∷ digits n) (now (out .exit)) r ⌝ }
+{
+    put_field(out, at, b" ", n)
+}
+
+// The end of a line.
+pub fn put_end(out: &mut [u8], at: usize) -> usize
+    requires { ⌜ at + 1 ≤ length (now out) ⌝ }
+    ensures { λ r. ⌜ Put (now (out .entry)) at (10 ∷ []) (now (out .exit)) r ⌝ }
+{
+    out[at] = b'\n';
+    at + 1
+}
+
+pub fn slots_line(out: &mut [u8], at: usize, last: u64, count: u64, held: u64) -> usize
+    requires { ⌜ at + length (line (ascii "slots") (digits last ∷ ascii "chunks" ∷ digits count ∷ ascii "held" ∷ digits held ∷ [])) ≤ length (now out) ⌝ }
+    ensures { λ r. ⌜ Put (now (out .entry)) at (line (ascii "slots") (digits last ∷ ascii "chunks" ∷ digits count ∷ ascii "held" ∷ digits held ∷ [])) (now (out .exit)) r ⌝ }
+{
+    let slots = put_field(out, at, b"slots ", last);
+    let chunks = put_field(out, slots, b" chunks ", count);
+    let end = put_field(out, chunks, b" held ", held);
+    put_end(out, end)
+}
+
+pub fn chunk_line(out: &mut [u8], at: usize, i: u64, layers: u64, bytes: u64) -> usize
+    requires { ⌜ at + length (line (digits i) (digits layers ∷ digits bytes ∷ [])) ≤ length (now out) ⌝ }
+    ensures { λ r. ⌜ Put (now (out .entry)) at (line (digits i) (digits layers ∷ digits bytes ∷ [])) (now (out .exit)) r ⌝ }
+{
+    let number = put_number(out, at, i);
+    let carried = put_next(out, number, layers);
+    let end = put_next(out, carried, bytes);
+    put_end(out, end)
+}
+
+pub fn bytes_line(out: &mut [u8], at: usize, spent: u64, left: u64) -> usize
+    requires { ⌜ at + length (line (ascii "bytes") (digits spent ∷ ascii "left" ∷ digits left ∷ [])) ≤ length (now out) ⌝ }
+    ensures { λ r. ⌜ Put (now (out .entry)) at (line (ascii "bytes") (digits spent ∷ ascii "left" ∷ digits left ∷ [])) (now (out .exit)) r ⌝ }
+{
+    let bytes = put_field(out, at, b"bytes ", spent);
+    let end = put_field(out, bytes, b" left ", left);
+    put_end(out, end)
+}
+
+pub fn switch_line(out: &mut [u8], at: usize, switch: u64) -> usize
+    requires { ⌜ at + length (line (ascii "switch") (digits switch ∷ [])) ≤ length (now out) ⌝ }
+    ensures { λ r. ⌜ Put (now (out .entry)) at (line (ascii "switch") (digits switch ∷ [])) (now (out .exit)) r ⌝ }
+{
+    let end = put_field(out, at, b"switch ", switch);
+    put_end(out, end)
+}
