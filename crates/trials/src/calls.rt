@@ -11,28 +11,28 @@ use planfile::PlanRead;
 use planfile::Written;
 
 // Room for n elements at most.
-fn room8(s: &mut [u8], n: usize) -> &mut [u8] {
+pub fn room8(s: &mut [u8], n: usize) -> &mut [u8] {
     if s.len() < n {
         return s;
     }
     &mut s[..n]
 }
 
-fn room16(s: &mut [u16], n: usize) -> &mut [u16] {
+pub fn room16(s: &mut [u16], n: usize) -> &mut [u16] {
     if s.len() < n {
         return s;
     }
     &mut s[..n]
 }
 
-fn room32(s: &mut [u32], n: usize) -> &mut [u32] {
+pub fn room32(s: &mut [u32], n: usize) -> &mut [u32] {
     if s.len() < n {
         return s;
     }
     &mut s[..n]
 }
 
-fn chunks_501() -> Programme {
+pub fn chunks_501() -> Programme {
     Programme {
         chunks: 501,
         span: 1,
@@ -251,7 +251,7 @@ fn byte(x: u8) -> usize {
     x as usize
 }
 
-fn marks_shown(marks: &[u8; 4], layers: &[u8; 4]) {
+pub fn marks_shown(marks: &[u8; 4], layers: &[u8; 4]) {
     word(b", then ");
     number(byte(marks[1]));
     word(b" ");

@@ -4,6 +4,7 @@ mod calls;
 mod files;
 mod large;
 mod meters;
+mod planned;
 
 fn main() {
     files::job_files();
@@ -13,6 +14,7 @@ fn main() {
     calls::rooms();
     calls::lists();
     calls::plans();
+    planned::rooms();
     meters::samples();
     meters::forecasts();
 }
