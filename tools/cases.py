@@ -140,12 +140,14 @@ def main():
             with open(f"crates/trials/data/{name}", "wb") as f:
                 f.write(data)
             lines.append(f"{name} {line(data)}")
+    with open("crates/trials/data/q00", "wb") as f:
+        f.write(b"".join(kp(i, 255) for i in range(1, 7)) + ft(65535, 1, 7, 0xFFFFFFFF) * 5955 + EN)
     with open("tools/expected_calls.txt") as f:
         lines += f.read().splitlines()
     with open("crates/trials/stdout", "w") as f:
         f.write("\n".join(lines) + "\n")
     with open("crates/trials/CASES.md", "w") as f:
-        f.write("# The trials' case files\n\nMade by tools/cases.py. `j..` are job files, `p..` plan files for job A.\n\n")
+        f.write("# The trials' case files\n\nMade by tools/cases.py. `j..` are job files, `p..` plan files for job A. `q00` is a plan file of 6 chunks and 5,955 rows: 65,537 bytes.\n\n")
         for kind, cases in (("j", JOBS), ("p", PLANS)):
             for k, (what, _) in enumerate(cases):
                 f.write(f"- {kind}{k:02d}: {what}\n")

@@ -1,0 +1,46 @@
+-- `exhaustive::lists::begun` is safe and ends. Assumes nothing.
+use borrow.Author.Needs.{needs}
+use Prim.Native.Nat.{_≤_, _-_}
+use Rattle.exhaustive.proofs.lists.begun.Statement.{statement}
+use Rattle.exhaustive.proofs.lists.begun.Tie as tie
+
+abbrev Inv-loop : tie.InvT-loop
+Inv-loop table i t₀ t = t ≤ 4
+
+abbrev μ-loop : tie.MeasureT-loop
+μ-loop table i t₀ t = 4 - t
+
+loop-holds : tie.Need-loop-holds Inv-loop μ-loop
+loop-holds c = search needs
+
+in-chunk-requires : tie.Need-in-chunk-requires Inv-loop μ-loop
+in-chunk-requires c κs = search needs
+
+returns : tie.Need-returns Inv-loop μ-loop
+returns c = search needs
+
+add-t : tie.Need-add-t Inv-loop μ-loop
+add-t c = search needs
+
+loop-less : tie.Need-loop-less Inv-loop μ-loop
+loop-less c = search needs
+
+loop-again : tie.Need-loop-again Inv-loop μ-loop
+loop-again c = search needs
+
+returns-2 : tie.Need-returns-2 Inv-loop μ-loop
+returns-2 c = search needs
+
+pub begun-spec : {M : Type 1} → statement M
+begun-spec =
+    tie.close
+    (tie.spec
+    Inv-loop
+    μ-loop
+    loop-holds
+    in-chunk-requires
+    returns
+    add-t
+    loop-less
+    loop-again
+    returns-2)

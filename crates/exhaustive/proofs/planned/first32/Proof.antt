@@ -1,0 +1,19 @@
+-- `exhaustive::planned::first32` is safe. Assumes nothing.
+use native.Mathlib.Omega.{arith}
+use mathlib.Core.Path.{sym}
+use lib.Seq.{length-take-le}
+use borrow.Author.Needs.{needs}
+use Rattle.exhaustive.proofs.planned.first32.Statement.{statement}
+use Rattle.exhaustive.proofs.planned.first32.Tie as tie
+
+slice-aggregate-result : tie.Need-slice-aggregate-result
+slice-aggregate-result c = sym (length-take-le _ _ (omega arith))
+
+returns : tie.Need-returns
+returns c = search needs
+
+returns-2 : tie.Need-returns-2
+returns-2 c = search needs
+
+pub first32-spec : {M : Type 1} → statement M
+first32-spec = tie.close (tie.spec slice-aggregate-result returns returns-2)

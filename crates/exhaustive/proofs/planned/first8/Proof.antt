@@ -1,0 +1,19 @@
+-- `exhaustive::planned::first8` is safe. Assumes nothing.
+use native.Mathlib.Omega.{arith}
+use mathlib.Core.Path.{sym}
+use lib.Seq.{length-take-le}
+use borrow.Author.Needs.{needs}
+use Rattle.exhaustive.proofs.planned.first8.Statement.{statement}
+use Rattle.exhaustive.proofs.planned.first8.Tie as tie
+
+slice-aggregate-result : tie.Need-slice-aggregate-result
+slice-aggregate-result c = sym (length-take-le _ _ (omega arith))
+
+returns : tie.Need-returns
+returns c = search needs
+
+returns-2 : tie.Need-returns-2
+returns-2 c = search needs
+
+pub first8-spec : {M : Type 1} → statement M
+first8-spec = tie.close (tie.spec slice-aggregate-result returns returns-2)

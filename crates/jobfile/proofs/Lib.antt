@@ -1,0 +1,7 @@
+mod Fronts
+mod Turns
+mod Turned
+mod Copies
+mod Answers
+mod Queues
+mod Writes

@@ -1,0 +1,79 @@
+-- Meaning. The job file that the writer puts, its answer and the lent buffer afterwards: document 01, "The job writer puts PG, the LYs,
+-- then one BW per longest run", and the refusals of direct calls, "5, 6, 7, .. and a writer then 9", then 11.
+use Prim.Native.Nat.{ℕ, suc, _≤_}
+use mathlib.Core.Path.{_≡_}
+use mathlib.Core.Bool.{cond}
+use mathlib.Core.List.{List, [], _∷_, _++_, map}
+use lib.ListN.{length}
+use lib.Dec.{leb, eqb}
+use Rattle.basics.specs.Tests.{All}
+use Rattle.basics.specs.Refusals.{unless, _orElse_}
+use Rattle.records.specs.Written.{encodeAll}
+use Rattle.job.specs.Job.{Job}
+use Rattle.job.specs.Refusal.{refusal}
+use Rattle.jobfile.specs.declared.Record.{Record}
+use Rattle.jobfile.specs.declared.Record.the-variants.{Pg, Ly, Bw, En}
+use Rattle.jobfile.specs.declared.Written.{Written}
+use Rattle.jobfile.specs.declared.Written.the-variants.{Bytes, Refused}
+use Rattle.jobfile.specs.Records.{encode}
+use Rattle.jobfile.specs.Refusal.{format}
+use Rattle.jobfile.specs.Lent.{handed}
+
+-- A run of equal slots.
+pub record Run : Type 0 where
+  pub count : ℕ
+  pub bytes : ℕ
+
+-- A slot in front of some runs: it goes into the first if that has its bytes, else it begins a run.
+abbrev pub inFront : ℕ → List Run → List Run
+inFront x [] = record { count = 1; bytes = x } ∷ []
+inFront x (r ∷ rs) = cond (eqb x (r .bytes)) (record { count = suc (r .count); bytes = x } ∷ rs) (record { count = 1; bytes = x } ∷ r ∷ rs)
+
+-- The longest runs of a forecast.
+abbrev pub runs : List ℕ → List Run
+runs [] = []
+runs (x ∷ xs) = inFront x (runs xs)
+
+-- Neighbouring runs differ in their bytes.
+abbrev pub Differ : List Run → Type 0
+Differ [] = Unit {0}
+Differ (r ∷ []) = Unit {0}
+Differ (r ∷ (q ∷ rs)) = (r .bytes ≡ q .bytes → ⊥) × Differ (q ∷ rs)
+
+-- No run is empty and none can be longer.
+pub record Longest (rs : List Run) : Type 0 where
+  pub some : All (λ (r : Run). 1 ≤ r .count) rs
+  pub differ : Differ rs
+
+abbrev pub layerRecord : ℕ → Record
+layerRecord size = Ly size
+
+abbrev pub runRecord : Run → Record
+runRecord r = Bw (r .count) (r .bytes)
+
+-- PG, the LYs, one BW per longest run.
+abbrev pub recordsOf : Job → List Record
+recordsOf j = Pg (j .programme) ∷ map layerRecord (j .sizes) ++ map runRecord (runs (j .forecast))
+
+-- Those records and EN.
+unfoldable pub jobFile : Job → List ℕ
+jobFile j = encodeAll format encode (recordsOf j) ++ encode En
+
+-- 9: a file above 65,536 bytes.
+abbrev pub longRefusal : Job → ℕ
+longRefusal j = unless 9 (leb (length (jobFile j)) 65536)
+
+-- 11: a buffer shorter than the file.
+abbrev pub shortRefusal : Job → ℕ → ℕ
+shortRefusal j room = unless 11 (leb (length (jobFile j)) room)
+
+-- The refusal of a job to be written into a buffer of so many bytes: 5, 6, 7, 9, 11.
+abbrev pub writeRefusal : Job → ℕ → ℕ
+writeRefusal j room = refusal j orElse longRefusal j orElse shortRefusal j room
+
+-- The answer, and the buffer afterwards.
+unfoldable pub writeAnswer : Job → ℕ → Written
+writeAnswer j room = cond (eqb (writeRefusal j room) 0) (Bytes (length (jobFile j))) (Refused (writeRefusal j room))
+
+unfoldable pub fileWritten : Job → List ℕ → List ℕ
+fileWritten j out = handed (writeRefusal j (length out)) (jobFile j) out

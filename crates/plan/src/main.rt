@@ -1,0 +1,101 @@
+// Reads a job on standard input and writes its plan file to standard output; on a refusal, `refused n`.
+use job::Programme;
+use jobfile::JobRead;
+use libc::STDIN_FILENO;
+use libc::STDOUT_FILENO;
+use planfile::Written;
+use planner::Answer;
+
+fn refused(n: u8) {
+    io::write_all(STDOUT_FILENO, b"refused ");
+    io::print_decimal(STDOUT_FILENO, n as u64);
+    io::write_all(STDOUT_FILENO, b"\n");
+}
+
+fn write_first(out: &[u8; 65536], n: usize) {
+    io::write_all(STDOUT_FILENO, parts::bytes(out, n));
+}
+
+fn write_plan(
+    p: Programme,
+    sizes: &[u32],
+    forecast: &[u32],
+    marks: &[u8],
+    slots: &[u16],
+    chunks: &[u16],
+    layers: &[u8],
+    bytes: &[u32],
+) {
+    let mut out = [0u8; 65536];
+    match planfile::write_plan(
+        p,
+        sizes,
+        forecast,
+        marks,
+        slots,
+        chunks,
+        layers,
+        bytes,
+        &mut out,
+    ) {
+        Written::Refused(n) => refused(n),
+        Written::Bytes(n) => write_first(&out, n),
+    }
+}
+
+// Room for any plan: a mark a chunk, 5,599 rows.
+fn plan_job(p: Programme, sizes: &[u32], forecast: &[u32]) {
+    let mut marks = [0u8; 500];
+    let mut slots = [0u16; 5599];
+    let mut chunks = [0u16; 5599];
+    let mut layers = [0u8; 5599];
+    let mut bytes = [0u32; 5599];
+    let plan = planner::plan(
+        p,
+        sizes,
+        forecast,
+        &mut marks,
+        &mut slots,
+        &mut chunks,
+        &mut layers,
+        &mut bytes,
+    );
+    let answer = plan.answer;
+    match answer {
+        Answer::Refused(n) => refused(n),
+        Answer::Rows(n) => write_plan(
+            p,
+            sizes,
+            forecast,
+            parts::bytes(&marks, p.chunks as usize),
+            parts::halves(&slots, n),
+            parts::halves(&chunks, n),
+            parts::bytes(&layers, n),
+            parts::words(&bytes, n),
+        ),
+    }
+}
+
+fn job_file(file: &[u8; 65537], n: usize) {
+    let mut sizes = [0u32; 4];
+    let mut forecast = [0u32; 3600];
+    match jobfile::read_job(parts::bytes(file, n), &mut sizes, &mut forecast) {
+        JobRead::Refused(r) => refused(r),
+        JobRead::Job {
+            programme,
+            layers,
+            slots,
+        } => plan_job(
+            programme,
+            parts::words(&sizes, layers),
+            parts::words(&forecast, slots),
+        ),
+    }
+}
+
+// One byte more than a file may have is read, so that a longer input is refused by 9.
+fn main() {
+    let mut file = [0u8; 65537];
+    let n = io::read_full(STDIN_FILENO, &mut file);
+    job_file(&file, n);
+}

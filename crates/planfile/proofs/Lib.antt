@@ -1,0 +1,4 @@
+mod Front
+mod Turns
+mod Reader
+mod Writer

@@ -1,0 +1,127 @@
+-- What the plan reader hands over, by where it stops: the job's refusal, the file's, 11, or the plan. Assumes nothing.
+use Prim.Native.Nat.{ℕ, _+_, _*_, _≤_}
+use mathlib.Core.Path.{_≡_, sym, ap, _∙_}
+use mathlib.Core.Bool.{true, false}
+use mathlib.Core.List.{List, _++_, map}
+use mathlib.Core.Logic.{⊎-elim}
+use native.Mathlib.Omega.{arith}
+use lib.ListN.{length, drop}
+use lib.Dec.{eqb, eqb→eq}
+use borrow.Author.Tests.{eq-eqb, ne-eqb}
+use Rattle.basics.specs.Tests.{test, not-T-false, T-true, true-T, tests}
+use Rattle.basics.specs.Lists.{upTo, length-upTo}
+use Rattle.basics.specs.Refusals.{unless, _orElse_, orElse-some}
+use Rattle.records.specs.File.{fileRefusal}
+use Rattle.job.specs.Job.{Job, chunks}
+use Rattle.job.specs.Refusal.{refusal}
+use Rattle.fetch.specs.Rows.{Row}
+use Rattle.planfile.specs.PlanFile.{format, planIn}
+use Rattle.planfile.specs.Calls.{Slices, slicesOf, room, readRefusal, readAnswer, readLent}
+use Rattle.planfile.specs.Scan.{answerOf, markOn, rowOn, Laid, Done, filled}
+use Rattle.planfile.specs.Writing.{map-upTo}
+use Rattle.planfile.specs.declared.PlanRead.{PlanRead}
+use Rattle.planfile.specs.declared.PlanRead.the-variants.{Rows, Refused}
+
+-- ---- which answer says what
+
+answer-refused : (f m n : ℕ) → Refused n ≡ answerOf f m → (f ≡ n) × (f ≡ 0 → ⊥)
+answer-refused f m n e =
+    ⊎-elim
+    (λ t. let x : Refused n ≡ Rows m = e ∙ rw (T-true (eqb f 0) t) in let z : _≡_ {A = ℕ} 0 1 = cc in absurd (omega arith))
+    (λ t. let x : Refused n ≡ Refused f = e ∙ rw (not-T-false (eqb f 0) t) in (cc, λ z. absurd (rw (eq-eqb f 0 z) at t)))
+    (test (eqb f 0))
+
+answer-rows : (f m n : ℕ) → Rows n ≡ answerOf f m → (f ≡ 0) × (n ≡ m)
+answer-rows f m n e =
+    ⊎-elim
+    (λ t. let x : Rows n ≡ Rows m = e ∙ rw (T-true (eqb f 0) t) in (eqb→eq f 0 t, cc))
+    (λ t. let x : Rows n ≡ Refused f = e ∙ rw (not-T-false (eqb f 0) t) in let z : _≡_ {A = ℕ} 0 1 = cc in absurd (omega arith))
+    (test (eqb f 0))
+
+-- ---- the values of a laid out file
+
+over : (f : ℕ → ℕ) (n : ℕ) (vals old : List ℕ) → vals ≡ upTo f n → filled f n old ≡ vals ++ drop (length vals) old
+over f n vals old e = rw (e, length-upTo f n)
+
+pub same-slices : {a b c d e a′ b′ c′ d′ e′ : List ℕ} → a ≡ a′ → b ≡ b′ → c ≡ c′ → d ≡ d′ → e ≡ e′ → slicesOf a b c d e ≡ slicesOf a′ b′ c′ d′ e′
+same-slices p q r s t = cc
+
+-- The slices after a plan of so many rows is read.
+abbrev pub filledAll : ℕ → List ℕ → ℕ → Slices → Slices
+filledAll count file rows lent =
+    slicesOf
+    (filled (markOn file) count (lent .marks))
+    (filled (λ i. rowOn file count i .slot) rows (lent .slots))
+    (filled (λ i. rowOn file count i .chunk) rows (lent .chunks))
+    (filled (λ i. rowOn file count i .layer) rows (lent .layers))
+    (filled (λ i. rowOn file count i .bytes) rows (lent .bytes))
+
+-- What holds where the slices are filled.
+pub record MayCopy (count rows : ℕ) (file : List ℕ) (lent : Slices) : Type 0 where
+  pub for-marks : count ≤ length (lent .marks)
+  pub for-slots : rows ≤ length (lent .slots)
+  pub for-chunks : rows ≤ length (lent .chunks)
+  pub for-layers : rows ≤ length (lent .layers)
+  pub for-bytes : rows ≤ length (lent .bytes)
+  pub inside : 5 * count + 11 * rows ≤ length file
+
+abbrev pub HandsOver : Job → List ℕ → Slices → PlanRead → Slices → Type 0
+HandsOver j file lent a after = (a ≡ readAnswer j file lent) × (after ≡ readLent j file lent)
+
+module _ (j : Job) (file : List ℕ) (lent : Slices) where
+  refuses : (r : ℕ) → (r ≡ 0 → ⊥) → readRefusal j file lent ≡ r → HandsOver j file lent (Refused r) lent
+  refuses r n e = (rw (e, ne-eqb r 0 n), rw (e, ne-eqb r 0 n))
+
+  pub job-refused : (r : ℕ) → r ≡ refusal j → (r ≡ 0 → ⊥) → HandsOver j file lent (Refused r) lent
+  unfolding readRefusal
+  job-refused r e n = refuses r n (rw (← e, orElse-some r (fileRefusal (format (chunks j)) file orElse unless 11 (room lent (chunks j) (length (planIn (chunks j) file .rows)))) n))
+
+  module _ (r : ℕ) (e : r ≡ refusal j) (z : r ≡ 0) (a : PlanRead) (d : Done (chunks j) file (fileRefusal (format (chunks j)) file) a) where
+    from-file : readRefusal j file lent ≡ fileRefusal (format (chunks j)) file orElse unless 11 (room lent (chunks j) (length (planIn (chunks j) file .rows)))
+    unfolding readRefusal
+    from-file = rw (← e, z)
+
+    pub file-refused : (n : ℕ) → a ≡ Refused n → HandsOver j file lent a lent
+    file-refused n h =
+        let f = fileRefusal (format (chunks j)) file in
+        let u = answer-refused f (length (planIn (chunks j) file .rows)) n (sym h ∙ d .answer) in
+        rw h (refuses n (λ w. u .1 (u .0 ∙ w)) (from-file ∙ orElse-some f (unless 11 (room lent (chunks j) (length (planIn (chunks j) file .rows)))) (u .1) ∙ u .0))
+
+    module _ (n : ℕ) (h : a ≡ Rows n) where
+      accepted : (fileRefusal (format (chunks j)) file ≡ 0) × (n ≡ length (planIn (chunks j) file .rows))
+      accepted = answer-rows (fileRefusal (format (chunks j)) file) (length (planIn (chunks j) file .rows)) n (sym h ∙ d .answer)
+
+      only-room : readRefusal j file lent ≡ unless 11 (room lent (chunks j) n)
+      only-room = from-file ∙ rw (accepted .0, ← accepted .1)
+
+      laid : Laid (chunks j) file
+      laid = d .laid (accepted .0)
+
+      pub may-copy : room lent (chunks j) n ≡ true → MayCopy (chunks j) n file lent
+      may-copy e =
+          let t = simp tests at (true-T (room lent (chunks j) n) e) in
+          record {
+            for-marks = t .0;
+            for-slots = t .1 .0;
+            for-chunks = t .1 .1 .0;
+            for-layers = t .1 .1 .1 .0;
+            for-bytes = t .1 .1 .1 .1;
+            inside = rw (accepted .1) (laid .inside);
+          }
+
+      pub short : room lent (chunks j) n ≡ false → HandsOver j file lent (Refused 11) lent
+      short t = refuses 11 (λ w. omega arith) (only-room ∙ rw t)
+
+      pub whole : room lent (chunks j) n ≡ true → HandsOver j file lent (Rows n) (filledAll (chunks j) file n lent)
+      whole t =
+          let e : readRefusal j file lent ≡ 0 = only-room ∙ rw t in
+          let plan = planIn (chunks j) file in
+          let rows : plan .rows ≡ upTo (rowOn file (chunks j)) n = rw (accepted .1) (laid .rows-are) in (
+            rw (e, ← accepted .1),
+            rw e (same-slices
+                (over (markOn file) (chunks j) (plan .marks) (lent .marks) (laid .marks-are))
+                (over (λ i. rowOn file (chunks j) i .slot) n (map (λ x. x .slot) (plan .rows)) (lent .slots) (ap (map (λ (x : Row). x .slot)) rows ∙ map-upTo (λ x. x .slot) (rowOn file (chunks j)) n))
+                (over (λ i. rowOn file (chunks j) i .chunk) n (map (λ x. x .chunk) (plan .rows)) (lent .chunks) (ap (map (λ (x : Row). x .chunk)) rows ∙ map-upTo (λ x. x .chunk) (rowOn file (chunks j)) n))
+                (over (λ i. rowOn file (chunks j) i .layer) n (map (λ x. x .layer) (plan .rows)) (lent .layers) (ap (map (λ (x : Row). x .layer)) rows ∙ map-upTo (λ x. x .layer) (rowOn file (chunks j)) n))
+                (over (λ i. rowOn file (chunks j) i .bytes) n (map (λ x. x .bytes) (plan .rows)) (lent .bytes) (ap (map (λ (x : Row). x .bytes)) rows ∙ map-upTo (λ x. x .bytes) (rowOn file (chunks j)) n))),
+          )

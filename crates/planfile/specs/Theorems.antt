@@ -1,0 +1,84 @@
+-- Theorems. Demand 2: "Job and plan files read back as the job and plan written", for plan files. Then refusals 8 and 9 exactly where
+-- document 01 lists them, and that a plan of at most 5,599 rows always fits a file. Assumes nothing.
+use Prim.Native.Nat.{ℕ, _+_, _*_, _≤_, _<_}
+use mathlib.Core.Path.{_≡_, refl}
+use mathlib.Core.List.{List, _++_}
+use mathlib.Core.Logic.{_↔_, ⊎-elim}
+use native.Mathlib.Omega.{arith}
+use lib.ListN.{length, drop}
+use lib.Dec.{T}
+use Rattle.basics.specs.Lists.{length-upTo}
+use Rattle.records.specs.File.{ended, split, fileRefusal}
+use Rattle.job.specs.Job.{Job, Accepted, chunks}
+use Rattle.job.specs.Refusal.{refusal}
+use Rattle.fetch.specs.Rows.{rowAt}
+use Rattle.fetch.specs.Handed.{Whole, handed-iff}
+use Rattle.planfile.specs.PlanFile.{format, Plan, InWidth, InOrder, planIn, fileOf}
+use Rattle.planfile.specs.Calls.{Slices, slicesOf, room, readRefusal, readAnswer, readLent, planOf, writeInput, writeRefusal}
+use Rattle.planfile.specs.Writing.{length-file}
+use Rattle.planfile.specs.Back.{file-accepted, file-says, accepts, field, not-short, nine-by-size}
+use Rattle.planfile.specs.Order.{in-order-accepted, accepted-in-order, none-or-eight}
+use Rattle.planfile.specs.declared.PlanRead.the-variants.{Rows}
+
+-- ---- what is written reads back
+
+-- "Job and plan files read back as the job and plan written": for every job, and every plan of one mark a chunk whose file has at
+-- most 65,536 bytes, the file is not refused and says that plan.
+pub record ReadsBackAs (j : Job) (plan : Plan) : Type 0 where
+  pub not-refused : fileRefusal (format (chunks j)) (fileOf plan) ≡ 0
+  pub says : planIn (chunks j) (fileOf plan) ≡ plan
+
+pub plan-reads-back : (j : Job) (plan : Plan) → InWidth plan → length (plan .marks) ≡ chunks j → length (fileOf plan) ≤ 65536 → ReadsBackAs j plan
+plan-reads-back j plan i e l = record { not-refused = file-accepted (chunks j) plan i e l; says = file-says (chunks j) plan i e l }
+
+-- The same for the calls: what the writer doesn't refuse, the reader, lent enough room, hands back slice by slice.
+abbrev pub handedBack : Slices → Slices → Slices
+handedBack s lent =
+    slicesOf
+    (s .marks ++ drop (length (s .marks)) (lent .marks))
+    (s .slots ++ drop (length (s .slots)) (lent .slots))
+    (s .chunks ++ drop (length (s .chunks)) (lent .chunks))
+    (s .layers ++ drop (length (s .layers)) (lent .layers))
+    (s .bytes ++ drop (length (s .bytes)) (lent .bytes))
+
+pub record HandedBack (j : Job) (s lent : Slices) : Type 0 where
+  pub answer : readAnswer j (fileOf (planOf s)) lent ≡ Rows (length (s .slots))
+  pub lent-after : readLent j (fileOf (planOf s)) lent ≡ handedBack s lent
+
+pub reads-what-was-written : (j : Job) (s : Slices) (out : List ℕ) (lent : Slices) → InWidth (planOf s) → writeRefusal j s out ≡ 0 → T (room lent (chunks j) (length (s .slots))) → HandedBack j s lent
+reads-what-was-written j s out lent i e t =
+    let a = accepts j s out e in
+    let back = plan-reads-back j (planOf s) i (a .whole .byte-each) (a .fits) in
+    let n : length (planOf s .rows) ≡ length (s .slots) = length-upTo (rowAt (s .slots) (s .chunks) (s .layers) (s .bytes)) (length (s .slots)) in
+    let none : readRefusal j (fileOf (planOf s)) lent ≡ 0 = not-short j s lent (a .job-in) (back .not-refused) (back .says) n t in
+    record {
+      answer = rw (none, back .says, n);
+      lent-after = rw (none, back .says, field (λ x. x .slot) s (s .slots) (λ k. refl) refl, field (λ x. x .chunk) s (s .chunks) (λ k. refl) (a .whole .chunk-each), field (λ x. x .layer) s (s .layers) (λ k. refl) (a .whole .layer-each), field (λ x. x .bytes) s (s .bytes) (λ k. refl) (a .whole .bytes-each));
+    }
+
+-- ---- 8 of the reader
+
+-- "KP records not for 1 to C in turn, before every FT, and complete by EN": a file of at most 65,536 bytes whose records end at EN, with
+-- nothing behind it, is refused by 8 exactly if its records aren't so, and is accepted if they are.
+pub eight-iff : (count : ℕ) (file : List ℕ) → length file ≤ 65536 → split (format count) file .stop ≡ ended 0 → (fileRefusal (format count) file ≡ 8) ↔ (InOrder count (split (format count) file .records) → ⊥)
+eight-iff count file l e = (
+  λ r o. omega (arith, accepted-in-order count file l e o),
+  λ n. ⊎-elim (λ z. absurd (n (in-order-accepted count file l e z))) (λ r. r) (none-or-eight count file l e),
+)
+
+pub accepted-iff-in-order : (count : ℕ) (file : List ℕ) → length file ≤ 65536 → split (format count) file .stop ≡ ended 0 → (fileRefusal (format count) file ≡ 0) ↔ InOrder count (split (format count) file .records)
+accepted-iff-in-order count file l e = (in-order-accepted count file l e, accepted-in-order count file l e)
+
+-- ---- 9 of the writer
+
+-- 9 exactly if 5 bytes a chunk, 11 a row and 2 for EN are more than 65,536, after 5 to 8.
+pub nine-iff : (j : Job) (s : Slices) (out : List ℕ) → refusal j ≡ 0 → Whole (chunks j) (s .marks) (s .slots) (s .chunks) (s .layers) (s .bytes) → (writeRefusal j s out ≡ 9) ↔ (65536 < 5 * chunks j + 11 * length (s .slots) + 2)
+unfolding writeRefusal writeInput
+nine-iff j s out z w =
+    let handed = handed-iff (chunks j) (s .marks) (s .slots) (s .chunks) (s .layers) (s .bytes) .1 w in
+    let long : length (fileOf (planOf s)) ≡ 5 * chunks j + 11 * length (s .slots) + 2 = omega (arith, length-file (planOf s), length-upTo (rowAt (s .slots) (s .chunks) (s .layers) (s .bytes)) (length (s .slots)), w .byte-each) in
+    rw (z, handed, long) (nine-by-size (5 * chunks j + 11 * length (s .slots) + 2) (length out))
+
+-- The plan of an accepted job with at most 5,599 rows has a file of at most 64,091 bytes.
+pub always-fits : (j : Job) → Accepted j → (plan : Plan) → length (plan .marks) ≡ chunks j → length (plan .rows) ≤ 5599 → length (fileOf plan) ≤ 64091
+always-fits j a plan e l = omega (arith, length-file plan, a .chunks-in .high)

@@ -1,0 +1,435 @@
+// Plan files: the marks of every chunk and the rows of a fetch list, read and written.
+ghost use mathlib.Core.Path.{_≡_};
+ghost use mathlib.Core.Bool.{_&&_};
+ghost use mathlib.Core.List.{map};
+ghost use Prim.Native.Nat.{_+_, _*_, _≤_, _<_};
+ghost use lib.ListN.{length};
+ghost use lib.Dec.{leb};
+ghost use Rattle.job.specs.Job.{jobOf};
+ghost use Rattle.records.specs.File.{recordsRefusal, fileRefusal};
+ghost use Rattle.basics.specs.Refusals.{unless};
+ghost use Rattle.records.specs.Fields.{written};
+ghost use Rattle.fetch.specs.Rows.{rowsOf};
+ghost use Rattle.planfile.specs.Records.{encode, readAt};
+ghost use Rattle.planfile.specs.PlanFile.{format, kps, ftOf};
+ghost use Rattle.planfile.specs.Calls.{slicesOf, readAnswer, readLent, writeInput, writeAnswer, writeLent};
+ghost use Rattle.planfile.specs.Writing.{bytesOf};
+ghost use Rattle.planfile.specs.Scan.{refusalOf, endOf, inTurn, answerOf, turnOf, Done, markOn, rowOn, filled};
+use job::Programme;
+
+// A record without its mark.
+pub enum Record {
+    Kp {
+        chunk: u16,
+        marks: u8,
+    },
+    Ft {
+        slot: u16,
+        chunk: u16,
+        layer: u8,
+        bytes: u32,
+    },
+    En,
+}
+
+// A record with the place after it, or its refusal.
+pub enum Read {
+    Got(Record, usize),
+    Refused(u8),
+}
+
+// The number of rows read, or the refusal.
+pub enum PlanRead {
+    Rows(usize),
+    Refused(u8),
+}
+
+// The number of bytes written, or the refusal.
+pub enum Written {
+    Bytes(usize),
+    Refused(u8),
+}
+
+// What a turn makes of a record: the next place with the KPs and FTs taken so far, or the end.
+enum Turn {
+    More(usize, u16, usize),
+    End(PlanRead),
+}
+
+// The record at a place: 1 where the file ends before its mark or within it, 2 for an unknown mark.
+fn record_at(s: &[u8], at: usize) -> Read
+    ensures { λ r. ⌜ r ≡ readAt (now (s .entry)) at ⌝ }
+{
+    if s.len() < at {
+        return Read::Refused(1);
+    }
+    let left = s.len() - at;
+    if left < 2 {
+        return Read::Refused(1);
+    }
+    let body = at + 2;
+    if records::is_mark(s, at, b"KP") {
+        if left < 5 {
+            return Read::Refused(1);
+        }
+        let next = at + 5;
+        let kp = Record::Kp {
+            chunk: records::h_at(s, body),
+            marks: records::byte_at(s, body + 2),
+        };
+        return Read::Got(kp, next);
+    }
+    if records::is_mark(s, at, b"FT") {
+        if left < 11 {
+            return Read::Refused(1);
+        }
+        let next = at + 11;
+        let ft = Record::Ft {
+            slot: records::h_at(s, body),
+            chunk: records::h_at(s, body + 2),
+            layer: records::byte_at(s, body + 4),
+            bytes: records::w_at(s, body + 5),
+        };
+        return Read::Got(ft, next);
+    }
+    if records::is_mark(s, at, b"EN") {
+        return Read::Got(Record::En, body);
+    }
+    Read::Refused(2)
+}
+
+fn refusal_of(read: Read) -> u8
+    ensures { λ r. ⌜ r ≡ refusalOf read ⌝ }
+{
+    match read {
+        Read::Refused(n) => n,
+        Read::Got(_, _) => 0,
+    }
+}
+
+// Whether a KP is for the next chunk, up to C, and before every FT.
+fn in_turn(count: u16, kept: u16, rows: usize, chunk: u16) -> bool
+    ensures { λ r. ⌜ r ≡ inTurn count kept rows chunk ⌝ }
+{
+    if chunk == 0 {
+        return false;
+    }
+    if chunk - 1 != kept {
+        return false;
+    }
+    if count < chunk {
+        return false;
+    }
+    rows == 0
+}
+
+fn answer(refused: u8, rows: usize) -> PlanRead
+    ensures { λ r. ⌜ r ≡ answerOf refused rows ⌝ }
+{
+    if refused == 0 {
+        return PlanRead::Rows(rows);
+    }
+    PlanRead::Refused(refused)
+}
+
+// One record taken, after so many KPs and FTs.
+fn one_turn(count: u16, file: &[u8], at: usize, kept: u16, rows: usize) -> Turn
+    requires { ⌜ 11 * rows ≤ length (now file) ⌝ }
+    ensures { λ r. ⌜ r ≡ turnOf count (now (file .entry)) at kept rows ⌝ }
+{
+    let read = record_at(file, at);
+    let Read::Got(record, next) = read else {
+        return Turn::End(PlanRead::Refused(refusal_of(read)));
+    };
+    match record {
+        Record::Kp { chunk, marks: _ } => {
+            if in_turn(count, kept, rows, chunk) {
+                return Turn::More(next, chunk, rows);
+            }
+            return Turn::End(PlanRead::Refused(8));
+        }
+        Record::Ft {
+            slot: _,
+            chunk: _,
+            layer: _,
+            bytes: _,
+        } => {
+            let more = rows + 1;
+            return Turn::More(next, kept, more);
+        }
+        Record::En => {
+            let after = job::refuse_unless(3, file.len() == next);
+            let lacking = job::refuse_unless(8, kept == count);
+            return Turn::End(answer(job::or_else(after, lacking), rows));
+        }
+    }
+}
+
+fn end_of(turn: Turn) -> PlanRead
+    ensures { λ r. ⌜ r ≡ endOf turn ⌝ }
+{
+    match turn {
+        Turn::End(a) => a,
+        Turn::More(_, _, _) => PlanRead::Refused(0),
+    }
+}
+
+// The records of a file, one a turn.
+fn all_turns(count: u16, file: &[u8]) -> PlanRead
+    ensures { λ r. ⌜ Done count (now (file .entry)) (recordsRefusal (format count) (now (file .entry))) r ⌝ }
+{
+    let mut at: usize = 0;
+    let mut kept: u16 = 0;
+    let mut rows: usize = 0;
+    loop {
+        let turn = one_turn(count, file, at, kept, rows);
+        let Turn::More(next, chunk, more) = turn else {
+            return end_of(turn);
+        };
+        at = next;
+        kept = chunk;
+        rows = more;
+    }
+}
+
+// The rows of a file, or its refusal.
+fn file_rows(count: u16, file: &[u8]) -> PlanRead
+    ensures { λ r. ⌜ Done count (now (file .entry)) (fileRefusal (format count) (now (file .entry))) r ⌝ }
+{
+    if 65536 < file.len() {
+        return PlanRead::Refused(9);
+    }
+    all_turns(count, file)
+}
+
+// Whether the lent slices hold the marks of count chunks and so many rows.
+fn has_room(
+    count: usize,
+    rows: usize,
+    marks: usize,
+    slots: usize,
+    chunks: usize,
+    layers: usize,
+    bytes: usize,
+) -> bool
+    ensures { λ r. ⌜ r ≡ leb count marks && (leb rows slots && (leb rows chunks && (leb rows layers && leb rows bytes))) ⌝ }
+{
+    if marks < count {
+        return false;
+    }
+    if slots < rows {
+        return false;
+    }
+    if chunks < rows {
+        return false;
+    }
+    if layers < rows {
+        return false;
+    }
+    rows <= bytes
+}
+
+// The marks of an accepted file.
+fn copy_marks(file: &[u8], count: usize, marks: &mut [u8])
+    requires { ⌜ (count ≤ length (now marks)) × (5 * count ≤ length (now file)) ⌝ }
+    ensures { λ _. ⌜ now (marks .exit) ≡ filled (markOn (now (file .entry))) count (now (marks .entry)) ⌝ }
+{
+    let mut i: usize = 0;
+    while i < count {
+        let at = 5 * i + 4;
+        marks[i] = records::byte_at(file, at);
+        i += 1;
+    }
+}
+
+// The rows of an accepted file.
+fn copy_rows(
+    file: &[u8],
+    count: usize,
+    rows: usize,
+    slots: &mut [u16],
+    chunks: &mut [u16],
+    layers: &mut [u8],
+    bytes: &mut [u32],
+)
+    requires { ⌜ (rows ≤ length (now slots)) × (rows ≤ length (now chunks)) × (rows ≤ length (now layers)) × (rows ≤ length (now bytes)) × (5 * count + 11 * rows ≤ length (now file)) ⌝ }
+    ensures slots { λ _. ⌜ now (slots .exit) ≡ filled (λ i. rowOn (now (file .entry)) count i .slot) rows (now (slots .entry)) ⌝ }
+    ensures chunks { λ _. ⌜ now (chunks .exit) ≡ filled (λ i. rowOn (now (file .entry)) count i .chunk) rows (now (chunks .entry)) ⌝ }
+    ensures layers { λ _. ⌜ now (layers .exit) ≡ filled (λ i. rowOn (now (file .entry)) count i .layer) rows (now (layers .entry)) ⌝ }
+    ensures bytes { λ _. ⌜ now (bytes .exit) ≡ filled (λ i. rowOn (now (file .entry)) count i .bytes) rows (now (bytes .entry)) ⌝ }
+{
+    let mut i: usize = 0;
+    while i < rows {
+        let at = 5 * count + 11 * i;
+        let slot = at + 2;
+        let chunk = at + 4;
+        let layer = at + 6;
+        let size = at + 7;
+        slots[i] = records::h_at(file, slot);
+        chunks[i] = records::h_at(file, chunk);
+        layers[i] = records::byte_at(file, layer);
+        bytes[i] = records::w_at(file, size);
+        i += 1;
+    }
+}
+
+// A plan file's marks and rows into the lent slices: how many rows, or the refusal.
+pub fn read_plan(
+    p: Programme,
+    sizes: &[u32],
+    forecast: &[u32],
+    file: &[u8],
+    marks: &mut [u8],
+    slots: &mut [u16],
+    chunks: &mut [u16],
+    layers: &mut [u8],
+    bytes: &mut [u32],
+) -> PlanRead
+    ensures answer { λ r. ⌜ r ≡ readAnswer (jobOf p (now (sizes .entry)) (now (forecast .entry))) (now (file .entry)) (slicesOf (now (marks .entry)) (now (slots .entry)) (now (chunks .entry)) (now (layers .entry)) (now (bytes .entry))) ⌝ }
+    ensures lent { λ _. ⌜ slicesOf (now (marks .exit)) (now (slots .exit)) (now (chunks .exit)) (now (layers .exit)) (now (bytes .exit)) ≡ readLent (jobOf p (now (sizes .entry)) (now (forecast .entry))) (now (file .entry)) (slicesOf (now (marks .entry)) (now (slots .entry)) (now (chunks .entry)) (now (layers .entry)) (now (bytes .entry))) ⌝ }
+{
+    let refused = job::refusal(p, sizes, forecast);
+    if refused != 0 {
+        return PlanRead::Refused(refused);
+    }
+    let read = file_rows(p.chunks, file);
+    let PlanRead::Rows(rows) = read else {
+        return read;
+    };
+    let count = p.chunks as usize;
+    if has_room(
+        count,
+        rows,
+        marks.len(),
+        slots.len(),
+        chunks.len(),
+        layers.len(),
+        bytes.len(),
+    ) {
+        copy_marks(file, count, marks);
+        copy_rows(file, count, rows, slots, chunks, layers, bytes);
+        return PlanRead::Rows(rows);
+    }
+    PlanRead::Refused(11)
+}
+
+// 9: a file above 65,536 bytes. So many marks or rows are too many for any file, so the sum doesn't wrap.
+fn size_refusal(marks: usize, rows: usize) -> u8
+    ensures { λ r. ⌜ r ≡ unless 9 (leb (5 * marks + 11 * rows + 2) 65536) ⌝ }
+{
+    if 65535 < marks {
+        return 9;
+    }
+    if 65535 < rows {
+        return 9;
+    }
+    let size = 5 * marks + 11 * rows + 2;
+    job::refuse_unless(9, size <= 65536)
+}
+
+fn put_kp(out: &mut [u8], at: usize, chunk: u16, marks: u8)
+    requires { ⌜ at + 5 ≤ length (now out) ⌝ }
+    ensures { λ _. ⌜ now (out .exit) ≡ written (now (out .entry)) at (encode (Record.Kp chunk marks)) ⌝ }
+{
+    let next = at + 2;
+    let body = [(chunk % 256) as u8, (chunk / 256 % 256) as u8, marks];
+    records::put(out, at, b"KP");
+    records::put(out, next, &body);
+}
+
+fn put_ft(out: &mut [u8], at: usize, slot: u16, chunk: u16, layer: u8, bytes: u32)
+    requires { ⌜ at + 11 ≤ length (now out) ⌝ }
+    ensures { λ _. ⌜ now (out .exit) ≡ written (now (out .entry)) at (encode (Record.Ft slot chunk layer bytes)) ⌝ }
+{
+    let next = at + 2;
+    let body = [
+        (slot % 256) as u8,
+        (slot / 256 % 256) as u8,
+        (chunk % 256) as u8,
+        (chunk / 256 % 256) as u8,
+        layer,
+        (bytes % 256) as u8,
+        (bytes / 256 % 256) as u8,
+        (bytes / 65536 % 256) as u8,
+        (bytes / 16777216 % 256) as u8,
+    ];
+    records::put(out, at, b"FT");
+    records::put(out, next, &body);
+}
+
+// KP for every chunk.
+fn put_kps(out: &mut [u8], marks: &[u8])
+    requires { ⌜ (5 * length (now marks) ≤ length (now out)) × (length (now marks) < 65536) ⌝ }
+    ensures { λ _. ⌜ now (out .exit) ≡ written (now (out .entry)) 0 (bytesOf (kps (now (marks .entry)))) ⌝ }
+{
+    let mut i: usize = 0;
+    while i < marks.len() {
+        let at = 5 * i;
+        let chunk = i + 1;
+        put_kp(out, at, chunk as u16, marks[i]);
+        i = chunk;
+    }
+}
+
+// FT for every row, from a place on.
+fn put_fts(out: &mut [u8], from: usize, slots: &[u16], chunks: &[u16], layers: &[u8], bytes: &[u32])
+    requires { ⌜ (length (now slots) ≡ length (now chunks)) × (length (now slots) ≡ length (now layers)) × (length (now slots) ≡ length (now bytes)) × (from + 11 * length (now slots) ≤ length (now out)) ⌝ }
+    ensures { λ _. ⌜ now (out .exit) ≡ written (now (out .entry)) from (bytesOf (map ftOf (rowsOf (now (slots .entry)) (now (chunks .entry)) (now (layers .entry)) (now (bytes .entry))))) ⌝ }
+{
+    let mut i: usize = 0;
+    while i < slots.len() {
+        let at = from + 11 * i;
+        put_ft(out, at, slots[i], chunks[i], layers[i], bytes[i]);
+        i += 1;
+    }
+}
+
+// The refusals of a plan to be written that come from the input.
+fn write_input(
+    p: Programme,
+    sizes: &[u32],
+    forecast: &[u32],
+    marks: &[u8],
+    slots: &[u16],
+    chunks: &[u16],
+    layers: &[u8],
+    bytes: &[u32],
+) -> u8
+    ensures { λ r. ⌜ r ≡ writeInput (jobOf p (now (sizes .entry)) (now (forecast .entry))) (slicesOf (now (marks .entry)) (now (slots .entry)) (now (chunks .entry)) (now (layers .entry)) (now (bytes .entry))) ⌝ }
+{
+    let nine = size_refusal(marks.len(), slots.len());
+    let eight = fetch::handed_refusal(p.chunks, marks, slots, chunks, layers, bytes);
+    let job = job::refusal(p, sizes, forecast);
+    job::or_else(job, job::or_else(eight, nine))
+}
+
+// A plan's file into the lent buffer: how many bytes, or the refusal.
+pub fn write_plan(
+    p: Programme,
+    sizes: &[u32],
+    forecast: &[u32],
+    marks: &[u8],
+    slots: &[u16],
+    chunks: &[u16],
+    layers: &[u8],
+    bytes: &[u32],
+    out: &mut [u8],
+) -> Written
+    ensures answer { λ r. ⌜ r ≡ writeAnswer (jobOf p (now (sizes .entry)) (now (forecast .entry))) (slicesOf (now (marks .entry)) (now (slots .entry)) (now (chunks .entry)) (now (layers .entry)) (now (bytes .entry))) (now (out .entry)) ⌝ }
+    ensures lent { λ _. ⌜ now (out .exit) ≡ writeLent (jobOf p (now (sizes .entry)) (now (forecast .entry))) (slicesOf (now (marks .entry)) (now (slots .entry)) (now (chunks .entry)) (now (layers .entry)) (now (bytes .entry))) (now (out .entry)) ⌝ }
+{
+    let refused = write_input(p, sizes, forecast, marks, slots, chunks, layers, bytes);
+    if refused != 0 {
+        return Written::Refused(refused);
+    }
+    let from = 5 * marks.len();
+    let last = from + 11 * slots.len();
+    let end = last + 2;
+    if out.len() < end {
+        return Written::Refused(11);
+    }
+    put_kps(out, marks);
+    put_fts(out, from, slots, chunks, layers, bytes);
+    records::put(out, last, b"EN");
+    Written::Bytes(end)
+}

@@ -1,0 +1,167 @@
+// The case files: j.. are job files, p.. plan files for job A.
+use checker::Checked;
+use job::Programme;
+use jobfile::JobRead;
+use libc::STDOUT_FILENO;
+use planfile::PlanRead;
+
+pub fn word(text: &[u8]) {
+    io::write_all(STDOUT_FILENO, text);
+}
+
+pub fn number(n: usize) {
+    io::print_decimal(STDOUT_FILENO, n as u64);
+}
+
+// A word, a number and a line feed.
+pub fn line(text: &[u8], n: usize) {
+    word(text);
+    number(n);
+    word(b"\n");
+}
+
+pub fn refused(n: u8) {
+    line(b"refused ", n as usize);
+}
+
+// The bytes of a case file go to the start of file, at most as many as that has. A file that can't be opened is read as empty.
+pub fn read_case(kind: u8, i: u8, file: &mut [u8; 65537]) -> usize {
+    let path = [kind, 48 + i / 10 % 10, 48 + i % 10];
+    word(&path);
+    word(b" ");
+    let fd = os::open_read(&path);
+    if fd < 0 {
+        return 0;
+    }
+    let n = io::read_full(fd, file);
+    libc::close(fd);
+    n
+}
+
+// How many bytes the job has when it is written.
+fn written(p: Programme, sizes: &[u32], forecast: &[u32]) {
+    let mut out = [0u8; 28836];
+    match jobfile::write_job(p, sizes, forecast, &mut out) {
+        jobfile::Written::Bytes(n) => line(b" written ", n),
+        jobfile::Written::Refused(n) => refused(n),
+    }
+}
+
+fn job_file(file: &[u8]) {
+    let mut sizes = [0u32; 4];
+    let mut forecast = [0u32; 3600];
+    match jobfile::read_job(file, &mut sizes, &mut forecast) {
+        JobRead::Refused(n) => refused(n),
+        JobRead::Job {
+            programme,
+            layers,
+            slots,
+        } => {
+            word(b"chunks ");
+            number(programme.chunks as usize);
+            word(b" layers ");
+            number(layers);
+            word(b" slots ");
+            number(slots);
+            written(
+                programme,
+                parts::words(&sizes, layers),
+                parts::words(&forecast, slots),
+            );
+        }
+    }
+}
+
+// The verdict on the first rows of the four slices, for job A.
+fn judged(marks: &[u8], slots: &[u16], chunks: &[u16], layers: &[u8], bytes: &[u32]) {
+    let sizes = [2u32, 1];
+    let forecast = [3u32, 0, 1, 0, 2, 0];
+    match checker::check(
+        job_a(),
+        &sizes,
+        &forecast,
+        marks,
+        slots,
+        chunks,
+        layers,
+        bytes,
+    ) {
+        Checked::Verdict(v) => line(b" verdict ", v as usize),
+        Checked::Refused(n) => refused(n),
+    }
+}
+
+pub fn job_a() -> Programme {
+    Programme {
+        chunks: 3,
+        span: 2,
+        delay: 2,
+        limit: 2,
+    }
+}
+
+fn plan_file(file: &[u8]) {
+    let sizes = [2u32, 1];
+    let forecast = [3u32, 0, 1, 0, 2, 0];
+    let mut marks = [0u8; 3];
+    let mut slots = [0u16; 8];
+    let mut chunks = [0u16; 8];
+    let mut layers = [0u8; 8];
+    let mut bytes = [0u32; 8];
+    match planfile::read_plan(
+        job_a(),
+        &sizes,
+        &forecast,
+        file,
+        &mut marks,
+        &mut slots,
+        &mut chunks,
+        &mut layers,
+        &mut bytes,
+    ) {
+        PlanRead::Refused(n) => refused(n),
+        PlanRead::Rows(n) => {
+            word(b"rows ");
+            number(n);
+            judged(
+                &marks,
+                parts::halves(&slots, n),
+                parts::halves(&chunks, n),
+                parts::bytes(&layers, n),
+                parts::words(&bytes, n),
+            );
+        }
+    }
+}
+
+fn job_case(i: u8) {
+    let mut file = [0u8; 65537];
+    let n = read_case(b'j', i, &mut file);
+    job_file_of(&file, n);
+}
+
+fn job_file_of(file: &[u8; 65537], n: usize) {
+    job_file(parts::bytes(file, n));
+}
+
+fn plan_case(i: u8) {
+    let mut file = [0u8; 65537];
+    let n = read_case(b'p', i, &mut file);
+    plan_file_of(&file, n);
+}
+
+fn plan_file_of(file: &[u8; 65537], n: usize) {
+    plan_file(parts::bytes(file, n));
+}
+
+pub fn job_files() {
+    for i in 0u8..49 {
+        job_case(i);
+    }
+}
+
+pub fn plan_files() {
+    for i in 0u8..39 {
+        plan_case(i);
+    }
+}
