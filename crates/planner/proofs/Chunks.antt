@@ -1,25 +1,22 @@
 -- Laws on the pieces of a chunk, and of all chunks, one after the other. Assumes nothing.
 use mathlib.Core.Path.{_≡_, refl, sym, _∙_, ap, subst}
-use mathlib.Core.Bool.{Bool, true, false, cond}
+use mathlib.Core.Bool.{true, false}
 use mathlib.Core.List.{List, [], _∷_, _++_, append-assoc, append-nil}
 use mathlib.Core.Logic.{⊎-elim}
-use Prim.Native.Nat.{ℕ, zero, suc, _+_, _*_, _-_, _≤_, _<_, min}
+use Prim.Native.Nat.{ℕ, zero, suc, _+_, _*_, _-_, _≤_, _<_}
 use native.Mathlib.Omega.{arith}
 use native.Mathlib.Numerals.{add-one}
-use lib.ListN.{length, getD, drop, drop-of-length-le}
-use lib.Dec.{ltb, leb, ltb→lt, nltb→le}
+use lib.ListN.{getD, drop, drop-of-length-le}
+use lib.Dec.{ltb, ltb→lt, nltb→le}
 use borrow.Author.Tests.{lt-ltb, le-ltb, ltb-true, ltb-false}
-use Rattle.basics.specs.Sums.{sum}
-use Rattle.basics.specs.Tests.{All, test}
+use Rattle.basics.specs.Tests.{test}
 use Rattle.job.specs.Job.{sizeIn}
 use Rattle.fetch.specs.Marks.{bit}
-use Rattle.fetch.specs.Rows.{Row}
 use Rattle.schedule.specs.Fill.{Piece}
 use Rattle.schedule.specs.Linear.{level-bit}
 use Rattle.schedule.specs.Queue.{pieces}
-use Rattle.schedule.specs.Trials.{levelMark}
 use Rattle.planner.specs.declared.fill.At.{At}
-use Rattle.planner.specs.Listing.{lastOf, bytesAt, leftAt, onward, load, Fed, Made, Same, Goes, Room, piece, PutsOne, Puts, begun, levelOf, Levels, layersOf, queueOf, ChunkFrom, AllFrom}
+use Rattle.planner.specs.Listing.{lastOf, bytesAt, leftAt, onward, load, Fed, Made, Same, Room, piece, PutsOne, Puts, begun, levelOf, Levels, layersOf, queueOf, ChunkFrom, AllFrom}
 use Rattle.planner.proofs.Pieces.{jump, left-next, made-same, same-refl}
 use Rattle.planner.proofs.Tables.{drop-next, all-from}
 

@@ -10,17 +10,18 @@ use Rattle.basics.specs.Sums.{pre}
 use Rattle.basics.specs.Tests.{All, by-cond}
 use Rattle.fetch.specs.Marks.{bit}
 use Rattle.job.specs.declared.Programme.{Programme}
-use Rattle.job.specs.Job.{Job, sizeIn, size, due, dueSlot, heldMost, lastDue, lastSlot, layers, chunks}
+use Rattle.job.specs.Job.{Job, sizeIn, size, due, dueSlot, heldMost, lastDue, layers, chunks}
 use Rattle.schedule.specs.Ascending.{Asc}
 use Rattle.schedule.specs.Choice.{kept}
 use Rattle.schedule.specs.Linear.{bases-kept, decided-is, map-map}
 use Rattle.schedule.specs.Necessity.{after}
 use Rattle.schedule.specs.Plan.{plan}
 use Rattle.schedule.specs.Sufficiency.{each, ones, releases}
-use Rattle.schedule.specs.Trials.{Kept, Tried, bases, levelMark, rooms, tryOne, back, bytesOf, markOf, keptAt, onLayer, onLayers, based, keptBases, decided}
-use Rattle.planner.specs.Decision.{at, padded, leftAfter, keptOf, Sums, Slot, BasesFrom, Bases, SumTable, LayersFrom, LayersDone, jobFrom, DecideFrom, Decides}
+use Rattle.schedule.specs.Trials.{Kept, Tried, bases, rooms, back, bytesOf, markOf, keptAt, onLayer, onLayers, based, keptBases}
+use Rattle.planner.specs.Decision.{at, padded, keptOf, Sums, Slot, Bases, SumTable, LayersFrom, LayersDone, jobFrom, DecideFrom, Decides}
 use Rattle.planner.proofs.Sums.{padded-long, part-small}
 use Rattle.planner.proofs.Bases.{due-by}
+use Rattle.planner.proofs.Tables.{each-is, all-take, all-ones}
 use Rattle.planner.proofs.Settle.{same-long, marks-of}
 
 -- ---- a release for each chunk is enough
@@ -56,19 +57,6 @@ module _ (size : ℕ → ℕ → ℕ) (A : ℕ → ℕ) where
       ∙ ap (λ (hs : List ℕ). back size A (suc n) hs o .kept) (rooms-take A room (map bytesOf o) rs)
 
 -- ---- slots
-
-each-is : (d : ℕ → ℕ) (ks : List ℕ) → each d ks ≡ map d ks
-each-is d [] = refl
-each-is d (k ∷ ks) = rw (each-is d ks)
-
-all-take : (P : ℕ → Type 0) (n : ℕ) (l : List ℕ) → All P l → All P (take n l)
-all-take P zero l a = tt
-all-take P (suc n) [] a = tt
-all-take P (suc n) (x ∷ l) a = (a .0, all-take P n l (a .1))
-
-all-ones : (P : ℕ → Type 0) → P 1 → (h : ℕ) (l : List ℕ) → All P l → All P (ones h ++ l)
-all-ones P o zero l a = a
-all-ones P o (suc h) l a = (o, all-ones P o h l a)
 
 module _ (p : Programme) (late : 1 ≤ p .delay) (ends : lastDue p ≤ 3600) where
   pub due-slots : (lo : ℕ) (ks : List ℕ) → Asc lo (p .chunks) ks → All Slot (map (dueSlot p) ks)

@@ -1,28 +1,25 @@
 -- Laws on what the public call hands over. Assumes nothing.
-use mathlib.Core.Path.{_≡_, refl, sym, _∙_, ap}
-use mathlib.Core.Bool.{Bool, true, false, cond, _&&_}
-use mathlib.Core.List.{List, [], _∷_, _++_, map}
-use Prim.Native.Nat.{ℕ, zero, suc, _+_, _≤_, _<_}
+use mathlib.Core.Path.{_≡_, sym, _∙_, ap}
+use mathlib.Core.Bool.{Bool, true, false, _&&_}
+use mathlib.Core.List.{List, [], _∷_, map}
+use Prim.Native.Nat.{ℕ, _+_, _≤_, _<_}
 use native.Mathlib.Omega.{arith}
 use native.Mathlib.Numerals.{add-one}
-use lib.ListN.{length, getD, set, take, drop, length-set, length-map}
+use lib.ListN.{length, getD, set, take, drop, length-set}
 use lib.Seq.{take-suc, take-at, length-take-le}
-use lib.Dec.{T, leb, eqb}
+use lib.Dec.{leb, eqb}
 use borrow.Author.Tests.{eq-eqb, ne-eqb, le-leb, lt-leb}
-use Rattle.basics.specs.Refusals.{unless, _orElse_, orElse-none, orElse-some}
-use Rattle.basics.specs.Tests.{tests, true-T, and-T, T-and}
+use Rattle.basics.specs.Refusals.{unless, orElse-none, orElse-some}
+use Rattle.basics.specs.Tests.{tests, true-T}
 use Rattle.job.specs.Job.{Job, Accepted, chunks}
 use Rattle.job.specs.Refusal.{refusal, accepted-iff}
 use Rattle.schedule.specs.Plan.{plan, plan-choice}
 use Rattle.schedule.specs.Shape.{own-list-rows}
 use Rattle.schedule.specs.Statement.{countsOf, marksOf}
 use Rattle.schedule.specs.Theorems.{best, plan-exists}
-use Rattle.planner.specs.declared.Answer.{Answer}
 use Rattle.planner.specs.declared.Answer.the-variants.{Rows, Refused}
-use Rattle.planner.specs.declared.Filled.{Filled}
 use Rattle.planner.specs.declared.Planned.{Planned}
-use Rattle.planner.specs.Answer.{planRows, Lent, lentOf, holds, planRefusal, given, answerOf, countsHanded, lentAfter, Handed, DecidedByLists, BestOfLists}
-use Rattle.planner.specs.Handing.{LaidFrom, Laid}
+use Rattle.planner.specs.Answer.{planRows, Lent, lentOf, holds, planRefusal, given, Handed, DecidedByLists, BestOfLists}
 use Rattle.planner.specs.Lent.{over, rowSlot, rowChunk, rowLayer, rowBytes}
 use Rattle.planner.proofs.Over.{over-next, over-long}
 

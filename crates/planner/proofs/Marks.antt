@@ -1,20 +1,19 @@
 -- Laws on marks and counts of all chunks. Assumes nothing.
 use mathlib.Core.Path.{_≡_, refl, sym, _∙_, ap}
-use mathlib.Core.Bool.{Bool, true, false, cond}
+use mathlib.Core.Bool.{true, false, cond}
 use mathlib.Core.List.{List, [], _∷_, _++_}
 use mathlib.Core.Logic.{⊎-elim}
-use Prim.Native.Nat.{ℕ, zero, suc, _+_, _-_, _≤_, _<_}
+use Prim.Native.Nat.{ℕ, suc, _+_, _≤_, _<_}
 use native.Mathlib.Omega.{arith}
 use native.Mathlib.Numerals.{add-one}
 use lib.ListN.{length, getD, set, take, drop, drop-of-length-le, length-set, List·getD-eq-default}
 use lib.Seq.{take-suc, take-all, getD-drop}
 use lib.Dec.{eqb, ltb, ltb→lt, nltb→le}
-use borrow.Author.Tests.{eq-eqb, ne-eqb, lt-ltb, le-ltb}
+use borrow.Author.Tests.{eq-eqb, ne-eqb}
 use Rattle.basics.specs.Lists.{upTo, length-upTo}
 use Rattle.basics.specs.Tests.{test}
 use Rattle.fetch.specs.Marks.{bit}
 use Rattle.schedule.specs.Ascending.{Asc}
-use Rattle.planner.specs.declared.Order.{Order}
 use Rattle.planner.specs.declared.Order.the-variants.{Less, Same, More}
 use Rattle.planner.specs.Answer.{compared}
 use Rattle.planner.specs.Handing.{carriedIn, markIn}
@@ -48,7 +47,7 @@ counting-end marks n sum i s h = s .is ∙ ap (carriedIn n) (take-all i marks h)
 
 -- ---- a mark for each chunk
 
-asc-none : (lo hi m : ℕ) (ks ms : List ℕ) → Asc lo hi ks → m < lo → markIn m ks ms ≡ 0
+pub asc-none : (lo hi m : ℕ) (ks ms : List ℕ) → Asc lo hi ks → m < lo → markIn m ks ms ≡ 0
 asc-none lo hi m [] ms a h = refl
 asc-none lo hi m (k ∷ ks) [] a h = refl
 asc-none lo hi m (k ∷ ks) (x ∷ ms) a h = rw (ne-eqb k m (λ e. omega arith)) (asc-none (suc k) hi m ks ms (a .2) (omega arith))

@@ -1,9 +1,9 @@
 -- Laws on a result that stands at the start of a lent slice. Assumes nothing.
-use mathlib.Core.Path.{_≡_, refl, sym, _∙_, ap}
+use mathlib.Core.Path.{_≡_, refl, ap}
 use mathlib.Core.List.{List, [], _∷_, _++_, map}
-use Prim.Native.Nat.{ℕ, zero, suc, _+_, _≤_, _<_}
+use Prim.Native.Nat.{ℕ, suc, _+_, _≤_, _<_}
 use native.Mathlib.Omega.{arith}
-use lib.ListN.{length, set, drop, length-append, length-map}
+use lib.ListN.{length, set, length-append, length-map}
 use Rattle.planner.specs.Lent.{over}
 
 pub length-snoc : {A : Type 0} (t : List A) (v : A) → length (t ++ (v ∷ [])) ≡ length t + 1

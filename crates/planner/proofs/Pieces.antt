@@ -1,21 +1,20 @@
 -- Laws on one piece that goes into slot after slot. Assumes nothing.
-use mathlib.Core.Path.{_≡_, refl, sym, _∙_, ap, subst}
-use mathlib.Core.Bool.{Bool, true, false, cond, _&&_}
-use mathlib.Core.List.{List, [], _∷_, _++_, map, append-assoc}
+use mathlib.Core.Path.{_≡_, refl, sym, _∙_, ap}
+use mathlib.Core.List.{List, [], _∷_, _++_, append-assoc}
 use mathlib.Core.Logic.{⊎-elim}
 use Prim.Native.Nat.{ℕ, zero, suc, _+_, _-_, _≤_, _<_}
 use native.Mathlib.Omega.{arith}
 use native.Mathlib.Numerals.{add-one}
-use lib.ListN.{length, set, getD, drop, length-set, length-map}
-use lib.Dec.{ltb, leb, ltb→lt, nltb→le}
+use lib.ListN.{length, set, getD, length-set}
+use lib.Dec.{ltb, ltb→lt, nltb→le}
 use borrow.Author.Tests.{le-leb, lt-leb, lt-ltb, le-ltb}
 use Rattle.basics.specs.Tests.{test}
 use Rattle.fetch.specs.Rows.{Row}
-use Rattle.schedule.specs.Fill.{Piece, Out, row, less, take-slot, fill}
+use Rattle.schedule.specs.Fill.{Piece, row, less, fill}
 use Rattle.planner.specs.declared.fill.At.{At}
-use Rattle.planner.specs.Decision.{at, padded, leftAfter, Part}
-use Rattle.planner.specs.Lent.{over, rowSlot, rowChunk, rowLayer, rowBytes}
-use Rattle.planner.specs.Listing.{lastOf, bytesAt, leftAt, onward, Made, Same, Goes, Room, piece, PutsOne, begun}
+use Rattle.planner.specs.Decision.{padded}
+use Rattle.planner.specs.Lent.{rowSlot, rowChunk, rowLayer, rowBytes}
+use Rattle.planner.specs.Listing.{lastOf, bytesAt, leftAt, onward, Made, Same, Goes, Room, piece, PutsOne}
 use Rattle.planner.proofs.Over.{length-snoc, stored}
 use Rattle.planner.proofs.Sums.{left-none, left-step, padded-long, padded-at}
 

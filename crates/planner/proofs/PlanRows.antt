@@ -3,42 +3,42 @@ use mathlib.Core.Path.{_≡_, refl, sym, _∙_, ap, subst, fun-ext}
 use mathlib.Core.Bool.{Bool, true, false, cond}
 use mathlib.Core.List.{List, [], _∷_, _++_, map, append-nil}
 use mathlib.Core.Logic.{⊎-elim}
-use Prim.Native.Nat.{ℕ, zero, suc, _+_, _*_, _-_, _^_, _≤_, _<_, min, max}
+use Prim.Native.Nat.{ℕ, zero, suc, _+_, _*_, _-_, _≤_, _<_, min}
 use native.Mathlib.Omega.{arith}
-use lib.ListN.{length, getD, take, drop, replicate, length-drop, length-map, length-replicate, List·getD-eq-default}
+use lib.ListN.{length, getD, take, drop, replicate, length-drop}
 use lib.Seq.{take-at}
-use lib.Dec.{T, T-not, leb, ltb, eqb, leb→le, nleb→lt, ltb→lt, nltb→le, eqb→eq, eqb-refl}
+use lib.Dec.{leb, ltb, leb→le, nleb→lt, ltb→lt, nltb→le}
 use borrow.Author.Tests.{eq-eqb, ne-eqb, lt-ltb, le-ltb}
 use Rattle.basics.specs.Lists.{upTo, upTo-cong, length-upTo}
 use Rattle.basics.specs.Sums.{pre, sum, count}
 use Rattle.basics.specs.Tests.{All, test, by-cond}
 use Rattle.job.specs.declared.Programme.{Programme}
-use Rattle.job.specs.Job.{Job, Within, Accepted, jobOf, sizeIn, size, chunks, layers, due, dueSlot, forecast, heldMost, lastDue, lastSlot}
-use Rattle.fetch.specs.Marks.{bit, mark-bit, mark-cong, mark-high}
+use Rattle.job.specs.Job.{Job, Within, Accepted, jobOf, sizeIn, size, chunks, layers, due, forecast, heldMost, lastSlot}
+use Rattle.fetch.specs.Marks.{bit, mark-cong}
 use Rattle.fetch.specs.Rows.{Row, markByte}
 use Rattle.schedule.specs.Ascending.{Asc}
-use Rattle.schedule.specs.Choice.{Choice, fits-weight, kept, kept-asc}
+use Rattle.schedule.specs.Choice.{fits-weight, kept, kept-asc}
 use Rattle.schedule.specs.Fill.{Piece, Ready, fill, needs}
 use Rattle.schedule.specs.Kept.{picked, picked-asc, picked-each}
 use Rattle.schedule.specs.Linear.{level-bit}
 use Rattle.schedule.specs.Necessity.{Each}
-use Rattle.schedule.specs.Need.{Feas, need}
-use Rattle.schedule.specs.Own.{ownList}
 use Rattle.schedule.specs.OwnFill.{own-list-is}
 use Rattle.schedule.specs.Plan.{plan, plan-choice, plan-fits}
-use Rattle.schedule.specs.Queue.{each, ones, feas-relok, pieces, queue, ready-queue, releases, weight}
-use Rattle.schedule.specs.Statement.{countOf, countsOf, marksOf}
+use Rattle.schedule.specs.Queue.{each, feas-relok, pieces, queue, ready-queue, releases, weight}
+use Rattle.schedule.specs.Statement.{countsOf, marksOf}
 use Rattle.schedule.specs.Sufficiency.{fetch}
 use Rattle.schedule.specs.Trials.{levelMark}
-use Rattle.schedule.specs.Words.{Sized, accepted-sized, after}
+use Rattle.schedule.specs.Words.{accepted-sized, after}
 use Rattle.planner.specs.declared.fill.At.{At}
 use Rattle.planner.specs.Answer.{planRows}
-use Rattle.planner.specs.Decision.{at, padded, leftAfter, Part, Small, DecideFrom, Decides}
-use Rattle.planner.specs.Handing.{carriedIn, markIn, LaidFrom}
+use Rattle.planner.specs.Decision.{at, Part, Small, DecideFrom, Decides}
+use Rattle.planner.specs.Handing.{carriedIn, markIn}
 use Rattle.planner.specs.Lent.{over, rowSlot, rowChunk, rowLayer, rowBytes}
-use Rattle.planner.specs.Listing.{lastOf, bytesAt, leftAt, onward, load, Fed, Made, Room, Puts, levelOf, Levels, queueOf, AllFrom}
+use Rattle.planner.specs.Listing.{lastOf, bytesAt, leftAt, onward, load, Fed, Made, Puts, levelOf, Levels, queueOf, AllFrom}
 use Rattle.planner.proofs.Bases.{due-by}
+use Rattle.planner.proofs.Marks.{asc-none}
 use Rattle.planner.proofs.Over.{over-long}
+use Rattle.planner.proofs.Tables.{each-is, all-take, all-ones}
 use Rattle.planner.proofs.Pieces.{left-next, onward-next, same-refl}
 
 -- ---- levels and marks
@@ -94,22 +94,6 @@ all-each : (P : ℕ → Type 0) (g : ℕ → ℕ) (ks : List ℕ) → Each (λ k
 all-each P g [] a = tt
 all-each P g (k ∷ ks) a = (a .0, all-each P g ks (a .1))
 
-each-is : (d : ℕ → ℕ) (ks : List ℕ) → each d ks ≡ map d ks
-each-is d [] = refl
-each-is d (k ∷ ks) = rw (each-is d ks)
-
-all-take : (P : ℕ → Type 0) (n : ℕ) (l : List ℕ) → All P l → All P (take n l)
-all-take P zero l a = tt
-all-take P (suc n) [] a = tt
-all-take P (suc n) (x ∷ l) a = (a .0, all-take P n l (a .1))
-
-all-ones : (P : ℕ → Type 0) → P 1 → (h : ℕ) (l : List ℕ) → All P l → All P (ones h ++ l)
-all-ones P o zero l a = a
-all-ones P o (suc h) l a = (o, all-ones P o h l a)
-
-picked-all : (P : ℕ → Type 0) (p : ℕ → Bool) (lo n : ℕ) → ((i : ℕ) → lo < i → i ≤ n + lo → T (p i) → P i) → Each P (picked p lo n)
-picked-all P p lo n f = picked-each p P lo n f
-
 -- ---- from an accepted job
 
 small-all : (l : List ℕ) (lo : ℕ) → All (Within lo 16777216) l → Small l
@@ -145,7 +129,7 @@ module _ (p : Programme) (sizes f : List ℕ) (ok : Accepted (jobOf p sizes f)) 
   left-is = fun-ext (λ t. ap (λ (n : ℕ). pre (λ u. at f (u - 1)) n - pre (λ u. at f (u - 1)) t) (ok .slots-in))
 
   levels-in : Each (λ k. (1 ≤ plan j k) × (plan j k ≤ 4)) (kept j (plan j))
-  levels-in = picked-all (λ k. (1 ≤ plan j k) × (plan j k ≤ 4)) (λ i. leb 1 (plan j i)) 0 (chunks j) (λ i u v t. (leb→le 1 (plan j i) t, omega (arith, plan-choice j i u (omega arith), ok .layers-in .high)))
+  levels-in = picked-each (λ i. leb 1 (plan j i)) (λ k. (1 ≤ plan j k) × (plan j k ≤ 4)) 0 (chunks j) (λ i u v t. (leb→le 1 (plan j i) t, omega (arith, plan-choice j i u (omega arith), ok .layers-in .high)))
 
   each-imp : (P Q : ℕ → Type 0) (ks : List ℕ) → ((k : ℕ) → P k → Q k) → Each P ks → Each Q ks
   each-imp P Q [] g a = tt
@@ -263,14 +247,9 @@ module _ (p : Programme) (sizes f : List ℕ) (ok : Accepted (jobOf p sizes f)) 
         (λ t. let w = nleb→lt i (suc lo) t in there (q (suc lo)) w (mark-picked q g (suc lo) n i w (omega arith)))
         (test (leb i (suc lo)))
       where
-        low : (lo hi m : ℕ) (ks ms : List ℕ) → Asc lo hi ks → m < lo → markIn m ks ms ≡ 0
-        low lo hi m [] ms a h = refl
-        low lo hi m (k ∷ ks) [] a h = refl
-        low lo hi m (k ∷ ks) (x ∷ ms) a h = rw (ne-eqb k m (λ e. omega arith)) (low (suc k) hi m ks ms (a .2) (omega arith))
-
         here : (b : Bool) → markIn (suc lo) (cond b (suc lo ∷ picked q (suc lo) n) (picked q (suc lo) n)) (map g (cond b (suc lo ∷ picked q (suc lo) n) (picked q (suc lo) n))) ≡ cond b (g (suc lo)) 0
         here true = rw (eq-eqb (suc lo) (suc lo) refl)
-        here false = low (suc (suc lo)) (n + suc lo) (suc lo) (picked q (suc lo) n) (map g (picked q (suc lo) n)) (picked-asc q (suc lo) n (n + suc lo) (omega arith)) (omega arith)
+        here false = asc-none (suc (suc lo)) (n + suc lo) (suc lo) (picked q (suc lo) n) (map g (picked q (suc lo) n)) (picked-asc q (suc lo) n (n + suc lo) (omega arith)) (omega arith)
 
         there : (b : Bool) → suc lo < i → markIn i (picked q (suc lo) n) (map g (picked q (suc lo) n)) ≡ cond (q i) (g i) 0 → markIn i (cond b (suc lo ∷ picked q (suc lo) n) (picked q (suc lo) n)) (map g (cond b (suc lo ∷ picked q (suc lo) n) (picked q (suc lo) n))) ≡ cond (q i) (g i) 0
         there true w e = rw (ne-eqb (suc lo) i (λ z. omega arith)) e

@@ -1,27 +1,15 @@
 -- Laws on all layers above the base, and on the whole decision. Assumes nothing.
-use mathlib.Core.Path.{_≡_, refl, sym, _∙_, ap, subst, fun-ext}
-use mathlib.Core.Bool.{Bool, true, false, cond, _&&_}
-use mathlib.Core.List.{List, [], _∷_, _++_, map}
-use mathlib.Core.Logic.{⊎-elim}
-use Prim.Native.Nat.{ℕ, zero, suc, _+_, _*_, _-_, _/_, _≤_, _<_, min}
+use mathlib.Core.Path.{_≡_, refl, sym, _∙_, ap}
+use mathlib.Core.List.{List, [], _∷_, map}
+use Prim.Native.Nat.{ℕ, suc, _+_, _*_, _-_, _≤_, _<_}
 use native.Mathlib.Omega.{arith}
-use lib.ListN.{length, getD, take, drop, replicate, length-drop, length-map}
-use lib.Dec.{leb}
-use Rattle.basics.specs.Sums.{pre}
-use Rattle.basics.specs.Tests.{All, by-cond}
-use Rattle.job.specs.declared.Programme.{Programme}
-use Rattle.job.specs.Job.{Job, Within, sizeIn, size, due, dueSlot, heldMost, lastDue, lastSlot, layers}
-use Rattle.fetch.specs.Marks.{bit}
-use Rattle.schedule.specs.Ascending.{Asc}
+use lib.ListN.{length, drop, length-drop}
+use Rattle.basics.specs.Tests.{All}
+use Rattle.job.specs.Job.{sizeIn, layers}
 use Rattle.schedule.specs.Choice.{kept}
-use Rattle.schedule.specs.Linear.{bases-kept, decided-is, map-map}
 use Rattle.schedule.specs.Necessity.{after}
-use Rattle.schedule.specs.Plan.{plan}
-use Rattle.schedule.specs.Sufficiency.{each, ones, releases}
-use Rattle.schedule.specs.Trials.{Kept, Tried, bases, levelMark, rooms, tryOne, back, chunkOf, bytesOf, markOf, keptAt, onLayer, onLayers, based, keptBases, decided}
-use Rattle.planner.specs.Decision.{at, padded, leftAfter, keptOf, Slot, Bases, SumTable, LayerFrom, LayerDone, LayersFrom, LayersDone, jobFrom, DecideFrom, Decides}
-use Rattle.planner.proofs.Sums.{padded-long}
-use Rattle.planner.proofs.Bases.{due-by}
+use Rattle.schedule.specs.Trials.{Kept, rooms, back, bytesOf, markOf, onLayer, onLayers}
+use Rattle.planner.specs.Decision.{at, keptOf, LayerFrom, LayerDone, LayersFrom, LayersDone}
 
 -- ---- four tables of one length
 

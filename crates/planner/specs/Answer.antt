@@ -1,12 +1,11 @@
 -- Meaning. What the planner's public calls hand over: the plan of a job as document 01 decides and lists it, or a refusal's number.
 -- The plan itself, its marks, counts and own list, and demand 3, are stated in schedule: Statement, Own.
-use Prim.Native.Nat.{ℕ, _+_, _≤_}
+use Prim.Native.Nat.{ℕ}
 use mathlib.Core.Path.{_≡_}
 use mathlib.Core.Bool.{Bool, cond, _&&_}
 use mathlib.Core.List.{List, [], _∷_, map}
 use lib.ListN.{length}
 use lib.Dec.{leb, ltb, eqb}
-use Rattle.basics.specs.Lists.{upTo}
 use Rattle.basics.specs.Refusals.{unless, _orElse_}
 use Rattle.job.specs.Job.{Job, EqualChunks, chunks}
 use Rattle.job.specs.Refusal.{refusal}

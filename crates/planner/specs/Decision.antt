@@ -1,8 +1,8 @@
 -- Lemmas. What the functions of decide.rt hand each other: tables of 500 places whose end, from a first place on, holds the kept
 -- chunks in playing order. The definitions behind them are those of schedule, Trials.
-use Prim.Native.Nat.{ℕ, suc, _+_, _*_, _-_, _/_, _≤_, _<_}
+use Prim.Native.Nat.{ℕ, suc, _+_, _*_, _-_, _/_, _≤_}
 use mathlib.Core.Path.{_≡_}
-use mathlib.Core.Bool.{Bool, cond, _&&_}
+use mathlib.Core.Bool.{cond, _&&_}
 use mathlib.Core.List.{List, [], _∷_, _++_, map}
 use lib.ListN.{length, getD, take, drop, replicate}
 use lib.Dec.{leb, ltb}
@@ -14,7 +14,7 @@ use Rattle.schedule.specs.Ascending.{Asc}
 use Rattle.schedule.specs.Sufficiency.{releases}
 use Rattle.schedule.specs.Choice.{kept}
 use Rattle.schedule.specs.Plan.{plan}
-use Rattle.schedule.specs.Trials.{bases, levelMark, Kept, rooms, back, onLayers}
+use Rattle.schedule.specs.Trials.{bases, levelMark, Kept, back, onLayers}
 
 -- A table read as a function.
 abbrev pub at : List ℕ → ℕ → ℕ

@@ -1,10 +1,10 @@
 -- Lemmas. What the functions of fill.rt hand each other: pieces placed one after the other, over any list under way. The
 -- definitions behind them are those of schedule, Fill and Queue.
-use Prim.Native.Nat.{ℕ, _+_, _*_, _-_, _≤_, _<_}
+use Prim.Native.Nat.{ℕ, _+_, _*_, _-_, _≤_}
 use mathlib.Core.Path.{_≡_}
 use mathlib.Core.Bool.{cond}
 use mathlib.Core.List.{List, [], _∷_, _++_, map}
-use lib.ListN.{length, getD, drop}
+use lib.ListN.{length, drop}
 use lib.Dec.{ltb}
 use Rattle.basics.specs.Sums.{sum}
 use Rattle.basics.specs.Tests.{All}

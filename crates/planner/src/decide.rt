@@ -249,7 +249,7 @@ fn settle_layers(
 
 // The decision over a part of the forecast that starts at slot start: the kept chunks, their releases and their marks, from the
 // place handed back on.
-pub fn decide(
+pub(crate) fn decide(
     p: Programme,
     layers: usize,
     sizes: &[u32],
@@ -263,19 +263,20 @@ pub fn decide(
     ensures { λ r. ⌜ Decides (jobFrom p (now (sizes .entry)) start (now (part .entry))) r (now (ids .exit)) (now (ready .exit)) (now (mark .exit)) ⌝ }
 {
     let held = job::held_most(p) as usize;
+    // Both tables are written before they are read. A filling that is no constant is stored in wide words, faster than cleared.
     let unset = part.len() as u64;
     let mut after = [unset; 3601];
     let mut room = [unset; 500];
     let mut dues = [0u16; 500];
     let mut bytes = [0u32; 500];
     sum_after(part, start, &mut after);
-    let all = after[0];
+    let total = after[0];
     let first = keep_bases(p, sizes, &after, ids, &mut dues, &mut bytes, &mut room);
     set_releases(held, &dues, first, ready);
     settle_layers(
         layers,
         sizes,
-        all,
+        total,
         &after,
         ids,
         &dues,

@@ -6,7 +6,7 @@ ghost use Rattle.planner.specs.Listing.{Room, PutsOne, Puts, begun, last
 ghost use Rattle.planner.specs.Decision.{Part};
 
 // The slot t, the bytes left in it, and the rows made.
-pub struct At {
+pub(crate) struct At {
     pub t: usize,
     pub c: u32,
     pub n: usize,
@@ -114,7 +114,7 @@ fn put_chunk(
 }
 
 // The pieces of all kept chunks.
-pub fn put_all(
+pub(crate) fn put_all(
     part: &[u32],
     start: usize,
     sizes: &[u32],

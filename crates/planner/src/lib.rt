@@ -29,7 +29,7 @@ pub struct Planned {
 }
 
 // The rows made of a plan, and its counts.
-pub struct Filled {
+struct Filled {
     pub rows: usize,
     pub counts: [u16; 4],
 }

@@ -17,8 +17,8 @@ cast-held c = search needs
 sum-after-requires : tie.Need-sum-after-requires
 sum-after-requires c κs = (c .before .before .before .before .pre .part-in, length-replicate {A = ℕ} 3601 (length (now (c .before .before .before .before .args .part))))
 
-array-read-all : tie.Need-array-read-all
-array-read-all c = search needs
+array-read-total : tie.Need-array-read-total
+array-read-total c = search needs
 
 keep-bases-requires : tie.Need-keep-bases-requires
 keep-bases-requires c κs = let a = c .before .before .before .before .before .before .before .before .before .before .args in let o = c .before .before .before .before .before .before .before .before .before .before .pre in
@@ -42,7 +42,7 @@ decide-spec =
     held-most-requires
     cast-held
     sum-after-requires
-    array-read-all
+    array-read-total
     keep-bases-requires
     set-releases-requires
     settle-layers-requires
