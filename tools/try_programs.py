@@ -1,0 +1,97 @@
+"""Runs the built programs on case files, damaged and oversized files and random small jobs, and compares every output with
+`reference.py`. Run it at the root of the repository after `rt check plan film_report verdict`: python3 tools/try_programs.py"""
+import glob
+import os
+import random
+import subprocess
+import tempfile
+from reference import *
+
+BIN = os.path.abspath("target/bin")
+A = write_job(Job(3, 2, 2, 2, [2, 1], [3, 0, 1, 0, 2, 0]))
+
+
+def run(program, data=b"", folder=None):
+    return subprocess.run([f"{BIN}/{program}"], input=data, stdout=subprocess.PIPE, cwd=folder).stdout
+
+
+def plan_file(job):
+    _, rows = plan(job)
+    marks = marks_given(job, rows)
+    return b"".join(kp(i + 1, m) for i, m in enumerate(marks)) + b"".join(ft(*row) for row in rows) + b"EN"
+
+
+def report(job):
+    levels, rows = plan(job)
+    carried = [sum(x.bytes for x in rows if x.chunk == i) for i in range(1, job.chunks + 1)]
+    lines = [f"slots {due(job, job.chunks)} chunks {job.chunks} held {job.limit // job.span}"]
+    lines += [f"{i + 1} {levels[i]} {carried[i]}" for i in range(job.chunks)]
+    lines.append("layers " + " ".join(str(sum(k > n for k in levels)) for n in range(len(job.sizes))))
+    lines.append(f"bytes {sum(carried)} left {sum(job.forecast) - sum(carried)}")
+    lines.append(f"switch {sum(abs(a - b) for a, b in zip(carried, carried[1:]))}")
+    return "".join(line + "\n" for line in lines).encode()
+
+
+def damaged(data):
+    data = bytearray(data)
+    for _ in range(random.randint(1, 3)):
+        kind = random.random()
+        if kind < 0.4 and data:
+            data[random.randrange(len(data))] = random.randrange(256)
+        elif kind < 0.7:
+            data = data[:random.randrange(len(data) + 1)]
+        else:
+            data += bytes(random.randrange(256) for _ in range(random.randint(0, 5)))
+    return bytes(data)
+
+
+def random_job():
+    chunks, span, delay = random.randint(1, 6), random.randint(1, 4), random.randint(1, 6)
+    sizes = [random.randint(1, 9) for _ in range(random.randint(1, 4))]
+    last = (chunks - 1) * span + delay
+    return Job(chunks, span, delay, random.randint(0, 12), sizes, [random.choice([0, 0, 1, 2, 5, 9]) for _ in range(last)])
+
+
+def try_jobs():
+    cases = [open(f, "rb").read() for f in sorted(glob.glob("crates/trials/data/j*"))]
+    cases += [damaged(A) for _ in range(300)] + [write_job(random_job()) for _ in range(200)]
+    cases += [bytes(65536), bytes(65537), A + bytes(200000), b"\xff" * 1000000]
+    tried = 0
+    for data in cases:
+        try:
+            job = read_job(data)
+        except Refused as r:
+            wanted = (b"refused %d\n" % r.number,) * 2
+        else:
+            if job.chunks > 20:
+                continue
+            wanted = plan_file(job), report(job)
+        assert (run("plan", data), run("film_report", data)) == wanted, data[:80]
+        tried += 1
+    print(tried, "inputs of plan and film_report")
+
+
+def try_verdicts():
+    plans = [open(f, "rb").read() for f in sorted(glob.glob("crates/trials/data/p*"))] + [bytes(65537), bytes(300000)]
+    tried = 0
+    with tempfile.TemporaryDirectory() as folder:
+        assert run("verdict", folder=folder) == b"refused 1\n"
+        for job_data in (A, b"", b"XX", A + b"\0", bytes(65537)):
+            for plan_data in plans:
+                for name, data in (("job", job_data), ("plan", plan_data)):
+                    with open(f"{folder}/{name}", "wb") as f:
+                        f.write(data)
+                try:
+                    job = read_job(job_data)
+                    marks, rows = read_plan(job, plan_data)
+                    wanted = b"verdict %d\n" % verdict(job, rows, marks)
+                except Refused as r:
+                    wanted = b"refused %d\n" % r.number
+                assert run("verdict", folder=folder) == wanted, (job_data[:80], plan_data[:80])
+                tried += 1
+    print(tried, "pairs of files of verdict")
+
+
+random.seed(7)
+try_jobs()
+try_verdicts()
