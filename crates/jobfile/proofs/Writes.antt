@@ -13,7 +13,8 @@ use Rattle.jobfile.specs.declared.Written.{Written}
 use Rattle.jobfile.specs.declared.Written.the-variants.{Bytes, Refused}
 use Rattle.jobfile.specs.Records.{EN, encode}
 use Rattle.jobfile.specs.Writer.{runs, layerRecord, runRecord, jobFile, longRefusal, shortRefusal, writeRefusal, writeAnswer, fileWritten}
-use Rattle.jobfile.specs.Puts.{Puts, bytesOf, bytes-append, puts-then, length-puts, written-fits}
+use Rattle.jobfile.specs.Puts.{Puts, bytesOf, bytes-append, puts-then, length-puts}
+use Rattle.records.specs.Puts.{written-fits}
 use Rattle.jobfile.specs.FileLength.{short-file}
 
 module _ (j : Job) (out : List ℕ) where

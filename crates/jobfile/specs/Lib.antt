@@ -1,7 +1,6 @@
 pub mod Records
 pub mod Says
 pub mod Refusal
-pub mod Lent
 pub mod Reader
 pub mod Writer
 pub mod Reading

@@ -2,16 +2,12 @@
 -- Assumes nothing.
 use Prim.Native.Nat.{ℕ, _+_, _≤_}
 use mathlib.Core.Path.{_≡_, refl, sym, ap, _∙_}
-use mathlib.Core.Bool.{Bool, true, false}
 use mathlib.Core.List.{List, [], _∷_, _++_, append-assoc, append-nil}
 use native.Mathlib.Omega.{arith}
-use lib.ListN.{length, take, drop, length-append, length-drop, take-append-drop}
-use lib.Seq.{take-at, drop-at, drop-drop, length-take-le}
-use lib.Dec.{leb}
-use Rattle.basics.specs.Tests.{by-cond}
-use borrow.Author.Tests.{le-leb, leb-true}
+use lib.ListN.{length, length-append}
 use Rattle.records.specs.Fields.{written}
 use Rattle.records.specs.Written.{encodeAll}
+use Rattle.records.specs.Puts.{length-written, written-append, written-none}
 use Rattle.jobfile.specs.declared.Record.{Record}
 use Rattle.jobfile.specs.Records.{encode}
 use Rattle.jobfile.specs.Refusal.{format}
@@ -21,44 +17,10 @@ pub record Puts (out : List ℕ) (at : ℕ) (bytes : List ℕ) (out′ : List �
   pub out-is : out′ ≡ written out at bytes
   pub next-is : next ≡ at + length bytes
 
--- Where bytes fit, they stand between what stays.
-pub written-fits : (out : List ℕ) (at : ℕ) (bytes : List ℕ) → at + length bytes ≤ length out → written out at bytes ≡ take at out ++ bytes ++ drop (at + length bytes) out
-written-fits out at bytes h = rw (le-leb (at + length bytes) (length out) h)
-
-pub length-written : (out : List ℕ) (at : ℕ) (bytes : List ℕ) → length (written out at bytes) ≡ length out
-length-written out at bytes = by-fit (leb (at + length bytes) (length out)) refl where
-  by-fit : (b : Bool) → leb (at + length bytes) (length out) ≡ b → length (written out at bytes) ≡ length out
-  by-fit true e =
-      let h : at + length bytes ≤ length out = leb-true (at + length bytes) (length out) e in
-      let lengths = length-take-le at out (omega arith) in
-      ap length (written-fits out at bytes h) ∙ simp (length-append, length-drop) (omega arith)
-  by-fit false e = rw e
-
--- Bytes after bytes.
-pub written-append : (out : List ℕ) (at : ℕ) (a b : List ℕ) → at + length a + length b ≤ length out → written (written out at a) (at + length a) b ≡ written out at (a ++ b)
-written-append out at a b h =
-    let front : length (take at out ++ a) ≡ at + length a = length-append (take at out) a ∙ ap (λ (n : ℕ). n + length a) (length-take-le at out (omega arith)) in
-    let first : written out at a ≡ take at out ++ a ++ drop (at + length a) out = written-fits out at a (omega arith) in
-    let kept : take (at + length a) (written out at a) ≡ take at out ++ a = rw first (take-at (take at out ++ a) (drop (at + length a) out) (at + length a) front) in
-    let both : length (a ++ b) ≡ length a + length b = length-append a b in
-    let place : at + length a + length b ≡ at + length (a ++ b) = omega arith in
-    let rest : drop (at + length a + length b) (written out at a) ≡ drop (at + length (a ++ b)) out =
-    sym (drop-drop (length b) (at + length a) (written out at a))
-    ∙ ap (drop (length b)) (rw first (drop-at (take at out ++ a) (drop (at + length a) out) (at + length a) front))
-    ∙ drop-drop (length b) (at + length a) out
-    ∙ ap (λ (n : ℕ). drop n out) place in
-    written-fits (written out at a) (at + length a) b (omega (arith, length-written out at a))
-    ∙ rw (kept, rest) (simp append-assoc)
-    ∙ sym (written-fits out at (a ++ b) (omega arith))
-
 -- ---- bytes after bytes
 
 pub puts-none : (out : List ℕ) (at : ℕ) → Puts out at [] out at
-puts-none out at = record { out-is = none-written; next-is = omega arith } where
-  none-written : out ≡ written out at []
-  none-written =
-      let e : at + 0 ≡ at = omega arith in
-      by-cond (λ (l : List ℕ). out ≡ l) (leb (at + 0) (length out)) (λ t. rw (e, append-nil) (sym (take-append-drop at out))) (λ t. refl)
+puts-none out at = record { out-is = written-none out at; next-is = omega arith }
 
 module _ (out : List ℕ) (at : ℕ) (a out′ : List ℕ) (m : ℕ) (p : Puts out at a out′ m) where
   pub length-puts : length out′ ≡ length out

@@ -6,6 +6,7 @@ use mathlib.Core.Bool.{cond, _&&_}
 use mathlib.Core.List.{List}
 use lib.ListN.{length, drop}
 use lib.Dec.{leb, eqb}
+use Rattle.basics.specs.Lent.{lentAfter}
 use Rattle.records.specs.File.{Front, got, none}
 use Rattle.basics.specs.Refusals.{unless, _orElse_}
 use Rattle.job.specs.Job.{layers}
@@ -15,7 +16,6 @@ use Rattle.jobfile.specs.declared.Record.{Record}
 use Rattle.jobfile.specs.declared.Read.{Read}
 use Rattle.jobfile.specs.declared.Read.the-variants.{Got, Refused}
 use Rattle.jobfile.specs.Records.{front}
-use Rattle.jobfile.specs.Lent.{handed}
 use Rattle.jobfile.specs.Refusal.{refusalOf, jobOfFile}
 
 -- What stands in front of the bytes from a place on, with the place after it.
@@ -43,7 +43,7 @@ readAnswer s sizes slots = cond (eqb (readRefusal s sizes slots) 0) (jobAnswer s
 
 -- The lent sizes and forecast afterwards.
 unfoldable pub sizesRead : List ℕ → List ℕ → List ℕ → List ℕ
-sizesRead s sizes forecast = handed (readRefusal s (length sizes) (length forecast)) (jobOfFile s .sizes) sizes
+sizesRead s sizes forecast = lentAfter (readRefusal s (length sizes) (length forecast)) (jobOfFile s .sizes) sizes
 
 unfoldable pub forecastRead : List ℕ → List ℕ → List ℕ → List ℕ
-forecastRead s sizes forecast = handed (readRefusal s (length sizes) (length forecast)) (jobOfFile s .forecast) forecast
+forecastRead s sizes forecast = lentAfter (readRefusal s (length sizes) (length forecast)) (jobOfFile s .forecast) forecast

@@ -6,6 +6,7 @@ use mathlib.Core.Bool.{cond}
 use mathlib.Core.List.{List, [], _∷_, _++_, map}
 use lib.ListN.{length}
 use lib.Dec.{leb, eqb}
+use Rattle.basics.specs.Lent.{lentAfter}
 use Rattle.basics.specs.Tests.{All}
 use Rattle.basics.specs.Refusals.{unless, _orElse_}
 use Rattle.records.specs.Written.{encodeAll}
@@ -17,7 +18,6 @@ use Rattle.jobfile.specs.declared.Written.{Written}
 use Rattle.jobfile.specs.declared.Written.the-variants.{Bytes, Refused}
 use Rattle.jobfile.specs.Records.{encode}
 use Rattle.jobfile.specs.Refusal.{format}
-use Rattle.jobfile.specs.Lent.{handed}
 
 -- A run of equal slots.
 pub record Run : Type 0 where
@@ -76,4 +76,4 @@ unfoldable pub writeAnswer : Job → ℕ → Written
 writeAnswer j room = cond (eqb (writeRefusal j room) 0) (Bytes (length (jobFile j))) (Refused (writeRefusal j room))
 
 unfoldable pub fileWritten : Job → List ℕ → List ℕ
-fileWritten j out = handed (writeRefusal j (length out)) (jobFile j) out
+fileWritten j out = lentAfter (writeRefusal j (length out)) (jobFile j) out

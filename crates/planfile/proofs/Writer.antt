@@ -16,7 +16,8 @@ use Rattle.fetch.specs.Handed.{Whole, handedRefusal, handed-iff}
 use Rattle.planfile.specs.Records.{en}
 use Rattle.planfile.specs.PlanFile.{kps, ftOf, fileOf}
 use Rattle.planfile.specs.Calls.{Slices, planOf, writeInput, writeRefusal, writeAnswer, writeLent}
-use Rattle.planfile.specs.Writing.{bytesOf, file-parts, length-file, length-kps, length-fts, two-puts, written-whole}
+use Rattle.planfile.specs.Writing.{bytesOf, file-parts, length-file, length-kps, length-fts, two-puts}
+use Rattle.records.specs.Puts.{written-whole}
 use Rattle.planfile.specs.declared.Written.{Written}
 use Rattle.planfile.specs.declared.Written.the-variants.{Bytes, Refused}
 

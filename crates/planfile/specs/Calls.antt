@@ -3,9 +3,10 @@
 -- writer then 9"; "11. A lent buffer is shorter than the whole result, after all input refusals".
 use Prim.Native.Nat.{ℕ}
 use mathlib.Core.Bool.{Bool, cond, _&&_}
-use mathlib.Core.List.{List, _++_, map}
-use lib.ListN.{length, drop}
+use mathlib.Core.List.{List, map}
+use lib.ListN.{length}
 use lib.Dec.{leb, eqb}
+use Rattle.basics.specs.Lent.{lentAfter}
 use Rattle.basics.specs.Refusals.{unless, _orElse_}
 use Rattle.records.specs.File.{fileRefusal}
 use Rattle.job.specs.Job.{Job, chunks}
@@ -28,10 +29,6 @@ pub record Slices : Type 0 where
 
 abbrev pub slicesOf : List ℕ → List ℕ → List ℕ → List ℕ → List ℕ → Slices
 slicesOf marks slots chunks layers bytes = record { marks = marks; slots = slots; chunks = chunks; layers = layers; bytes = bytes }
-
--- A lent slice after a call: the result, then the old contents; unchanged on refusal.
-abbrev pub lentAfter : ℕ → List ℕ → List ℕ → List ℕ
-lentAfter refused result old = cond (eqb refused 0) (result ++ drop (length result) old) old
 
 -- ---- reading
 

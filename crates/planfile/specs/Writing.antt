@@ -4,14 +4,12 @@ use mathlib.Core.Path.{_≡_, refl, sym, ap, _∙_}
 use mathlib.Core.List.{List, [], _∷_, _++_, map, map-append, flatMap, append-assoc, append-nil}
 use native.Mathlib.Omega.{arith}
 use native.Mathlib.Numerals.{add-one}
-use lib.ListN.{length, getD, take, drop, length-append, length-drop, length-map, take-append-drop}
-use lib.Seq.{length-take-le, take-at, drop-at, drop-drop}
-use lib.Dec.{leb, leb→le}
-use borrow.Author.Tests.{le-leb}
-use Rattle.basics.specs.Tests.{All, all-append, by-cond}
+use lib.ListN.{length, getD, length-append, length-map}
+use Rattle.basics.specs.Tests.{All, all-append}
 use Rattle.basics.specs.Lists.{upTo, length-upTo}
 use Rattle.records.specs.Fields.{written}
 use Rattle.records.specs.Written.{encodeAll}
+use Rattle.records.specs.Puts.{length-written, written-append, written-none}
 use Rattle.fetch.specs.Rows.{Row, rowAt, rowsOf}
 use Rattle.planfile.specs.Records.{encode}
 use Rattle.planfile.specs.PlanFile.{format, Plan, kps, ftOf, fileOf}
@@ -80,45 +78,6 @@ length-file plan =
 
 -- ---- bytes over a lent buffer
 
-written-is : (l : List ℕ) (at : ℕ) (t : List ℕ) → at + length t ≤ length l → written l at t ≡ take at l ++ t ++ drop (at + length t) l
-written-is l at t h = rw (le-leb (at + length t) (length l) h)
-
-pub written-none : (l : List ℕ) (at : ℕ) → at ≤ length l → l ≡ written l at []
-written-none l at h =
-    let e : at + 0 ≡ at = omega arith in
-    sym (written-is l at [] (omega arith) ∙ rw (append-nil (take at l), e) (take-append-drop at l))
-
-front-long : (l : List ℕ) (at : ℕ) (t : List ℕ) → at ≤ length l → length (take at l ++ t) ≡ at + length t
-front-long l at t h = length-append (take at l) t ∙ ap (λ (n : ℕ). n + length t) (length-take-le at l h)
-
-pub length-written : (l : List ℕ) (at : ℕ) (t : List ℕ) → length (written l at t) ≡ length l
-length-written l at t =
-    by-cond
-    (λ (x : List ℕ). length x ≡ length l)
-    (leb (at + length t) (length l))
-    (λ b. let h = leb→le (at + length t) (length l) b in omega (arith, length-append (take at l ++ t) (drop (at + length t) l), front-long l at t (omega arith), length-drop (at + length t) l))
-    (λ b. refl)
-
--- Bytes after bytes are one run of bytes.
-pub written-append : (l : List ℕ) (at : ℕ) (t u : List ℕ) → at + length t + length u ≤ length l → written (written l at t) (at + length t) u ≡ written l at (t ++ u)
-written-append l at t u h =
-    let n = at + length t in
-    let w = take at l ++ t ++ drop n l in
-    let first : written l at t ≡ w = written-is l at t (omega arith) in
-    let long : length w ≡ length l = sym (ap length first) ∙ length-written l at t in
-    let front : take n w ≡ take at l ++ t = take-at (take at l ++ t) (drop n l) n (front-long l at t (omega arith)) in
-    let rest : drop n w ≡ drop n l = drop-at (take at l ++ t) (drop n l) n (front-long l at t (omega arith)) in
-    let end : n + length u ≡ at + length (t ++ u) = omega (arith, length-append t u) in
-    let back : drop (n + length u) w ≡ drop (at + length (t ++ u)) l = sym (drop-drop (length u) n w) ∙ ap (drop (length u)) rest ∙ drop-drop (length u) n l ∙ ap (λ (k : ℕ). drop k l) end in
-    let middle : take n w ++ u ++ drop (n + length u) w ≡ take at l ++ (t ++ u) ++ drop (at + length (t ++ u)) l = rw (front, back, append-assoc (take at l) t u) in
-    rw first (written-is w n u (omega (arith, long)) ∙ middle ∙ sym (written-is l at (t ++ u) (omega (arith, end))))
-
--- The whole result, then the old contents.
-pub written-whole : (l t : List ℕ) → length t ≤ length l → written l 0 t ≡ t ++ drop (length t) l
-written-whole l t h =
-    let e : 0 + length t ≡ length t = omega arith in
-    written-is l 0 t (omega arith) ∙ rw e
-
 -- Two pieces written one after the other.
 pub two-puts : (l : List ℕ) (at : ℕ) {m o : List ℕ} (t u : List ℕ) → m ≡ written l at t → o ≡ written m (at + length t) u → at + length t + length u ≤ length l → o ≡ written l at (t ++ u)
 two-puts l at t u p q h = q ∙ ap (λ (x : List ℕ). written x (at + length t) u) p ∙ written-append l at t u h
@@ -132,7 +91,7 @@ pub record Put (old : List ℕ) (from : ℕ) (f : ℕ → Record) (n : ℕ) (now
 
 pub put-start : (old : List ℕ) (from : ℕ) (f : ℕ → Record) → from ≤ length old → Put old from f 0 old
 unfolding flatMap
-put-start old from f h = record { long = refl; is = written-none old from h }
+put-start old from f h = record { long = refl; is = written-none old from }
 
 module _ (size : ℕ) (old : List ℕ) (from : ℕ) (f : ℕ → Record) (each : (k : ℕ) → length (encode (f k)) ≡ size) (n : ℕ) (now : List ℕ) (i : Put old from f n now) where
   pub put-more : from + size * n + size ≤ length old → (at : ℕ) → at ≡ from + size * n → (next : List ℕ) → next ≡ written now at (encode (f n)) → Put old from f (n + 1) next

@@ -20,7 +20,8 @@ use Rattle.schedule.specs.Theorems.{best, plan-exists}
 use Rattle.planner.specs.declared.Answer.the-variants.{Rows, Refused}
 use Rattle.planner.specs.declared.Planned.{Planned}
 use Rattle.planner.specs.Answer.{planRows, Lent, lentOf, holds, planRefusal, given, Handed, DecidedByLists, BestOfLists}
-use Rattle.planner.specs.Lent.{over, rowSlot, rowChunk, rowLayer, rowBytes}
+use Rattle.basics.specs.Lent.{over}
+use Rattle.planner.specs.Lent.{rowSlot, rowChunk, rowLayer, rowBytes}
 use Rattle.planner.proofs.Over.{over-next, over-long}
 
 -- ---- a copy

@@ -17,7 +17,7 @@ use Rattle.schedule.specs.Ascending.{Asc}
 use Rattle.planner.specs.declared.Order.the-variants.{Less, Same, More}
 use Rattle.planner.specs.Answer.{compared}
 use Rattle.planner.specs.Handing.{carriedIn, markIn}
-use Rattle.planner.specs.Lent.{over}
+use Rattle.basics.specs.Lent.{over}
 use Rattle.planner.proofs.Over.{over-next}
 use Rattle.planner.proofs.Tables.{drop-next, above-next}
 

@@ -33,7 +33,8 @@ use Rattle.planner.specs.declared.fill.At.{At}
 use Rattle.planner.specs.Answer.{planRows}
 use Rattle.planner.specs.Decision.{at, Part, Small, DecideFrom, Decides}
 use Rattle.planner.specs.Handing.{carriedIn, markIn}
-use Rattle.planner.specs.Lent.{over, rowSlot, rowChunk, rowLayer, rowBytes}
+use Rattle.basics.specs.Lent.{over}
+use Rattle.planner.specs.Lent.{rowSlot, rowChunk, rowLayer, rowBytes}
 use Rattle.planner.specs.Listing.{lastOf, bytesAt, leftAt, onward, load, Fed, Made, Puts, levelOf, Levels, queueOf, AllFrom}
 use Rattle.planner.proofs.Bases.{due-by}
 use Rattle.planner.proofs.Marks.{asc-none}

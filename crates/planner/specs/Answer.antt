@@ -18,7 +18,8 @@ use Rattle.planner.specs.declared.Answer.the-variants.{Rows, Refused}
 use Rattle.planner.specs.declared.Order.{Order}
 use Rattle.planner.specs.declared.Order.the-variants.{Less, Same, More}
 use Rattle.planner.specs.declared.Planned.{Planned}
-use Rattle.planner.specs.Lent.{over, rowSlot, rowChunk, rowLayer, rowBytes}
+use Rattle.basics.specs.Lent.{lentAfter}
+use Rattle.planner.specs.Lent.{rowSlot, rowChunk, rowLayer, rowBytes}
 
 -- The plan's own list.
 abbrev pub planRows : Job → List Row
@@ -55,8 +56,8 @@ abbrev pub countsHanded : Job → Lent → List ℕ
 countsHanded j l = cond (given j l) (countsOf j (plan j)) (0 ∷ 0 ∷ 0 ∷ 0 ∷ [])
 
 -- A lent slice at exit: the result, then the old contents; on a refusal the old contents alone.
-abbrev pub lentAfter : Job → Lent → List ℕ → List ℕ → List ℕ
-lentAfter j l result old = cond (given j l) (over result old) old
+abbrev pub sliceAfter : Job → Lent → List ℕ → List ℕ → List ℕ
+sliceAfter j l result old = lentAfter (planRefusal j l) result old
 
 abbrev pub lentOf : List ℕ → List ℕ → List ℕ → List ℕ → List ℕ → Lent
 lentOf marks slots chunks layers bytes =
@@ -66,11 +67,11 @@ lentOf marks slots chunks layers bytes =
 pub record Handed (j : Job) (marks slots chunks layers bytes : List ℕ) (r : Planned) (marks' slots' chunks' layers' bytes' : List ℕ) : Type 0 where
   pub answer : r .answer ≡ answerOf j (lentOf marks slots chunks layers bytes)
   pub counts : r .counts ≡ countsHanded j (lentOf marks slots chunks layers bytes)
-  pub marks-are : marks' ≡ lentAfter j (lentOf marks slots chunks layers bytes) (marksOf j (plan j)) marks
-  pub slots-are : slots' ≡ lentAfter j (lentOf marks slots chunks layers bytes) (map rowSlot (planRows j)) slots
-  pub chunks-are : chunks' ≡ lentAfter j (lentOf marks slots chunks layers bytes) (map rowChunk (planRows j)) chunks
-  pub layers-are : layers' ≡ lentAfter j (lentOf marks slots chunks layers bytes) (map rowLayer (planRows j)) layers
-  pub bytes-are : bytes' ≡ lentAfter j (lentOf marks slots chunks layers bytes) (map rowBytes (planRows j)) bytes
+  pub marks-are : marks' ≡ sliceAfter j (lentOf marks slots chunks layers bytes) (marksOf j (plan j)) marks
+  pub slots-are : slots' ≡ sliceAfter j (lentOf marks slots chunks layers bytes) (map rowSlot (planRows j)) slots
+  pub chunks-are : chunks' ≡ sliceAfter j (lentOf marks slots chunks layers bytes) (map rowChunk (planRows j)) chunks
+  pub layers-are : layers' ≡ sliceAfter j (lentOf marks slots chunks layers bytes) (map rowLayer (planRows j)) layers
+  pub bytes-are : bytes' ≡ sliceAfter j (lentOf marks slots chunks layers bytes) (map rowBytes (planRows j)) bytes
 
 -- "The plan carries a layer of a chunk if and only if, beside the layers already settled, some fetch list in playing order still
 -- keeps them all."

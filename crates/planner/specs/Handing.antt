@@ -11,7 +11,8 @@ use Rattle.schedule.specs.Plan.{plan}
 use Rattle.schedule.specs.Statement.{countsOf, marksOf}
 use Rattle.planner.specs.declared.Filled.{Filled}
 use Rattle.planner.specs.Answer.{planRows}
-use Rattle.planner.specs.Lent.{over, rowSlot, rowChunk, rowLayer, rowBytes}
+use Rattle.basics.specs.Lent.{over}
+use Rattle.planner.specs.Lent.{rowSlot, rowChunk, rowLayer, rowBytes}
 
 -- How many marks have layer n.
 abbrev pub carriedIn : ℕ → List ℕ → ℕ

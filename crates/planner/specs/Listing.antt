@@ -16,7 +16,8 @@ use Rattle.schedule.specs.Queue.{pieces}
 use Rattle.schedule.specs.Trials.{levelMark}
 use Rattle.planner.specs.declared.fill.At.{At}
 use Rattle.planner.specs.Decision.{at, padded, leftAfter, Part}
-use Rattle.planner.specs.Lent.{over, rowSlot, rowChunk, rowLayer, rowBytes}
+use Rattle.basics.specs.Lent.{over}
+use Rattle.planner.specs.Lent.{rowSlot, rowChunk, rowLayer, rowBytes}
 
 -- The last slot of a part of the forecast that starts at slot start, and the bytes of slot t.
 abbrev pub lastOf : ℕ → List ℕ → ℕ

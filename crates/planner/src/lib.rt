@@ -14,7 +14,7 @@ ghost use Rattle.job.specs.Job.{Accepted, jobOf};
 ghost use Rattle.schedule.specs.Ascending.{Asc};
 ghost use Rattle.planner.specs.Answer.{Handed, DecidedByLists, BestOfLists, compared};
 ghost use Rattle.planner.specs.Handing.{carriedIn, markIn, LaidFrom, Laid};
-ghost use Rattle.planner.specs.Lent.{over};
+ghost use Rattle.basics.specs.Lent.{over};
 
 // How many rows the plan has, or the refusal's number.
 pub enum Answer {

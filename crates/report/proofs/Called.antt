@@ -12,8 +12,8 @@ use Rattle.job.specs.Refusal.{accepted-iff}
 use Rattle.schedule.specs.Plan.{plan}
 use Rattle.schedule.specs.Shape.{own-list-rows}
 use Rattle.schedule.specs.Theorems.{plan-exists}
-use Rattle.planner.specs.Answer.{Handed, planRows, given, lentOf, lentAfter}
-use Rattle.planner.specs.Lent.{over}
+use Rattle.planner.specs.Answer.{Handed, planRows, given, lentOf, sliceAfter}
+use Rattle.basics.specs.Lent.{over}
 use Rattle.planner.specs.declared.Planned.{Planned}
 use Rattle.report.specs.Tables.{rowsIn}
 use Rattle.report.proofs.Own.{slotsOf, chunksOf, layersOf, bytesOf}
@@ -61,7 +61,7 @@ module _ (j : Job) (a : Accepted j) (marks slots cs layers bytes : List ℕ) whe
           le-leb n (length bytes) (omega (arith, few, room .bytes-fit)),
         )
 
-    handed : (result old : List ℕ) → lentAfter j (lentOf marks slots cs layers bytes) result old ≡ over result old
+    handed : (result old : List ℕ) → sliceAfter j (lentOf marks slots cs layers bytes) result old ≡ over result old
     handed result old = rw is-given
 
     pub columns :

@@ -3,9 +3,10 @@
 use Prim.Native.Nat.{ℕ}
 use mathlib.Core.Path.{_≡_, ap}
 use mathlib.Core.Bool.{cond}
-use mathlib.Core.List.{List, _++_}
-use lib.ListN.{length, drop}
+use mathlib.Core.List.{List}
+use lib.ListN.{length}
 use lib.Dec.{leb, eqb}
+use Rattle.basics.specs.Lent.{lentAfter}
 use Rattle.basics.specs.Refusals.{unless, _orElse_}
 use Rattle.job.specs.Job.{Job, Accepted}
 use Rattle.job.specs.Refusal.{refusal}
@@ -25,10 +26,6 @@ planReport j = reportOf j (ownList j (plan j))
 abbrev pub answer : ℕ → ℕ → Written
 answer refused n = cond (eqb refused 0) (Bytes n) (Refused refused)
 
--- The buffer afterwards: the text, then the old bytes; on a refusal as it was.
-abbrev pub bufferAfter : ℕ → List ℕ → List ℕ → List ℕ
-bufferAfter refused t out = cond (eqb refused 0) (t ++ drop (length t) out) out
-
 -- 11 exactly if the buffer is shorter than the text.
 abbrev pub roomRefusal : List ℕ → List ℕ → ℕ
 roomRefusal t out = unless 11 (leb (length t) (length out))
@@ -36,7 +33,7 @@ roomRefusal t out = unless 11 (leb (length t) (length out))
 -- The answer and the buffer afterwards for a text at hand.
 pub record Answered (t old now : List ℕ) (r : Written) : Type 0 where
   pub result : r ≡ answer (roomRefusal t old) (length t)
-  pub buffer : now ≡ bufferAfter (roomRefusal t old) t old
+  pub buffer : now ≡ lentAfter (roomRefusal t old) t old
 
 -- The refusal of the call: 5, 6, 7 by the job, then 11.
 abbrev pub reportRefusal : Job → List ℕ → ℕ
@@ -45,7 +42,7 @@ reportRefusal j out = refusal j orElse roomRefusal (planReport j) out
 -- What the call hands over, and what it leaves in the lent buffer.
 pub record Reported (j : Job) (old now : List ℕ) (r : Written) : Type 0 where
   pub result : r ≡ answer (reportRefusal j old) (length (planReport j))
-  pub buffer : now ≡ bufferAfter (reportRefusal j old) (planReport j) old
+  pub buffer : now ≡ lentAfter (reportRefusal j old) (planReport j) old
 
 -- Whichever plan of an accepted job is taken, this is its report.
 pub report-of-plan : (j : Job) (p : ℕ → ℕ) → Accepted j → IsPlan j p → planReport j ≡ reportOf j (ownList j p)
