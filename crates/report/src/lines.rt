@@ -30,7 +30,7 @@ fn put_field(out: &mut [u8], at: usize, word: &[u8], n: u64) -> usize
 }
 
 // A number after a space.
-pub fn put_next(out: &mut [u8], at: usize, n: u64) -> usize
+pub(crate) fn put_next(out: &mut [u8], at: usize, n: u64) -> usize
     requires { ⌜ at + length (32 ∷ digits n) ≤ length (now out) ⌝ }
     ensures { λ r. ⌜ Put (now (out .entry)) at (32 ∷ digits n) (now (out .exit)) r ⌝ }
 {
@@ -38,7 +38,7 @@ pub fn put_next(out: &mut [u8], at: usize, n: u64) -> usize
 }
 
 // The end of a line.
-pub fn put_end(out: &mut [u8], at: usize) -> usize
+pub(crate) fn put_end(out: &mut [u8], at: usize) -> usize
     requires { ⌜ at + 1 ≤ length (now out) ⌝ }
     ensures { λ r. ⌜ Put (now (out .entry)) at (10 ∷ []) (now (out .exit)) r ⌝ }
 {
@@ -46,7 +46,7 @@ pub fn put_end(out: &mut [u8], at: usize) -> usize
     at + 1
 }
 
-pub fn slots_line(out: &mut [u8], at: usize, last: u64, count: u64, held: u64) -> usize
+pub(crate) fn slots_line(out: &mut [u8], at: usize, last: u64, count: u64, held: u64) -> usize
     requires { ⌜ at + length (line (ascii "slots") (digits last ∷ ascii "chunks" ∷ digits count ∷ ascii "held" ∷ digits held ∷ [])) ≤ length (now out) ⌝ }
     ensures { λ r. ⌜ Put (now (out .entry)) at (line (ascii "slots") (digits last ∷ ascii "chunks" ∷ digits count ∷ ascii "held" ∷ digits held ∷ [])) (now (out .exit)) r ⌝ }
 {
@@ -56,7 +56,7 @@ pub fn slots_line(out: &mut [u8], at: usize, last: u64, count: u64, held: u64) -
     put_end(out, end)
 }
 
-pub fn chunk_line(out: &mut [u8], at: usize, i: u64, layers: u64, bytes: u64) -> usize
+pub(crate) fn chunk_line(out: &mut [u8], at: usize, i: u64, layers: u64, bytes: u64) -> usize
     requires { ⌜ at + length (line (digits i) (digits layers ∷ digits bytes ∷ [])) ≤ length (now out) ⌝ }
     ensures { λ r. ⌜ Put (now (out .entry)) at (line (digits i) (digits layers ∷ digits bytes ∷ [])) (now (out .exit)) r ⌝ }
 {
@@ -66,7 +66,7 @@ pub fn chunk_line(out: &mut [u8], at: usize, i: u64, layers: u64, bytes: u64) ->
     put_end(out, end)
 }
 
-pub fn bytes_line(out: &mut [u8], at: usize, spent: u64, left: u64) -> usize
+pub(crate) fn bytes_line(out: &mut [u8], at: usize, spent: u64, left: u64) -> usize
     requires { ⌜ at + length (line (ascii "bytes") (digits spent ∷ ascii "left" ∷ digits left ∷ [])) ≤ length (now out) ⌝ }
     ensures { λ r. ⌜ Put (now (out .entry)) at (line (ascii "bytes") (digits spent ∷ ascii "left" ∷ digits left ∷ [])) (now (out .exit)) r ⌝ }
 {
@@ -75,7 +75,7 @@ pub fn bytes_line(out: &mut [u8], at: usize, spent: u64, left: u64) -> usize
     put_end(out, end)
 }
 
-pub fn switch_line(out: &mut [u8], at: usize, switch: u64) -> usize
+pub(crate) fn switch_line(out: &mut [u8], at: usize, switch: u64) -> usize
     requires { ⌜ at + length (line (ascii "switch") (digits switch ∷ [])) ≤ length (now out) ⌝ }
     ensures { λ r. ⌜ Put (now (out .entry)) at (line (ascii "switch") (digits switch ∷ [])) (now (out .exit)) r ⌝ }
 {

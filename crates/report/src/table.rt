@@ -23,7 +23,7 @@ fn add(total: u64, more: u32) -> u64
     total + (more as u64)
 }
 
-pub fn sum_of(s: &[u32]) -> u64
+pub(crate) fn sum_of(s: &[u32]) -> u64
     requires { ⌜ length (now s) ≤ 5599 ⌝ }
     ensures { λ r. ⌜ r ≡ sum (λ k. getD (now (s .entry)) k 0) (length (now (s .entry))) ⌝ }
 {
@@ -46,7 +46,7 @@ fn add_row(table: &mut [u64; 2000], c: u16, l: u8, b: u32)
 }
 
 // The pass over the rows.
-pub fn add_rows(
+pub(crate) fn add_rows(
     slots: &[u16],
     chunks: &[u16],
     layers: &[u8],
@@ -97,7 +97,7 @@ fn only_if(carried: bool, x: u64) -> u64
 }
 
 // The layers and bytes that chunk i carries.
-pub fn chunk_of(sizes: &[u32], depth: usize, table: &[u64; 2000], i: u16) -> Chunk
+pub(crate) fn chunk_of(sizes: &[u32], depth: usize, table: &[u64; 2000], i: u16) -> Chunk
     requires { ⌜ (depth ≤ 4) × (1 ≤ i) × (i ≤ 500) ⌝ }
     ensures { λ r. ⌜ ChunkBy (now (sizes .entry)) (now (table .entry)) depth i r ⌝ }
 {
@@ -114,7 +114,7 @@ pub fn chunk_of(sizes: &[u32], depth: usize, table: &[u64; 2000], i: u16) -> Chu
 }
 
 // How many of the chunks carry layer n.
-pub fn layer_count(sizes: &[u32], table: &[u64; 2000], count: u16, n: usize) -> u64
+pub(crate) fn layer_count(sizes: &[u32], table: &[u64; 2000], count: u16, n: usize) -> u64
     requires { ⌜ (count ≤ 500) × (n < 4) ⌝ }
     ensures { λ r. ⌜ r ≡ countBy (now (sizes .entry)) (now (table .entry)) count n ⌝ }
 {
@@ -146,7 +146,7 @@ fn shown(sizes: &[u32], depth: usize, table: &[u64; 2000], i: u16) -> u64
     only_if(is_carried(sizes, table, i, 0), chunk.bytes)
 }
 
-pub fn switch_sum(sizes: &[u32], depth: usize, table: &[u64; 2000], count: u16) -> u64
+pub(crate) fn switch_sum(sizes: &[u32], depth: usize, table: &[u64; 2000], count: u16) -> u64
     requires { ⌜ (depth ≤ 4) × (1 ≤ count) × (count ≤ 500) ⌝ }
     ensures { λ r. ⌜ r ≡ switchBy (now (sizes .entry)) (now (table .entry)) depth count ⌝ }
 {
