@@ -1,4 +1,5 @@
-"""Writes the trials program's case files (crates/trials/data) and, from `reference.py`, what it has to print (crates/trials/stdout).
+"""Writes the trials program's case files (crates/trials/data) and what it has to print (crates/trials/stdout): for the case files from
+`reference.py`, for the direct calls from `expected_calls.txt`, which is written by hand.
 Run it at the root of the repository after changing a case: python3 tools/cases.py"""
 import os
 import shutil

@@ -1,5 +1,5 @@
-// Trials of the public calls. First the case files of data/ (CASES.md says what each is), then calls that no file reaches. Every line is
-// compared with what tools/reference.py, another reading of document 01, says of it.
+// Trials of the public calls. First the case files of data/ (CASES.md says what each is), whose lines tools/reference.py, another reading
+// of document 01, computes; then calls that no file reaches, whose lines are written by hand in tools/expected_calls.txt.
 mod calls;
 mod files;
 mod large;
