@@ -1,7 +1,7 @@
 -- `meter::mean` meets its contract. The loop's invariant: the shares of the first i samples are summed, and none of them is 0.
 use Rattle.meter.proofs.mean.Statement.{statement}
 use Rattle.meter.proofs.mean.Tie as tie
-use Prim.Native.Nat.{_-_, _^_, _≤_}
+use Prim.Native.Nat.{_-_, _≤_}
 use native.Mathlib.Omega.{arith}
 use borrow.Author.Needs.{needs}
 use mathlib.Core.Path.{_≡_}

@@ -1,14 +1,14 @@
--- Lemmas. The forecast's quotient against the exact harmonic mean. Only the first group looks at how a share is rounded.
+-- Lemmas. The forecast's quotient against the exact harmonic mean. Only `share-is` looks at how a share is rounded.
 use Prim.Native.Nat.{ℕ, _+_, _*_, _-_, _/_, _^_, _≤_, _<_}
 use mathlib.Core.Path.{_≡_}
 use mathlib.Core.Bool.{Bool, true, false, not, _||_}
 use mathlib.Core.List.{List, [], _∷_, map}
 use mathlib.Core.Logic.{_⊎_, inl, inr, ⊎-elim}
 use native.Mathlib.Omega.{arith}
-use native.Mathlib.Nat.{mul-le-mul-left, mul-le-mul-right, mul-pos, le-of-mul-le-mul-right, lt-of-mul-lt-mul-left, div-mul-le-self, lt-div-mul-add, le-div-iff-mul-le, div-lt-iff-lt-mul, mul-div-right}
+use native.Mathlib.Nat.{mul-le-mul-left, mul-le-mul-right, mul-pos, le-of-mul-le-mul-right, lt-of-mul-lt-mul-right, div-mul-le-self, lt-div-mul-add, le-div-iff-mul-le, div-lt-iff-lt-mul, mul-div-right}
 use lib.ListN.{length}
 use lib.Dec.{T, T-not, leb, leb→le, nleb→lt, eqb→eq}
-use Rattle.basics.specs.lemmas.Division.{divided-up-enough, divided-up-near, divided-up-iff}
+use Rattle.basics.specs.lemmas.Division.{divided-up-enough, divided-up-near}
 use Rattle.basics.specs.Tests.{All, any, In, here, there}
 use Rattle.basics.specs.lemmas.Tests.{test, T-or-iff, eqb-iff}
 use Rattle.meter.specs.Forecast.{bytesOf, isZero, total, share, meanOf}
@@ -20,6 +20,23 @@ pub record Counts (b : ℕ) : Type 0 where
   pub low : 1 ≤ b
   pub high : b ≤ 16777216
 
+-- ---- one share
+
+-- It is not below 2^56 / bytes, and less than 1 above it.
+pub share-is : (b : ℕ) → 1 ≤ b → (2 ^ 56 ≤ share b * b) × (share b * b < 2 ^ 56 + b)
+share-is b low = (divided-up-enough (2 ^ 56) b low, divided-up-near (2 ^ 56) b low)
+
+-- So it is at least 2^32 ..
+pub share-wide : (b : ℕ) → Counts b → 2 ^ 32 ≤ share b
+share-wide b c =
+    le-of-mul-le-mul-right {k = 16777216} (omega (arith, share-is b (c .low) .0, mul-le-mul-left (share b) (c .high))) (omega arith)
+
+-- .. and at most 2^56.
+pub share-narrow : (b : ℕ) → 1 ≤ b → share b ≤ 2 ^ 56
+share-narrow b low =
+    let l : share b < 2 ^ 56 + 1 = lt-of-mul-lt-mul-right b (omega (arith, share-is b low .1, mul-le-mul-left (2 ^ 56) low)) in
+    omega arith
+
 -- ---- what the shares sum to
 
 pub product-pos : (bs : List ℕ) → All Counts bs → 0 < product bs
@@ -30,26 +47,18 @@ product-pos (b ∷ bs) a = mul-pos (a .0 .low) (product-pos bs (a .1))
 shares-not-below : (bs : List ℕ) → All Counts bs → 2 ^ 56 * others bs ≤ total (map share bs) * product bs
 shares-not-below [] a = omega arith
 shares-not-below (b ∷ bs) a =
-    let h : 2 ^ 56 ≤ share b * b = divided-up-enough (2 ^ 56) b (a .0 .low) in
-    omega (arith, mul-le-mul-right (product bs) h, mul-le-mul-left b (shares-not-below bs (a .1)))
+    omega (arith, mul-le-mul-right (product bs) (share-is b (a .0 .low) .0), mul-le-mul-left b (shares-not-below bs (a .1)))
 
--- .. and less than 1 above it.
+-- .. and each less than 1 above it.
 shares-near : (bs : List ℕ) → All Counts bs → total (map share bs) * product bs ≤ 2 ^ 56 * others bs + length bs * product bs
 shares-near [] a = omega arith
 shares-near (b ∷ bs) a =
-    let h : share b * b ≤ 2 ^ 56 + b = omega (arith, divided-up-near (2 ^ 56) b (a .0 .low)) in
+    let h : share b * b ≤ 2 ^ 56 + b = omega (arith, share-is b (a .0 .low) .1) in
     omega (arith, mul-le-mul-right (product bs) h, mul-le-mul-left b (shares-near bs (a .1)))
 
--- Each is at least 2^32 ..
 shares-wide : (bs : List ℕ) → All Counts bs → length bs * 2 ^ 32 ≤ total (map share bs)
 shares-wide [] a = omega arith
-shares-wide (b ∷ bs) a =
-    let h : 2 ^ 32 ≤ share b = le-div-iff-mul-le {k = b} (a .0 .low) .1 (omega (arith, a .0 .high)) in
-    omega (arith, shares-wide bs (a .1))
-
--- .. and at most 2^56.
-pub share-narrow : (b : ℕ) → 1 ≤ b → share b ≤ 2 ^ 56
-share-narrow b h = divided-up-iff (2 ^ 56) b h (2 ^ 56) .1 (omega (arith, mul-le-mul-left (2 ^ 56) h))
+shares-wide (b ∷ bs) a = omega (arith, share-wide b (a .0), shares-wide bs (a .1))
 
 shares-narrow : (bs : List ℕ) → All Counts bs → total (map share bs) ≤ length bs * 2 ^ 56
 shares-narrow [] a = omega arith
@@ -77,8 +86,7 @@ whole-part bs pos = record {
 -- the greatest whole number that is not above it.
 pub whole-part-greatest : (bs : List ℕ) (h x : ℕ) → WholePart bs h → NotAbove x bs → x ≤ h
 whole-part-greatest bs h x w n =
-    let d : others bs * x < others bs * (h + 1) = omega (arith, n, w .next-above) in
-    let l : x < h + 1 = lt-of-mul-lt-mul-left (others bs) d in
+    let l : x < h + 1 = lt-of-mul-lt-mul-right (others bs) (omega (arith, n, w .next-above)) in
     omega arith
 
 -- A number that is not above the exact mean, while what is one less than such a number is not above it, is the whole part or one less.

@@ -1,21 +1,18 @@
 -- Lemmas. A steady link: samples that all have the same bytes.
 use Prim.Native.Nat.{ℕ, zero, suc, _+_, _*_, _-_, _/_, _^_, _≤_, _<_}
 use mathlib.Core.Path.{_≡_, refl, sym, ap, _∙_}
-use mathlib.Core.Bool.{true, false}
-use mathlib.Core.List.{List, [], _∷_, map}
+use mathlib.Core.Bool.{false}
+use mathlib.Core.List.{List, _∷_, map}
 use mathlib.Core.Logic.{_⊎_, inl, inr, ⊎-elim, _↔_}
 use native.Mathlib.Omega.{arith}
-use native.Mathlib.Nat.{mul-le-mul-left, mul-le-mul-right, le-of-mul-le-mul-left, div-mul-le-self, le-div-iff-mul-le, mul-div-mul-left, two-pow-succ, one-le-pow, pow-le-pow-right}
-use lib.Dec.{leb, eqb, leb→le, nleb→lt, eqb→eq, T-not}
+use native.Mathlib.Nat.{mul-le-mul-right, lt-of-mul-lt-mul-right, le-div-iff-mul-le, mul-div-mul-left, two-pow-succ, one-le-pow, pow-le-pow-right}
 use lib.ListN.{length, replicate, length-replicate}
 use lib.Pow.{pow-add}
 use borrow.Author.Tests.{ne-eqb}
-use Rattle.basics.specs.lemmas.Division.{divided-up-enough, divided-up-iff}
 use Rattle.basics.specs.Tests.{All, any}
-use Rattle.basics.specs.lemmas.Tests.{test}
 use Rattle.meter.specs.Forecast.{isZero, total, share, meanOf, forecastOf}
-use Rattle.meter.specs.Harmonic.{product, others, NotAbove, WholePart}
-use Rattle.meter.specs.lemmas.Mean.{Counts, total-pos, others-pos, mean-not-above, mean-near, one-less-at-most}
+use Rattle.meter.specs.Harmonic.{product, others, WholePart}
+use Rattle.meter.specs.lemmas.Mean.{Counts, share-is, share-wide, others-pos, mean-not-above, mean-near, one-less-at-most}
 
 -- ---- factors of powers of two
 
@@ -97,10 +94,10 @@ module _ (k b : ℕ) (some : 1 ≤ k) (low : 1 ≤ b) (high : b ≤ 16777216) wh
   -- .. and it is b if and only if the share comes out even.
   pub steady-even : (b ≤ meanOf (replicate k b)) ↔ (b * share b ≡ 2 ^ 56)
   steady-even =
-      let pos : 0 < share b = le-div-iff-mul-le {k = b} low .1 (omega arith) in
+      let pos : 0 < share b = omega (arith, share-wide b (record { low = low; high = high })) in
       let e : meanOf (replicate k b) ≡ 2 ^ 56 / share b = rw (length-replicate k b, shares-equal k b) (mul-div-mul-left (2 ^ 56) (share b) some) in
       let d = le-div-iff-mul-le {k = share b} {x = b} {y = 2 ^ 56} pos in
-      (λ h. omega (arith, d .0 (rw e at h), divided-up-enough (2 ^ 56) b low), λ h. rw e (d .1 (omega (arith, h))))
+      (λ h. omega (arith, d .0 (rw e at h), share-is b low .0), λ h. rw e (d .1 (omega (arith, h))))
 
 -- A power of two divides 2^56 without a rest.
 power-even : (i : ℕ) → i ≤ 56 → 2 ^ i * share (2 ^ i) ≡ 2 ^ 56
@@ -108,8 +105,10 @@ power-even i h =
     let n : 56 - i + i ≡ 56 = omega arith in
     let e : 2 ^ (56 - i) * 2 ^ i ≡ 2 ^ 56 = sym (pow-add 2 (56 - i) i) ∙ ap (λ (x : ℕ). 2 ^ x) n in
     let pos : 1 ≤ 2 ^ i = one-le-pow i 2 (omega arith) in
-    let s : share (2 ^ i) ≤ 2 ^ (56 - i) = divided-up-iff (2 ^ 56) (2 ^ i) pos (2 ^ (56 - i)) .1 (omega (arith, e)) in
-    omega (arith, mul-le-mul-right (2 ^ i) s, e, divided-up-enough (2 ^ 56) (2 ^ i) pos)
+    let is = share-is (2 ^ i) pos in
+    let s : share (2 ^ i) < 2 ^ (56 - i) + 1 = lt-of-mul-lt-mul-right (2 ^ i) (omega (arith, is .1, e)) in
+    let l : share (2 ^ i) ≤ 2 ^ (56 - i) = omega arith in
+    omega (arith, mul-le-mul-right (2 ^ i) l, e, is .0)
 
 pub power-steady : (k i : ℕ) → 1 ≤ k → i ≤ 24 → forecastOf (replicate k (2 ^ i)) ≡ 2 ^ i
 power-steady k i some h =
