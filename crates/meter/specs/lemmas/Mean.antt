@@ -24,7 +24,7 @@ pub record Counts (b : ℕ) : Type 0 where
 
 -- It is not below 2^56 / bytes, and less than 1 above it.
 pub share-is : (b : ℕ) → 1 ≤ b → (2 ^ 56 ≤ share b * b) × (share b * b < 2 ^ 56 + b)
-share-is b low = (divided-up-enough (2 ^ 56) b low, divided-up-near (2 ^ 56) b low)
+share-is b low = omega (arith, divided-up-enough (2 ^ 56) b low, divided-up-near (2 ^ 56) b low)
 
 -- So it is at least 2^32 ..
 pub share-wide : (b : ℕ) → Counts b → 2 ^ 32 ≤ share b
