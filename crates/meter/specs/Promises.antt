@@ -152,14 +152,7 @@ forecast-says l o some =
       high = mean-high bs some a;
     })
 
--- The exact mean has a whole part.
-pub has-whole-part : (l : List Sample) → InOrder l → 0 < length l → (In 0 (bytesOf l) → ⊥) → (h : ℕ) × WholePart (bytesOf l) h
-has-whole-part l o some n =
-    let bs = bytesOf l in
-    let a = counts l (o .each) (⊎-elim (λ t. absurd (n (zero-in bs t))) (λ t. t) (test (any isZero bs))) in
-    (length bs * product bs / others bs, whole-part bs (others-pos bs (omega (arith, length-map l (λ x. x .bytes))) a))
-
--- So is every forecast that the call answers.
+-- Every forecast that the call answers keeps the promise.
 pub answer-says : (m : Meter) (f : ℕ) → answerOf m ≡ Bytes f → Forecasts (bytesOf (samplesOf m)) f
 unfolding answerOf
 answer-says m f e =
@@ -178,6 +171,13 @@ answer-says m f e =
 
     not-both : (a b : ℕ) → Refused a ≡ Bytes b → ⊥
     not-both a b e = let z : _≡_ {A = ℕ} 0 1 = cc in omega arith
+
+-- The exact mean has a whole part.
+pub has-whole-part : (l : List Sample) → InOrder l → 0 < length l → (In 0 (bytesOf l) → ⊥) → (h : ℕ) × WholePart (bytesOf l) h
+has-whole-part l o some n =
+    let bs = bytesOf l in
+    let a = counts l (o .each) (⊎-elim (λ t. absurd (n (zero-in bs t))) (λ t. t) (test (any isZero bs))) in
+    (length bs * product bs / others bs, whole-part bs (others-pos bs (omega (arith, length-map l (λ x. x .bytes))) a))
 
 -- ---- a steady link, whose k samples have b bytes each
 

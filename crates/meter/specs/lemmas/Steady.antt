@@ -79,12 +79,12 @@ even-part : (bs : List ℕ) (h : ℕ) → 0 < others bs → h * others bs ≡ le
 even-part bs h pos e = record { not-above = omega (arith, e); next-above = omega (arith, e, pos) }
 
 module _ (k b : ℕ) (some : 1 ≤ k) (low : 1 ≤ b) (high : b ≤ 16777216) where
-  pub steady-mean : forecastOf (replicate k b) ≡ meanOf (replicate k b)
+  steady-mean : forecastOf (replicate k b) ≡ meanOf (replicate k b)
   unfolding forecastOf
   steady-mean = rw (none-zero b low k)
 
   -- b is the exact mean, so the forecast is b or one less ..
-  pub steady-near : (meanOf (replicate k b) ≡ b) ⊎ (meanOf (replicate k b) + 1 ≡ b)
+  steady-near : (meanOf (replicate k b) ≡ b) ⊎ (meanOf (replicate k b) + 1 ≡ b)
   steady-near =
       let bs : List ℕ = replicate k b in
       let c = all-count b low k high in
@@ -92,7 +92,7 @@ module _ (k b : ℕ) (some : 1 ≤ k) (low : 1 ≤ b) (high : b ≤ 16777216) wh
       one-less-at-most bs b (meanOf bs) (even-part bs b (others-pos bs l c) (others-equal k b)) (mean-not-above bs l c) (mean-near bs l c)
 
   -- .. and it is b if and only if the share comes out even.
-  pub steady-even : (b ≤ meanOf (replicate k b)) ↔ (b * share b ≡ 2 ^ 56)
+  steady-even : (b ≤ meanOf (replicate k b)) ↔ (b * share b ≡ 2 ^ 56)
   steady-even =
       let pos : 0 < share b = omega (arith, share-wide b (record { low = low; high = high })) in
       let e : meanOf (replicate k b) ≡ 2 ^ 56 / share b = rw (length-replicate k b, shares-equal k b) (mul-div-mul-left (2 ^ 56) (share b) some) in
