@@ -1,5 +1,6 @@
 pub mod Tests
 pub mod Ranges
+pub mod Division
 pub mod Lists
 pub mod Refusals
 pub mod Digits
