@@ -1,0 +1,5 @@
+pub mod Lists
+pub mod Lines
+pub mod Times
+pub mod Scan
+pub mod Tally
