@@ -3,3 +3,4 @@ pub mod Lines
 pub mod Times
 pub mod Scan
 pub mod Tally
+pub mod Passes
