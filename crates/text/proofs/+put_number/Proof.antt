@@ -51,7 +51,7 @@ put-number-slice-write-out : (t : ℕ) → put-number-lts.Need-slice-write-out (
 ) (put-number-at t) put-number.Post
 put-number-slice-write-out t c =
     let a = c .before .before .args in
-    omega (arith, c .before .before .pre .1, ap length (digits-one (a .n) (c .if1 .taken)))
+    omega (arith, c .before .before .pre .1, ap length (digits-one (a .n) (omega (arith, c .if1 .taken))))
 
 put-number-add-result : (t : ℕ) → put-number-lts.Need-add-result (
   put-number-below t,
@@ -59,7 +59,7 @@ put-number-add-result : (t : ℕ) → put-number-lts.Need-add-result (
 ) (put-number-at t) put-number.Post
 put-number-add-result t c =
     let a = c .before .before .args in
-    omega (arith, c .before .before .pre .1, ap length (digits-one (a .n) (c .if1 .taken)))
+    omega (arith, c .before .before .pre .1, ap length (digits-one (a .n) (omega (arith, c .if1 .taken))))
 
 put-number-same-length : (t : ℕ) → put-number-lts.Need-same-length (
   put-number-below t,
@@ -75,7 +75,7 @@ put-number-returns :
     put-number.Post
 put-number-returns t c =
     let a = c .before .before .args in
-    let e : digits (a .n) ≡ (48 + a .n) ∷ [] = digits-one (a .n) (c .if1 .taken) in
+    let e : digits (a .n) ≡ (48 + a .n) ∷ [] = digits-one (a .n) (omega (arith, c .if1 .taken)) in
     rw e (put-byte (now (a .out)) (a .at) (48 + a .n) (omega (arith, c .before .before .pre .1, ap length e)))
 
 put-number-put-number-requires : (t : ℕ) → put-number-lts.Need-put-number-requires (
@@ -84,7 +84,7 @@ put-number-put-number-requires : (t : ℕ) → put-number-lts.Need-put-number-re
 ) (put-number-at t) put-number.Post
 put-number-put-number-requires t c κs =
     let a = c .before .before .before .args in
-    (omega (arith, c .before .before .before .pre .0, c .before .if1 .left), omega (arith, c .before .before .before .pre .1, digits-length (a .n) (c .before .if1 .left)))
+    (omega (arith, c .before .before .before .pre .0, c .before .if1 .left), omega (arith, c .before .before .before .pre .1, digits-length (a .n) (omega (arith, c .before .if1 .left))))
 
 put-number-cast-out-2 : (t : ℕ) → put-number-lts.Need-cast-out-2 (
   put-number-below t,
@@ -104,7 +104,7 @@ put-number-slice-write-out-2 : (t : ℕ) → put-number-lts.Need-slice-write-out
 ) (put-number-at t) put-number.Post
 put-number-slice-write-out-2 t c =
     let a = c .before .before .before .before .before .before .args in
-    omega (arith, c .before .before .before .before .before .before .pre .1, c .before .before .put-number .ensures .place, c .before .before .put-number .kept .0, digits-length (a .n) (c .before .before .before .before .if1 .left))
+    omega (arith, c .before .before .before .before .before .before .pre .1, c .before .before .put-number .ensures .place, c .before .before .put-number .kept .0, digits-length (a .n) (omega (arith, c .before .before .before .before .if1 .left)))
 
 put-number-add-result-2 : (t : ℕ) → put-number-lts.Need-add-result-2 (
   put-number-below t,
@@ -112,7 +112,7 @@ put-number-add-result-2 : (t : ℕ) → put-number-lts.Need-add-result-2 (
 ) (put-number-at t) put-number.Post
 put-number-add-result-2 t c =
     let a = c .before .before .before .before .before .before .args in
-    omega (arith, c .before .before .before .before .before .before .pre .1, c .before .before .put-number .ensures .place, c .before .before .before .before .before .before .good, digits-length (a .n) (c .before .before .before .before .if1 .left))
+    omega (arith, c .before .before .before .before .before .before .pre .1, c .before .before .put-number .ensures .place, c .before .before .before .before .before .before .good, digits-length (a .n) (omega (arith, c .before .before .before .before .if1 .left)))
 
 put-number-same-length-2 : (t : ℕ) → put-number-lts.Need-same-length-2 (
   put-number-below t,
@@ -128,7 +128,7 @@ put-number-returns-2 t c =
     let a = c .before .before .before .before .before .before .args in
     let o = c .before .before .put-number in
     let v = 48 + a .n % 10 in
-    let e : digits (a .n) ≡ digits (a .n / 10) ++ (v ∷ []) = digits-more (a .n) (c .before .before .before .before .if1 .left) in
+    let e : digits (a .n) ≡ digits (a .n / 10) ++ (v ∷ []) = digits-more (a .n) (omega (arith, c .before .before .before .before .if1 .left)) in
     let h : a .at + length (digits (a .n / 10) ++ (v ∷ [])) ≤ length (now (a .out)) = omega (arith, c .before .before .before .before .before .before .pre .1, ap length e) in
     let r : o .result + 1 ≤ length (o .last .0) = put-room (digits (a .n / 10)) (v ∷ []) h (o .ensures) in
     rw e (put-then (digits (a .n / 10)) (v ∷ []) h (o .ensures) (put-byte (o .last .0) (o .result) v (omega arith)))
