@@ -209,3 +209,27 @@ def plan(job):
                 if fits(job, tried):
                     levels = tried
     return levels, own_list(job, levels)
+
+
+def read_trace(data, slots):
+    """Document 02, request 4: the forecast that a link trace gives."""
+    if not 1 <= slots <= 3600:
+        raise Refused(7)
+    *lines, rest = data.split(b"\n")
+    if rest or any(not 1 <= len(line) <= 7 or line.strip(b"0123456789") for line in lines):
+        raise Refused(14)
+    times = [int(line) for line in lines]
+    if times != sorted(times):
+        raise Refused(14)
+    forecast = [1500 * sum((j - 1) * 1000 <= t < j * 1000 for t in times) for j in range(1, slots + 1)]
+    if max(forecast) > 1 << 24:
+        raise Refused(15)
+    return forecast
+
+
+def write_trace(forecast):
+    if not 1 <= len(forecast) <= 3600:
+        raise Refused(7)
+    if any(b > 1 << 24 or b % 1500 for b in forecast):
+        raise Refused(15)
+    return b"".join(b"%d\n" % (j * 1000) * (b // 1500) for j, b in enumerate(forecast))
