@@ -9,17 +9,19 @@ use lib.ListN.{length, getD}
 use lib.Seq.{ext-getD}
 use lib.Dec.{T, leb, ltb, eqb}
 use borrow.Author.Tests.{le-leb, lt-leb, leb-true, leb-false, eq-eqb, ne-eqb, eqb-true, eqb-false}
-use Rattle.basics.specs.Tests.{All, allTo, allBelow, allTo-iff, same-test, eqb-iff}
-use Rattle.basics.specs.Lists.{upTo, length-upTo, getD-upTo}
+use Rattle.basics.specs.Tests.{All, allTo, allBelow}
+use Rattle.basics.specs.lemmas.Tests.{allTo-iff, same-test, eqb-iff, allTo-cong, allBelow-cong}
+use Rattle.basics.specs.Lists.{upTo}
+use Rattle.basics.specs.lemmas.Lists.{length-upTo, getD-upTo}
 use Rattle.job.specs.declared.Programme.{Programme}
 use Rattle.job.specs.Job.{Job, Within, Accepted, dueSlot, lastDue, chunks, layers, size}
 use Rattle.fetch.specs.Rows.{Row, begun, held, heldCount, carried, markByte, bytesInSlot, bytesOfLayer}
-use Rattle.fetch.specs.Marks.{mark-cong}
+use Rattle.fetch.specs.lemmas.Marks.{mark-cong}
 use Rattle.fetch.specs.Verdict.{rule1, rule2, rule3, rule4, rule6, rule7, lowerCarried, same, same-iff, lowest, verdict}
 use Rattle.checker.specs.declared.Pass.{Pass}
 use Rattle.checker.specs.declared.Layers.{Layers}
-use Rattle.checker.specs.Tables.{cap, firstOf, Tallied, Passed, carriedBy, wholeBy, under, lowerBy, SeenAll, heldBy}
-use Rattle.checker.proofs.Ranges.{allTo-cong, allBelow-cong, count-cong}
+use Rattle.checker.specs.lemmas.Tables.{cap, firstOf, Tallied, Passed, carriedBy, wholeBy, under, lowerBy, SeenAll, heldBy}
+use Rattle.basics.specs.lemmas.Ranges.{count-cong}
 
 -- ---- a sum that stops at the cap
 
@@ -104,7 +106,7 @@ module _ (j : Job) (rows : List Row) (S L F : List ℕ) (ok : Accepted j) (t : T
 
   held-is : (u : ℕ) → u ≤ 3600 → heldBy (j .programme) F u ≡ heldCount j rows u
   held-is u h =
-      count-cong (chunks j) (λ i. leb (getD F i 0) u && ltb u (dueSlot (j .programme) i)) (held j rows u) (λ i a b.
+      count-cong (λ i. leb (getD F i 0) u && ltb u (dueSlot (j .programme) i)) (held j rows u) (chunks j) (λ i a b.
       ap (λ (e : Bool). e && ltb u (dueSlot (j .programme) i)) (ap (λ (n : ℕ). leb n u) (t .firsts i a (omega (arith, ok .chunks-in .high))) ∙ begun-is rows i u (omega arith)))
 
   rule6-is : allTo (lastDue (j .programme)) (λ u. leb (heldBy (j .programme) F u) (j .programme .limit / j .programme .span)) ≡ rule6 j rows

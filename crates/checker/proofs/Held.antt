@@ -13,8 +13,9 @@ use Rattle.basics.specs.Tests.{allTo}
 use Rattle.basics.specs.Sums.{count}
 use Rattle.job.specs.declared.Programme.{Programme}
 use Rattle.job.specs.Job.{dueSlot}
-use Rattle.checker.specs.Tables.{heldBy, startsAt, endsAt, Marked}
-use Rattle.checker.proofs.Ranges.{count-more, count-none, count-small, counts-add, allTo-cong, allTo-holds, allTo-not}
+use Rattle.checker.specs.lemmas.Tables.{heldBy, startsAt, endsAt, Marked}
+use Rattle.basics.specs.lemmas.Ranges.{count-more, count-none, count-small, counts-add}
+use Rattle.basics.specs.lemmas.Tests.{allTo-cong, allTo-holds, allTo-not}
 
 abbrev bit : Bool → ℕ
 bit b = cond b 1 0
@@ -154,7 +155,7 @@ module _ (last most : ℕ) (begins ends : List ℕ) (held t : ℕ) (s : Sweeping
 
 module _ (p : Programme) (first begins ends : List ℕ) (few : p .chunks ≤ 500) (some : (i : ℕ) → 1 ≤ i → i ≤ 500 → 1 ≤ getD first i 0) (m : Marked p first (p .chunks) begins ends) where
   held-none : heldBy p first 0 ≡ 0
-  held-none = count-none (p .chunks) (λ i. leb (getD first i 0) 0 && ltb 0 (dueSlot p i)) (λ k u v. rw (lt-leb (getD first k 0) 0 (some k u (omega arith))))
+  held-none = count-none (λ i. leb (getD first i 0) 0 && ltb 0 (dueSlot p i)) (p .chunks) (λ k u v. rw (lt-leb (getD first k 0) 0 (some k u (omega arith))) tt)
 
   held-step : (t : ℕ) → t < 3600 → heldBy p first (t + 1) + getD ends (t + 1) 0 ≡ heldBy p first t + getD begins (t + 1) 0
   held-step t h =

@@ -1,4 +1,3 @@
-mod Ranges
 mod Rows
 mod Held
 mod Seeing

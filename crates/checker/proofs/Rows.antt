@@ -10,12 +10,12 @@ use lib.ListN.{length, getD, set, length-set, replicate, length-replicate, getD-
 use lib.Seq.{getD-set-same, getD-set-other}
 use lib.Dec.{T, eqb}
 use borrow.Author.Tests.{eqb-true, eqb-false}
-use Rattle.basics.specs.Tests.{all, last, true-T, tests}
+use Rattle.basics.specs.Tests.{all}
+use Rattle.basics.specs.lemmas.Tests.{last, true-T, tests, and-assoc, and-true, and-false}
 use Rattle.basics.specs.Lists.{upTo}
 use Rattle.job.specs.declared.Programme.{Programme}
 use Rattle.fetch.specs.Rows.{Row, rowAt, rowsOf, bytesIf, bytesInSlot, bytesOfLayer}
-use Rattle.checker.specs.Tables.{cap, inRange, onTime, firstOf, Tallied, Passed}
-use Rattle.checker.proofs.Ranges.{and-assoc, and-true, and-false}
+use Rattle.checker.specs.lemmas.Tables.{cap, inRange, onTime, firstOf, Tallied, Passed}
 
 -- ---- one row more
 

@@ -9,11 +9,12 @@ use lib.ListN.{getD}
 use lib.Dec.{eqb}
 use Rattle.basics.specs.Tests.{allBelow}
 use Rattle.fetch.specs.Rows.{markByte}
-use Rattle.fetch.specs.Marks.{withLayer, with-next}
+use Rattle.fetch.specs.Marks.{withLayer}
+use Rattle.fetch.specs.lemmas.Marks.{with-next}
 use Rattle.checker.specs.declared.Seen.{Seen}
 use Rattle.checker.specs.declared.Layers.{Layers}
-use Rattle.checker.specs.Tables.{carriedBy, wholeBy, under, lowerBy, SeenChunk, SeenAll}
-use Rattle.checker.proofs.Ranges.{allTo-more}
+use Rattle.checker.specs.lemmas.Tables.{carriedBy, wholeBy, under, lowerBy, SeenChunk, SeenAll}
+use Rattle.basics.specs.lemmas.Tests.{allTo-more}
 
 -- The mark byte with one layer more.
 mark-more : (c : ℕ → Bool) (n : ℕ) → n < 8 → (b : Bool) → c n ≡ b → cond b (withLayer (markByte c n) n) (markByte c n) ≡ markByte c (suc n)

@@ -14,7 +14,7 @@ ghost use Rattle.fetch.specs.Handed.{Whole};
 ghost use Rattle.fetch.specs.Verdict.{lowest, verdict};
 ghost use Rattle.fetch.specs.Marks.{withLayer};
 ghost use Rattle.checker.specs.Checked.{checked};
-ghost use Rattle.checker.specs.Tables.{cap, inRange, Passed, SeenChunk, SeenAll, heldBy, Marked};
+ghost use Rattle.checker.specs.lemmas.Tables.{cap, inRange, Passed, SeenChunk, SeenAll, heldBy, Marked};
 
 // The verdict 0 to 7, or the number of a refusal.
 pub enum Checked {

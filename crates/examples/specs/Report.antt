@@ -4,7 +4,7 @@ use mathlib.Core.Path.{_≡_, refl}
 use Prim.Native.Nat.{ℕ}
 use Rattle.schedule.specs.Own.{ownList}
 use Rattle.schedule.specs.Plan.{plan}
-use Rattle.report.specs.Text.{ascii, digits}
+use Rattle.basics.specs.Text.{ascii, digits}
 use Rattle.report.specs.Report.{reportOf}
 use Rattle.report.specs.Answer.{planReport}
 use Rattle.examples.specs.Worked.{A, row}

@@ -1,3 +1,3 @@
 pub mod Job
 pub mod Refusal
-pub mod Greatest
+pub mod lemmas

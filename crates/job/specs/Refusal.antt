@@ -8,8 +8,10 @@ use mathlib.Core.Logic.{_↔_}
 use native.Mathlib.Omega.{arith}
 use lib.ListN.{length}
 use lib.Dec.{T, leb, eqb}
-use Rattle.basics.specs.Tests.{All, all, all-iff, leb-iff, eqb-iff, tests}
-use Rattle.basics.specs.Refusals.{unless, _orElse_, and-as, unless-as, orElse-as}
+use Rattle.basics.specs.Tests.{All, all}
+use Rattle.basics.specs.lemmas.Tests.{all-iff, leb-iff, eqb-iff, tests}
+use Rattle.basics.specs.Refusals.{unless, _orElse_}
+use Rattle.basics.specs.lemmas.Refusals.{and-as, unless-as, orElse-as}
 use Rattle.job.specs.declared.Programme.{Programme}
 use Rattle.job.specs.Job.{Job, Within, Accepted, layers, lastDue, lastSlot}
 

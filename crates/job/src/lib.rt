@@ -7,7 +7,7 @@ ghost use lib.ListN.{length};
 ghost use Rattle.job.specs.Job.{jobOf, dueSlot, lastDue, sizeIn};
 ghost use Rattle.job.specs.Refusal.{within, filmRefusal, delayRefusal, fieldsRefusal, lastDueRefusal, sizesRefusal, bytesRefusal, slotsRefusal, forecastRefusal, refusal};
 ghost use Rattle.basics.specs.Tests.{all};
-ghost use Rattle.job.specs.Greatest.{greatest};
+ghost use Rattle.job.specs.lemmas.Greatest.{greatest};
 ghost use Rattle.basics.specs.Refusals.{unless, _orElse_};
 
 // Document 01's C, L, s and buffer limit.

@@ -7,7 +7,8 @@ use native.Mathlib.Omega.{arith}
 use lib.ListN.{length, take, drop}
 use lib.Dec.{leb}
 use borrow.Author.Tests.{ne-eqb, le-leb, lt-leb}
-use Rattle.basics.specs.Refusals.{unless, orElse-none, orElse-some}
+use Rattle.basics.specs.Refusals.{unless}
+use Rattle.basics.specs.lemmas.Refusals.{orElse-none, orElse-some}
 use Rattle.records.specs.File.{split, recordsRefusal, fileRefusal}
 use Rattle.job.specs.Job.{layers}
 use Rattle.jobfile.specs.declared.JobRead.{JobRead}
@@ -17,7 +18,7 @@ use Rattle.jobfile.specs.declared.Ending.{Ending}
 use Rattle.jobfile.specs.declared.Ending.the-variants.{Whole, Broken}
 use Rattle.jobfile.specs.Refusal.{format, refusalOf, jobOfFile}
 use Rattle.jobfile.specs.Reader.{roomRefusal, readRefusal, jobAnswer, readAnswer, sizesRead, forecastRead}
-use Rattle.jobfile.specs.Reading.{Complete, Refuses, Ended}
+use Rattle.jobfile.specs.lemmas.Reading.{Complete, Refuses, Ended}
 use Rattle.jobfile.proofs.Turned.{layers-are, slots-are}
 
 module _ (s z f : List ℕ) where

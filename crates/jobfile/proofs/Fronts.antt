@@ -14,7 +14,7 @@ use Rattle.jobfile.specs.declared.Record.the-variants.{En}
 use Rattle.jobfile.specs.declared.Read.the-variants.{Refused}
 use Rattle.jobfile.specs.Records.{PG, LY, BW, EN, whole, programmeAt, layerAt, runAt, byMark, front}
 use Rattle.jobfile.specs.Reader.{readFront, readAt}
-use Rattle.jobfile.specs.Reading.{readWhole}
+use Rattle.jobfile.specs.lemmas.Reading.{readWhole}
 
 -- What a test on a call's result says of what the call ensures.
 pub known : {r x b : Bool} → r ≡ x → r ≡ b → x ≡ b

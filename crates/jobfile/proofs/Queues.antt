@@ -9,8 +9,8 @@ use Rattle.jobfile.specs.declared.Record.{Record}
 use Rattle.jobfile.specs.declared.Record.the-variants.{Ly, Bw}
 use Rattle.jobfile.specs.Records.{encode}
 use Rattle.jobfile.specs.Writer.{runs, layerRecord, runRecord}
-use Rattle.jobfile.specs.Runs.{runEnd, run-at}
-use Rattle.jobfile.specs.Puts.{Puts, bytesOf, Underway, underway-fits, underway-more, underway-end}
+use Rattle.jobfile.specs.lemmas.Runs.{runEnd, run-at}
+use Rattle.jobfile.specs.lemmas.Puts.{Puts, bytesOf, Underway, underway-fits, underway-more, underway-end}
 
 -- The layers from n on, and the runs from slot i on.
 abbrev pub layersFrom : List ℕ → ℕ → List Record

@@ -9,7 +9,7 @@ use lib.Seq.{length-take-le}
 use lib.Dec.{eqb}
 use borrow.Author.Tests.{eqb-true, eqb-false}
 use Rattle.records.specs.File.{Front, got, none, recordsRefusal, split}
-use Rattle.records.specs.Reading.{reads-start, reads-none, reads-end, reads-fault, reads-more}
+use Rattle.records.specs.lemmas.Reading.{reads-start, reads-none, reads-end, reads-fault, reads-more}
 use Rattle.jobfile.specs.declared.Record.{Record}
 use Rattle.jobfile.specs.declared.Record.the-variants.{Pg, Ly, Bw, En}
 use Rattle.jobfile.specs.declared.Read.the-variants.{Got, Refused}
@@ -19,11 +19,11 @@ use Rattle.jobfile.specs.declared.Ending.the-variants.{Whole, Broken}
 use Rattle.jobfile.specs.declared.Turn.{Turn}
 use Rattle.jobfile.specs.declared.Turn.the-variants.{On, Over}
 use Rattle.jobfile.specs.Records.{front, isEnd}
-use Rattle.jobfile.specs.Sound.{front-sound}
+use Rattle.jobfile.specs.lemmas.Sound.{front-sound}
 use Rattle.jobfile.specs.Says.{sizesIn, forecastIn}
 use Rattle.jobfile.specs.Refusal.{fault, lacking, format}
 use Rattle.jobfile.specs.Reader.{readFront, readAt}
-use Rattle.jobfile.specs.Reading.{noRecords, faultAfter, endRefusal, endCode, endedBy, StandsFor, Takes, Going, Refuses, Ended, Turned}
+use Rattle.jobfile.specs.lemmas.Reading.{noRecords, faultAfter, endRefusal, endCode, endedBy, StandsFor, Takes, Going, Refuses, Ended, Turned}
 
 -- ---- what stands in front
 

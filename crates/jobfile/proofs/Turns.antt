@@ -12,9 +12,9 @@ use Rattle.jobfile.specs.declared.Record.{Record}
 use Rattle.jobfile.specs.declared.Record.the-variants.{Pg, Ly, Bw, En}
 use Rattle.jobfile.specs.declared.Sofar.{Sofar}
 use Rattle.jobfile.specs.Says.{hasProgramme, sizesIn, forecastIn}
-use Rattle.jobfile.specs.Reading.{faultAfter, Room, StandsFor, Takes}
-use Rattle.jobfile.specs.Clean.{first-programme, layer-in, run-in}
-use Rattle.jobfile.specs.Joined.{has-append, has-same, programme-same, programme-new, sizes-append, forecast-append}
+use Rattle.jobfile.specs.lemmas.Reading.{faultAfter, Room, StandsFor, Takes}
+use Rattle.jobfile.specs.lemmas.Clean.{first-programme, layer-in, run-in}
+use Rattle.jobfile.specs.lemmas.Joined.{has-append, has-same, programme-same, programme-new, sizes-append, forecast-append}
 
 -- ---- the state with a record more
 

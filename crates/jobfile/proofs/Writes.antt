@@ -5,7 +5,8 @@ use mathlib.Core.List.{List, _∷_, _++_, map}
 use native.Mathlib.Omega.{arith}
 use lib.ListN.{length, length-append}
 use borrow.Author.Tests.{ne-eqb, le-leb, lt-leb}
-use Rattle.basics.specs.Refusals.{_orElse_, orElse-none, orElse-some}
+use Rattle.basics.specs.Refusals.{_orElse_}
+use Rattle.basics.specs.lemmas.Refusals.{orElse-none, orElse-some}
 use Rattle.job.specs.Job.{Job, Accepted}
 use Rattle.job.specs.Refusal.{refusal, accepted-iff}
 use Rattle.jobfile.specs.declared.Record.the-variants.{Pg}
@@ -13,9 +14,9 @@ use Rattle.jobfile.specs.declared.Written.{Written}
 use Rattle.jobfile.specs.declared.Written.the-variants.{Bytes, Refused}
 use Rattle.jobfile.specs.Records.{EN, encode}
 use Rattle.jobfile.specs.Writer.{runs, layerRecord, runRecord, jobFile, longRefusal, shortRefusal, writeRefusal, writeAnswer, fileWritten}
-use Rattle.jobfile.specs.Puts.{Puts, bytesOf, bytes-append, puts-then, length-puts}
-use Rattle.records.specs.Puts.{written-fits}
-use Rattle.jobfile.specs.FileLength.{short-file}
+use Rattle.jobfile.specs.lemmas.Puts.{Puts, bytesOf, bytes-append, puts-then, length-puts}
+use Rattle.records.specs.lemmas.Puts.{written-fits}
+use Rattle.jobfile.specs.lemmas.FileLength.{short-file}
 
 module _ (j : Job) (out : List ℕ) where
   -- What the writer hands over.

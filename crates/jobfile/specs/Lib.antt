@@ -3,12 +3,5 @@ pub mod Says
 pub mod Refusal
 pub mod Reader
 pub mod Writer
-pub mod Reading
-pub mod Joined
-pub mod Puts
-pub mod Runs
-pub mod FileLength
-pub mod Sound
-pub mod Back
-pub mod Clean
 pub mod Theorems
+pub mod lemmas

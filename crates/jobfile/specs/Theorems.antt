@@ -9,8 +9,9 @@ use native.Mathlib.Omega.{arith}
 use lib.ListN.{length, drop}
 use lib.Dec.{leb}
 use borrow.Author.Tests.{le-leb}
-use Rattle.basics.specs.Refusals.{unless, orElse-none}
-use Rattle.records.specs.Written.{split-written, refusal-written}
+use Rattle.basics.specs.Refusals.{unless}
+use Rattle.basics.specs.lemmas.Refusals.{orElse-none}
+use Rattle.records.specs.lemmas.Written.{split-written, refusal-written}
 use Rattle.job.specs.Job.{Job, Accepted, layers}
 use Rattle.jobfile.specs.declared.Record.the-variants.{En}
 use Rattle.jobfile.specs.declared.JobRead.the-variants as jobRead
@@ -18,10 +19,10 @@ use Rattle.jobfile.specs.Records.{encode}
 use Rattle.jobfile.specs.Refusal.{format, refusalOf, jobOfFile}
 use Rattle.jobfile.specs.Reader.{roomRefusal, readRefusal, readAnswer, sizesRead, forecastRead}
 use Rattle.jobfile.specs.Writer.{runs, Longest, recordsOf, jobFile, longRefusal}
-use Rattle.jobfile.specs.Runs.{longest-runs}
-use Rattle.jobfile.specs.FileLength.{short-file}
-use Rattle.jobfile.specs.Back.{end-back, records-back, records-clean, nothing-lacking, job-back}
-use Rattle.jobfile.specs.Clean.{file-clean}
+use Rattle.jobfile.specs.lemmas.Runs.{longest-runs}
+use Rattle.jobfile.specs.lemmas.FileLength.{short-file}
+use Rattle.jobfile.specs.lemmas.Back.{end-back, records-back, records-clean, nothing-lacking, job-back}
+use Rattle.jobfile.specs.lemmas.Clean.{file-clean}
 
 -- ---- "Job and plan files read back as the job and plan written."
 

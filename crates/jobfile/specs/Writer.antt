@@ -9,7 +9,7 @@ use lib.Dec.{leb, eqb}
 use Rattle.basics.specs.Lent.{lentAfter}
 use Rattle.basics.specs.Tests.{All}
 use Rattle.basics.specs.Refusals.{unless, _orElse_}
-use Rattle.records.specs.Written.{encodeAll}
+use Rattle.records.specs.File.{encodeAll}
 use Rattle.job.specs.Job.{Job}
 use Rattle.job.specs.Refusal.{refusal}
 use Rattle.jobfile.specs.declared.Record.{Record}
@@ -57,7 +57,7 @@ recordsOf j = Pg (j .programme) ∷ map layerRecord (j .sizes) ++ map runRecord 
 
 -- Those records and EN.
 unfoldable pub jobFile : Job → List ℕ
-jobFile j = encodeAll format encode (recordsOf j) ++ encode En
+jobFile j = encodeAll encode (recordsOf j) ++ encode En
 
 -- 9: a file above 65,536 bytes.
 abbrev pub longRefusal : Job → ℕ

@@ -9,10 +9,10 @@ ghost use Rattle.records.specs.Fields.{h, w};
 ghost use Rattle.job.specs.Job.{jobOf};
 ghost use Rattle.jobfile.specs.Records.{encode, front, isEnd};
 ghost use Rattle.jobfile.specs.Refusal.{programmeFault, layerFault, runFault};
-ghost use Rattle.jobfile.specs.Puts.{Puts, bytesOf};
+ghost use Rattle.jobfile.specs.lemmas.Puts.{Puts, bytesOf};
 ghost use Rattle.jobfile.specs.Writer.{runs, layerRecord, runRecord, jobFile, writeAnswer, fileWritten};
-ghost use Rattle.jobfile.specs.Runs.{runEnd};
-ghost use Rattle.jobfile.specs.Reading.{noRecords, readWhole, faultAfter, endRefusal, endedBy, readRefusalOf, endRefusalOf, Room, Takes, Going, Turned, Ended};
+ghost use Rattle.jobfile.specs.lemmas.Runs.{runEnd};
+ghost use Rattle.jobfile.specs.lemmas.Reading.{noRecords, readWhole, faultAfter, endRefusal, endedBy, readRefusalOf, endRefusalOf, Room, Takes, Going, Turned, Ended};
 ghost use Rattle.jobfile.specs.Reader.{readFront, readAt, readAnswer, sizesRead, forecastRead};
 use job::Programme;
 

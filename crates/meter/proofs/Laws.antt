@@ -9,14 +9,15 @@ use lib.ListN.{length, getD, take, drop, length-append, length-drop, drop-of-len
 use lib.Seq.{drop-cons, take-suc, set-split}
 use lib.Dec.{T-not, ltb, ltb→lt, nltb→le}
 use borrow.Author.Tests.{lt-ltb, le-ltb}
-use Rattle.basics.specs.Tests.{by-cond, true-T}
-use Rattle.basics.specs.Lists.{upTo, length-upTo}
+use Rattle.basics.specs.lemmas.Tests.{by-cond, true-T}
+use Rattle.basics.specs.Lists.{upTo}
+use Rattle.basics.specs.lemmas.Lists.{length-upTo}
 use Rattle.meter.specs.declared.Meter.{Meter}
 use Rattle.meter.specs.declared.Taken.{Taken}
 use Rattle.meter.specs.Meter.{Sample, sample, samplesOf, storing, InRange, inRange, lastSlot, InOrder, inOrder, with-sample, taken}
-use Rattle.meter.specs.Cells.{nextCells}
+use Rattle.meter.specs.lemmas.Cells.{nextCells}
 use Rattle.meter.specs.Promises.{few-kept}
-use Rattle.meter.specs.Order.{in-order-iff, in-range-iff, test-false, test-true, Fine, fine-snoc, fine-before, last-slot-snoc}
+use Rattle.meter.specs.lemmas.Order.{in-order-iff, in-range-iff, test-false, test-true, Fine, fine-snoc, fine-before, last-slot-snoc}
 
 -- The sample in cell k.
 abbrev pub cell : Meter → ℕ → Sample

@@ -10,13 +10,15 @@ use native.Mathlib.Numerals.{add-one}
 use lib.ListN.{length, getD, length-map}
 use lib.Dec.{T}
 use borrow.Author.Tests.{ne-eqb, le-ltb, lt-ltb}
-use Rattle.basics.specs.Tests.{All, any, last, T-true, T-or-iff}
-use Rattle.basics.specs.Lists.{upTo, length-upTo}
+use Rattle.basics.specs.Tests.{All, any}
+use Rattle.basics.specs.lemmas.Tests.{last, T-true, T-or-iff}
+use Rattle.basics.specs.Lists.{upTo}
+use Rattle.basics.specs.lemmas.Lists.{length-upTo}
 use Rattle.meter.specs.declared.Meter.{Meter}
 use Rattle.meter.specs.declared.Answer.the-variants.{Bytes, Refused}
 use Rattle.meter.specs.Meter.{Sample, samplesOf, InOrder, inOrder}
 use Rattle.meter.specs.Forecast.{bytesOf, isZero, total, share, meanOf, forecastOf, answerOf}
-use Rattle.meter.specs.Mean.{Counts, counts, total-pos, mean-high}
+use Rattle.meter.specs.lemmas.Mean.{Counts, counts, total-pos, mean-high}
 use Rattle.meter.proofs.Laws.{cell}
 
 bytes-snoc : (l : List Sample) (x : Sample) → bytesOf (l ++ (x ∷ [])) ≡ bytesOf l ++ (x .bytes ∷ [])

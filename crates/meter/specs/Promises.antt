@@ -8,15 +8,17 @@ use native.Mathlib.Omega.{arith}
 use lib.ListN.{length, length-append, length-drop, length-map}
 use lib.Dec.{T-not, ltb, eqb, eqb→eq}
 use borrow.Author.Tests.{eq-eqb, ne-eqb}
-use Rattle.basics.specs.Tests.{eqb-iff, In, test, ltb-iff, by-cond, any, any-row}
-use Rattle.basics.specs.Refusals.{unless, _orElse_, unless-as, orElse-as}
+use Rattle.basics.specs.lemmas.Tests.{eqb-iff, test, ltb-iff, by-cond, any-row}
+use Rattle.basics.specs.Tests.{In, any}
+use Rattle.basics.specs.Refusals.{unless, _orElse_}
+use Rattle.basics.specs.lemmas.Refusals.{unless-as, orElse-as}
 use Rattle.meter.specs.declared.Meter.{Meter}
 use Rattle.meter.specs.declared.Answer.the-variants.{Bytes}
 use Rattle.meter.specs.Meter.{Sample, sample, samplesOf, empty, InRange, inRange, lastSlot, InOrder, inOrder, lastTen, sampleRefusal, meterRefusal, lateRefusal, takeRefusal, with-sample, taken}
 use Rattle.meter.specs.Forecast.{bytesOf, isZero, meanOf, forecastOf, forecastRefusal, answerOf}
 use Rattle.meter.specs.Harmonic.{product, others, WholePart}
-use Rattle.meter.specs.Mean.{mean-high, mean-not-below, mean-near, whole-part, others-pos, zero-in, counts, at-most-one-more}
-use Rattle.meter.specs.Order.{in-range-iff, in-order-iff, ten-first, then-after, Fine, fine-snoc, last-ten-in-order, stored-samples}
+use Rattle.meter.specs.lemmas.Mean.{mean-high, mean-not-below, mean-near, whole-part, others-pos, zero-in, counts, at-most-one-more}
+use Rattle.meter.specs.lemmas.Order.{in-range-iff, in-order-iff, ten-first, then-after, Fine, fine-snoc, last-ten-in-order, stored-samples}
 
 -- ---- "gets a result or, exactly in the cases that document 01 lists, a refusal number"
 

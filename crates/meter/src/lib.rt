@@ -3,7 +3,7 @@
 ghost use mathlib.Core.Path.{_≡_};
 ghost use Prim.Native.Nat.{_≤_, _<_};
 ghost use lib.ListN.{length};
-ghost use Rattle.meter.specs.Cells.{nextCells};
+ghost use Rattle.meter.specs.lemmas.Cells.{nextCells};
 ghost use Rattle.meter.specs.Forecast.{share, bytesOf, forecastOf, answerOf};
 ghost use Rattle.meter.specs.Meter.{sample, samplesOf, storing, empty, inRange, inOrder, lastSlot, with-sample, taken, InOrder};
 

@@ -8,7 +8,7 @@ use lib.ListN.{length, getD, drop, length-drop}
 use lib.Dec.{leb}
 use borrow.Author.Tests.{le-leb, lt-leb}
 use Rattle.records.specs.Fields.{hAt, wAt, marked}
-use Rattle.planfile.specs.Scan.{byte-on, h-on, w-on}
+use Rattle.planfile.specs.lemmas.Scan.{byte-on, h-on, w-on}
 use Rattle.planfile.specs.Records.{kp, ft, en, front, readAt}
 use Rattle.planfile.specs.declared.Record.the-variants.{Kp, Ft, En}
 use Rattle.planfile.specs.declared.Read.the-variants.{Got, Refused}

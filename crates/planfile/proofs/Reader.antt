@@ -8,17 +8,19 @@ use native.Mathlib.Omega.{arith}
 use lib.ListN.{length, drop}
 use lib.Dec.{eqb, eqb→eq}
 use borrow.Author.Tests.{eq-eqb, ne-eqb}
-use Rattle.basics.specs.Tests.{test, not-T-false, T-true, true-T, tests}
-use Rattle.basics.specs.Lists.{upTo, length-upTo}
-use Rattle.basics.specs.Refusals.{unless, _orElse_, orElse-some}
+use Rattle.basics.specs.lemmas.Tests.{test, not-T-false, T-true, true-T, tests}
+use Rattle.basics.specs.Lists.{upTo}
+use Rattle.basics.specs.lemmas.Lists.{length-upTo}
+use Rattle.basics.specs.Refusals.{unless, _orElse_}
+use Rattle.basics.specs.lemmas.Refusals.{orElse-some}
 use Rattle.records.specs.File.{fileRefusal}
 use Rattle.job.specs.Job.{Job, chunks}
 use Rattle.job.specs.Refusal.{refusal}
 use Rattle.fetch.specs.Rows.{Row}
 use Rattle.planfile.specs.PlanFile.{format, planIn}
 use Rattle.planfile.specs.Calls.{Slices, slicesOf, room, readRefusal, readAnswer, readLent}
-use Rattle.planfile.specs.Scan.{answerOf, markOn, rowOn, Laid, Done, filled}
-use Rattle.planfile.specs.Writing.{map-upTo}
+use Rattle.planfile.specs.lemmas.Scan.{answerOf, markOn, rowOn, Laid, Done, filled}
+use Rattle.planfile.specs.lemmas.Writing.{map-upTo}
 use Rattle.planfile.specs.declared.PlanRead.{PlanRead}
 use Rattle.planfile.specs.declared.PlanRead.the-variants.{Rows, Refused}
 

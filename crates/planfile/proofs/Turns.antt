@@ -7,7 +7,7 @@ use lib.ListN.{length}
 use lib.Dec.{eqb}
 use Rattle.basics.specs.Refusals.{unless, _orElse_}
 use Rattle.planfile.specs.Records.{readAt}
-use Rattle.planfile.specs.Scan.{inTurn, answerOf, turnBy, turnOf}
+use Rattle.planfile.specs.lemmas.Scan.{inTurn, answerOf, turnBy, turnOf}
 use Rattle.planfile.specs.declared.Record.the-variants.{Kp, Ft, En}
 use Rattle.planfile.specs.declared.Read.{Read}
 use Rattle.planfile.specs.declared.Read.the-variants as read

@@ -6,8 +6,9 @@ use native.Mathlib.Omega.{arith}
 use lib.ListN.{length, drop, length-append}
 use lib.Dec.{leb, leb→le}
 use borrow.Author.Tests.{ne-eqb, le-leb, lt-leb}
-use Rattle.basics.specs.Lists.{length-upTo}
-use Rattle.basics.specs.Refusals.{unless, _orElse_, unless-iff, orElse-iff}
+use Rattle.basics.specs.lemmas.Lists.{length-upTo}
+use Rattle.basics.specs.Refusals.{unless, _orElse_}
+use Rattle.basics.specs.lemmas.Refusals.{unless-iff, orElse-iff}
 use Rattle.records.specs.Fields.{written}
 use Rattle.job.specs.Job.{Job, chunks}
 use Rattle.job.specs.Refusal.{refusal}
@@ -16,8 +17,8 @@ use Rattle.fetch.specs.Handed.{Whole, handedRefusal, handed-iff}
 use Rattle.planfile.specs.Records.{en}
 use Rattle.planfile.specs.PlanFile.{kps, ftOf, fileOf}
 use Rattle.planfile.specs.Calls.{Slices, planOf, writeInput, writeRefusal, writeAnswer, writeLent}
-use Rattle.planfile.specs.Writing.{bytesOf, file-parts, length-file, length-kps, length-fts, two-puts}
-use Rattle.records.specs.Puts.{written-whole}
+use Rattle.planfile.specs.lemmas.Writing.{bytesOf, file-parts, length-file, length-kps, length-fts, two-puts}
+use Rattle.records.specs.lemmas.Puts.{written-whole}
 use Rattle.planfile.specs.declared.Written.{Written}
 use Rattle.planfile.specs.declared.Written.the-variants.{Bytes, Refused}
 

@@ -7,7 +7,7 @@ use mathlib.Core.Logic.{_↔_, ⊎-elim}
 use native.Mathlib.Omega.{arith}
 use lib.ListN.{length, drop}
 use lib.Dec.{T}
-use Rattle.basics.specs.Lists.{length-upTo}
+use Rattle.basics.specs.lemmas.Lists.{length-upTo}
 use Rattle.records.specs.File.{ended, split, fileRefusal}
 use Rattle.job.specs.Job.{Job, Accepted, chunks}
 use Rattle.job.specs.Refusal.{refusal}
@@ -15,9 +15,9 @@ use Rattle.fetch.specs.Rows.{rowAt}
 use Rattle.fetch.specs.Handed.{Whole, handed-iff}
 use Rattle.planfile.specs.PlanFile.{format, Plan, InWidth, InOrder, planIn, fileOf}
 use Rattle.planfile.specs.Calls.{Slices, slicesOf, room, readRefusal, readAnswer, readLent, planOf, writeInput, writeRefusal}
-use Rattle.planfile.specs.Writing.{length-file}
-use Rattle.planfile.specs.Back.{file-accepted, file-says, accepts, field, not-short, nine-by-size}
-use Rattle.planfile.specs.Order.{in-order-accepted, accepted-in-order, none-or-eight}
+use Rattle.planfile.specs.lemmas.Writing.{length-file}
+use Rattle.planfile.specs.lemmas.Back.{file-accepted, file-says, accepts, field, not-short, nine-by-size}
+use Rattle.planfile.specs.lemmas.Order.{in-order-accepted, accepted-in-order, none-or-eight}
 use Rattle.planfile.specs.declared.PlanRead.the-variants.{Rows}
 
 -- ---- what is written reads back

@@ -13,8 +13,8 @@ ghost use Rattle.fetch.specs.Rows.{rowsOf};
 ghost use Rattle.planfile.specs.Records.{encode, readAt};
 ghost use Rattle.planfile.specs.PlanFile.{format, kps, ftOf};
 ghost use Rattle.planfile.specs.Calls.{slicesOf, readAnswer, readLent, writeInput, writeAnswer, writeLent};
-ghost use Rattle.planfile.specs.Writing.{bytesOf};
-ghost use Rattle.planfile.specs.Scan.{refusalOf, endOf, inTurn, answerOf, turnOf, Done, markOn, rowOn, filled};
+ghost use Rattle.planfile.specs.lemmas.Writing.{bytesOf};
+ghost use Rattle.planfile.specs.lemmas.Scan.{refusalOf, endOf, inTurn, answerOf, turnOf, Done, markOn, rowOn, filled};
 use job::Programme;
 
 // A record without its mark.

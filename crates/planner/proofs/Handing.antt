@@ -9,20 +9,22 @@ use lib.ListN.{length, getD, set, take, drop, length-set}
 use lib.Seq.{take-suc, take-at, length-take-le}
 use lib.Dec.{leb, eqb}
 use borrow.Author.Tests.{eq-eqb, ne-eqb, le-leb, lt-leb}
-use Rattle.basics.specs.Refusals.{unless, orElse-none, orElse-some}
-use Rattle.basics.specs.Tests.{tests, true-T}
+use Rattle.basics.specs.Refusals.{unless}
+use Rattle.basics.specs.lemmas.Refusals.{orElse-none, orElse-some}
+use Rattle.basics.specs.lemmas.Tests.{tests, true-T}
 use Rattle.job.specs.Job.{Job, Accepted, chunks}
 use Rattle.job.specs.Refusal.{refusal, accepted-iff}
-use Rattle.schedule.specs.Plan.{plan, plan-choice}
-use Rattle.schedule.specs.Shape.{own-list-rows}
+use Rattle.schedule.specs.Plan.{plan}
+use Rattle.schedule.specs.lemmas.Plan.{plan-choice}
+use Rattle.schedule.specs.lemmas.Shape.{own-list-rows}
 use Rattle.schedule.specs.Statement.{countsOf, marksOf}
 use Rattle.schedule.specs.Theorems.{best, plan-exists}
 use Rattle.planner.specs.declared.Answer.the-variants.{Rows, Refused}
 use Rattle.planner.specs.declared.Planned.{Planned}
 use Rattle.planner.specs.Answer.{planRows, Lent, lentOf, holds, planRefusal, given, Handed, DecidedByLists, BestOfLists}
 use Rattle.basics.specs.Lent.{over}
-use Rattle.planner.specs.Lent.{rowSlot, rowChunk, rowLayer, rowBytes}
-use Rattle.planner.proofs.Over.{over-next, over-long}
+use Rattle.fetch.specs.Rows.{rowSlot, rowChunk, rowLayer, rowBytes}
+use Rattle.basics.specs.lemmas.Lent.{over-next, over-long}
 
 -- ---- a copy
 

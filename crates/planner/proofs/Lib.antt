@@ -1,13 +1,3 @@
-pub mod Tables
-pub mod Sums
-pub mod Bases
-pub mod Rooms
-pub mod Trials
-pub mod Settle
-pub mod Decided
-pub mod Over
-pub mod Pieces
-pub mod Chunks
 pub mod Marks
 pub mod PlanRows
 pub mod Handing

@@ -10,16 +10,17 @@ use lib.ListN.{length, getD, set, take, drop, drop-of-length-le, length-set, Lis
 use lib.Seq.{take-suc, take-all, getD-drop}
 use lib.Dec.{eqb, ltb, ltb→lt, nltb→le}
 use borrow.Author.Tests.{eq-eqb, ne-eqb}
-use Rattle.basics.specs.Lists.{upTo, length-upTo}
-use Rattle.basics.specs.Tests.{test}
+use Rattle.basics.specs.Lists.{upTo}
+use Rattle.basics.specs.lemmas.Lists.{length-upTo}
+use Rattle.basics.specs.lemmas.Tests.{test}
 use Rattle.fetch.specs.Marks.{bit}
-use Rattle.schedule.specs.Ascending.{Asc}
+use Rattle.schedule.specs.lemmas.Ascending.{Asc}
 use Rattle.planner.specs.declared.Order.the-variants.{Less, Same, More}
 use Rattle.planner.specs.Answer.{compared}
-use Rattle.planner.specs.Handing.{carriedIn, markIn}
+use Rattle.planner.specs.lemmas.Handing.{carriedIn, markIn}
 use Rattle.basics.specs.Lent.{over}
-use Rattle.planner.proofs.Over.{over-next}
-use Rattle.planner.proofs.Tables.{drop-next, above-next}
+use Rattle.basics.specs.lemmas.Lent.{over-next}
+use Rattle.basics.specs.lemmas.Tables.{drop-next, above-next}
 
 -- ---- counts
 

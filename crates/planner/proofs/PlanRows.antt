@@ -9,38 +9,41 @@ use lib.ListN.{length, getD, take, drop, replicate, length-drop}
 use lib.Seq.{take-at}
 use lib.Dec.{leb, ltb, leb→le, nleb→lt, ltb→lt, nltb→le}
 use borrow.Author.Tests.{eq-eqb, ne-eqb, lt-ltb, le-ltb}
-use Rattle.basics.specs.Lists.{upTo, upTo-cong, length-upTo}
+use Rattle.basics.specs.Lists.{upTo}
+use Rattle.basics.specs.lemmas.Lists.{upTo-cong, length-upTo}
 use Rattle.basics.specs.Sums.{pre, sum, count}
-use Rattle.basics.specs.Tests.{All, test, by-cond}
+use Rattle.basics.specs.Tests.{All}
+use Rattle.basics.specs.lemmas.Tests.{test, by-cond}
 use Rattle.job.specs.declared.Programme.{Programme}
 use Rattle.job.specs.Job.{Job, Within, Accepted, jobOf, sizeIn, size, chunks, layers, due, forecast, heldMost, lastSlot}
-use Rattle.fetch.specs.Marks.{bit, mark-cong}
-use Rattle.fetch.specs.Rows.{Row, markByte}
-use Rattle.schedule.specs.Ascending.{Asc}
-use Rattle.schedule.specs.Choice.{fits-weight, kept, kept-asc}
-use Rattle.schedule.specs.Fill.{Piece, Ready, fill, needs}
-use Rattle.schedule.specs.Kept.{picked, picked-asc, picked-each}
-use Rattle.schedule.specs.Linear.{level-bit}
-use Rattle.schedule.specs.Necessity.{Each}
-use Rattle.schedule.specs.OwnFill.{own-list-is}
-use Rattle.schedule.specs.Plan.{plan, plan-choice, plan-fits}
-use Rattle.schedule.specs.Queue.{each, feas-relok, pieces, queue, ready-queue, releases, weight}
+use Rattle.fetch.specs.Marks.{bit}
+use Rattle.fetch.specs.lemmas.Marks.{mark-cong}
+use Rattle.fetch.specs.Rows.{Row, markByte, rowSlot, rowChunk, rowLayer, rowBytes}
+use Rattle.schedule.specs.lemmas.Ascending.{Asc}
+use Rattle.schedule.specs.lemmas.Choice.{fits-weight, kept-asc}
+use Rattle.schedule.specs.Plan.{kept, picked, plan, after}
+use Rattle.schedule.specs.lemmas.Fill.{Piece, Ready, fill, needs}
+use Rattle.schedule.specs.lemmas.Kept.{picked-asc, picked-each}
+use Rattle.schedule.specs.lemmas.Linear.{level-bit}
+use Rattle.schedule.specs.lemmas.Necessity.{Each}
+use Rattle.schedule.specs.lemmas.OwnFill.{own-list-is}
+use Rattle.schedule.specs.lemmas.Plan.{plan-choice, plan-fits}
+use Rattle.schedule.specs.lemmas.Queue.{each, feas-relok, pieces, queue, ready-queue, releases, weight, each-is, all-ones}
 use Rattle.schedule.specs.Statement.{countsOf, marksOf}
-use Rattle.schedule.specs.Sufficiency.{fetch}
-use Rattle.schedule.specs.Trials.{levelMark}
-use Rattle.schedule.specs.Words.{accepted-sized, after}
-use Rattle.planner.specs.declared.fill.At.{At}
+use Rattle.schedule.specs.lemmas.Sufficiency.{fetch}
+use Rattle.schedule.specs.lemmas.Trials.{levelMark}
+use Rattle.schedule.specs.lemmas.Words.{accepted-sized, due-by}
+use Rattle.listing.specs.declared.At.{At}
 use Rattle.planner.specs.Answer.{planRows}
-use Rattle.planner.specs.Decision.{at, Part, Small, DecideFrom, Decides}
-use Rattle.planner.specs.Handing.{carriedIn, markIn}
+use Rattle.schedule.specs.lemmas.Parts.{at, Part, Small}
+use Rattle.settle.specs.lemmas.Decision.{DecideFrom, Decides}
+use Rattle.planner.specs.lemmas.Handing.{carriedIn, markIn}
 use Rattle.basics.specs.Lent.{over}
-use Rattle.planner.specs.Lent.{rowSlot, rowChunk, rowLayer, rowBytes}
-use Rattle.planner.specs.Listing.{lastOf, bytesAt, leftAt, onward, load, Fed, Made, Puts, levelOf, Levels, queueOf, AllFrom}
-use Rattle.planner.proofs.Bases.{due-by}
+use Rattle.listing.specs.lemmas.Listing.{lastOf, bytesAt, leftAt, onward, load, Fed, Made, Puts, levelOf, Levels, queueOf, AllFrom}
 use Rattle.planner.proofs.Marks.{asc-none}
-use Rattle.planner.proofs.Over.{over-long}
-use Rattle.planner.proofs.Tables.{each-is, all-take, all-ones}
-use Rattle.planner.proofs.Pieces.{left-next, onward-next, same-refl}
+use Rattle.basics.specs.lemmas.Lent.{over-long}
+use Rattle.basics.specs.lemmas.Tables.{all-take}
+use Rattle.listing.proofs.Pieces.{left-next, onward-next, same-refl}
 
 -- ---- levels and marks
 

@@ -9,7 +9,7 @@ use lib.Dec.{leb, ltb, eqb}
 use Rattle.basics.specs.Refusals.{unless, _orElse_}
 use Rattle.job.specs.Job.{Job, EqualChunks, chunks}
 use Rattle.job.specs.Refusal.{refusal}
-use Rattle.fetch.specs.Rows.{Row}
+use Rattle.fetch.specs.Rows.{Row, rowSlot, rowChunk, rowLayer, rowBytes}
 use Rattle.schedule.specs.Own.{ownList}
 use Rattle.schedule.specs.Plan.{plan}
 use Rattle.schedule.specs.Statement.{Best, IsPlan, countsOf, marksOf}
@@ -19,7 +19,6 @@ use Rattle.planner.specs.declared.Order.{Order}
 use Rattle.planner.specs.declared.Order.the-variants.{Less, Same, More}
 use Rattle.planner.specs.declared.Planned.{Planned}
 use Rattle.basics.specs.Lent.{lentAfter}
-use Rattle.planner.specs.Lent.{rowSlot, rowChunk, rowLayer, rowBytes}
 
 -- The plan's own list.
 abbrev pub planRows : Job → List Row

@@ -1,5 +1,2 @@
-pub mod Lent
 pub mod Answer
-pub mod Decision
-pub mod Listing
-pub mod Handing
+pub mod lemmas

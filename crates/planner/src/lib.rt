@@ -1,7 +1,4 @@
 // The planner: marks, rows and counts of a job's plan, as document 01 decides and lists them.
-mod decide;
-mod fill;
-
 use job::Programme;
 ghost use mathlib.Core.Path.{_≡_};
 ghost use mathlib.Core.List.{[], _∷_};
@@ -11,9 +8,9 @@ ghost use lib.Dec.{leb, eqb};
 ghost use mathlib.Core.Bool.{_&&_};
 ghost use Rattle.basics.specs.Lists.{upTo};
 ghost use Rattle.job.specs.Job.{Accepted, jobOf};
-ghost use Rattle.schedule.specs.Ascending.{Asc};
+ghost use Rattle.schedule.specs.lemmas.Ascending.{Asc};
 ghost use Rattle.planner.specs.Answer.{Handed, DecidedByLists, BestOfLists, compared};
-ghost use Rattle.planner.specs.Handing.{carriedIn, markIn, LaidFrom, Laid};
+ghost use Rattle.planner.specs.lemmas.Handing.{carriedIn, markIn, LaidFrom, Laid};
 ghost use Rattle.basics.specs.Lent.{over};
 
 // How many rows the plan has, or the refusal's number.
@@ -161,7 +158,7 @@ fn lay_out(
     let mut ready = [0u16; 500];
     let mut mark = [1u8; 500];
     let count = p.chunks as usize;
-    let first = decide::decide(
+    let first = settle::decide(
         p,
         sizes.len(),
         sizes,
@@ -172,8 +169,8 @@ fn lay_out(
         &mut mark,
     );
     let c = forecast[0];
-    let from = fill::At { t: 1, c, n: 0 };
-    let end = fill::put_all(
+    let from = listing::At { t: 1, c, n: 0 };
+    let end = listing::put_all(
         forecast,
         1,
         sizes,

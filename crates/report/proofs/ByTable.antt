@@ -8,16 +8,18 @@ use mathlib.Core.Logic.{⊎-elim}
 use native.Mathlib.Omega.{arith}
 use lib.ListN.{length, getD}
 use lib.Dec.{eqb}
-use Rattle.basics.specs.Tests.{All, last}
-use Rattle.basics.specs.Lists.{upTo, upTo-cong}
+use Rattle.basics.specs.Tests.{All}
+use Rattle.basics.specs.lemmas.Tests.{last}
+use Rattle.basics.specs.Lists.{upTo}
+use Rattle.basics.specs.lemmas.Lists.{upTo-cong}
 use Rattle.basics.specs.Sums.{pre, sum}
 use Rattle.job.specs.Job.{Job, size, chunks, layers, lastSlot, forecast}
 use Rattle.fetch.specs.Rows.{Row, rowAt, rowsOf, carried, layerCount}
 use Rattle.fetch.specs.Rules.{InRange}
-use Rattle.schedule.specs.Lists.{pre-cong, sum-cong}
-use Rattle.report.specs.Text.{digits}
+use Rattle.basics.specs.lemmas.Ranges.{pre-cong, sum-cong}
+use Rattle.basics.specs.Text.{digits}
 use Rattle.report.specs.Report.{layersCarried, bytesCarried, chunkLine, bytesInRows, forecastSum, left, shown, switchSum, reportOf}
-use Rattle.report.specs.Tables.{Rows, Listed, Summed, carriedBy, layersBy, bytesBy, chunkLineBy, countBy, shownBy, switchBy, linesBy}
+use Rattle.report.specs.lemmas.Tables.{Rows, Listed, Summed, carriedBy, layersBy, bytesBy, chunkLineBy, countBy, shownBy, switchBy, linesBy}
 use Rattle.report.proofs.Laws.{bytes-snoc}
 
 -- A sum counted from 0 and from 1.

@@ -10,12 +10,12 @@ use borrow.Author.Tests.{le-leb}
 use Rattle.job.specs.Job.{Job, Accepted, chunks}
 use Rattle.job.specs.Refusal.{accepted-iff}
 use Rattle.schedule.specs.Plan.{plan}
-use Rattle.schedule.specs.Shape.{own-list-rows}
+use Rattle.schedule.specs.lemmas.Shape.{own-list-rows}
 use Rattle.schedule.specs.Theorems.{plan-exists}
 use Rattle.planner.specs.Answer.{Handed, planRows, given, lentOf, sliceAfter}
 use Rattle.basics.specs.Lent.{over}
 use Rattle.planner.specs.declared.Planned.{Planned}
-use Rattle.report.specs.Tables.{rowsIn}
+use Rattle.report.specs.lemmas.Tables.{rowsIn}
 use Rattle.report.proofs.Own.{slotsOf, chunksOf, layersOf, bytesOf}
 
 -- The first n of a slice are a column of the plan's rows.

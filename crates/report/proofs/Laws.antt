@@ -13,9 +13,10 @@ use Rattle.basics.specs.Lists.{upTo}
 use Rattle.basics.specs.Sums.{pre}
 use Rattle.job.specs.Job.{sizeIn}
 use Rattle.fetch.specs.Rows.{Row, rowAt, rowsOf, bytesIf, bytesOfLayer}
-use Rattle.report.specs.Bounds.{sum-most, pre-most, cond-most, equal-most, apart-most}
+use Rattle.basics.specs.lemmas.Ranges.{sum-most, pre-most, cond-most}
+use Rattle.report.specs.lemmas.Bounds.{equal-most, apart-most}
 use Rattle.report.specs.Report.{apart}
-use Rattle.report.specs.Tables.{bytesAt, Summed, carriedBy, bytesBy, shownBy, switchBy}
+use Rattle.report.specs.lemmas.Tables.{bytesAt, Summed, carriedBy, bytesBy, shownBy, switchBy}
 
 -- ---- bounds
 

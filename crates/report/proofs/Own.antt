@@ -6,17 +6,17 @@ use native.Mathlib.Omega.{arith}
 use lib.ListN.{length, getD, length-map, List·getD-map}
 use lib.Seq.{ext-getD}
 use Rattle.basics.specs.Tests.{All}
-use Rattle.basics.specs.Lists.{length-upTo, getD-upTo}
+use Rattle.basics.specs.lemmas.Lists.{length-upTo, getD-upTo}
 use Rattle.job.specs.Job.{Job, Accepted, layers}
 use Rattle.fetch.specs.Rows.{Row, rowAt, rowsOf}
 use Rattle.fetch.specs.Rules.{InRange, Keeps, WithinForecast}
 use Rattle.schedule.specs.Own.{ownList}
 use Rattle.schedule.specs.Plan.{plan}
-use Rattle.schedule.specs.Shape.{own-list-rows}
+use Rattle.schedule.specs.lemmas.Shape.{own-list-rows}
 use Rattle.schedule.specs.Statement.{marksOf}
 use Rattle.schedule.specs.Theorems.{plan-exists, plan-carried}
-use Rattle.schedule.specs.Words.{accepted-sized}
-use Rattle.report.specs.Tables.{Listed}
+use Rattle.schedule.specs.lemmas.Words.{accepted-sized}
+use Rattle.report.specs.lemmas.Tables.{Listed}
 
 abbrev pub slotsOf : List Row → List ℕ
 slotsOf rows = map (λ x. x .slot) rows

@@ -1,9 +1,4 @@
-pub mod Text
 pub mod Report
-pub mod Tables
-pub mod Places
-pub mod Numbers
-pub mod Bounds
-pub mod Widths
 pub mod Theorems
 pub mod Answer
+pub mod lemmas

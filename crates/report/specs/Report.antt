@@ -7,7 +7,7 @@ use Rattle.basics.specs.Lists.{upTo}
 use Rattle.basics.specs.Sums.{pre, sum}
 use Rattle.job.specs.Job.{Job, chunks, layers, forecast, lastSlot, heldMost}
 use Rattle.fetch.specs.Rows.{Row, bytesIf, bytesOfLayer, carried, layerCount}
-use Rattle.report.specs.Text.{ascii, digits, line, text}
+use Rattle.basics.specs.Text.{ascii, digits, line, text}
 
 -- "Line 1: d(C), C, H." H itself, also above C.
 abbrev pub slotsLine : Job → List ℕ

@@ -8,15 +8,16 @@ use native.Mathlib.Omega.{arith}
 use lib.ListN.{length, length-append}
 use lib.Dec.{T, T-not, eqb→eq}
 use borrow.Author.Tests.{eq-eqb}
-use Rattle.basics.specs.Tests.{All, by-cond, eqb-iff}
+use Rattle.basics.specs.Tests.{All}
+use Rattle.basics.specs.lemmas.Tests.{by-cond, eqb-iff}
 use Rattle.basics.specs.Sums.{pre, sum}
 use Rattle.job.specs.Job.{Job, Layer, Accepted, chunks, layers, size}
 use Rattle.fetch.specs.Rows.{Row, bytesOfLayer, carried}
 use Rattle.fetch.specs.Rules.{InRange, WholeLayers, LowerCarried, WithinForecast}
-use Rattle.fetch.specs.RowLemmas.{base-carried}
-use Rattle.schedule.specs.Lists.{pre-cong, sum-cong, sum-zero}
-use Rattle.report.specs.Bounds.{rows-within, layers-sum}
-use Rattle.report.specs.Widths.{slots-width, chunks-width, layers-width, bytes-width, switch-width}
+use Rattle.fetch.specs.lemmas.Rows.{base-carried}
+use Rattle.basics.specs.lemmas.Ranges.{pre-cong, sum-cong, sum-zero}
+use Rattle.report.specs.lemmas.Bounds.{rows-within, layers-sum}
+use Rattle.report.specs.lemmas.Widths.{slots-width, chunks-width, layers-width, bytes-width, switch-width}
 use Rattle.report.specs.Report.{slotsLine, bytesCarried, chunkLines, layersLine, bytesInRows, forecastSum, left, bytesLine, shown, switchLine, reportOf}
 
 -- ---- "bytes in rows and forecast bytes unspent"

@@ -14,11 +14,11 @@ ghost use Rattle.basics.specs.Lists.{upTo};
 ghost use Rattle.job.specs.Job.{jobOf, Accepted};
 ghost use Rattle.fetch.specs.Rows.{rowsOf};
 ghost use Rattle.fetch.specs.Rules.{WithinForecast};
-ghost use Rattle.report.specs.Text.{ascii, digits, line, text};
+ghost use Rattle.basics.specs.Text.{ascii, digits, line, text};
 ghost use Rattle.report.specs.Report.{reportOf};
 ghost use Rattle.report.specs.Answer.{planReport, Answered, Reported};
-ghost use Rattle.report.specs.Places.{Put};
-ghost use Rattle.report.specs.Tables.{Listed, chunkLineBy, countBy, linesBy, rowsIn};
+ghost use Rattle.report.specs.lemmas.Places.{Put};
+ghost use Rattle.report.specs.lemmas.Tables.{Listed, chunkLineBy, countBy, linesBy, rowsIn};
 
 // The number of bytes written, or the number of a refusal.
 pub enum Written {

@@ -2,8 +2,8 @@
 ghost use mathlib.Core.List.{[], _∷_, _++_};
 ghost use Prim.Native.Nat.{_+_, _≤_};
 ghost use lib.ListN.{length};
-ghost use Rattle.report.specs.Text.{ascii, digits, line};
-ghost use Rattle.report.specs.Places.{Put};
+ghost use Rattle.basics.specs.Text.{ascii, digits, line};
+ghost use Rattle.report.specs.lemmas.Places.{Put};
 
 // The digits of n go to out at a place. The place after them.
 fn put_number(out: &mut [u8], at: usize, n: u64) -> usize

@@ -7,7 +7,7 @@ ghost use lib.Dec.{eqb};
 ghost use Rattle.basics.specs.Sums.{sum};
 ghost use Rattle.fetch.specs.Rows.{rowsOf};
 ghost use Rattle.report.specs.Report.{apart};
-ghost use Rattle.report.specs.Tables.{Rows, Summed, bytesAt, carriedBy, ChunkBy, countBy, shownBy, switchBy};
+ghost use Rattle.report.specs.lemmas.Tables.{Rows, Summed, bytesAt, carriedBy, ChunkBy, countBy, shownBy, switchBy};
 
 // What a chunk carries: how many layers and how many bytes.
 pub struct Chunk {

@@ -10,8 +10,9 @@ use lib.Seq.{drop-cons, getD-take, length-take-le, set-out, take-suc}
 use lib.Dec.{leb, leb→le}
 use borrow.Author.Tests.{le-leb, lt-leb}
 use Rattle.basics.specs.Lent.{over}
-use Rattle.basics.specs.Tests.{all-All, true-T}
-use Rattle.trace.specs.lemmas.Lists.{All-at, map-snoc}
+use Rattle.basics.specs.lemmas.Lent.{map-snoc, over-next}
+use Rattle.basics.specs.lemmas.Tables.{all-at}
+use Rattle.basics.specs.lemmas.Tests.{all-All, true-T}
 use Rattle.trace.specs.lemmas.Tally.{bump}
 use Rattle.trace.specs.lemmas.Passes.{fewLines, linesForecast}
 
@@ -26,7 +27,7 @@ few-at counts slots k l s e h =
     let first : List ℕ = take slots counts in
     let a = all-All (λ n. leb n 11184) (λ n. n ≤ 11184) (λ n t. leb→le n 11184 t) first (true-T (fewLines first) e) in
     let n : length first ≡ slots = length-take-le slots counts (omega arith) in
-    rw getD-take at (All-at (λ n. n ≤ 11184) first k 0 a (omega arith))
+    rw getD-take at (all-at (λ n. n ≤ 11184) first k (omega arith) a)
 
 -- The places from k on decide.
 pub record Testing (counts : List ℕ) (slots k : ℕ) : Type 0 where
@@ -54,12 +55,6 @@ module _ (counts : List ℕ) (slots k : ℕ) (t : Testing counts slots k) where
   testing-end h = let e : slots - k ≡ 0 = omega arith in sym (t .says ∙ rw e)
 
 -- ---- the forecast
-
-over-next : (t l : List ℕ) (v : ℕ) → length t < length l → set (over t l) (length t) v ≡ over (t ++ (v ∷ [])) l
-over-next [] [] v h = absurd (omega arith)
-over-next [] (x ∷ l) v h = refl
-over-next (y ∷ t) [] v h = absurd (omega arith)
-over-next (y ∷ t) (x ∷ l) v h = ap (λ (k : List ℕ). y ∷ k) (over-next t l v (omega arith))
 
 pub record Putting (counts : List ℕ) (slots : ℕ) (old out : List ℕ) (k : ℕ) : Type 0 where
   pub inside : k ≤ slots

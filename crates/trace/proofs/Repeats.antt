@@ -8,7 +8,7 @@ use native.Mathlib.Numerals.{add-one}
 use lib.ListN.{length, getD, take, drop, set, replicate, length-append, length-set, length-drop, replicate-append-replicate, List·getD-append}
 use lib.Seq.{take-length, paste, paste-zero, paste-suc, length-take-le, getD-take, getD-drop, take-at, drop-at, drop-append-add, drop-drop}
 use Rattle.trace.specs.Trace.{bytesOf}
-use Rattle.records.specs.Puts.{written-fits}
+use Rattle.records.specs.lemmas.Puts.{written-fits}
 use Rattle.text.specs.lemmas.Places.{Put, put-between, put-length, put-none, put-then}
 
 -- ---- a copy

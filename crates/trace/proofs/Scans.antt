@@ -8,10 +8,10 @@ use native.Mathlib.Omega.{arith}
 use native.Mathlib.Nat.{pow-suc, pow-le-pow-right}
 use native.Mathlib.Numerals.{add-one}
 use lib.ListN.{length, getD, drop, length-set, drop-of-length-le}
-use lib.Seq.{drop-cons}
 use lib.Dec.{T-not, ltb, eqb, eqb→eq, eqb-refl, ltb→lt, nltb→le}
 use borrow.Author.Tests.{le-leb, lt-leb, ne-eqb, not-true, not-false}
-use Rattle.basics.specs.Tests.{T-true, not-T-false, test, true-T, tests}
+use Rattle.basics.specs.lemmas.Tables.{drop-next}
+use Rattle.basics.specs.lemmas.Tests.{T-true, not-T-false, test, true-T, tests}
 use Rattle.trace.specs.lemmas.Scan.{Scanned, scan, scan-bad, scan-long}
 use Rattle.trace.specs.lemmas.Tally.{bump, tally}
 use Rattle.job.specs.Refusal.{within}
@@ -32,9 +32,6 @@ digit-low b r is h = let u = simp tests at (true-T (within 48 57 b) (sym is ∙ 
 
 pub digit-high : (b : ℕ) (r : Bool) → r ≡ within 48 57 b → not r ≡ false → b ≤ 57
 digit-high b r is h = let u = simp tests at (true-T (within 48 57 b) (sym is ∙ not-false r h)) in u .1
-
-next-byte : (trace : List ℕ) (i : ℕ) → i < length trace → drop i trace ≡ getD trace i 0 ∷ drop (i + 1) trace
-next-byte trace i h = rw (add-one, drop-cons trace i 0)
 
 -- ---- the digits of a line
 
@@ -69,7 +66,7 @@ module _ (trace : List ℕ) (from end value next : ℕ) (r : Reading trace from 
           low = omega (arith, r .low);
           high = omega arith;
           small = rw e (omega (arith, r .small, p, digit-high (getD trace next 0) b is h));
-          says = λ t. rw e (r .says t ∙ ap (scan (next - from) value true t) (next-byte trace next (omega arith)) ∙ scan-digit (next - from) value t (getD trace next 0) (drop (next + 1) trace) d);
+          says = λ t. rw e (r .says t ∙ ap (scan (next - from) value true t) (drop-next trace next (omega arith)) ∙ scan-digit (next - from) value t (getD trace next 0) (drop (next + 1) trace) d);
         }
 
 -- ---- the lines
@@ -98,7 +95,7 @@ module _ (trace old counts : List ℕ) (i t : ℕ) (s : Scanning trace old count
 
     -- A byte that is no digit, other than a line feed.
     no-digit : next < length trace → within 48 57 (getD trace next 0) ≡ false → (getD trace next 0 ≡ 10 → ⊥) → Counted trace old counts false
-    no-digit h w o = broken (ap (λ (bs : List ℕ). scan n v true t bs .fine) (next-byte trace next h) ∙ scan-other n v t (getD trace next 0) (drop (next + 1) trace) w o)
+    no-digit h w o = broken (ap (λ (bs : List ℕ). scan n v true t bs .fine) (drop-next trace next h) ∙ scan-other n v t (getD trace next 0) (drop (next + 1) trace) w o)
 
     -- No digit at all.
     pub scanning-empty : next ≤ i → Counted trace old counts false
@@ -109,7 +106,7 @@ module _ (trace old counts : List ℕ) (i t : ℕ) (s : Scanning trace old count
         ⊎-elim
         (λ u.
         let q = eqb→eq (getD trace next 0) 10 u in
-        let f : drop next trace ≡ 10 ∷ drop (next + 1) trace = next-byte trace next (omega arith) ∙ ap (λ (x : ℕ). x ∷ drop (next + 1) trace) q in
+        let f : drop next trace ≡ 10 ∷ drop (next + 1) trace = drop-next trace next (omega arith) ∙ ap (λ (x : ℕ). x ∷ drop (next + 1) trace) q in
         broken (ap (λ (bs : List ℕ). scan n v true t bs .fine) f ∙ rw z))
         (λ u. no-digit (omega arith) w (λ q. T-not (eqb (getD trace next 0) 10) u (rw q (eqb-refl 10))))
         (test (eqb (getD trace next 0) 10))
@@ -129,7 +126,7 @@ module _ (trace old counts : List ℕ) (i t : ℕ) (s : Scanning trace old count
         (λ l.
         let k : 7 ≤ n = omega (arith, nltb→le next end l, d .low) in
         broken (
-        ap (λ (bs : List ℕ). scan n v true t bs .fine) (next-byte trace next h)
+        ap (λ (bs : List ℕ). scan n v true t bs .fine) (drop-next trace next h)
         ∙ ap (λ (x : Scanned). x .fine) (scan-digit n v t (getD trace next 0) (drop (next + 1) trace) w)
         ∙ scan-long (n + 1) (v * 10 + (getD trace next 0 - 48)) true t (drop (next + 1) trace) (omega arith)))
         (test (ltb next end)))
@@ -144,7 +141,7 @@ module _ (trace old counts : List ℕ) (i t : ℕ) (s : Scanning trace old count
 
     module _ (feed : getD trace next 0 ≡ 10) (in-trace : next < length trace) where
       at-feed : drop next trace ≡ 10 ∷ drop (next + 1) trace
-      at-feed = next-byte trace next in-trace ∙ ap (λ (x : ℕ). x ∷ drop (next + 1) trace) feed
+      at-feed = drop-next trace next in-trace ∙ ap (λ (x : ℕ). x ∷ drop (next + 1) trace) feed
 
       -- A time below the one before.
       pub scanning-falls : v < t → Counted trace old counts false

@@ -10,6 +10,7 @@ use lib.ListN.{length, getD, drop, drop-of-length-le}
 use lib.Seq.{drop-cons}
 use borrow.Author.Tests.{not-true, not-false}
 use Rattle.basics.specs.Tests.{all}
+use Rattle.basics.specs.lemmas.Tables.{drop-next}
 use Rattle.basics.specs.lemmas.Digits.{digits-one, digits-length}
 use Rattle.trace.specs.lemmas.Tally.{widthFrom}
 use Rattle.basics.specs.Text.{digits}
@@ -32,8 +33,7 @@ module _ (f : List ℕ) (t : ℕ) (s : Trying f t) where
   module _ (here : t < length f) (r : Bool) (is : r ≡ writable (getD f t 0)) where
     next : all writable f ≡ all writable (getD f t 0 ∷ drop (t + 1) f)
     next =
-        let e : drop t f ≡ getD f t 0 ∷ drop (t + 1) f = rw (add-one, drop-cons f t 0) in
-        s .says ∙ ap (all writable) e
+        s .says ∙ ap (all writable) (drop-next f t here)
 
     pub trying-no : not r ≡ true → false ≡ all writable f
     trying-no e = sym (next ∙ rw (sym is, not-true r e))

@@ -9,7 +9,8 @@ use lib.ListN.{length, getD, drop, replicate, length-append, drop-of-length-le}
 use lib.Seq.{drop-cons}
 use lib.Dec.{leb}
 use borrow.Author.Tests.{ne-eqb, le-leb, lt-leb, not-true, not-false}
-use Rattle.basics.specs.Refusals.{unless, orElse-none, orElse-some}
+use Rattle.basics.specs.Refusals.{unless}
+use Rattle.basics.specs.lemmas.Refusals.{orElse-none, orElse-some}
 use Rattle.basics.specs.Tests.{all}
 use Rattle.trace.specs.lemmas.Tally.{widthFrom, written-length}
 use Rattle.basics.specs.Text.{digits}

@@ -7,14 +7,18 @@ use native.Mathlib.Omega.{arith}
 use lib.ListN.{length, getD, replicate, length-replicate, getD-replicate}
 use lib.Seq.{ext-getD}
 use lib.Dec.{T, eqb}
-use Rattle.basics.specs.Lists.{upTo, length-upTo, getD-upTo}
-use Rattle.basics.specs.Refusals.{unless, _orElse_, and-as, orElse-as, unless-as}
-use Rattle.basics.specs.Tests.{All, all, all-iff, all-map, eqb-iff}
+use Rattle.basics.specs.Lists.{upTo}
+use Rattle.basics.specs.lemmas.Lists.{length-upTo, getD-upTo}
+use Rattle.basics.specs.Refusals.{unless, _orElse_}
+use Rattle.basics.specs.lemmas.Refusals.{and-as, orElse-as, unless-as}
+use Rattle.basics.specs.Tests.{All, all}
+use Rattle.basics.specs.lemmas.Tables.{all-at}
+use Rattle.basics.specs.lemmas.Tests.{all-iff, all-map, eqb-iff}
 use Rattle.job.specs.Job.{Within}
 use Rattle.job.specs.Refusal.{within, within-iff}
 use Rattle.trace.specs.Trace.{Means, NotBelow, aboveRefusal, forecastOf, forecastRefusal, found, howMany, inSlot, linesFrom, linesRefusal, slotBytes, slotsRefusal, time, times, traceOf, traceRefusal, writable}
 use Rattle.trace.specs.lemmas.Lines.{lines-found, means-found}
-use Rattle.trace.specs.lemmas.Lists.{All-at, All-replicate}
+use Rattle.trace.specs.lemmas.Lists.{All-replicate}
 use Rattle.trace.specs.lemmas.Times.{lines-are, many-at, times-are, times-rise, timesFrom}
 
 -- ---- refusals
@@ -135,7 +139,7 @@ reads-back f e =
     rw q at (slot-bytes (length f) (traceOf f) (linesFrom 0 f) m (i + 1) (omega arith) (omega arith)) in
     let a : howMany (inSlot (i + 1)) (timesFrom 0 f) ≡ getD f i 0 / 1500 = rw z at (many-at i 0 f) in
     let b : howMany (inSlot (i + 1)) (map time (linesFrom 0 f)) ≡ getD f i 0 / 1500 = ap (howMany (inSlot (i + 1))) (times-are 0 f) ∙ a in
-    omega (arith, c, b, All-at WholeLines f i 0 (u .each) l .multiple))
+    omega (arith, c, b, all-at WholeLines f i l (u .each) .multiple))
 
 -- What is written is never refused.
 pub never-refused : (f : List ℕ) → forecastRefusal f ≡ 0 → traceRefusal (length f) (traceOf f) ≡ 0

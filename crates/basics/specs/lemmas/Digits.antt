@@ -8,7 +8,7 @@ use native.Mathlib.Nat.{pow-suc}
 use lib.ListN.{length, getD, length-append, List·getD-append}
 use lib.Dec.{ltb, ltb→lt, nltb→le}
 use borrow.Author.Tests.{lt-ltb, le-ltb}
-use Rattle.basics.specs.Tests.{test}
+use Rattle.basics.specs.lemmas.Tests.{test}
 use Rattle.basics.specs.Text.{digitsIn, digits, readOn}
 
 -- ---- digits one by one

@@ -6,7 +6,7 @@ use mathlib.Core.Path.{_≡_}
 use native.Mathlib.Omega.{arith}
 use denote.Ref.{now}
 use borrow.Author.Needs.{needs}
-use Rattle.checker.specs.Tables.{Marked}
+use Rattle.checker.specs.lemmas.Tables.{Marked}
 use Rattle.checker.proofs.Held.{marked-none, marked-pass, marked-more, marked-small}
 
 abbrev Inv-loop : tie.InvT-loop

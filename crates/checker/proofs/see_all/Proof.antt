@@ -6,7 +6,7 @@ use mathlib.Core.Path.{_≡_}
 use native.Mathlib.Omega.{arith}
 use denote.Ref.{now}
 use borrow.Author.Needs.{needs}
-use Rattle.checker.specs.Tables.{SeenAll}
+use Rattle.checker.specs.lemmas.Tables.{SeenAll}
 use Rattle.checker.proofs.Seeing.{seen-none, seen-more}
 
 abbrev Inv-loop : tie.InvT-loop

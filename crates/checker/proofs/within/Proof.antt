@@ -11,7 +11,7 @@ use lib.Dec.{leb}
 use denote.Ref.{now}
 use borrow.Author.Tests.{le-leb, lt-leb}
 use Rattle.basics.specs.Tests.{allTo}
-use Rattle.checker.proofs.Ranges.{allTo-holds, allTo-not}
+use Rattle.basics.specs.lemmas.Tests.{allTo-holds, allTo-not}
 
 abbrev fits-at : List ℕ → List ℕ → ℕ → Bool
 fits-at f sums t = leb (getD sums t 0) (getD f (t - 1) 0)

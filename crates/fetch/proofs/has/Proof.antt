@@ -6,7 +6,7 @@ use Prim.Native.Nat.{ℕ, _/_, _^_}
 use lib.Bits.{and-mask}
 use lib.Dec.{eqb}
 use borrow.Author.Needs.{needs}
-use Rattle.fetch.specs.Marks.{high-bit}
+use Rattle.fetch.specs.lemmas.Marks.{high-bit}
 
 returns : tie.Need-returns
 returns c = sym (high-bit (c .before .args .mark) 8 (c .before .args .n) (c .before .fits .mark .fits) (c .if1 .taken))

@@ -3,7 +3,7 @@ use Rattle.fetch.proofs.with.Statement.{statement}
 use Rattle.fetch.proofs.with.Tie as tie
 use mathlib.Core.Path.{sym}
 use borrow.Author.Needs.{needs}
-use Rattle.fetch.specs.Marks.{with-none}
+use Rattle.fetch.specs.lemmas.Marks.{with-none}
 use Rattle.fetch.proofs.Bits.{with-is}
 
 returns : tie.Need-returns

@@ -3,7 +3,7 @@ use Rattle.fetch.proofs.without.Statement.{statement}
 use Rattle.fetch.proofs.without.Tie as tie
 use mathlib.Core.Path.{sym}
 use borrow.Author.Needs.{needs}
-use Rattle.fetch.specs.Marks.{without-none}
+use Rattle.fetch.specs.lemmas.Marks.{without-none}
 use Rattle.fetch.proofs.Bits.{without-is}
 
 returns : tie.Need-returns

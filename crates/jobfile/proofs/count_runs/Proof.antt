@@ -8,7 +8,7 @@ use mathlib.Core.List.{List}
 use lib.ListN.{length, drop, drop-of-length-le}
 use denote.Ref.{now}
 use Rattle.jobfile.specs.Writer.{runs}
-use Rattle.jobfile.specs.Runs.{run-at, run-inside}
+use Rattle.jobfile.specs.lemmas.Runs.{run-at, run-inside}
 
 abbrev Inv-loop : tie.InvT-loop
 Inv-loop forecast n₀ i₀ n i = (i ≤ length forecast) × (n ≤ i) × (n + length (runs (drop i forecast)) ≡ length (runs forecast))

@@ -4,7 +4,7 @@ use Rattle.jobfile.proofs.ended.Statement.{statement}
 use Rattle.jobfile.proofs.ended.Tie as tie
 use mathlib.Core.Path.{_≡_, sym, _∙_}
 use borrow.Author.Tests.{eq-eqb, ne-eqb}
-use Rattle.jobfile.specs.Reading.{endCode}
+use Rattle.jobfile.specs.lemmas.Reading.{endCode}
 
 end-refusal-requires : tie.Need-end-refusal-requires
 end-refusal-requires c κs = search needs

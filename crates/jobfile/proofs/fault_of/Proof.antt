@@ -3,7 +3,7 @@ use borrow.Author.Needs.{needs}
 use Rattle.jobfile.proofs.fault_of.Statement.{statement}
 use Rattle.jobfile.proofs.fault_of.Tie as tie
 use mathlib.Core.Path.{sym, ap, _∙_}
-use Rattle.jobfile.specs.Reading.{faultAfter}
+use Rattle.jobfile.specs.lemmas.Reading.{faultAfter}
 
 enum-known-record : tie.Need-enum-known-record
 enum-known-record c = search needs

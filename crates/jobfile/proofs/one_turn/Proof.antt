@@ -6,7 +6,7 @@ use mathlib.Core.Path.{sym, ap, _∙_}
 use Prim.Native.Nat.{ℕ}
 use denote.Ref.{now}
 use Rattle.jobfile.specs.declared.Read.the-variants.{Refused}
-use Rattle.jobfile.specs.Reading.{readRefusalOf}
+use Rattle.jobfile.specs.lemmas.Reading.{readRefusalOf}
 use Rattle.jobfile.proofs.Fronts.{known}
 use Rattle.jobfile.proofs.Turned.{turn-none, turn-inside, turn-end, turn-fault, turn-more}
 

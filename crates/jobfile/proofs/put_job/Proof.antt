@@ -8,7 +8,7 @@ use Rattle.job.specs.Job.{jobOf}
 use Rattle.jobfile.specs.declared.Record.the-variants.{Pg}
 use Rattle.jobfile.specs.Records.{EN, encode}
 use Rattle.jobfile.specs.Writer.{runs, layerRecord, runRecord, jobFile}
-use Rattle.jobfile.specs.Puts.{bytesOf}
+use Rattle.jobfile.specs.lemmas.Puts.{bytesOf}
 use Rattle.jobfile.proofs.Writes.{file-parts, first-room, second-room, third-room, last-room, all-parts}
 
 put-programme-requires : tie.Need-put-programme-requires

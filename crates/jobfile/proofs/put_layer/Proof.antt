@@ -6,7 +6,7 @@ use native.Mathlib.Omega.{arith}
 use denote.Ref.{now}
 use Rattle.records.specs.Fields.{w}
 use Rattle.jobfile.specs.Records.{LY}
-use Rattle.jobfile.specs.Puts.{puts-then}
+use Rattle.jobfile.specs.lemmas.Puts.{puts-then}
 
 slice-aggregate-put-bytes : tie.Need-slice-aggregate-put-bytes
 slice-aggregate-put-bytes c = search needs

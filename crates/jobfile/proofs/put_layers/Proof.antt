@@ -7,7 +7,7 @@ use mathlib.Core.List.{map}
 use lib.ListN.{length}
 use denote.Ref.{now}
 use Rattle.jobfile.specs.Writer.{layerRecord}
-use Rattle.jobfile.specs.Puts.{Underway, underway-start, length-puts}
+use Rattle.jobfile.specs.lemmas.Puts.{Underway, underway-start, length-puts}
 use Rattle.jobfile.proofs.Queues.{layersFrom, layer-fits, layer-more, layers-end}
 
 abbrev Inv-loop : tie.InvT-loop

@@ -7,7 +7,7 @@ use mathlib.Core.List.{_++_}
 use denote.Ref.{now}
 use Rattle.records.specs.Fields.{h, w}
 use Rattle.jobfile.specs.Records.{BW}
-use Rattle.jobfile.specs.Puts.{puts-then}
+use Rattle.jobfile.specs.lemmas.Puts.{puts-then}
 
 slice-aggregate-put-bytes : tie.Need-slice-aggregate-put-bytes
 slice-aggregate-put-bytes c = search needs

@@ -7,8 +7,8 @@ use mathlib.Core.List.{map}
 use lib.ListN.{length}
 use denote.Ref.{now}
 use Rattle.jobfile.specs.Writer.{runs, runRecord}
-use Rattle.jobfile.specs.Runs.{run-inside}
-use Rattle.jobfile.specs.Puts.{Underway, underway-start, length-puts}
+use Rattle.jobfile.specs.lemmas.Runs.{run-inside}
+use Rattle.jobfile.specs.lemmas.Puts.{Underway, underway-start, length-puts}
 use Rattle.jobfile.proofs.Queues.{runsFrom, run-fits, run-more, runs-end}
 
 abbrev Inv-loop : tie.InvT-loop

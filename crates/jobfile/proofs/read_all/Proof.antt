@@ -7,7 +7,7 @@ use mathlib.Core.Path.{sym, _∙_}
 use lib.ListN.{length}
 use denote.Ref.{now}
 use borrow.Author.Needs.{needs}
-use Rattle.jobfile.specs.Reading.{Going}
+use Rattle.jobfile.specs.lemmas.Reading.{Going}
 use Rattle.jobfile.proofs.Turned.{going-start, turned-on, turned-over}
 
 abbrev Inv-loop : tie.InvT-loop

@@ -7,7 +7,7 @@ use Prim.Native.Nat.{ℕ}
 use native.Mathlib.Omega.{arith}
 use denote.Ref.{now}
 use Rattle.jobfile.specs.declared.Ending.the-variants.{Broken}
-use Rattle.jobfile.specs.Reading.{endRefusalOf}
+use Rattle.jobfile.specs.lemmas.Reading.{endRefusalOf}
 use Rattle.jobfile.proofs.Answers.{handed-long, handed-broken, handed-few-sizes, handed-few-slots, handed-job, layers-inside, slots-inside}
 
 returns : tie.Need-returns

@@ -7,7 +7,7 @@ use mathlib.Core.Path.{_≡_}
 use lib.ListN.{length, getD, drop}
 use denote.Ref.{now}
 use borrow.Author.Needs.{needs}
-use Rattle.jobfile.specs.Runs.{lead, lead-end, lead-stop, lead-more}
+use Rattle.jobfile.specs.lemmas.Runs.{lead, lead-end, lead-stop, lead-more}
 
 abbrev Inv-loop : tie.InvT-loop
 Inv-loop forecast from x end₀ end = (from + 1 ≤ end) × (end ≤ length forecast) × (from + 1 + lead x (drop (from + 1) forecast) ≡ end + lead x (drop end forecast))

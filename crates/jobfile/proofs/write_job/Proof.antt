@@ -6,7 +6,7 @@ use native.Mathlib.Omega.{arith}
 use mathlib.Core.Path.{sym, _∙_}
 use denote.Ref.{now}
 use Rattle.job.specs.Job.{jobOf}
-use Rattle.jobfile.specs.FileLength.{file-length, few-runs}
+use Rattle.jobfile.specs.lemmas.FileLength.{file-length, few-runs}
 use Rattle.jobfile.proofs.Writes.{handed-wrong, good, handed-short, handed-file}
 
 refusal-requires : tie.Need-refusal-requires

@@ -7,7 +7,7 @@ use native.Mathlib.Omega.{arith}
 use lib.ListN.{length}
 use denote.Ref.{now}
 use borrow.Author.Needs.{needs}
-use Rattle.planfile.specs.Scan.{Scanned, scanned-start, scanned-more, scanned-end, endOf}
+use Rattle.planfile.specs.lemmas.Scan.{Scanned, scanned-start, scanned-more, scanned-end, endOf}
 
 abbrev Inv-loop : tie.InvT-loop
 Inv-loop count file at₀ kept₀ rows₀ at kept rows = Scanned count file at kept rows

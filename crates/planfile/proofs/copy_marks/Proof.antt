@@ -5,7 +5,7 @@ use Prim.Native.Nat.{_-_, _≤_}
 use native.Mathlib.Omega.{arith}
 use denote.Ref.{now}
 use borrow.Author.Needs.{needs}
-use Rattle.planfile.specs.Scan.{markOn, Filled, filled-start, filled-more, filled-end}
+use Rattle.planfile.specs.lemmas.Scan.{markOn, Filled, filled-start, filled-more, filled-end}
 
 abbrev Inv-loop : tie.InvT-loop
 Inv-loop file count marks₀ i₀ marks i = (i ≤ count) × Filled (markOn file) i marks₀ marks

@@ -7,7 +7,7 @@ use mathlib.Core.Path.{_≡_}
 use native.Mathlib.Omega.{arith}
 use denote.Ref.{now}
 use borrow.Author.Needs.{needs}
-use Rattle.planfile.specs.Scan.{rowOn, Filled, filled-start, filled-more, filled-end}
+use Rattle.planfile.specs.lemmas.Scan.{rowOn, Filled, filled-start, filled-more, filled-end}
 
 -- The four fields of the rows on file.
 abbrev slotOn : List ℕ → ℕ → ℕ → ℕ

@@ -4,7 +4,7 @@ use Rattle.planfile.proofs.file_rows.Statement.{statement}
 use Rattle.planfile.proofs.file_rows.Tie as tie
 use native.Mathlib.Omega.{arith}
 use denote.Ref.{now}
-use Rattle.planfile.specs.Scan.{too-long, not-long}
+use Rattle.planfile.specs.lemmas.Scan.{too-long, not-long}
 
 returns : tie.Need-returns
 returns c = too-long (c .before .before .args .count) (now (c .before .before .args .file)) (omega arith)

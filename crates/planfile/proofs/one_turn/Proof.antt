@@ -8,7 +8,7 @@ use denote.Ref.{now}
 use lib.ListN.{length}
 use lib.Dec.{eqb}
 use Rattle.basics.specs.Refusals.{unless, _orElse_}
-use Rattle.planfile.specs.Scan.{refusalOf, answerOf}
+use Rattle.planfile.specs.lemmas.Scan.{refusalOf, answerOf}
 use Rattle.planfile.proofs.Front.{known}
 use Rattle.planfile.proofs.Turns.{refused-turn, kp-turn, kp-refused, ft-turn, en-turn}
 use Rattle.planfile.specs.declared.Read.the-variants.{Got}

@@ -6,7 +6,7 @@ use Prim.Native.Nat.{_%_, _/_}
 use mathlib.Core.List.{[], _∷_}
 use native.Mathlib.Omega.{arith}
 use Rattle.planfile.specs.Records.{ft}
-use Rattle.planfile.specs.Writing.{two-puts}
+use Rattle.planfile.specs.lemmas.Writing.{two-puts}
 
 add-next : tie.Need-add-next
 add-next c = search needs

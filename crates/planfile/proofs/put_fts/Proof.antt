@@ -9,7 +9,7 @@ use lib.ListN.{length}
 use denote.Ref.{now}
 use Rattle.fetch.specs.Rows.{rowAt}
 use Rattle.planfile.specs.PlanFile.{ftOf}
-use Rattle.planfile.specs.Writing.{Put, put-start, put-more, put-rows}
+use Rattle.planfile.specs.lemmas.Writing.{Put, put-start, put-more, put-rows}
 use Rattle.planfile.specs.declared.Record.{Record}
 
 -- The FT at an index.

@@ -7,7 +7,7 @@ use mathlib.Core.List.{List}
 use native.Mathlib.Omega.{arith}
 use lib.ListN.{length, getD}
 use denote.Ref.{now}
-use Rattle.planfile.specs.Writing.{Put, put-start, put-more}
+use Rattle.planfile.specs.lemmas.Writing.{Put, put-start, put-more}
 use Rattle.planfile.specs.declared.Record.{Record}
 use Rattle.planfile.specs.declared.Record.the-variants.{Kp}
 

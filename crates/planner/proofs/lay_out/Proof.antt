@@ -9,7 +9,7 @@ use denote.Ref.{now}
 use Rattle.basics.specs.Lists.{upTo}
 use Rattle.job.specs.Job.{jobOf, chunks}
 use Rattle.schedule.specs.Plan.{plan}
-use Rattle.planner.specs.Handing.{carriedIn}
+use Rattle.planner.specs.lemmas.Handing.{carriedIn}
 use Rattle.planner.proofs.PlanRows.{decide-from, all-from, listed, ascending, laid-marks, laid-long, laid-front, laid-front-long, counts-are}
 use Rattle.planner.proofs.lay_out.Statement.{statement}
 use Rattle.planner.proofs.lay_out.Tie as tie

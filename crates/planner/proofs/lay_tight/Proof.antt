@@ -7,14 +7,15 @@ use native.Mathlib.Omega.{arith}
 use lib.ListN.{length, replicate, length-replicate, length-map}
 use borrow.Author.Needs.{needs}
 use denote.Ref.{now}
-use Rattle.basics.specs.Lists.{length-upTo}
+use Rattle.basics.specs.lemmas.Lists.{length-upTo}
 use Rattle.job.specs.Job.{jobOf, chunks}
 use Rattle.job.specs.Refusal.{accepted-iff}
-use Rattle.schedule.specs.Plan.{plan, plan-choice}
-use Rattle.schedule.specs.Shape.{own-list-rows}
+use Rattle.schedule.specs.Plan.{plan}
+use Rattle.schedule.specs.lemmas.Plan.{plan-choice}
+use Rattle.schedule.specs.lemmas.Shape.{own-list-rows}
 use Rattle.schedule.specs.Statement.{marksOf}
 use Rattle.planner.specs.Answer.{planRows}
-use Rattle.planner.specs.Lent.{rowSlot, rowChunk, rowLayer, rowBytes}
+use Rattle.fetch.specs.Rows.{rowSlot, rowChunk, rowLayer, rowBytes}
 use Rattle.planner.proofs.Handing.{handed-refused, refused-short, holds-rows, handed-plan, four-hold, copied-over, aside-long}
 use Rattle.planner.specs.declared.Answer.the-variants.{Rows}
 use Rattle.planner.proofs.lay_tight.Statement.{statement}

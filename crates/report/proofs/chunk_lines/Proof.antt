@@ -5,8 +5,8 @@ use Prim.Native.Nat.{ℕ, _+_, _-_}
 use mathlib.Core.List.{List}
 use native.Mathlib.Omega.{arith}
 use denote.Ref.{now}
-use Rattle.report.specs.Tables.{chunkLineBy}
-use Rattle.report.specs.Places.{Putting, put-length, putting-start, putting-room, putting-more, putting-end}
+use Rattle.report.specs.lemmas.Tables.{chunkLineBy}
+use Rattle.report.specs.lemmas.Places.{Putting, put-length, putting-start, putting-room, putting-more, putting-end}
 
 abbrev piece : List ℕ → List ℕ → ℕ → ℕ → List ℕ
 piece sizes table depth k = chunkLineBy sizes table depth (k + 1)

@@ -5,9 +5,9 @@ use Prim.Native.Nat.{ℕ, _-_}
 use mathlib.Core.List.{List, _∷_}
 use native.Mathlib.Omega.{arith}
 use denote.Ref.{now}
-use Rattle.report.specs.Text.{digits}
-use Rattle.report.specs.Tables.{countBy}
-use Rattle.report.specs.Places.{Putting, put-length, putting-start, putting-room, putting-more, putting-end}
+use Rattle.basics.specs.Text.{digits}
+use Rattle.report.specs.lemmas.Tables.{countBy}
+use Rattle.report.specs.lemmas.Places.{Putting, put-length, putting-start, putting-room, putting-more, putting-end}
 
 abbrev piece : List ℕ → List ℕ → ℕ → ℕ → List ℕ
 piece sizes table count n = 32 ∷ digits (countBy sizes table count n)

@@ -7,9 +7,9 @@ use mathlib.Core.List.{List, [], _∷_, _++_}
 use lib.ListN.{length}
 use denote.Ref.{now}
 use Rattle.basics.specs.Lists.{upTo}
-use Rattle.report.specs.Text.{ascii, digits, text, line}
-use Rattle.report.specs.Tables.{countBy}
-use Rattle.report.specs.Places.{put-room, put-then, put-written, room-first, ended-text}
+use Rattle.basics.specs.Text.{ascii, digits, text, line}
+use Rattle.report.specs.lemmas.Tables.{countBy}
+use Rattle.report.specs.lemmas.Places.{put-room, put-then, put-written, room-first, ended-text}
 
 abbrev counts : List ℕ → List ℕ → ℕ → ℕ → List ℕ
 counts sizes table count depth = text (upTo (λ n. 32 ∷ digits (countBy sizes table count n)) depth)

@@ -11,9 +11,9 @@ use denote.Ref.{now}
 use Rattle.basics.specs.Lists.{upTo}
 use Rattle.job.specs.declared.Programme.{Programme}
 use Rattle.job.specs.Job.{lastDue}
-use Rattle.report.specs.Text.{ascii, digits, text, line}
-use Rattle.report.specs.Tables.{chunkLineBy, countBy, switchBy, linesBy}
-use Rattle.report.specs.Places.{Put, put-room, put-then, room-first}
+use Rattle.basics.specs.Text.{ascii, digits, text, line}
+use Rattle.report.specs.lemmas.Tables.{chunkLineBy, countBy, switchBy, linesBy}
+use Rattle.report.specs.lemmas.Places.{Put, put-room, put-then, room-first}
 
 -- The five parts of the text, with the numbers that the calls before hand over, and the room for each after those before it.
 module _

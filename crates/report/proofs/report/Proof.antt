@@ -5,7 +5,7 @@ use Rattle.report.proofs.report.Tie as tie
 use mathlib.Core.Path.{_≡_, sym, _∙_}
 use borrow.Author.Tests.{ne-eqb}
 use denote.Ref.{now}
-use Rattle.basics.specs.Refusals.{orElse-some, orElse-none}
+use Rattle.basics.specs.lemmas.Refusals.{orElse-some, orElse-none}
 use Rattle.job.specs.Job.{jobOf}
 use Rattle.job.specs.Refusal.{refusal, accepted-iff}
 use Rattle.report.specs.Answer.{planReport, roomRefusal, reportRefusal}

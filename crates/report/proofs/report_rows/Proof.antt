@@ -11,9 +11,9 @@ use Rattle.job.specs.Job.{Job}
 use Rattle.fetch.specs.Rows.{rowsOf}
 use Rattle.fetch.specs.Rules.{WithinForecast}
 use Rattle.report.specs.Report.{reportOf}
-use Rattle.report.specs.Tables.{Listed}
+use Rattle.report.specs.lemmas.Tables.{Listed}
 use Rattle.report.specs.Theorems.{report-fits}
-use Rattle.report.specs.Places.{Put, put-front}
+use Rattle.report.specs.lemmas.Places.{Put, put-front}
 
 -- The text fits the local buffer, and stands at its front.
 module _ {j : Job} {depth : ℕ} {ss cs ls bs : List ℕ} (l : Listed j depth ss cs ls bs) (w : WithinForecast j (rowsOf ss cs ls bs)) where

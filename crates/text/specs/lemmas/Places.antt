@@ -7,7 +7,7 @@ use native.Mathlib.Numerals.{add-one}
 use lib.ListN.{length, take, drop, set, length-append}
 use lib.Seq.{set-split, take-at}
 use Rattle.records.specs.Fields.{written}
-use Rattle.records.specs.Puts.{length-written, written-append, written-fits, written-none, written-whole}
+use Rattle.records.specs.lemmas.Puts.{length-written, written-append, written-fits, written-none, written-whole}
 
 -- A text was put at a place of a buffer; the place after it.
 pub record Put (old : List ℕ) (at : ℕ) (t : List ℕ) (out : List ℕ) (next : ℕ) : Type 0 where

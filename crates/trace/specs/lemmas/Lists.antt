@@ -1,14 +1,17 @@
 -- Lemmas. Tests and lists by index, with one element more. Assumes nothing.
-use Prim.Native.Nat.{ℕ, zero, suc, _≤_, _<_}
+use Prim.Native.Nat.{ℕ, zero, suc, _≤_}
 use mathlib.Core.Path.{_≡_, refl, sym, ap, _∙_}
 use mathlib.Core.Bool.{Bool, _&&_, and-assoc, and-true}
 use mathlib.Core.List.{List, [], _∷_, _++_, map}
 use mathlib.Core.Logic.{⊎-elim}
 use native.Mathlib.Omega.{arith}
-use lib.ListN.{length, getD, replicate, take}
+use lib.ListN.{length, replicate, take}
 use lib.Seq.{take-all, take-append-le}
-use Rattle.basics.specs.Lists.{upTo, length-upTo}
-use Rattle.basics.specs.Tests.{All, all, last}
+use Rattle.basics.specs.Lists.{upTo}
+use Rattle.basics.specs.lemmas.Lent.{map-snoc}
+use Rattle.basics.specs.lemmas.Lists.{length-upTo}
+use Rattle.basics.specs.Tests.{All, all}
+use Rattle.basics.specs.lemmas.Tests.{last}
 
 module _ {A : Type 0} where
   pub all-snoc : (p : A → Bool) (l : List A) (x : A) → all p (l ++ (x ∷ [])) ≡ all p l && p x
@@ -23,15 +26,6 @@ module _ {A : Type 0} where
   All-replicate P zero x p = tt
   All-replicate P (suc n) x p = (p, All-replicate P n x p)
 
-  pub All-at : (P : A → Type 0) (l : List A) (i : ℕ) (d : A) → All P l → i < length l → P (getD l i d)
-  All-at P [] i d a h = absurd (omega arith)
-  All-at P (x ∷ l) zero d a h = a .0
-  All-at P (x ∷ l) (suc i) d a h = All-at P l i d (a .1) (omega arith)
-
-  pub map-snoc : {B : Type 0} (g : A → B) (l : List A) (x : A) → map g (l ++ (x ∷ [])) ≡ map g l ++ (g x ∷ [])
-  map-snoc g [] x = refl
-  map-snoc g (y ∷ l) x = ap (λ (t : List _). g y ∷ t) (map-snoc g l x)
-
   pub take-upTo : (f : ℕ → A) (m n : ℕ) → m ≤ n → take m (upTo f n) ≡ upTo f m
   take-upTo f m zero h = let e : m ≡ 0 = omega arith in rw e
   take-upTo f m (suc n) h =
@@ -40,9 +34,9 @@ module _ {A : Type 0} where
       (λ e. rw e (take-all (suc n) (upTo f (suc n)) (omega (arith, length-upTo f (suc n)))))
       (last m n h)
 
-  pub map-upTo : {B : Type 0} (g : A → B) (f : ℕ → A) (n : ℕ) → map g (upTo f n) ≡ upTo (λ k. g (f k)) n
+  pub map-upTo : (g : A → ℕ) (f : ℕ → A) (n : ℕ) → map g (upTo f n) ≡ upTo (λ k. g (f k)) n
   map-upTo g f zero = refl
-  map-upTo g f (suc n) = map-snoc g (upTo f n) (f n) ∙ ap (λ (l : List _). l ++ (g (f n) ∷ [])) (map-upTo g f n)
+  map-upTo g f (suc n) = map-snoc g (upTo f n) (f n) ∙ ap (λ (l : List ℕ). l ++ (g (f n) ∷ [])) (map-upTo g f n)
 
 pub all-upTo : {A B : Type 0} (p : A → Bool) (q : B → Bool) (f : ℕ → A) (g : ℕ → B) (n : ℕ) → ((k : ℕ) → p (f k) ≡ q (g k)) → all p (upTo f n) ≡ all q (upTo g n)
 all-upTo p q f g zero h = refl

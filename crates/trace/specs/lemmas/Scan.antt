@@ -8,7 +8,8 @@ use native.Mathlib.Omega.{arith}
 use borrow.Author.Tests.{lt-leb, ne-eqb}
 use lib.ListN.{length, length-append}
 use lib.Dec.{T-not, leb, eqb, eqb→eq, eqb-refl}
-use Rattle.basics.specs.Tests.{All, all, by-cond, not-T-false, test}
+use Rattle.basics.specs.Tests.{All, all}
+use Rattle.basics.specs.lemmas.Tests.{by-cond, not-T-false, test}
 use Rattle.job.specs.Refusal.{within}
 use Rattle.trace.specs.lemmas.Lines.{found-line}
 use Rattle.basics.specs.Text.{readOn}

@@ -8,7 +8,8 @@ use native.Mathlib.Omega.{arith}
 use borrow.Author.Tests.{le-leb, lt-leb, lt-ltb, le-ltb}
 use lib.ListN.{length, getD, replicate, length-append}
 use lib.Dec.{T, leb, ltb, ltb→lt, nltb→le}
-use Rattle.basics.specs.Tests.{All, all-append, by-cond, test, tests}
+use Rattle.basics.specs.Tests.{All}
+use Rattle.basics.specs.lemmas.Tests.{all-append, by-cond, test, tests}
 use Rattle.job.specs.Job.{Within}
 use Rattle.basics.specs.lemmas.Digits.{digits-few, digits-more, digits-one, digits-read}
 use Rattle.basics.specs.Text.{digits, digitsIn}

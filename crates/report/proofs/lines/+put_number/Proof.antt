@@ -14,9 +14,9 @@ use native.Mathlib.Omega.{arith}
 use lib.ListN.{length, length-set}
 use borrow.Author.Needs.{needs}
 use denote.Ref.{now}
-use Rattle.report.specs.Text.{digits}
-use Rattle.report.specs.Numbers.{digits-one, digits-more, digits-length}
-use Rattle.report.specs.Places.{put-byte, put-then, put-room}
+use Rattle.basics.specs.Text.{digits}
+use Rattle.basics.specs.lemmas.Digits.{digits-one, digits-more, digits-length}
+use Rattle.report.specs.lemmas.Places.{put-byte, put-then, put-room}
 
 abbrev μ-put-number : Measures 1 put-number-kinds.ps ℕ
 μ-put-number κs a = a .1 .1 .0

@@ -3,8 +3,8 @@ use borrow.Author.Needs.{needs}
 use Rattle.report.proofs.lines.put_field.Statement.{statement}
 use Rattle.report.proofs.lines.put_field.Tie as tie
 use denote.Ref.{now}
-use Rattle.report.specs.Text.{digits}
-use Rattle.report.specs.Places.{put-room, put-then, put-written, room-first}
+use Rattle.basics.specs.Text.{digits}
+use Rattle.report.specs.lemmas.Places.{put-room, put-then, put-written, room-first}
 
 put-requires : tie.Need-put-requires
 put-requires c κs = search needs

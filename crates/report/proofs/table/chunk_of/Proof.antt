@@ -9,8 +9,8 @@ use native.Mathlib.Omega.{arith}
 use native.Mathlib.Numerals.{add-one}
 use lib.ListN.{getD}
 use denote.Ref.{now}
-use Rattle.report.specs.Tables.{carriedBy, layersBy, bytesBy}
-use Rattle.report.specs.Bounds.{sum-most, cond-most}
+use Rattle.report.specs.lemmas.Tables.{carriedBy, layersBy, bytesBy}
+use Rattle.basics.specs.lemmas.Ranges.{sum-most, cond-most}
 use Rattle.report.proofs.Laws.{bytes-most, carried-most}
 
 abbrev Inv-loop : tie.InvT-loop

@@ -8,8 +8,8 @@ use native.Mathlib.Nat.{mul-le-mul-left}
 use borrow.Author.Needs.{needs}
 use lib.ListN.{getD}
 use denote.Ref.{now}
-use Rattle.report.specs.Tables.{shownBy, switchBy}
-use Rattle.report.specs.Bounds.{apart-most}
+use Rattle.report.specs.lemmas.Tables.{shownBy, switchBy}
+use Rattle.report.specs.lemmas.Bounds.{apart-most}
 use Rattle.report.proofs.Laws.{shown-most, switch-more, switch-most}
 
 abbrev Inv-loop : tie.InvT-loop

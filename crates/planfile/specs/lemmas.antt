@@ -1,0 +1,4 @@
+pub mod Back
+pub mod Order
+pub mod Scan
+pub mod Writing

@@ -1,0 +1,89 @@
+-- Lemmas. What the report's table holds of a list of rows, and the numbers that are read from it: the contracts of private functions
+-- speak of these, no public one does.
+use Prim.Native.Nat.{ℕ, _+_, _*_, _-_, _/_, _≤_, _<_}
+use mathlib.Core.Path.{_≡_}
+use mathlib.Core.Bool.{Bool, cond}
+use mathlib.Core.List.{List, [], _∷_, _++_}
+use lib.ListN.{length, getD}
+use lib.Dec.{eqb}
+use Rattle.basics.specs.Tests.{All}
+use Rattle.basics.specs.Sums.{pre, sum, count}
+use Rattle.basics.specs.Lists.{upTo}
+use Rattle.job.specs.declared.Programme.{Programme}
+use Rattle.job.specs.Job.{Job, sizeIn, layers, lastDue, Accepted}
+use Rattle.fetch.specs.Rows.{Row, rowsOf, bytesOfLayer}
+use Rattle.fetch.specs.Rules.{InRange}
+use Rattle.planner.specs.declared.Answer.{Answer}
+use Rattle.planner.specs.declared.Answer.the-variants.{Rows as made, Refused as refused}
+use Rattle.basics.specs.Text.{ascii, digits, line, text}
+use Rattle.report.specs.Report.{apart}
+use Rattle.report.specs.declared.table.Chunk.{Chunk}
+
+-- Rows handed as four slices of one length, each with a place in the table.
+pub record Rows (slots chunks layers′ bytes : List ℕ) : Type 0 where
+  pub chunk-each : length slots ≡ length chunks
+  pub layer-each : length slots ≡ length layers′
+  pub bytes-each : length slots ≡ length bytes
+  pub few : length slots ≤ 5599
+  pub chunk-low : (k : ℕ) → k < length slots → 1 ≤ getD chunks k 0
+  pub chunk-high : (k : ℕ) → k < length slots → getD chunks k 0 ≤ 500
+  pub layer-in : (k : ℕ) → k < length slots → getD layers′ k 0 < 4
+
+-- The rows of an accepted job, each in range.
+pub record Listed (j : Job) (depth : ℕ) (slots chunks layers′ bytes : List ℕ) : Type 0 where
+  pub accepted : Accepted j
+  pub depth-is : depth ≡ layers j
+  pub chunk-each : length slots ≡ length chunks
+  pub layer-each : length slots ≡ length layers′
+  pub bytes-each : length slots ≡ length bytes
+  pub few : length slots ≤ 5599
+  pub in-range : All (InRange j) (rowsOf slots chunks layers′ bytes)
+
+-- The bytes of layer n of chunk i, by the table.
+abbrev pub bytesAt : List ℕ → ℕ → ℕ → ℕ
+bytesAt table i n = getD table (4 * (i - 1) + n) 0
+
+-- The table of a list's rows.
+pub record Summed (rows : List Row) (table : List ℕ) : Type 0 where
+  pub by-layer : (i n : ℕ) → 1 ≤ i → i ≤ 500 → n < 4 → bytesAt table i n ≡ bytesOfLayer rows i n
+  pub long : length table ≡ 2000
+
+abbrev pub carriedBy : List ℕ → List ℕ → ℕ → ℕ → Bool
+carriedBy sizes table i n = eqb (bytesAt table i n) (sizeIn sizes i n)
+
+abbrev pub layersBy : List ℕ → List ℕ → ℕ → ℕ → ℕ
+layersBy sizes table depth i = sum (λ n. cond (carriedBy sizes table i n) 1 0) depth
+
+abbrev pub bytesBy : List ℕ → List ℕ → ℕ → ℕ → ℕ
+bytesBy sizes table depth i = sum (λ n. cond (carriedBy sizes table i n) (bytesAt table i n) 0) depth
+
+-- The layers and bytes that chunk i carries.
+pub record ChunkBy (sizes table : List ℕ) (depth i : ℕ) (r : Chunk) : Type 0 where
+  pub layers : r .layers ≡ layersBy sizes table depth i
+  pub bytes : r .bytes ≡ bytesBy sizes table depth i
+
+abbrev pub chunkLineBy : List ℕ → List ℕ → ℕ → ℕ → List ℕ
+chunkLineBy sizes table depth i = line (digits i) (digits (layersBy sizes table depth i) ∷ digits (bytesBy sizes table depth i) ∷ [])
+
+abbrev pub countBy : List ℕ → List ℕ → ℕ → ℕ → ℕ
+countBy sizes table chunks n = count (λ i. carriedBy sizes table i n) chunks
+
+abbrev pub shownBy : List ℕ → List ℕ → ℕ → ℕ → ℕ
+shownBy sizes table depth i = cond (carriedBy sizes table i 0) (bytesBy sizes table depth i) 0
+
+abbrev pub switchBy : List ℕ → List ℕ → ℕ → ℕ → ℕ
+switchBy sizes table depth chunks = pre (λ i. apart (shownBy sizes table depth i) (shownBy sizes table depth (i + 1))) (chunks - 1)
+
+-- The report's lines, by the table and the sums of rows and forecast.
+unfoldable pub linesBy : Programme → List ℕ → ℕ → List ℕ → ℕ → ℕ → List ℕ
+linesBy p sizes depth table spent left =
+    line (ascii "slots") (digits (lastDue p) ∷ ascii "chunks" ∷ digits (p .chunks) ∷ ascii "held" ∷ digits (p .limit / p .span) ∷ [])
+    ++ (text (upTo (λ k. chunkLineBy sizes table depth (k + 1)) (p .chunks))
+    ++ (line (ascii "layers") (upTo (λ n. digits (countBy sizes table (p .chunks) n)) depth)
+    ++ (line (ascii "bytes") (digits spent ∷ ascii "left" ∷ digits left ∷ [])
+    ++ line (ascii "switch") (digits (switchBy sizes table depth (p .chunks)) ∷ []))))
+
+-- How many rows an answer of the planner says there are.
+abbrev pub rowsIn : Answer → ℕ
+rowsIn (made n) = n
+rowsIn (refused m) = 0

@@ -1,0 +1,87 @@
+-- Lemmas. The words that say what a plan is leave one choice only. Trial by trial, in the order in which layers are settled: where all
+-- that is settled before agrees, so does what the trial settles.
+use Prim.Native.Nat.{ℕ, zero, suc, _+_, _≤_, _<_, min}
+use mathlib.Core.Path.{_≡_, refl, sym, ap}
+use mathlib.Core.Logic.{⊎-elim}
+use native.Mathlib.Omega.{arith}
+use borrow.Author.Tests.{eq-eqb, ne-eqb, lt-ltb, le-ltb}
+use lib.Dec.{T-not, ltb, eqb, ltb→lt, nltb→le, eqb→eq, eqb-refl}
+use Rattle.basics.specs.lemmas.Tests.{test}
+use Rattle.job.specs.Job.{Job, chunks, lastSlot, layers}
+use Rattle.schedule.specs.Statement.{Same, CanCarry, IsPlan, tried}
+use Rattle.schedule.specs.Own.{Fetched, carriedTo, fetchedBy, ownList}
+use Rattle.schedule.specs.lemmas.Words.{layer-of}
+
+-- ---- what depends on the layers of the job's chunks alone
+
+can-carry-cong : (j : Job) (p q : ℕ → ℕ) → Same j p q → CanCarry j p → CanCarry j q
+can-carry-cong j p q e s =
+    record { rows = s .rows; passes = s .passes; in-order = s .in-order; exactly = λ i n r. rw (e i (r .chunk-low) (r .chunk-high)) at (s .exactly i n r) }
+
+carried-cong : (j : Job) (p q : ℕ → ℕ) → Same j p q → (i : ℕ) → i ≤ chunks j → carriedTo j p i ≡ carriedTo j q i
+carried-cong j p q e zero h = refl
+carried-cong j p q e (suc i) h = rw (carried-cong j p q e i (omega arith), e (suc i) (omega arith) h)
+
+fetched-cong : (j : Job) (p q : ℕ → ℕ) → Same j p q → (t : ℕ) → fetchedBy j p t ≡ fetchedBy j q t
+fetched-cong j p q e zero = rw (carried-cong j p q e (chunks j) (omega arith))
+fetched-cong j p q e (suc t) = rw (fetched-cong j p q e t)
+
+pub own-list-cong : (j : Job) (p q : ℕ → ℕ) → Same j p q → ownList j p ≡ ownList j q
+unfolding ownList
+own-list-cong j p q e = ap (λ (f : Fetched). f .rows) (fetched-cong j p q e (lastSlot j))
+
+-- ---- trial by trial
+
+-- The layers below n of a choice.
+abbrev below : (ℕ → ℕ) → ℕ → ℕ → ℕ
+below p n k = min (p k) n
+
+module _ (j : Job) (n : ℕ) (h : n < layers j) where
+  -- One trial.
+  same-trial :
+      (p q : ℕ → ℕ) (i : ℕ) → IsPlan j p → IsPlan j q → Same j (below p n) (below q n) → 1 ≤ i → i ≤ chunks j →
+      ((k : ℕ) → i < k → k ≤ chunks j → below p (suc n) k ≡ below q (suc n) k) → n < p i → n < q i
+  same-trial p q i dp dq s u v f l =
+      let r = layer-of j i n u v h in
+      let a = dp .decided i n r .0 l in
+      dq .decided i n r .1 (
+        omega (arith, a .0, s i u v),
+        can-carry-cong j (tried p n i) (tried q n i) (λ k x y.
+            ⊎-elim
+            (λ t. rw (eq-eqb k i (eqb→eq k i t)))
+            (λ t.
+            rw (ne-eqb k i (λ e. T-not (eqb k i) t (rw e (eqb-refl i))))
+            (⊎-elim (λ w. rw (lt-ltb i k (ltb→lt i k w)) (f k (ltb→lt i k w) y)) (λ w. rw (le-ltb i k (nltb→le i k w)) (s k x y)) (test (ltb i k))))
+            (test (eqb k i))) (a .1),
+      )
+
+  -- The chunks down to lo + 1.
+  same-sweep :
+      (p q : ℕ → ℕ) → IsPlan j p → IsPlan j q → Same j (below p n) (below q n) → (m lo : ℕ) → lo + m ≡ chunks j → (k : ℕ) → lo < k →
+      k ≤ chunks j → below p (suc n) k ≡ below q (suc n) k
+  same-sweep p q dp dq s zero lo e k u v = absurd (omega arith)
+  same-sweep p q dp dq s (suc m) lo e k u v =
+      let f : (k : ℕ) → suc lo < k → k ≤ chunks j → below p (suc n) k ≡ below q (suc n) k = same-sweep p q dp dq s m (suc lo) (omega arith) in
+      let w = s (suc lo) (omega arith) (omega arith) in
+      ⊎-elim
+      (λ t. f k (ltb→lt (suc lo) k t) v)
+      (λ t.
+      let d : k ≡ suc lo = omega (arith, nltb→le (suc lo) k t) in
+      rw d
+      (⊎-elim
+      (λ x. omega (arith, w, ltb→lt n (p (suc lo)) x, same-trial p q (suc lo) dp dq s (omega arith) (omega arith) f (ltb→lt n (p (suc lo)) x)))
+      (λ x.
+      ⊎-elim
+      (λ y. omega (arith, w, ltb→lt n (q (suc lo)) y, same-trial q p (suc lo) dq dp (λ k a b. sym (s k a b)) (omega arith) (omega arith) (λ k a b. sym (f k a b)) (ltb→lt n (q (suc lo)) y)))
+      (λ y. omega (arith, w, nltb→le n (p (suc lo)) x, nltb→le n (q (suc lo)) y))
+      (test (ltb n (q (suc lo)))))
+      (test (ltb n (p (suc lo))))))
+      (test (ltb (suc lo) k))
+
+-- The layers below n.
+same-layers : (j : Job) (p q : ℕ → ℕ) → IsPlan j p → IsPlan j q → (n : ℕ) → n ≤ layers j → Same j (below p n) (below q n)
+same-layers j p q dp dq zero h k u v = omega arith
+same-layers j p q dp dq (suc n) h k u v = same-sweep j n h p q dp dq (same-layers j p q dp dq n (omega arith)) (chunks j) 0 (omega arith) k u v
+
+pub plans-agree : (j : Job) (p q : ℕ → ℕ) → IsPlan j p → IsPlan j q → Same j p q
+plans-agree j p q dp dq k u v = omega (arith, same-layers j p q dp dq (layers j) (omega arith) k u v, dp .choice k u v, dq .choice k u v)

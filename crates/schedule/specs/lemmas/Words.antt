@@ -1,0 +1,50 @@
+-- Lemmas. Words of the argument that document 01 does not have, and the order of due slots and forecasts. Section 1 of the argument.
+use Prim.Native.Nat.{ℕ, zero, suc, _-_, _≤_, _<_}
+use mathlib.Core.Bool.{Bool}
+use mathlib.Core.List.{List, [], _∷_}
+use native.Mathlib.Omega.{arith}
+use native.Mathlib.Nat.{mul-le-mul-right}
+use lib.Dec.{eqb}
+use lib.ListN.{length, getD}
+use Rattle.basics.specs.Sums.{pre}
+use Rattle.basics.specs.lemmas.Ranges.{pre-mono}
+use Rattle.basics.specs.Tests.{All, any}
+use Rattle.job.specs.Job.{Accepted, Job, Layer, Within, chunks, due, forecast, lastSlot, layers, size, dueSlot, lastDue}
+use Rattle.fetch.specs.Rows.{Row, bytesIf}
+use Rattle.schedule.specs.Plan.{after}
+use Rattle.job.specs.declared.Programme.{Programme}
+
+-- The bytes of chunk i, all layers.
+abbrev pub bytesOfChunk : List Row → ℕ → ℕ
+bytesOfChunk rows i = bytesIf (λ x. eqb (x .chunk) i) rows
+
+-- Chunk i has a row.
+abbrev pub carries : List Row → ℕ → Bool
+carries rows i = any (λ x. eqb (x .chunk) i) rows
+
+-- A later chunk is due no earlier.
+pub due-mono : (j : Job) (x y : ℕ) → x ≤ y → due j x ≤ due j y
+due-mono j x y h = let m : (x - 1) ≤ (y - 1) = omega arith in omega (arith, mul-le-mul-right (j .programme .span) m)
+
+-- Every chunk is due by the last slot.
+pub due-by : (p : Programme) (i : ℕ) → i ≤ p .chunks → dueSlot p i ≤ lastDue p
+due-by p i h = omega (arith, mul-le-mul-right {m = i - 1} {n = p .chunks - 1} (p .span) (omega arith))
+
+-- Later, less is left of the forecast.
+pub after-anti : (j : Job) (x y : ℕ) → x ≤ y → after j y ≤ after j x
+after-anti j x y h = omega (arith, pre-mono (forecast j) x y h)
+
+pub layer-of : (j : Job) (i n : ℕ) → 1 ≤ i → i ≤ chunks j → n < layers j → Layer j i n
+layer-of j i n u v w = record { chunk-low = u; chunk-high = v; layer-in = w }
+
+-- Every layer has at least one byte. Sizes may differ by chunk and layer: this is all that the decision asks of them.
+abbrev pub Sized : Job → Type 0
+Sized j = (i n : ℕ) → Layer j i n → 1 ≤ size j i n
+
+nth-within : (lo hi : ℕ) (l : List ℕ) (n : ℕ) → All (Within lo hi) l → n < length l → lo ≤ getD l n 0
+nth-within lo hi [] n a h = absurd (omega arith)
+nth-within lo hi (x ∷ xs) zero a h = a .0 .low
+nth-within lo hi (x ∷ xs) (suc n) a h = nth-within lo hi xs n (a .1) (omega arith)
+
+pub accepted-sized : (j : Job) → Accepted j → Sized j
+accepted-sized j a i n r = nth-within 1 16777216 (j .sizes) n (a .sizes-in) (r .layer-in)

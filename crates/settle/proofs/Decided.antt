@@ -1,0 +1,164 @@
+-- Laws on the whole decision: what the tables hold at its end is the plan. Assumes nothing.
+use mathlib.Core.Path.{_≡_, refl, sym, _∙_, ap, subst, fun-ext}
+use mathlib.Core.Bool.{_&&_}
+use mathlib.Core.List.{List, [], _∷_, _++_, map}
+use Prim.Native.Nat.{ℕ, zero, suc, _+_, _-_, _/_, _≤_, _<_, min, max}
+use native.Mathlib.Omega.{arith}
+use lib.ListN.{length, getD, take, drop, replicate, length-drop, length-map, length-replicate}
+use lib.Dec.{leb}
+use Rattle.basics.specs.Sums.{pre}
+use Rattle.basics.specs.Tests.{All}
+use Rattle.basics.specs.lemmas.Tests.{by-cond}
+use Rattle.fetch.specs.Marks.{bit}
+use Rattle.job.specs.declared.Programme.{Programme}
+use Rattle.job.specs.Job.{Job, sizeIn, size, due, dueSlot, heldMost, lastDue, layers, chunks}
+use Rattle.schedule.specs.lemmas.Ascending.{Asc}
+use Rattle.schedule.specs.Plan.{kept, plan}
+use Rattle.schedule.specs.lemmas.Linear.{bases-kept, decided-is, map-map}
+use Rattle.schedule.specs.lemmas.Necessity.{after}
+use Rattle.schedule.specs.lemmas.Sufficiency.{each, ones, releases}
+use Rattle.schedule.specs.lemmas.Trials.{Kept, Tried, bases, rooms, back, bytesOf, markOf, keptAt, onLayer, onLayers, based, keptBases}
+use Rattle.schedule.specs.lemmas.Parts.{at, padded, padded-long, part-small}
+use Rattle.settle.specs.lemmas.Decision.{keptOf, Sums, Slot, Bases, SumTable, LayersFrom, LayersDone, jobFrom, DecideFrom, Decides}
+use Rattle.schedule.specs.lemmas.Words.{due-by}
+use Rattle.schedule.specs.lemmas.Queue.{each-is, all-ones}
+use Rattle.basics.specs.lemmas.Tables.{all-take}
+use Rattle.settle.proofs.Settle.{same-long, marks-of}
+
+-- ---- a release for each chunk is enough
+
+rooms-take : (A : ℕ → ℕ) (room : ℕ) (ws rs : List ℕ) → rooms A room ws (take (length ws) rs) ≡ rooms A room ws rs
+rooms-take A room [] rs = refl
+rooms-take A room (w ∷ ws) [] = refl
+rooms-take A room (w ∷ ws) (r ∷ rs) = rw (rooms-take A (min room (A (r - 1)) - w) ws rs)
+
+module _ (size : ℕ → ℕ → ℕ) (A : ℕ → ℕ) where
+  back-long : (n : ℕ) (hs : List ℕ) (ks : List Kept) → length (back size A n hs ks .kept) ≡ length ks
+  unfolding back
+  back-long n hs [] = refl
+  back-long n hs (k ∷ ks) =
+      let o = back size A n (drop 1 hs) ks in
+      by-cond
+      (λ (o : Tried). length (o .kept) ≡ suc (length ks))
+      (bit (k .mark) (n - 1) && leb (k .bytes + max (A (k .due)) (o .need) + size (k .chunk) n) (getD hs 0 0))
+      (λ t. ap suc (back-long n (drop 1 hs) ks))
+      (λ t. ap suc (back-long n (drop 1 hs) ks))
+
+  on-layers-long : (room : ℕ) (rs : List ℕ) (n : ℕ) (ks : List Kept) → length (onLayers size A room rs n ks) ≡ length ks
+  on-layers-long room rs zero ks = refl
+  on-layers-long room rs (suc n) ks = back-long (suc n) _ (onLayers size A room rs n ks) ∙ on-layers-long room rs n ks
+
+  pub on-layers-take : (room : ℕ) (rs : List ℕ) (n : ℕ) (ks : List Kept) → onLayers size A room (take (length ks) rs) n ks ≡ onLayers size A room rs n ks
+  on-layers-take room rs zero ks = refl
+  on-layers-take room rs (suc n) ks =
+      let o = onLayers size A room rs n ks in
+      let e : length ks ≡ length (map bytesOf o) = sym (length-map o bytesOf ∙ on-layers-long room rs n ks) in
+      ap (onLayer size A room (take (length ks) rs) (suc n)) (on-layers-take room rs n ks)
+      ∙ ap (λ (m : ℕ). back size A (suc n) (rooms A room (map bytesOf o) (take m rs)) o .kept) e
+      ∙ ap (λ (hs : List ℕ). back size A (suc n) hs o .kept) (rooms-take A room (map bytesOf o) rs)
+
+-- ---- slots
+
+module _ (p : Programme) (late : 1 ≤ p .delay) (ends : lastDue p ≤ 3600) where
+  pub due-slots : (lo : ℕ) (ks : List ℕ) → Asc lo (p .chunks) ks → All Slot (map (dueSlot p) ks)
+  due-slots lo [] a = tt
+  due-slots lo (k ∷ ks) a = (record { low = omega arith; high = omega (arith, due-by p k (a .1)) }, due-slots (suc k) ks (a .2))
+
+  pub release-slots : (h n : ℕ) (ds : List ℕ) → All Slot ds → All Slot (take n (ones h ++ ds))
+  release-slots h n ds a = all-take Slot n (ones h ++ ds) (all-ones Slot (record { low = omega arith; high = omega arith }) h ds a)
+
+-- ---- the start of the layers
+
+drop-replicate : (n q a : ℕ) → drop q (replicate n a) ≡ replicate (n - q) a
+drop-replicate zero zero a = refl
+drop-replicate zero (suc q) a = let e : 0 - suc q ≡ 0 = omega arith in rw e
+drop-replicate (suc n) zero a = let e : suc n - 0 ≡ suc n = omega arith in rw e
+drop-replicate (suc n) (suc q) a = let e : suc n - suc q ≡ n - q = omega arith in rw e (drop-replicate n q a)
+
+base-kept : (j : Job) (ks : List ℕ) → keptOf ks (map (due j) ks) (map (λ k. size j k 0) ks) (replicate (length ks) 1) ≡ based j ks
+base-kept j [] = refl
+base-kept j (k ∷ ks) =
+    let z : size j k 0 ≡ 0 + size j k 0 = omega arith in
+    rw (base-kept j ks) (ap (λ (b : ℕ). record { chunk = k; due = due j k; bytes = b; mark = 1 } ∷ based j ks) z)
+
+all-small : (f : ℕ → ℕ) (b : ℕ) → ((k : ℕ) → f k ≤ b) → (ks : List ℕ) → All (λ x. x ≤ b) (map f ks)
+all-small f b h [] = tt
+all-small f b h (k ∷ ks) = (h k, all-small f b h ks)
+
+-- ---- the whole
+
+module _ (p : Programme) (layers : ℕ) (sizes : List ℕ) (start : ℕ) (part ids₀ ready₀ mark₀ : List ℕ) (o : DecideFrom p layers sizes start part ids₀ ready₀ mark₀) where
+  abbrev j : Job
+  j = jobFrom p sizes start part
+
+  -- The table of sums is what is forecast after each slot.
+  sums-are : (table : List ℕ) → SumTable start part table → at table ≡ after j
+  sums-are table s =
+      fun-ext (λ t.
+      s .is t ∙ ap (λ (n : ℕ). pre (λ u. at (padded start part) (u - 1)) n - pre (λ u. at (padded start part) (u - 1)) t) (padded-long start part ∙ o .slots))
+
+  pub sums-small : (table : List ℕ) → SumTable start part table → Sums table
+  sums-small table s k = rw (s .is k) (part-small start part (o .part-in) k)
+
+  module _ (table : List ℕ) (s : SumTable start part table) (first : ℕ) (ids dues bytes : List ℕ) (b : Bases p sizes table first ids dues bytes) where
+    kept-are : drop first ids ≡ keptBases j
+    kept-are = b .kept ∙ ap (λ (A : ℕ → ℕ). bases (λ k. sizeIn sizes k 0) (dueSlot p) A (p .limit / p .span) 0 (p .chunks) .chunks) (sums-are table s)
+
+    module _ (ready : List ℕ) (lr : length ready ≡ 500) (r : drop first ready ≡ take (500 - first) (ones (p .limit / p .span) ++ drop first dues)) where
+      abbrev ks : List ℕ
+      ks = drop first ids
+
+      many : length ks ≡ 500 - first
+      many = length-drop first ids ∙ ap (λ (n : ℕ). n - first) (b .long .0)
+
+      released : drop first ready ≡ take (length ks) (releases (due j) (heldMost j) ks)
+      released = r ∙ ap (λ (l : List ℕ). take (500 - first) (ones (p .limit / p .span) ++ l)) (b .due-slots ∙ sym (each-is (dueSlot p) ks)) ∙ ap (λ (n : ℕ). take n (releases (due j) (heldMost j) ks)) (sym many)
+
+      pub layers-from : (room mark : List ℕ) → length room ≡ 500 → mark ≡ replicate 500 1 → LayersFrom layers sizes table ids dues ready first bytes room mark
+      layers-from room mark lm m =
+          let due-in : All Slot (drop first dues) = subst (All Slot) (sym (b .due-slots)) (due-slots p (o .late) (o .ends) 1 ks (b .ascending)) in
+          record {
+            some = o .some;
+            few = o .few-layers;
+            small = o .small;
+            sums = sums-small table s;
+            due-slots = due-in;
+            release-slots = subst (All Slot) (sym r) (release-slots p (o .late) (o .ends) (p .limit / p .span) (500 - first) (drop first dues) due-in);
+            within = b .within;
+            carried = subst (All (λ x. x ≤ 16777216)) (sym (b .base-bytes)) (all-small (λ k. sizeIn sizes k 0) 16777216 (λ k. o .small k 0) ks);
+            long = (s .long, b .long .0, b .long .1, lr, b .long .2, lm, rw m (length-replicate {A = ℕ} 500 1));
+          }
+
+      -- The tables start with the base alone.
+      begins : (mark : List ℕ) → mark ≡ replicate 500 1 → keptOf ks (drop first dues) (drop first bytes) (drop first mark) ≡ based j ks
+      begins mark m =
+          ap (λ (l : List ℕ). keptOf ks (drop first dues) (drop first bytes) l) (ap (drop first) m ∙ drop-replicate 500 first 1 ∙ ap (λ (n : ℕ). replicate n 1) (sym many))
+          ∙ ap (λ (l : List ℕ). keptOf ks l (drop first bytes) (replicate (length ks) 1)) (b .due-slots)
+          ∙ ap (λ (l : List ℕ). keptOf ks (map (dueSlot p) ks) l (replicate (length ks) 1)) (b .base-bytes)
+          ∙ base-kept j ks
+
+      pub decides : (all : ℕ) → all ≡ getD table 0 0 → (mark bytes' mark' : List ℕ) → mark ≡ replicate 500 1 → LayersDone layers sizes all table ids dues ready first bytes mark bytes' mark' → Decides j first ids ready mark'
+      decides all a mark bytes' mark' m y =
+          let few : 0 < length sizes = omega (arith, o .some, o .all-layers) in
+          let few′ : length sizes ≤ 8 = omega (arith, o .few-layers, o .all-layers) in
+          let bk : keptBases j ≡ kept j (plan j) = bases-kept j few in
+          let A-is = sums-are table s in
+          let whole : keptOf ks (drop first dues) (drop first bytes') (drop first mark') ≡ map (keptAt j (plan j)) (kept j (plan j)) =
+          y .kept
+          ∙ ap (onLayers (sizeIn sizes) (at table) all (drop first ready) (layers - 1)) (begins mark m)
+          ∙ ap (λ (rs : List ℕ). onLayers (sizeIn sizes) (at table) all rs (layers - 1) (based j ks)) (released ∙ ap (λ (n : ℕ). take n (releases (due j) (heldMost j) ks)) (sym (length-map ks (keptAt j (λ k. 1)))))
+          ∙ on-layers-take (sizeIn sizes) (at table) all (releases (due j) (heldMost j) ks) (layers - 1) (based j ks)
+          ∙ ap (λ (n : ℕ). onLayers (sizeIn sizes) (at table) n (releases (due j) (heldMost j) ks) (layers - 1) (based j ks)) a
+          ∙ ap (λ (n : ℕ). onLayers (sizeIn sizes) (at table) (at table 0) (releases (due j) (heldMost j) ks) (n - 1) (based j ks)) (o .all-layers)
+          ∙ ap (λ (A : ℕ → ℕ). onLayers (sizeIn sizes) A (A 0) (releases (due j) (heldMost j) ks) (length sizes - 1) (based j ks)) A-is
+          ∙ ap (λ (l : List ℕ). onLayers (sizeIn sizes) (after j) (after j 0) (releases (due j) (heldMost j) l) (length sizes - 1) (based j l)) kept-are
+          ∙ decided-is j few few′ in
+          record {
+            within = b .within;
+            chunks = kept-are ∙ bk;
+            releases-are = released ∙ ap (λ (n : ℕ). take n (releases (due j) (heldMost j) ks)) many ∙ ap (λ (l : List ℕ). take (500 - first) (releases (due j) (heldMost j) l)) (kept-are ∙ bk);
+            marks =
+                sym (marks-of ks (drop first dues) (drop first bytes') (drop first mark') (same-long ids dues first (b .long .0) (b .long .1)) (same-long ids bytes' first (b .long .0) (y .long .0)) (same-long ids mark' first (b .long .0) (y .long .1)))
+                ∙ ap (map markOf) whole ∙ map-map markOf (keptAt j (plan j)) (kept j (plan j));
+            long = (b .long .0, lr, y .long .1);
+          }

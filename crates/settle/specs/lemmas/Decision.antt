@@ -1,0 +1,127 @@
+-- Lemmas. What the functions of decide.rt hand each other: tables of 500 places whose end, from a first place on, holds the kept
+-- chunks in playing order. The definitions behind them are those of schedule, Trials.
+use Prim.Native.Nat.{ℕ, suc, _+_, _*_, _-_, _/_, _≤_}
+use mathlib.Core.Path.{_≡_}
+use mathlib.Core.Bool.{cond, _&&_}
+use mathlib.Core.List.{List, [], _∷_, _++_, map}
+use lib.ListN.{length, getD, take, drop, replicate}
+use lib.Dec.{leb, ltb}
+use Rattle.basics.specs.Sums.{pre}
+use Rattle.basics.specs.Tests.{All}
+use Rattle.job.specs.declared.Programme.{Programme}
+use Rattle.job.specs.Job.{Job, Within, jobOf, sizeIn, due, dueSlot, heldMost, lastDue}
+use Rattle.schedule.specs.lemmas.Ascending.{Asc}
+use Rattle.schedule.specs.lemmas.Sufficiency.{releases}
+use Rattle.schedule.specs.Plan.{kept, plan}
+use Rattle.schedule.specs.lemmas.Trials.{bases, levelMark, Kept, back, onLayers}
+use Rattle.schedule.specs.lemmas.Parts.{Part, at, leftAfter, padded}
+
+-- The sums of a forecast that can be: 3,600 slots of 16,777,216 bytes.
+abbrev pub Sums : List ℕ → Type 0
+Sums after = (k : ℕ) → getD after k 0 ≤ 60397977600
+
+-- The places from .. k - 1 of a table hold v, the others what they had.
+pub record Placed (from k v : ℕ) (old new : List ℕ) : Type 0 where
+  pub reached : from ≤ k
+  pub long : length new ≡ 3601
+  pub places : (m : ℕ) → getD new m 0 ≡ cond (leb from m && ltb m k) v (getD old m 0)
+
+-- A table holds what is left after each slot.
+pub record SumTable (start : ℕ) (part after : List ℕ) : Type 0 where
+  pub long : length after ≡ 3601
+  pub is : (t : ℕ) → getD after t 0 ≡ leftAfter (padded start part) t
+
+-- ---- the base
+
+pub record BasesFrom (p : Programme) (sizes after ids dues bytes needs : List ℕ) : Type 0 where
+  pub few : p .chunks ≤ 500
+  pub late : 1 ≤ p .delay
+  pub ends : lastDue p ≤ 3600
+  pub small : (i n : ℕ) → sizeIn sizes i n ≤ 16777216
+  pub sums : Sums after
+  pub long : (length after ≡ 3601) × (length ids ≡ 500) × (length dues ≡ 500) × (length bytes ≡ 500) × (length needs ≡ 500)
+
+pub record Bases (p : Programme) (sizes after : List ℕ) (first : ℕ) (ids dues bytes : List ℕ) : Type 0 where
+  pub within : first ≤ 500
+  pub kept : drop first ids ≡ bases (λ k. sizeIn sizes k 0) (dueSlot p) (at after) (p .limit / p .span) 0 (p .chunks) .chunks
+  pub due-slots : drop first dues ≡ map (dueSlot p) (drop first ids)
+  pub base-bytes : drop first bytes ≡ map (λ k. sizeIn sizes k 0) (drop first ids)
+  pub ascending : Asc 1 (p .chunks) (drop first ids)
+  pub long : (length ids ≡ 500) × (length dues ≡ 500) × (length bytes ≡ 500)
+
+-- ---- a further layer
+
+-- The kept chunks that four tables hold.
+abbrev pub keptOf : List ℕ → List ℕ → List ℕ → List ℕ → List Kept
+keptOf [] ds bs ms = []
+keptOf (i ∷ is) [] bs ms = []
+keptOf (i ∷ is) (d ∷ ds) [] ms = []
+keptOf (i ∷ is) (d ∷ ds) (b ∷ bs) [] = []
+keptOf (i ∷ is) (d ∷ ds) (b ∷ bs) (m ∷ ms) = record { chunk = i; due = d; bytes = b; mark = m } ∷ keptOf is ds bs ms
+
+-- A slot that a table of sums has.
+abbrev pub Slot : ℕ → Type 0
+Slot t = Within 1 3600 t
+
+pub record LayerFrom (sizes : List ℕ) (n : ℕ) (after ids dues room : List ℕ) (first : ℕ) (bytes mark : List ℕ) : Type 0 where
+  pub low : 1 ≤ n
+  pub high : n ≤ 3
+  pub small : (i n : ℕ) → sizeIn sizes i n ≤ 16777216
+  pub sums : Sums after
+  pub slots : All Slot (drop first dues)
+  pub within : first ≤ 500
+  pub carried : All (λ b. b ≤ n * 16777216) (drop first bytes)
+  pub long : (length after ≡ 3601) × (length ids ≡ 500) × (length dues ≡ 500) × (length room ≡ 500) × (length bytes ≡ 500) × (length mark ≡ 500)
+
+pub record LayerDone (sizes : List ℕ) (n : ℕ) (after ids dues room : List ℕ) (first : ℕ) (bytes mark bytes' mark' : List ℕ) : Type 0 where
+  pub kept :
+      keptOf (drop first ids) (drop first dues) (drop first bytes') (drop first mark')
+      ≡ back (sizeIn sizes) (at after) n (drop first room) (keptOf (drop first ids) (drop first dues) (drop first bytes) (drop first mark)) .kept
+  pub carried : All (λ b. b ≤ suc n * 16777216) (drop first bytes')
+  pub long : (length bytes' ≡ 500) × (length mark' ≡ 500)
+
+-- ---- all layers
+
+pub record LayersFrom (layers : ℕ) (sizes : List ℕ) (after ids dues ready : List ℕ) (first : ℕ) (bytes room mark : List ℕ) : Type 0 where
+  pub some : 1 ≤ layers
+  pub few : layers ≤ 4
+  pub small : (i n : ℕ) → sizeIn sizes i n ≤ 16777216
+  pub sums : Sums after
+  pub due-slots : All Slot (drop first dues)
+  pub release-slots : All Slot (drop first ready)
+  pub within : first ≤ 500
+  pub carried : All (λ b. b ≤ 16777216) (drop first bytes)
+  pub long : (length after ≡ 3601) × (length ids ≡ 500) × (length dues ≡ 500) × (length ready ≡ 500) × (length bytes ≡ 500) × (length room ≡ 500) × (length mark ≡ 500)
+
+pub record LayersDone (layers : ℕ) (sizes : List ℕ) (all : ℕ) (after ids dues ready : List ℕ) (first : ℕ) (bytes mark bytes' mark' : List ℕ) : Type 0 where
+  pub kept :
+      keptOf (drop first ids) (drop first dues) (drop first bytes') (drop first mark')
+      ≡ onLayers (sizeIn sizes) (at after) all (drop first ready) (layers - 1) (keptOf (drop first ids) (drop first dues) (drop first bytes) (drop first mark))
+  pub long : (length bytes' ≡ 500) × (length mark' ≡ 500)
+
+-- ---- the whole decision
+
+-- The job of which a part of the forecast is handed.
+abbrev pub jobFrom : Programme → List ℕ → ℕ → List ℕ → Job
+jobFrom p sizes start part = jobOf p sizes (padded start part)
+
+pub record DecideFrom (p : Programme) (layers : ℕ) (sizes : List ℕ) (start : ℕ) (part ids ready mark : List ℕ) : Type 0 where
+  pub few : p .chunks ≤ 500
+  pub late : 1 ≤ p .delay
+  pub ends : lastDue p ≤ 3600
+  pub some : 1 ≤ layers
+  pub few-layers : layers ≤ 4
+  pub all-layers : layers ≡ length sizes
+  pub small : (i n : ℕ) → sizeIn sizes i n ≤ 16777216
+  pub part-in : Part start part
+  pub slots : start - 1 + length part ≡ lastDue p
+  pub long : (length ids ≡ 500) × (length ready ≡ 500)
+  pub marks : mark ≡ replicate 500 1
+
+-- The tables hold the plan's chunks, their releases, and their marks.
+pub record Decides (j : Job) (first : ℕ) (ids ready mark : List ℕ) : Type 0 where
+  pub within : first ≤ 500
+  pub chunks : drop first ids ≡ kept j (plan j)
+  pub releases-are : drop first ready ≡ take (500 - first) (releases (due j) (heldMost j) (kept j (plan j)))
+  pub marks : drop first mark ≡ map (λ k. levelMark (plan j k)) (kept j (plan j))
+  pub long : (length ids ≡ 500) × (length ready ≡ 500) × (length mark ≡ 500)
