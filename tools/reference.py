@@ -1,5 +1,5 @@
-"""Document 01 once more, in plain Python and independent of the proved crates: job and plan files, the seven rules, the plan.
-`cases.py` computes from it what the trials program has to print."""
+"""Documents 01 and 02 once more, in plain Python and independent of the proved crates: job and plan files, the seven rules, the plan, link
+traces. `cases.py` and `traces.py` compute from it what the trials programs have to print."""
 from collections import namedtuple
 
 Job = namedtuple("Job", "chunks span delay limit sizes forecast")

@@ -2,7 +2,7 @@
 use Prim.Native.Nat.{ℕ, zero, suc, _+_, _*_, _-_, _/_, _%_, _≤_, _<_}
 use mathlib.Core.Path.{_≡_, refl, sym, ap, _∙_, subst}
 use mathlib.Core.List.{List, [], _∷_, map}
-use mathlib.Core.Logic.{_↔_}
+use mathlib.Core.Logic.{_⊎_, inl, inr, _↔_}
 use native.Mathlib.Omega.{arith}
 use lib.ListN.{length, getD, replicate, length-replicate, getD-replicate}
 use lib.Seq.{ext-getD}
@@ -12,8 +12,10 @@ use Rattle.basics.specs.lemmas.Lists.{length-upTo, getD-upTo}
 use Rattle.basics.specs.Refusals.{unless, _orElse_}
 use Rattle.basics.specs.lemmas.Refusals.{and-as, orElse-as, unless-as}
 use Rattle.basics.specs.Tests.{All, all}
+use Rattle.basics.specs.Text.{digits}
+use Rattle.basics.specs.lemmas.Digits.{digits-first, digits-one}
 use Rattle.basics.specs.lemmas.Tables.{all-at}
-use Rattle.basics.specs.lemmas.Tests.{all-iff, all-map, eqb-iff}
+use Rattle.basics.specs.lemmas.Tests.{all-append, all-iff, all-map, eqb-iff}
 use Rattle.job.specs.Job.{Within}
 use Rattle.job.specs.Refusal.{within, within-iff}
 use Rattle.trace.specs.Trace.{Means, NotBelow, aboveRefusal, forecastOf, forecastRefusal, found, howMany, inSlot, linesFrom, linesRefusal, slotBytes, slotsRefusal, time, times, traceOf, traceRefusal, writable}
@@ -125,6 +127,21 @@ empty-read slots w =
 pub written-means : (f : List ℕ) → length f ≤ 3600 → Means (traceOf f) (linesFrom 0 f)
 unfolding traceOf
 written-means f h = record { bytes = refl; each = lines-are 0 f (omega arith); rises = subst (NotBelow 0) (sym (times-are 0 f)) (times-rise 0 0 f (omega arith)) }
+
+-- "without leading zeros": a line is `0`, or its first digit is none.
+abbrev pub NoLeadingZero : List ℕ → Type 0
+NoLeadingZero l = (l ≡ 48 ∷ []) ⊎ (49 ≤ getD l 0 0)
+
+pub no-leading-zeros : (t : ℕ) (f : List ℕ) → All NoLeadingZero (linesFrom t f)
+no-leading-zeros t [] = tt
+no-leading-zeros t (b ∷ f) =
+    all-append NoLeadingZero (replicate (b / 1500) (digits (t * 1000))) (linesFrom (suc t) f)
+    (All-replicate NoLeadingZero (b / 1500) (digits (t * 1000)) (first t))
+    (no-leading-zeros (suc t) f)
+  where
+    first : (t : ℕ) → NoLeadingZero (digits (t * 1000))
+    first zero = inl (digits-one 0 (omega arith))
+    first (suc t) = inr (digits-first (suc t * 1000) (omega arith))
 
 -- "reading it restores the forecast".
 pub reads-back : (f : List ℕ) → forecastRefusal f ≡ 0 → forecastOf (length f) (traceOf f) ≡ f

@@ -5,7 +5,7 @@ use mathlib.Core.List.{List, [], _∷_, _++_, append-assoc}
 use native.Mathlib.Omega.{arith}
 use native.Mathlib.Numerals.{add-one}
 use lib.ListN.{length, take, drop, set, length-append}
-use lib.Seq.{set-split, take-at}
+use lib.Seq.{set-split}
 use Rattle.records.specs.Fields.{written}
 use Rattle.records.specs.lemmas.Puts.{length-written, written-append, written-fits, written-none, written-whole}
 
@@ -24,9 +24,6 @@ put-between {old} {out} {t} {at} h p = p .buffer ∙ written-fits old at t h ∙
 -- A text at the front of a buffer.
 pub put-whole : {old out t : List ℕ} {next : ℕ} → length t ≤ length old → Put old 0 t out next → out ≡ t ++ drop (length t) old
 put-whole {old} {out} {t} h p = p .buffer ∙ written-whole old t h
-
-pub put-front : {old out t : List ℕ} {next : ℕ} → length t ≤ length old → Put old 0 t out next → take next out ≡ t
-put-front {old} {out} {t} {next} h p = rw (put-whole h p) (take-at t (drop (length t) old) next (omega (arith, p .place)))
 
 -- ---- nothing, a byte, one text after another
 

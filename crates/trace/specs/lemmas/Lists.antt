@@ -5,7 +5,7 @@ use mathlib.Core.Bool.{Bool, _&&_, and-assoc, and-true}
 use mathlib.Core.List.{List, [], _∷_, _++_, map}
 use mathlib.Core.Logic.{⊎-elim}
 use native.Mathlib.Omega.{arith}
-use lib.ListN.{length, replicate, take}
+use lib.ListN.{replicate, take}
 use lib.Seq.{take-all, take-append-le}
 use Rattle.basics.specs.Lists.{upTo}
 use Rattle.basics.specs.lemmas.Lent.{map-snoc}

@@ -1,10 +1,9 @@
--- Lemmas, with the definitions for the code. A table of counts, one for each slot, that stop at a cap: it gives the forecast, and the
--- test of refusal 15 is exact. And how long a written trace is.
+-- Lemmas, with the definitions for the code. A table of counts, one for each slot, that stop at a cap. And how long a written trace is.
 use Prim.Native.Nat.{ℕ, zero, suc, _+_, _*_, _/_, _≤_, _<_, min}
 use mathlib.Core.Path.{_≡_, refl, sym, ap, _∙_}
 use mathlib.Core.Bool.{cond}
 use mathlib.Core.List.{List, [], _∷_, _++_}
-use mathlib.Core.Logic.{⊎-elim, _↔_}
+use mathlib.Core.Logic.{⊎-elim}
 use native.Mathlib.Omega.{arith}
 use lib.ListN.{length, getD, set, replicate, length-append, length-set, length-replicate, getD-replicate}
 use lib.Seq.{ext-getD, getD-set-same, getD-set-other}
@@ -65,13 +64,6 @@ tally-counts c slots ts =
     ∙ ap (λ (x : ℕ). min c (x + howMany (inSlot (k + 1)) ts)) z
     ∙ ap (min c) (omega arith)
     ∙ sym (getD-upTo (λ k. min c (howMany (inSlot (k + 1)) ts)) slots k 0 l))
-
--- With a cap of 11,185 or more the test of refusal 15 is exact, and below it so is the count.
-pub cap-exact : (c n : ℕ) → 11185 ≤ c → (1500 * min c n ≤ 16777216) ↔ (1500 * n ≤ 16777216)
-cap-exact c n h = (λ u. omega arith, λ u. omega arith)
-
-pub cap-same : (c n : ℕ) → 11185 ≤ c → 1500 * n ≤ 16777216 → min c n ≡ n
-cap-same c n h u = omega arith
 
 -- ---- how long a written trace is
 

@@ -126,7 +126,3 @@ many-at (suc m) t (b ∷ f) =
 -- The slot of a time, by one division.
 pub in-slot-iff : (j t : ℕ) → 1 ≤ j → T (inSlot j t) ↔ (t / 1000 + 1 ≡ j)
 in-slot-iff j t h = (λ x. let u = simp tests at x in omega (arith, u .0, u .1), λ e. simp tests (omega arith, omega arith))
-
--- A slot is above 16,777,216 bytes exactly from 11,185 lines on, so that a count may stop there.
-pub lines-most : (n : ℕ) → (1500 * n ≤ 16777216) ↔ (n ≤ 11184)
-lines-most n = (λ h. omega arith, λ h. omega arith)

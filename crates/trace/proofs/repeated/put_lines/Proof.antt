@@ -6,12 +6,6 @@ use native.Mathlib.Omega.{arith}
 use borrow.Author.Needs.{needs}
 use denote.Ref.{now}
 use Rattle.basics.specs.Text.{digits}
-use Rattle.trace.proofs.Repeats.{Doubling, doubling-start, doubling-more, doubling-end, first-fits, out-long, apart, copy-fits}
-use Prim.Native.Nat.{_-_}
-use native.Mathlib.Omega.{arith}
-use borrow.Author.Needs.{needs}
-use denote.Ref.{now}
-use Rattle.basics.specs.Text.{digits}
 use Rattle.trace.proofs.Repeats.{Doubling, doubling-start, doubling-more, doubling-end, none-put, first-fits, out-long, apart, copy-fits}
 
 abbrev Inv-loop : tie.InvT-loop
