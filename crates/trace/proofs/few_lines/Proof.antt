@@ -25,7 +25,7 @@ returns : tie.Need-returns Inv-loop μ-loop
 returns c =
     let a = c .before .before .before .before .args in
     let l = c .before .before .before .loop in
-    testing-many (now (a .counts)) (a .slots) (l .k) (l .inv) (c .before .before .loop-test .taken) (omega (arith, c .before .before .before .before .pre .0, c .before .before .before .before .pre .1)) (c .if1 .taken)
+    testing-many (now (a .counts)) (a .slots) (l .k) (l .inv) (c .before .before .loop-test .taken) (omega (arith, c .before .before .before .before .pre .0, c .before .before .before .before .pre .1)) (omega (arith, c .if1 .taken))
 
 add-k : tie.Need-add-k Inv-loop μ-loop
 add-k c = omega (arith, c .before .before .loop-test .taken)
@@ -37,7 +37,7 @@ loop-again : tie.Need-loop-again Inv-loop μ-loop
 loop-again c =
     let a = c .before .before .before .before .args in
     let l = c .before .before .before .loop in
-    testing-more (now (a .counts)) (a .slots) (l .k) (l .inv) (c .before .before .loop-test .taken) (omega (arith, c .before .before .before .before .pre .0, c .before .before .before .before .pre .1)) (c .if1 .left)
+    testing-more (now (a .counts)) (a .slots) (l .k) (l .inv) (c .before .before .loop-test .taken) (omega (arith, c .before .before .before .before .pre .0, c .before .before .before .before .pre .1)) (omega (arith, c .if1 .left))
 
 returns-2 : tie.Need-returns-2 Inv-loop μ-loop
 returns-2 c =
