@@ -1,4 +1,4 @@
--- Lemmas, with the definition for the code. One pass over the trace from its first byte says what Trace says.
+-- Lemmas. One pass over the trace from its first byte, as the code makes it, finds what Trace finds. Assumes nothing.
 use Prim.Native.Nat.{ℕ, _+_, _*_, _-_, _≤_}
 use mathlib.Core.Path.{_≡_, refl, sym, ap, _∙_}
 use mathlib.Core.Bool.{Bool, true, false, cond, _&&_, and-false}
@@ -9,13 +9,13 @@ use borrow.Author.Tests.{lt-leb, ne-eqb}
 use lib.ListN.{length, length-append}
 use lib.Dec.{T-not, leb, eqb, eqb→eq, eqb-refl}
 use Rattle.basics.specs.Tests.{All, all}
-use Rattle.basics.specs.lemmas.Tests.{by-cond, not-T-false, test}
-use Rattle.job.specs.Refusal.{within}
-use Rattle.trace.specs.lemmas.Lines.{found-line}
 use Rattle.basics.specs.Text.{readOn}
 use Rattle.basics.specs.lemmas.Digits.{read-snoc}
-use Rattle.trace.specs.lemmas.Lists.{All-snoc, all-snoc}
+use Rattle.basics.specs.lemmas.Tests.{by-cond, not-T-false, test}
+use Rattle.job.specs.Refusal.{within}
 use Rattle.trace.specs.Trace.{Found, found, front, line, notBelow, time}
+use Rattle.trace.specs.lemmas.Lines.{found-line}
+use Rattle.trace.specs.lemmas.Lists.{All-snoc, all-snoc}
 
 -- ---- one pass
 

@@ -1,4 +1,4 @@
--- Lemmas. What is written: its lines, its times, and how many of them a slot has.
+-- Lemmas. What is written: its lines, its times, and how many of them a slot has. Assumes nothing.
 use Prim.Native.Nat.{ℕ, zero, suc, _+_, _*_, _-_, _/_, _%_, _≤_, _<_}
 use mathlib.Core.Path.{_≡_, refl, ap}
 use mathlib.Core.Bool.{Bool, true, false, cond, and-false}
