@@ -231,11 +231,13 @@ module _ (w : Film) where
       ⊎-elim
       (λ t.
       let z = eqb→eq (inputRefusal w) 0 t in
-      let s : sixteenRefusal w ≡ 16 = sym (orElse-none (inputRefusal w) (sixteenRefusal w) z) ∙ e in
-      (z, ⊎-elim
-      (λ u. absurd (omega (arith, s, unless-as 16 (ltb 0 (shortest w)) (omega arith) (ltb-iff 0 (shortest w)) .1 (ltb→lt 0 (shortest w) u))))
-      (λ u. omega (arith, nltb→le 0 (shortest w) u))
-      (test (ltb 0 (shortest w)))))
+      let s : sixteenRefusal w ≡ 16 = sym (orElse-none (inputRefusal w) (sixteenRefusal w) z) ∙ e in (
+        z,
+        ⊎-elim
+            (λ u. absurd (omega (arith, s, unless-as 16 (ltb 0 (shortest w)) (omega arith) (ltb-iff 0 (shortest w)) .1 (ltb→lt 0 (shortest w) u))))
+            (λ u. omega (arith, nltb→le 0 (shortest w) u))
+            (test (ltb 0 (shortest w))),
+      ))
       (λ t.
       let n : inputRefusal w ≡ 0 → ⊥ = λ z. T-not (eqb (inputRefusal w) 0) t (eqb-iff (inputRefusal w) 0 .1 z) in
       absurd (omega (arith, below-sixteen, sym (orElse-some (inputRefusal w) (sixteenRefusal w) n) ∙ e)))

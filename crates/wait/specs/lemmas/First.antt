@@ -44,3 +44,7 @@ first-none p s (suc n) g h k a b =
 pub first-same : (p q : ℕ → Bool) (s n : ℕ) → ((k : ℕ) → s ≤ k → k < s + n → p k ≡ q k) → firstFrom p s n ≡ firstFrom q s n
 first-same p q s zero h = refl
 first-same p q s (suc n) h = rw (first-same p q (suc s) n (λ k u v. h k (omega arith) (omega arith)), h s (omega arith) (omega arith))
+
+pub first-below : (p : ℕ → Bool) (s n : ℕ) → 1 ≤ s → firstFrom p s n < s + n
+first-below p s zero h = omega arith
+first-below p s (suc n) h = by-cond (λ (r : ℕ). r < s + suc n) (p s) (λ t. omega arith) (λ t. omega (arith, first-below p (suc s) n (omega arith)))
