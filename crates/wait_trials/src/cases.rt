@@ -1,0 +1,96 @@
+// Single cases: each line says what it is, where it is small the bases that the plan with each s carries, and the answer.
+use crate::plans;
+use crate::plans::Film;
+use libc::STDOUT_FILENO;
+use wait::Answer;
+
+fn word(text: &[u8]) {
+    io::write_all(STDOUT_FILENO, text);
+}
+
+fn line(text: &[u8], n: u16) {
+    word(text);
+    io::print_decimal(STDOUT_FILENO, n as u64);
+    word(b"\n");
+}
+
+fn tell(answer: Answer) {
+    match answer {
+        Answer::Delay(s) => line(b": delay ", s),
+        Answer::Refused(n) => line(b": refused ", n as u16),
+    }
+}
+
+fn ask(text: &[u8], chunks: u16, span: u16, limit: u16, sizes: &[u32], forecast: &[u32]) {
+    word(text);
+    tell(wait::wait(chunks, span, limit, sizes, forecast));
+}
+
+fn tell_bases(film: Film, sizes: &[u32], forecast: &[u32]) {
+    let mut s: u16 = 1;
+    while s <= 8 {
+        if forecast.len() < plans::last_due(film, s) {
+            return;
+        }
+        word(b" ");
+        io::print_decimal(STDOUT_FILENO, plans::bases(film, s, sizes, forecast) as u64);
+        s = s + 1;
+    }
+}
+
+// Each s, and the answer.
+fn show(text: &[u8], chunks: u16, span: u16, limit: u16, sizes: &[u32], forecast: &[u32]) {
+    word(text);
+    word(b", bases");
+    tell_bases(Film { chunks, span, limit }, sizes, forecast);
+    tell(wait::wait(chunks, span, limit, sizes, forecast));
+}
+
+pub fn small() {
+    show(b"a longer wait is worse", 1, 1, 0, &[1], &[1, 0]);
+    show(b"worse, then better", 2, 1, 1, &[2], &[1, 2, 1, 0, 2, 2]);
+    show(b"the last s", 1, 1, 0, &[1], &[0, 0, 1]);
+    show(b"H = 0", 2, 1, 0, &[2], &[2, 1, 2, 2]);
+    show(b"job A without s", 3, 2, 2, &[2, 1], &[3, 0, 1, 0, 2, 0]);
+    show(b"no s works", 1, 1, 0, &[1], &[0, 0]);
+    show(b"too short for s = 1", 3, 2, 9, &[1], &[1, 1, 1, 1]);
+}
+
+pub fn refusals() {
+    ask(b"no chunk", 0, 1, 0, &[1], &[1]);
+    ask(b"501 chunks", 501, 1, 0, &[1], &[1]);
+    ask(b"no slot of film", 1, 0, 0, &[1], &[1]);
+    ask(b"61 slots of film", 1, 61, 0, &[1], &[1]);
+    ask(b"no layer", 1, 1, 0, &[], &[1]);
+    ask(b"a fifth layer", 1, 1, 0, &[1, 1, 1, 1, 1], &[1]);
+    ask(b"size 0", 1, 1, 0, &[1, 0], &[1]);
+    ask(b"a size too large", 1, 1, 0, &[16777217], &[1]);
+    ask(b"no slot", 1, 1, 0, &[1], &[]);
+    ask(b"bytes too large", 1, 1, 0, &[1], &[1, 16777217]);
+}
+
+pub fn orders() {
+    ask(b"5 before 6 and 7", 501, 1, 0, &[], &[]);
+    ask(b"6 before 7", 1, 1, 0, &[], &[]);
+    ask(b"7 before 16", 500, 60, 0, &[1], &[16777217]);
+    ask(b"500 chunks of 60 slots: not 5", 500, 60, 65535, &[1], &[1]);
+}
+
+// The slots from t + 1 on.
+fn fill(forecast: &mut [u32], t: usize, bytes: u32) {
+    let mut k = t;
+    while k < forecast.len() {
+        forecast[k] = bytes;
+        k = k + 1;
+    }
+}
+
+pub fn large() {
+    let mut forecast = [0u32; 3601];
+    ask(b"3,601 slots", 1, 1, 0, &[1], &forecast);
+    ask(b"3,600 slots of nothing", 500, 1, 499, &[1], parts::words(&forecast, 3600));
+    fill(&mut forecast, 3100, 1);
+    ask(b"the last s of 500 chunks", 500, 1, 0, &[1], parts::words(&forecast, 3600));
+    fill(&mut forecast, 1, 16777216);
+    ask(b"sums above 32 bits", 300, 1, 0, &[16777216], parts::words(&forecast, 3600));
+}
