@@ -20,7 +20,13 @@ fn digit(f: u16) -> u32 {
 
 fn one_film(k: u16, slots: usize, tally: &mut [u64]) {
     let f = k / 48;
-    let forecast = [digit(f), digit(f / 3), digit(f / 9), digit(f / 27), digit(f / 81)];
+    let forecast = [
+        digit(f),
+        digit(f / 3),
+        digit(f / 9),
+        digit(f / 27),
+        digit(f / 81),
+    ];
     let sizes = [1 + (k / 24 % 2) as u32];
     let film = film(k);
     trial(film, &sizes, parts::words(&forecast, slots), tally);

@@ -7,8 +7,10 @@ mod tally;
 
 fn main() {
     cases::small();
-    cases::refusals();
-    cases::orders();
+    cases::binding();
+    cases::programmes();
+    cases::lengths();
+    cases::ranges();
     cases::large();
     let mut tally = [0u64; 9];
     family::every_film(&mut tally);
