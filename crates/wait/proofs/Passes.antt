@@ -6,12 +6,12 @@ use mathlib.Core.Bool.{Bool, true, false, _&&_}
 use mathlib.Core.List.{List, _∷_}
 use mathlib.Core.Logic.{⊎-elim}
 use native.Mathlib.Omega.{arith}
-use native.Mathlib.Nat.{mul-le-mul-right}
 use lib.ListN.{length, getD, set, length-set}
 use lib.Dec.{leb, leb→le, nleb→lt}
 use borrow.Author.Tests.{le-leb, lt-leb}
 use Rattle.basics.specs.lemmas.Tests.{test}
 use Rattle.schedule.specs.lemmas.Trials.{keeps}
+use Rattle.schedule.specs.lemmas.Words.{due-by}
 use Rattle.wait.specs.lemmas.Scan.{keepsAll, needsFrom}
 use Rattle.wait.specs.lemmas.Table.{Free, PassDone, PassFrom, dueAt, keptBy, leftAt, never, sizeAt}
 use Rattle.basics.specs.lemmas.Tables.{at-set}
@@ -34,6 +34,10 @@ same-free total x e b h = rw (le-leb b x (omega arith), le-leb 0 (total - b) (om
 fails : (S D A : ℕ → ℕ) (h n i m : ℕ) → i + m ≡ n → keepsAll S D A h i m ≡ false → keepsAll S D A h 0 n ≡ false
 fails S D A h n zero m e f = let z : m ≡ n = omega arith in rw z at f
 fails S D A h n (suc i) m e f = fails S D A h n i (suc m) (omega arith) (rw f)
+
+-- Every chunk is due by the last slot.
+pub due-in : (chunks span s : ℕ) {i : ℕ} → i ≤ chunks → dueAt span s i ≤ dueAt span s chunks
+due-in chunks span s {i = i} h = due-by (record { chunks = chunks; span = span; delay = s; limit = 0 }) i h
 
 module _ (chunks span held s : ℕ) (bases sums : List ℕ) where
   abbrev last : ℕ
@@ -84,12 +88,11 @@ module _ (chunks span held s : ℕ) (bases sums : List ℕ) where
       abbrev due : ℕ
       due = q * span + s
 
-      -- Places of the table of sums.
-      pub due-in : due ≤ last
-      due-in = let m : q ≤ chunks - 1 = omega (arith, p .inside) in omega (arith, mul-le-mul-right span m)
+      due-last : due ≤ last
+      due-last = due-in chunks span s (p .inside)
 
-      pub before-in : due - 1 ≤ last
-      before-in = omega (arith, due-in)
+      before-last : due - 1 ≤ last
+      before-last = omega (arith, due-last)
 
       is-i : suc q ≡ i
       is-i = omega arith
@@ -107,10 +110,10 @@ module _ (chunks span held s : ℕ) (bases sums : List ℕ) where
       cand = size + max (total - getD sums due 0) (getD (behind i) 0 0)
 
       cand-small : size ≤ by → by - size + cand ≡ total
-      cand-small h = omega (arith, p .top, o .rise due last due-in (omega arith))
+      cand-small h = omega (arith, p .top, o .rise due last due-last (omega arith))
 
       cand-large : by < size → total < cand
-      cand-large h = omega (arith, p .top, o .rise due last due-in (omega arith))
+      cand-large h = omega (arith, p .top, o .rise due last due-last (omega arith))
 
       needs-step : behind q ≡ cand ∷ behind i
       needs-step = rw (fewer, is-i)
@@ -164,7 +167,7 @@ module _ (chunks span held s : ℕ) (bases sums : List ℕ) where
         tested : leb (getD sums (due - 1) 0) (getD stored (q + held) 0) ≡ leb (getD (cand ∷ behind i) held 0) (leftAt sums last (due - 1))
         tested =
             let z : q + held - q ≡ held = omega arith in
-            rw z at (stored-same (q + held) (omega arith) (omega (arith, o .held-in, o .few, p .inside)) (getD sums (due - 1) 0) (o .rise (due - 1) last before-in (omega arith)))
+            rw z at (stored-same (q + held) (omega arith) (omega (arith, o .held-in, o .few, p .inside)) (getD sums (due - 1) 0) (o .rise (due - 1) last before-last (omega arith)))
 
         kept-tested : kept q ≡ leb (getD sums (due - 1) 0) (getD stored (q + held) 0)
         kept-tested = kept-is ∙ rw (all-left, le-leb cand total (omega (arith, cand-small room)), tested)

@@ -5,12 +5,11 @@ use mathlib.Core.Bool.{Bool, true, false, cond, _&&_}
 use mathlib.Core.List.{List, _∷_}
 use mathlib.Core.Logic.{⊎-elim}
 use native.Mathlib.Omega.{arith}
-use native.Mathlib.Nat.{mul-le-mul-right}
 use native.Mathlib.Numerals.{add-one}
 use lib.ListN.{length, getD, replicate, getD-replicate, length-replicate, List·getD-eq-default}
 use lib.Dec.{leb, ltb, ltb→lt, nltb→le}
 use Rattle.basics.specs.lemmas.Ranges.{pre-mono, pre-most}
-use Rattle.basics.specs.lemmas.Tests.{by-cond, same-test, test}
+use Rattle.basics.specs.lemmas.Tests.{same-test, test}
 use Rattle.job.specs.Job.{sizeIn}
 use Rattle.job.specs.lemmas.Within.{all-most}
 use Rattle.schedule.specs.Plan.{plan}
@@ -23,8 +22,9 @@ use Rattle.wait.specs.Theorems.{job-accepted, skips-none-iff, works-iff-
 use Rattle.wait.specs.Wait.{Film, InRange, Tried, filmOf, jobAt}
 use Rattle.wait.specs.lemmas.Bases.{no-skip-iff}
 use Rattle.wait.specs.lemmas.First.{first-below, first-same}
-use Rattle.wait.specs.lemmas.Scan.{brought, keepsAll, kept-with-iff, keptWith, left, needsFrom}
-use Rattle.wait.specs.lemmas.Table.{BaseTable, Free, PassDone, PassFrom, SearchFrom, SumTable, dueAt, keptBy, leftAt, never, sizeAt}
+use Rattle.wait.specs.lemmas.Scan.{keepsAll, kept-with-iff, keptWith, left, needsFrom}
+use Rattle.wait.proofs.Passes.{due-in}
+use Rattle.wait.specs.lemmas.Table.{BaseTable, Free, PassDone, SearchFrom, SumTable, dueAt, keptBy, leftAt, never, sizeAt}
 
 -- ---- one s after the other
 
@@ -141,11 +141,10 @@ module _ (chunks span limit : ℕ) (sizes f : List ℕ) (r : InRange (filmOf chu
           let last : ℕ = (chunks - 1) * span + s in
           let in-f : last ≤ length f = omega arith in
           let same : (t : ℕ) → t ≤ last → left film s t ≡ leftAt sums last t = λ t u. omega (arith, table .is last in-f, table .is t (omega arith)) in
-          let due : (k : ℕ) → k ≤ chunks → (k - 1) * span + s ≤ last = λ k u. let m : k - 1 ≤ chunks - 1 = omega arith in omega (arith, mul-le-mul-right span m) in
           keeps-same (λ k. sizeIn sizes k 0) (sizeAt bases) (dueAt span s) (left film s) (leftAt sums last) chunks
           (λ k u v. sym (table-of-bases k u v))
-          (λ k u v. same ((k - 1) * span + s) (due k v))
-          (λ k u v. same ((k - 1) * span + s - 1) (omega (arith, due k v)))
+          (λ k u v. same ((k - 1) * span + s) (due-in chunks span s v))
+          (λ k u v. same ((k - 1) * span + s - 1) (omega (arith, due-in chunks span s v)))
           (same 0 (omega arith))
           (limit / span) (r .chunks-in .high) 0 chunks (omega arith)
 

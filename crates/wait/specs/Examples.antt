@@ -1,15 +1,15 @@
 -- Theorems. Small waits by computation: a longer wait can be worse, the smallest is found, and 16 in its ways.
 use Prim.Native.Nat.{ℕ}
 use mathlib.Core.Path.{_≡_, refl, subst, sym}
-use mathlib.Core.Bool.{Bool, true, false}
+use mathlib.Core.Bool.{true, false}
 use mathlib.Core.List.{List, [], _∷_}
 use lib.Dec.{T}
 use native.Mathlib.Omega.{arith}
 use Rattle.schedule.specs.Plan.{plan}
 use Rattle.wait.specs.declared.Answer.the-variants.{Delay, Refused}
 use Rattle.wait.specs.Answer.{answerOf, inputRefusal, shortest, skipsNone, waitRefusal}
-use Rattle.wait.specs.Theorems.{input-iff, skips-none-iff, works-iff-plan}
-use Rattle.wait.specs.Wait.{Film, InRange, Tried, Works, filmOf, jobAt}
+use Rattle.wait.specs.Theorems.{input-iff, skips-none-iff}
+use Rattle.wait.specs.Wait.{Film, InRange, Works, filmOf, jobAt}
 
 -- One chunk of one slot and one byte, nothing held.
 abbrev one : List ℕ → Film

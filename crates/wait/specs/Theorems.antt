@@ -1,14 +1,14 @@
 -- Theorems. Document 02, request 5: the answer is the shortest wait, there is one at most, 16 says that there is none; and "the plan skips
 -- no base" is the same as "some passing list carries every base", for lists in playing order, and for equal chunks in any order.
 use Prim.Native.Nat.{ℕ, _+_, _≤_, _<_}
-use mathlib.Core.Path.{_≡_, refl, sym, _∙_, subst}
+use mathlib.Core.Path.{_≡_, sym, _∙_, subst}
 use mathlib.Core.Bool.{Bool, true, false, cond, _&&_}
 use mathlib.Core.Logic.{⊎-elim, _↔_}
 use native.Mathlib.Omega.{arith}
 use lib.ListN.{length}
 use lib.Seq.{length-take-le}
 use lib.Dec.{T, T-not, eqb, ltb, eqb→eq, ltb→lt, lt→ltb, nltb→le}
-use borrow.Author.Tests.{le-ltb, lt-ltb, ne-eqb}
+use borrow.Author.Tests.{ne-eqb}
 use Rattle.basics.specs.Refusals.{_orElse_}
 use Rattle.basics.specs.Tests.{all}
 use Rattle.basics.specs.lemmas.Refusals.{orElse-as, orElse-most, orElse-none, orElse-some, unless-as, unless-most}
@@ -21,7 +21,7 @@ use Rattle.schedule.specs.Statement.{CanCarry, IsPlan}
 use Rattle.schedule.specs.Theorems.{plan-exists, plan-unique}
 use Rattle.schedule.specs.lemmas.Words.{accepted-sized}
 use Rattle.wait.specs.declared.Answer.the-variants.{Delay, Refused}
-use Rattle.wait.specs.Answer.{Answered, DelayMeans, SixteenMeans, answerOf, fiveRefusal, inputRefusal, sevenRefusal, shortest, sixRefusal, sixteenRefusal, skipsNone, slotsRefusal, tries, waitRefusal}
+use Rattle.wait.specs.Answer.{DelayMeans, SixteenMeans, answerOf, fiveRefusal, inputRefusal, sevenRefusal, shortest, sixRefusal, sixteenRefusal, skipsNone, slotsRefusal, tries, waitRefusal}
 use Rattle.wait.specs.Wait.{Film, InRange, NoSkip, NoneWorks, ShortestWait, SomeList, SomeOrdered, Tried, Works, jobAt, programmeAt}
 use Rattle.wait.specs.lemmas.Bases.{basesAlone, no-skip-any, no-skip-can-carry, no-skip-ordered}
 use Rattle.wait.specs.lemmas.First.{first-none, first-some}

@@ -38,13 +38,13 @@ mul-due : tie.Need-mul-due Inv-loop μ-loop
 mul-due c =
     let a = c .before .before .before .args in
     let l = c .before .loop in
-    omega (arith, c .before .before .before .pre .reach, due-in (a .chunks) (a .span) (a .held) (a .s) (now (a .bases)) (now (a .sums)) (l .begins) (l .begin) (l .i) (l .inv) (now (a .begins)) (c .before .before .before .pre) (c .loop-test .taken))
+    omega (arith, c .before .before .before .pre .reach, due-in (a .chunks) (a .span) (a .s) (l .inv .inside))
 
 add-due : tie.Need-add-due Inv-loop μ-loop
 add-due c =
     let a = c .before .before .before .args in
     let l = c .before .loop in
-    omega (arith, c .before .before .before .pre .reach, due-in (a .chunks) (a .span) (a .held) (a .s) (now (a .bases)) (now (a .sums)) (l .begins) (l .begin) (l .i) (l .inv) (now (a .begins)) (c .before .before .before .pre) (c .loop-test .taken))
+    omega (arith, c .before .before .before .pre .reach, due-in (a .chunks) (a .span) (a .s) (l .inv .inside))
 
 sub-before : tie.Need-sub-before Inv-loop μ-loop
 sub-before c = omega (arith, c .before .before .before .pre .wait)
@@ -53,13 +53,13 @@ mul-smaller : tie.Need-mul-smaller Inv-loop μ-loop
 mul-smaller c =
     let a = c .before .before .before .args in
     let l = c .before .loop in
-    omega (arith, c .before .before .before .pre .reach, due-in (a .chunks) (a .span) (a .held) (a .s) (now (a .bases)) (now (a .sums)) (l .begins) (l .begin) (l .i) (l .inv) (now (a .begins)) (c .before .before .before .pre) (c .loop-test .taken))
+    omega (arith, c .before .before .before .pre .reach, due-in (a .chunks) (a .span) (a .s) (l .inv .inside))
 
 element-copy-out-smaller : tie.Need-element-copy-out-smaller Inv-loop μ-loop
 element-copy-out-smaller c =
     let a = c .before .before .before .args in
     let l = c .before .loop in
-    omega (arith, c .before .before .before .pre .reach, due-in (a .chunks) (a .span) (a .held) (a .s) (now (a .bases)) (now (a .sums)) (l .begins) (l .begin) (l .i) (l .inv) (now (a .begins)) (c .before .before .before .pre) (c .loop-test .taken))
+    omega (arith, c .before .before .before .pre .reach, due-in (a .chunks) (a .span) (a .s) (l .inv .inside))
 
 smaller-requires : tie.Need-smaller-requires Inv-loop μ-loop
 smaller-requires c κs = search needs
@@ -98,13 +98,13 @@ mul-if2-2 : tie.Need-mul-if2-2 Inv-loop μ-loop
 mul-if2-2 c =
     let a = c .before .before .before .before .before .before .before .before .before .args in
     let l = c .before .before .before .before .before .before .before .loop in
-    omega (arith, c .before .before .before .before .before .before .before .before .before .pre .reach, due-in (a .chunks) (a .span) (a .held) (a .s) (now (a .bases)) (now (a .sums)) (l .begins) (l .begin) (l .i) (l .inv) (now (a .begins)) (c .before .before .before .before .before .before .before .before .before .pre) (c .before .before .before .before .before .before .loop-test .taken))
+    omega (arith, c .before .before .before .before .before .before .before .before .before .pre .reach, due-in (a .chunks) (a .span) (a .s) (l .inv .inside))
 
 element-copy-out-if2-2 : tie.Need-element-copy-out-if2-2 Inv-loop μ-loop
 element-copy-out-if2-2 c =
     let a = c .before .before .before .before .before .before .before .before .before .args in
     let l = c .before .before .before .before .before .before .before .loop in
-    omega (arith, c .before .before .before .before .before .before .before .before .before .pre .reach, due-in (a .chunks) (a .span) (a .held) (a .s) (now (a .bases)) (now (a .sums)) (l .begins) (l .begin) (l .i) (l .inv) (now (a .begins)) (c .before .before .before .before .before .before .before .before .before .pre) (c .before .before .before .before .before .before .loop-test .taken))
+    omega (arith, c .before .before .before .before .before .before .before .before .before .pre .reach, due-in (a .chunks) (a .span) (a .s) (l .inv .inside))
 
 returns-2 : tie.Need-returns-2 Inv-loop μ-loop
 returns-2 c =

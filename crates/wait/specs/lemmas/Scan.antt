@@ -1,12 +1,12 @@
 -- Lemmas. The base pass of schedule's Trials for chunks that must all be kept: from the last chunk down, a stack of needs, one test a
 -- chunk. And what the forecast brings up to each slot, which serves every s.
-use Prim.Native.Nat.{ℕ, zero, suc, _+_, _-_, _≤_, _/_}
+use Prim.Native.Nat.{ℕ, zero, suc, _-_, _≤_, _/_}
 use mathlib.Core.Path.{_≡_, refl, sym, ap, _∙_, subst, fun-ext}
 use mathlib.Core.Bool.{Bool, true, _&&_}
 use mathlib.Core.List.{List, [], _∷_}
 use mathlib.Core.Logic.{⊎-elim, _↔_}
 use native.Mathlib.Omega.{arith}
-use lib.ListN.{length, getD, drop}
+use lib.ListN.{getD, drop}
 use lib.Seq.{getD-take}
 use lib.Dec.{T, leb, leb→le, nleb→lt}
 use Rattle.basics.specs.Sums.{pre}
