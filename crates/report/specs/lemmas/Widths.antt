@@ -7,13 +7,12 @@ use native.Mathlib.Nat.{div-le-self}
 use lib.ListN.{length, length-append}
 use Rattle.basics.specs.Lists.{upTo}
 use Rattle.job.specs.Job.{Job, Accepted, chunks, layers, size, forecast, lastSlot, heldMost}
-use Rattle.job.specs.lemmas.Within.{all-most}
 use Rattle.fetch.specs.Rows.{Row, bytesOfLayer, carried, layerCount}
 use Rattle.basics.specs.Text.{ascii, digits, ended, line, text}
 use Rattle.basics.specs.lemmas.Digits.{digits-few}
 use Rattle.report.specs.lemmas.Places.{text-most, ended-text}
 use Rattle.basics.specs.lemmas.Ranges.{sum-most, pre-most, cond-most}
-use Rattle.report.specs.lemmas.Bounds.{equal-most, apart-most}
+use Rattle.report.specs.lemmas.Bounds.{equal-most, apart-most, all-most}
 use Rattle.report.specs.Report.{slotsLine, layersCarried, bytesCarried, chunkLine, chunkLines, layersLine, bytesInRows, forecastSum, left, bytesLine, apart, shown, switchSum, switchLine}
 
 -- The bytes after a line's first word: a space before each word, and the line feed.
