@@ -15,7 +15,7 @@ struct film {
 
 // steady bytes a slot, or bytes that vary below a bound.
 static const struct film films[] = {
-    {1, 5, 100000, 98999, 0}, // every pass but one goes down to chunk 1, and none works
+    {1, 5, 100000, 98999, 0}, // nearly every pass goes down to chunk 1, and no s works
     {1, 5, 2800, 0, 6000},    // a late answer
     {7, 28, 9000, 0, 6000},   // an early answer
 };
