@@ -9,12 +9,13 @@ use lib.ListN.{length, getD}
 use lib.Seq.{ext-getD}
 use lib.Dec.{T, leb, ltb, eqb}
 use borrow.Author.Tests.{le-leb, lt-leb, leb-true, leb-false, eq-eqb, ne-eqb, eqb-true, eqb-false}
-use Rattle.basics.specs.Tests.{All, allTo, allBelow}
+use Rattle.basics.specs.Tests.{allTo, allBelow}
 use Rattle.basics.specs.lemmas.Tests.{allTo-iff, same-test, eqb-iff, allTo-cong, allBelow-cong}
 use Rattle.basics.specs.Lists.{upTo}
 use Rattle.basics.specs.lemmas.Lists.{length-upTo, getD-upTo}
 use Rattle.job.specs.declared.Programme.{Programme}
-use Rattle.job.specs.Job.{Job, Within, Accepted, dueSlot, lastDue, chunks, layers, size}
+use Rattle.job.specs.Job.{Job, Accepted, dueSlot, lastDue, chunks, layers, size}
+use Rattle.job.specs.lemmas.Within.{all-most}
 use Rattle.fetch.specs.Rows.{Row, begun, held, heldCount, carried, markByte, bytesInSlot, bytesOfLayer}
 use Rattle.fetch.specs.lemmas.Marks.{mark-cong}
 use Rattle.fetch.specs.Verdict.{rule1, rule2, rule3, rule4, rule6, rule7, lowerCarried, same, same-iff, lowest, verdict}
@@ -69,13 +70,8 @@ same-is marks n f e =
 
 -- ---- the rules
 
-at-most : (lo hi : ℕ) (l : List ℕ) → All (Within lo hi) l → (k : ℕ) → getD l k 0 ≤ hi
-at-most lo hi [] a k = omega arith
-at-most lo hi (x ∷ l) a zero = a .0 .high
-at-most lo hi (x ∷ l) a (suc k) = at-most lo hi l (a .1) k
-
 size-most : (j : Job) → Accepted j → (i n : ℕ) → size j i n ≤ 16777216
-size-most j ok i n = at-most 1 16777216 (j .sizes) (ok .sizes-in) n
+size-most j ok i n = all-most 1 16777216 (j .sizes) (ok .sizes-in) n
 
 module _ (j : Job) (rows : List Row) (S L F : List ℕ) (ok : Accepted j) (t : Tallied rows S L F) where
   carried-is : (i n : ℕ) → 1 ≤ i → i ≤ chunks j → n < layers j → carriedBy (j .sizes) L i n ≡ carried j rows i n
@@ -102,7 +98,7 @@ module _ (j : Job) (rows : List Row) (S L F : List ℕ) (ok : Accepted j) (t : T
   rule4-is : allTo (length (j .forecast)) (λ u. leb (getD S u 0) (getD (j .forecast) (u - 1) 0)) ≡ rule4 j rows
   rule4-is =
       ap (λ (n : ℕ). allTo n (λ u. leb (getD S u 0) (getD (j .forecast) (u - 1) 0))) (ok .slots-in)
-      ∙ allTo-cong (lastDue (j .programme)) _ _ (λ u a b. ap (λ (s : ℕ). leb s (getD (j .forecast) (u - 1) 0)) (t .by-slot u (omega (arith, ok .last-in))) ∙ leb-cap (bytesInSlot rows u) (getD (j .forecast) (u - 1) 0) (omega (arith, at-most 0 16777216 (j .forecast) (ok .forecast-in) (u - 1))))
+      ∙ allTo-cong (lastDue (j .programme)) _ _ (λ u a b. ap (λ (s : ℕ). leb s (getD (j .forecast) (u - 1) 0)) (t .by-slot u (omega (arith, ok .last-in))) ∙ leb-cap (bytesInSlot rows u) (getD (j .forecast) (u - 1) 0) (omega (arith, all-most 0 16777216 (j .forecast) (ok .forecast-in) (u - 1))))
 
   held-is : (u : ℕ) → u ≤ 3600 → heldBy (j .programme) F u ≡ heldCount j rows u
   held-is u h =

@@ -15,7 +15,8 @@ use Rattle.basics.specs.Sums.{pre, sum, count}
 use Rattle.basics.specs.Tests.{All}
 use Rattle.basics.specs.lemmas.Tests.{test, by-cond}
 use Rattle.job.specs.declared.Programme.{Programme}
-use Rattle.job.specs.Job.{Job, Within, Accepted, jobOf, sizeIn, size, chunks, layers, due, forecast, heldMost, lastSlot}
+use Rattle.job.specs.Job.{Job, Accepted, jobOf, sizeIn, size, chunks, layers, due, forecast, heldMost, lastSlot}
+use Rattle.job.specs.lemmas.Within.{all-most}
 use Rattle.fetch.specs.Marks.{bit}
 use Rattle.fetch.specs.lemmas.Marks.{mark-cong}
 use Rattle.fetch.specs.Rows.{Row, markByte, rowSlot, rowChunk, rowLayer, rowBytes}
@@ -35,7 +36,7 @@ use Rattle.schedule.specs.lemmas.Trials.{levelMark}
 use Rattle.schedule.specs.lemmas.Words.{accepted-sized, due-by}
 use Rattle.listing.specs.declared.At.{At}
 use Rattle.planner.specs.Answer.{planRows}
-use Rattle.schedule.specs.lemmas.Parts.{at, Part, Small}
+use Rattle.schedule.specs.lemmas.Parts.{at, Part}
 use Rattle.settle.specs.lemmas.Decision.{DecideFrom, Decides}
 use Rattle.planner.specs.lemmas.Handing.{carriedIn, markIn}
 use Rattle.basics.specs.Lent.{over}
@@ -100,17 +101,12 @@ all-each P g (k ∷ ks) a = (a .0, all-each P g ks (a .1))
 
 -- ---- from an accepted job
 
-small-all : (l : List ℕ) (lo : ℕ) → All (Within lo 16777216) l → Small l
-small-all [] lo a k = omega arith
-small-all (x ∷ l) lo a zero = a .0 .high
-small-all (x ∷ l) lo a (suc k) = small-all l lo (a .1) k
-
 module _ (p : Programme) (sizes f : List ℕ) (ok : Accepted (jobOf p sizes f)) where
   abbrev j : Job
   j = jobOf p sizes f
 
   part-in : Part 1 f
-  part-in = record { low = omega arith; high = omega (arith, ok .slots-in, ok .last-in); small = small-all f 0 (ok .forecast-in) }
+  part-in = record { low = omega arith; high = omega (arith, ok .slots-in, ok .last-in); small = all-most 0 16777216 f (ok .forecast-in) }
 
   pub decide-from : (ids ready : List ℕ) → length ids ≡ 500 → length ready ≡ 500 → DecideFrom p (length sizes) sizes 1 f ids ready (replicate 500 1)
   decide-from ids ready a b =
@@ -121,7 +117,7 @@ module _ (p : Programme) (sizes f : List ℕ) (ok : Accepted (jobOf p sizes f)) 
         some = ok .layers-in .low;
         few-layers = ok .layers-in .high;
         all-layers = refl;
-        small = λ i n. small-all sizes 1 (ok .sizes-in) n;
+        small = λ i n. all-most 1 16777216 sizes (ok .sizes-in) n;
         part-in = part-in;
         slots = omega (arith, ok .slots-in);
         long = (a, b);

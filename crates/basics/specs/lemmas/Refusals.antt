@@ -1,5 +1,5 @@
 -- Lemmas. What refusals as numbers say, and what composed ones say from their parts. Assumes nothing.
-use Prim.Native.Nat.{ℕ, _<_}
+use Prim.Native.Nat.{ℕ, _≤_, _<_}
 use mathlib.Core.Path.{_≡_, refl}
 use mathlib.Core.Bool.{Bool, true, false, _&&_}
 use mathlib.Core.Logic.{_↔_}
@@ -44,3 +44,12 @@ orElse-as a b p q = (
   λ e. let u = orElse-iff a b .0 e in (p .0 (u .0), q .0 (u .1)),
   λ x. orElse-iff a b .1 (p .1 (x .0), q .1 (x .1)),
 )
+
+-- ---- the highest number
+
+pub unless-most : (m n : ℕ) (b : Bool) → n ≤ m → unless n b ≤ m
+unless-most m n true h = omega arith
+unless-most m n false h = h
+
+pub orElse-most : (m a b : ℕ) → a ≤ m → b ≤ m → (a orElse b) ≤ m
+orElse-most m a b g h = by-cond (λ (r : ℕ). r ≤ m) (eqb a 0) (λ t. h) (λ t. g)

@@ -20,7 +20,7 @@ use Rattle.schedule.specs.lemmas.Choice.{Fits, chunk-bytes}
 use Rattle.schedule.specs.Plan.{bytes, kept, picked, need, after}
 use Rattle.schedule.specs.lemmas.Kept.{count-le-length-picked, feas-picked, picked-asc, picked-cong, picked-each, picked-skip}
 use Rattle.schedule.specs.lemmas.Level.{level, level-choice, level-exactly}
-use Rattle.schedule.specs.lemmas.Need.{Feas, feas-mono}
+use Rattle.schedule.specs.lemmas.Need.{Feas, feas-mono, feas-tail}
 use Rattle.schedule.specs.lemmas.Plan.{kept-same-test}
 use Rattle.schedule.specs.Statement.{countOf, tried}
 use Rattle.schedule.specs.lemmas.Words.{after-anti, bytesOfChunk, due-mono}
@@ -122,9 +122,6 @@ module _
         tails = (omega (arith, need-of-later (at-most-drop h r′), f .tails .0), g .tails);
       }
 
-  feas-tail : (k : ℕ) (ks : List ℕ) → Feas w d A h (k ∷ ks) → Feas w d A h ks
-  feas-tail k ks f = record { whole = omega (arith, f .whole); tails = f .tails .1 }
-
 -- ---- the base of a plan
 
 module _ (j : Job) (p : ℕ → ℕ) (accepts : (i : ℕ) → 1 ≤ i → i ≤ chunks j → (0 < p i) ↔ Fits j (tried p 0 i)) where
@@ -206,7 +203,7 @@ module _
       let m =
       longest-picked Good (chunks j) base
       (record { whole = omega arith; tails = tt })
-      (feas-tail (λ k. z) (due j) (after j) (heldMost j) (λ x y h. omega arith) (due-mono j) (after-anti j))
+      (feas-tail (λ k. z) (due j) (after j) (heldMost j))
       (feas-exchange (λ k. z) (due j) (after j) (heldMost j) (λ x y h. omega arith) (due-mono j) (after-anti j))
       good-picks ks a f in
       omega (

@@ -34,10 +34,14 @@ module _ (j : Job) (sized : Sized j) (p : ℕ → ℕ) (dec : IsPlan j p) where
       let f = can-carry-iff-fits j sized (tried p n i) (tried-choice j p i n (dec .choice) (r .layer-in)) in
       (λ l. let u = d .0 l in (u .0, f .0 (u .1)), λ u. d .1 (u .0, f .1 (u .1)))
 
+  -- The base, below which there is none.
+  pub base-taken-iff : 0 < layers j → (i : ℕ) → 1 ≤ i → i ≤ chunks j → (0 < p i) ↔ Fits j (tried p 0 i)
+  base-taken-iff h i u v = let a = takes-iff i 0 (layer-of j i 0 u v h) in (λ l. a .0 l .1, λ f. a .1 (omega arith, f))
+
   module _ (z : ℕ → ℕ) (equal : (i n : ℕ) → Layer j i n → size j i n ≡ z n) where
     base-no-more : 0 < layers j → (m : List Row) → Passes j m → countOf j (level j m) 0 ≤ countOf j p 0
     base-no-more h m ok =
-        base-most j (z 0) (λ i u v. equal i 0 (layer-of j i 0 u v h)) p (λ i u v. let a = takes-iff i 0 (layer-of j i 0 u v h) in (λ l. a .0 l .1, λ f. a .1 (omega arith, f))) m ok
+        base-most j (z 0) (λ i u v. equal i 0 (layer-of j i 0 u v h)) p (base-taken-iff h) m ok
 
     list-count : (m : List Row) → Passes j m → (n : ℕ) → n < layers j → layerCount j m n ≡ countOf j (level j m) n
     list-count m ok = count-carried j m (level j m) (level-exactly j m ok)

@@ -45,6 +45,10 @@ need-drop w d A ks zero = omega arith
 need-drop w d A [] (suc n) = omega arith
 need-drop w d A (k ∷ ks) (suc n) = omega (arith, need-drop w d A ks n)
 
+-- What fits, fits without its first chunk.
+pub feas-tail : (w d A : ℕ → ℕ) (h k : ℕ) (ks : List ℕ) → Feas w d A h (k ∷ ks) → Feas w d A h ks
+feas-tail w d A h k ks f = record { whole = omega (arith, f .whole); tails = f .tails .1 }
+
 pub need-mono : (v w d A : ℕ → ℕ) (ks : List ℕ) → All (λ k. v k ≤ w k) ks → need v d A ks ≤ need w d A ks
 need-mono v w d A [] a = omega arith
 need-mono v w d A (k ∷ ks) a = omega (arith, need-mono v w d A ks (a .1), a .0)

@@ -1,0 +1,28 @@
+// The shortest wait: the start delay, or 65,536 and the refusal's number more.
+use wait::Answer;
+ghost use mathlib.Core.Path.{_≡_};
+ghost use Rattle.export.specs.Waits.{waitNumber};
+ghost use Rattle.wait.specs.Answer.{answerOf};
+ghost use Rattle.wait.specs.Wait.{filmOf};
+
+fn delay_number(answer: Answer) -> usize
+    ensures { λ r. ⌜ r ≡ waitNumber answer ⌝ }
+{
+    match answer {
+        Answer::Delay(s) => s as usize,
+        Answer::Refused(n) => 65536 + (n as usize),
+    }
+}
+
+#[no_mangle]
+pub extern "C" fn wait_film(
+    chunks: u16,
+    span: u16,
+    limit: u16,
+    sizes: &[u32],
+    forecast: &[u32],
+) -> usize
+    ensures { λ r. ⌜ r ≡ waitNumber (answerOf (filmOf chunks span limit (now (sizes .entry)) (now (forecast .entry)))) ⌝ }
+{
+    delay_number(wait::wait(chunks, span, limit, sizes, forecast))
+}

@@ -1,0 +1,4 @@
+pub mod Sums
+pub mod Passes
+pub mod Searches
+pub mod Answers

@@ -1,0 +1,262 @@
+-- Theorems. Document 02, request 5: the answer is the shortest wait, there is one at most, 16 says that there is none; and "the plan skips
+-- no base" is the same as "some passing list carries every base", for lists in playing order, and for equal chunks in any order.
+use Prim.Native.Nat.{ℕ, _+_, _≤_, _<_}
+use mathlib.Core.Path.{_≡_, sym, _∙_, subst}
+use mathlib.Core.Bool.{Bool, true, false, cond, _&&_}
+use mathlib.Core.Logic.{⊎-elim, _↔_}
+use native.Mathlib.Omega.{arith}
+use lib.ListN.{length}
+use lib.Seq.{length-take-le}
+use lib.Dec.{T, T-not, eqb, ltb, eqb→eq, ltb→lt, lt→ltb, nltb→le}
+use borrow.Author.Tests.{ne-eqb}
+use Rattle.basics.specs.Refusals.{_orElse_}
+use Rattle.basics.specs.Tests.{all}
+use Rattle.basics.specs.lemmas.Refusals.{orElse-as, orElse-most, orElse-none, orElse-some, unless-as, unless-most}
+use Rattle.basics.specs.lemmas.Tables.{all-take}
+use Rattle.basics.specs.lemmas.Tests.{allTo-iff, eqb-iff, ltb-iff, test}
+use Rattle.job.specs.Job.{Accepted, EqualChunks, Within, chunks, lastDue}
+use Rattle.job.specs.Refusal.{bytes-iff, bytesRefusal, film-iff, sizes-iff, within, within-iff}
+use Rattle.schedule.specs.Plan.{plan}
+use Rattle.schedule.specs.Statement.{CanCarry, IsPlan}
+use Rattle.schedule.specs.Theorems.{plan-exists, plan-unique}
+use Rattle.schedule.specs.lemmas.Words.{accepted-sized}
+use Rattle.wait.specs.declared.Answer.the-variants.{Delay, Refused}
+use Rattle.wait.specs.Answer.{DelayMeans, SixteenMeans, answerOf, fiveRefusal, inputRefusal, sevenRefusal, shortest, sixRefusal, sixteenRefusal, skipsNone, slotsRefusal, tries, waitRefusal}
+use Rattle.wait.specs.Wait.{Film, InRange, NoSkip, NoneWorks, ShortestWait, SomeList, SomeOrdered, Tried, Works, jobAt, programmeAt}
+use Rattle.wait.specs.lemmas.Bases.{basesAlone, no-skip-any, no-skip-can-carry, no-skip-ordered}
+use Rattle.wait.specs.lemmas.First.{first-none, first-some}
+
+-- ---- the input
+
+-- The job for a tried s is accepted.
+pub job-accepted : (w : Film) (s : ℕ) → InRange w → Tried w s → Accepted (jobAt w s)
+job-accepted w s r t =
+    record {
+      chunks-in = r .chunks-in;
+      span-in = r .span-in;
+      delay-in = record { low = t .low; high = omega (arith, t .reaches, r .slots-in .high) };
+      limit-in = r .limit-in;
+      last-in = omega (arith, t .reaches, r .slots-in .high);
+      layers-in = r .layers-in;
+      sizes-in = r .sizes-in;
+      forecast-in = all-take (Within 0 16777216) (lastDue (programmeAt w s)) (w .forecast) (r .forecast-in);
+      slots-in = length-take-le (lastDue (programmeAt w s)) (w .forecast) (t .reaches);
+    }
+
+-- None of 5, 6 and 7 exactly if the input is in range.
+pub input-iff : (w : Film) → (inputRefusal w ≡ 0) ↔ InRange w
+unfolding inputRefusal
+input-iff w =
+    let n = length (w .forecast) in
+    let seven =
+    orElse-as (slotsRefusal (w .forecast)) (bytesRefusal (w .forecast))
+    (unless-as 7 (within 1 3600 n) (omega arith) (within-iff 1 3600 n)) (bytes-iff (w .forecast)) in
+    let r =
+    orElse-as (fiveRefusal w) (sixRefusal w orElse sevenRefusal w) (film-iff (programmeAt w 1))
+    (orElse-as (sixRefusal w) (sevenRefusal w) (sizes-iff (w .sizes)) seven) in (
+      λ e.
+          let u = r .0 e in
+          record {
+            chunks-in = u .0 .0;
+            span-in = u .0 .1 .0;
+            limit-in = u .0 .1 .1;
+            layers-in = u .1 .0 .0;
+            sizes-in = u .1 .0 .1;
+            slots-in = u .1 .1 .0;
+            forecast-in = u .1 .1 .1;
+          },
+      λ i. r .1 ((i .chunks-in, (i .span-in, i .limit-in)), ((i .layers-in, i .sizes-in), (i .slots-in, i .forecast-in))),
+    )
+
+-- ---- one s
+
+module _ (w : Film) (s : ℕ) (r : InRange w) (t : Tried w s) where
+  accepted : Accepted (jobAt w s)
+  accepted = job-accepted w s r t
+
+  -- Whichever plan of the job is meant: there is exactly one.
+  pub works-iff-plan : (p : ℕ → ℕ) → IsPlan (jobAt w s) p → Works w s ↔ NoSkip (jobAt w s) p
+  works-iff-plan p d = (
+    λ k i u v. rw (plan-unique (jobAt w s) (k .plan) p (k .is-plan) d i u v) at (k .no-skip i u v),
+    λ n. record { tried = t; plan = p; is-plan = d; no-skip = n },
+  )
+
+  the-plan : IsPlan (jobAt w s) (plan (jobAt w s))
+  the-plan = plan-exists (jobAt w s) accepted
+
+  -- s works exactly if all bases can be carried,
+  pub works-iff-can-carry : Works w s ↔ CanCarry (jobAt w s) basesAlone
+  works-iff-can-carry =
+      let a = works-iff-plan (plan (jobAt w s)) the-plan in
+      let b = no-skip-can-carry (jobAt w s) (r .layers-in .low) (accepted-sized (jobAt w s) accepted) (plan (jobAt w s)) the-plan in
+      (λ k. b .0 (a .0 k), λ c. a .1 (b .1 c))
+
+  -- if some passing list in playing order carries every base,
+  pub works-iff-ordered : Works w s ↔ SomeOrdered (jobAt w s)
+  works-iff-ordered =
+      let a = works-iff-plan (plan (jobAt w s)) the-plan in
+      let b = no-skip-ordered (jobAt w s) (r .layers-in .low) (accepted-sized (jobAt w s) accepted) (plan (jobAt w s)) the-plan in
+      (λ k. b .0 (a .0 k), λ c. a .1 (b .1 c))
+
+  -- and for equal chunks if some passing list in any order does.
+  pub works-iff-any : EqualChunks (jobAt w s) → Works w s ↔ SomeList (jobAt w s)
+  works-iff-any equal =
+      let a = works-iff-plan (plan (jobAt w s)) the-plan in
+      let b = no-skip-any (jobAt w s) (r .layers-in .low) (accepted-sized (jobAt w s) accepted) (plan (jobAt w s)) the-plan equal in
+      (λ k. b .0 (a .0 k), λ c. a .1 (b .1 c))
+
+  -- The test that the answer's definition makes of the computed plan says it.
+  pub skips-none-iff : T (skipsNone (jobAt w s)) ↔ Works w s
+  unfolding skipsNone
+  skips-none-iff =
+      let j = jobAt w s in
+      let a = works-iff-plan (plan j) the-plan in
+      let b = allTo-iff (chunks j) (λ i. ltb 0 (plan j i)) in
+      (λ t. a .1 (λ i u v. ltb→lt 0 (plan j i) (b .0 t i u v)), λ k. b .1 (λ i u v. lt→ltb 0 (plan j i) (a .0 k i u v)))
+
+-- ---- the smallest s
+
+-- There is one shortest wait at most.
+pub shortest-unique : (w : Film) (s r : ℕ) → ShortestWait w s → ShortestWait w r → s ≡ r
+shortest-unique w s r a b =
+    ⊎-elim
+    (λ t. absurd (b .least s (ltb→lt s r t) (a .works)))
+    (λ t.
+    ⊎-elim
+    (λ u. absurd (a .least r (ltb→lt r s u) (b .works)))
+    (λ u. omega (arith, nltb→le s r t, nltb→le r s u))
+    (test (ltb r s)))
+    (test (ltb s r))
+
+-- The s that the forecast reaches are 1 to `tries`.
+tried-within : (w : Film) (s : ℕ) → 1 ≤ s → s < 1 + tries w → Tried w s
+tried-within w s g h = record { low = g; reaches = omega arith }
+
+within-tried : (w : Film) (s : ℕ) → Tried w s → s < 1 + tries w
+within-tried w s t = omega (arith, t .low, t .reaches)
+
+module _ (w : Film) (r : InRange w) where
+  abbrev each : ℕ → Bool
+  each s = skipsNone (jobAt w s)
+
+  -- What is computed is the shortest wait,
+  shortest-is : 0 < shortest w → ShortestWait w (shortest w)
+  unfolding shortest
+  shortest-is h =
+      let f = first-some each 1 (tries w) (omega arith) h in
+      let s : ℕ = shortest w in
+      record {
+        works = skips-none-iff w s r (tried-within w s (f .low) (f .high)) .0 (f .passes);
+        least = λ k l x. T-not (each k) (f .least k (x .tried .low) l) (skips-none-iff w k r (x .tried) .1 x);
+      }
+
+  -- and where there is none no s works.
+  shortest-none : shortest w ≡ 0 → NoneWorks w
+  unfolding shortest
+  shortest-none h s x =
+      T-not (each s) (first-none each 1 (tries w) (omega arith) h s (x .tried .low) (within-tried w s (x .tried))) (skips-none-iff w s r (x .tried) .1 x)
+
+  pub shortest-iff : (s : ℕ) → ((shortest w ≡ s) × (0 < s)) ↔ ShortestWait w s
+  shortest-iff s = (
+    λ u. rw (u .0) at (shortest-is (omega arith)),
+    λ a.
+        let pos : 0 < s = a .works .tried .low in
+        ⊎-elim
+        (λ t. (shortest-unique w (shortest w) s (shortest-is (ltb→lt 0 (shortest w) t)) a, pos))
+        (λ t. absurd (shortest-none (omega (arith, nltb→le 0 (shortest w) t)) s (a .works)))
+        (test (ltb 0 (shortest w))),
+  )
+
+  pub none-iff : (shortest w ≡ 0) ↔ NoneWorks w
+  none-iff = (
+    shortest-none,
+    λ n. ⊎-elim (λ t. absurd (n (shortest w) (shortest-is (ltb→lt 0 (shortest w) t) .works))) (λ t. omega (arith, nltb→le 0 (shortest w) t)) (test (ltb 0 (shortest w))),
+  )
+
+-- ---- the refusals
+
+-- Not refused exactly if the input is in range and some s works.
+pub wait-iff : (w : Film) → (waitRefusal w ≡ 0) ↔ (InRange w × (0 < shortest w))
+unfolding waitRefusal
+wait-iff w = orElse-as (inputRefusal w) (sixteenRefusal w) (input-iff w) (unless-as 16 (ltb 0 (shortest w)) (omega arith) (ltb-iff 0 (shortest w)))
+
+-- ---- the answer
+
+module _ (w : Film) where
+  delay-test : (s : ℕ) (b : Bool) → cond b (Delay (shortest w)) (Refused (waitRefusal w)) ≡ Delay s → (b ≡ true) × (shortest w ≡ s)
+  delay-test s true e = (cc, cc)
+  delay-test s false e = let z : _≡_ {A = ℕ} 0 1 = cc in absurd (omega arith)
+
+  refused-test : (n : ℕ) (b : Bool) → cond b (Delay (shortest w)) (Refused (waitRefusal w)) ≡ Refused n → waitRefusal w ≡ n
+  refused-test n true e = let z : _≡_ {A = ℕ} 0 1 = cc in absurd (omega arith)
+  refused-test n false e = cc
+
+  -- The call answers s exactly if it is the shortest wait.
+  pub answered-iff : DelayMeans w (answerOf w)
+  answered-iff s = (
+    λ e.
+        let u = delay-test s (eqb (waitRefusal w) 0) e in
+        let z : waitRefusal w ≡ 0 = eqb→eq (waitRefusal w) 0 (subst T (sym (u .0)) tt) in
+        let r = wait-iff w .0 z in
+        let x = shortest-iff w (r .0) s .0 (u .1, omega (arith, r .1, u .1)) in
+        record { in-range = r .0; accepted = job-accepted w s (r .0) (x .works .tried); shortest = x },
+    λ x.
+        let v = shortest-iff w (x .in-range) s .1 (x .shortest) in
+        let z : waitRefusal w ≡ 0 = wait-iff w .1 (x .in-range, omega (arith, v .0, v .1)) in
+        rw (z, v .0),
+  )
+
+  -- 5, 6 and 7 come first,
+  pub input-first : 0 < inputRefusal w → answerOf w ≡ Refused (inputRefusal w)
+  unfolding waitRefusal
+  input-first h =
+      let z : inputRefusal w ≡ 0 → ⊥ = λ e. omega (arith, h, e) in
+      let r : waitRefusal w ≡ inputRefusal w = orElse-some (inputRefusal w) (sixteenRefusal w) z in
+      rw (r, ne-eqb (inputRefusal w) 0 z)
+
+  below-sixteen : inputRefusal w ≤ 7
+  unfolding inputRefusal
+  below-sixteen =
+      let five = within 1 500 (w .chunks) && (within 1 60 (w .span) && within 0 65535 (w .limit)) in
+      let six = within 1 4 (length (w .sizes)) && all (within 1 16777216) (w .sizes) in
+      let slots = within 1 3600 (length (w .forecast)) in
+      let bytes = all (within 0 16777216) (w .forecast) in
+      orElse-most 7 (fiveRefusal w) (sixRefusal w orElse sevenRefusal w) (unless-most 7 5 five (omega arith))
+      (orElse-most 7 (sixRefusal w) (sevenRefusal w) (unless-most 7 6 six (omega arith))
+      (orElse-most 7 (slotsRefusal (w .forecast)) (bytesRefusal (w .forecast)) (unless-most 7 7 slots (omega arith)) (unless-most 7 7 bytes (omega arith))))
+
+  sixteen-in-range : waitRefusal w ≡ 16 → (inputRefusal w ≡ 0) × (shortest w ≡ 0)
+  unfolding waitRefusal
+  sixteen-in-range e =
+      ⊎-elim
+      (λ t.
+      let z = eqb→eq (inputRefusal w) 0 t in
+      let s : sixteenRefusal w ≡ 16 = sym (orElse-none (inputRefusal w) (sixteenRefusal w) z) ∙ e in (
+        z,
+        ⊎-elim
+            (λ u. absurd (omega (arith, s, unless-as 16 (ltb 0 (shortest w)) (omega arith) (ltb-iff 0 (shortest w)) .1 (ltb→lt 0 (shortest w) u))))
+            (λ u. omega (arith, nltb→le 0 (shortest w) u))
+            (test (ltb 0 (shortest w))),
+      ))
+      (λ t.
+      let n : inputRefusal w ≡ 0 → ⊥ = λ z. T-not (eqb (inputRefusal w) 0) t (eqb-iff (inputRefusal w) 0 .1 z) in
+      absurd (omega (arith, below-sixteen, sym (orElse-some (inputRefusal w) (sixteenRefusal w) n) ∙ e)))
+      (test (eqb (inputRefusal w) 0))
+
+  none-sixteen : inputRefusal w ≡ 0 → shortest w ≡ 0 → waitRefusal w ≡ 16
+  unfolding waitRefusal
+  none-sixteen z e = orElse-none (inputRefusal w) (sixteenRefusal w) z ∙ rw e
+
+  -- then "16, exactly if no s within the forecast works,
+  pub sixteen-iff : SixteenMeans w (answerOf w)
+  sixteen-iff = (
+    λ e.
+        let u = sixteen-in-range (refused-test 16 (eqb (waitRefusal w) 0) e) in
+        let r = input-iff w .0 (u .0) in
+        (r, none-iff w r .0 (u .1)),
+    λ x. let z : waitRefusal w ≡ 16 = none-sixteen (input-iff w .1 (x .0)) (none-iff w (x .0) .1 (x .1)) in rw z,
+  )
+
+  -- a forecast too short for s = 1 included."
+  pub too-short : InRange w → length (w .forecast) < lastDue (programmeAt w 1) → answerOf w ≡ Refused 16
+  too-short r h = sixteen-iff .1 (r, λ s k. omega (arith, h, k .tried .low, k .tried .reaches))

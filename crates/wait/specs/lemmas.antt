@@ -1,0 +1,4 @@
+pub mod Bases
+pub mod Scan
+pub mod First
+pub mod Table

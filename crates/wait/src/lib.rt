@@ -1,0 +1,212 @@
+// How long must the film wait: document 02, request 5. The smallest s whose bases are all kept, by one table of forecast sums and a
+// pass over the chunks for each s; no plan is laid out. Nothing is monotone in s, so each is tried.
+use job::Programme;
+ghost use mathlib.Core.Path.{_≡_};
+ghost use Prim.Native.Nat.{_*_, _-_, _/_, _≤_, min};
+ghost use lib.ListN.{length};
+ghost use Rattle.schedule.specs.lemmas.Parts.{Small};
+ghost use Rattle.wait.specs.Wait.{InRange, filmOf};
+ghost use Rattle.wait.specs.Answer.{DelayMeans, SixteenMeans, answerOf, firstFrom, inputRefusal, shortest, slotsRefusal};
+ghost use Rattle.wait.specs.lemmas.Table.{BaseTable, PassDone, PassFrom, SearchFrom, SumTable, keptBy};
+
+// The start delay, or the refusal's number.
+pub enum Answer {
+    Delay(u16),
+    Refused(u8),
+}
+
+fn wide(x: u32) -> u64
+    ensures { λ r. ⌜ r ≡ x ⌝ }
+{
+    x as u64
+}
+
+fn smaller(a: u64, b: u64) -> u64
+    ensures { λ r. ⌜ r ≡ min a b ⌝ }
+{
+    if a < b {
+        return a;
+    }
+    b
+}
+
+// What the forecast brings up to each slot, from 0 on. Sums in 64 bits: 3,600 slots need 36.
+fn add_up(forecast: &[u32], sums: &mut [u64; 3601])
+    requires { ⌜ (length (now forecast) ≤ 3600) × Small (now forecast) × (length (now sums) ≡ 3601) ⌝ }
+    ensures { λ _. ⌜ SumTable (now (forecast .entry)) (now (sums .exit)) ⌝ }
+{
+    let mut sum: u64 = 0;
+    let mut t: usize = 0;
+    sums[0] = 0;
+    while t < forecast.len() {
+        let next = t + 1;
+        sum = sum + wide(forecast[t]);
+        sums[next] = sum;
+        t = next;
+    }
+}
+
+// The base's bytes of each chunk.
+fn set_bases(chunks: u16, sizes: &[u32], bases: &mut [u32; 500])
+    requires { ⌜ (chunks ≤ 500) × (length (now bases) ≡ 500) ⌝ }
+    ensures { λ _. ⌜ BaseTable chunks (now (sizes .entry)) (now (bases .exit)) ⌝ }
+{
+    let mut i: u16 = 0;
+    while i < chunks {
+        let next = i + 1;
+        let q = i as usize;
+        bases[q] = job::size_of(sizes, next, 0);
+        i = next;
+    }
+}
+
+// Whether the job with s keeps every base. From the last chunk down, begins holds what the forecast may have brought at most when the
+// chunk begins: no more than at its due slot or when the next one begins, less its own bytes. It fails if that is below nothing, or if
+// the chunk that the buffer holds back until this one is due would have to begin before.
+fn keeps_all(
+    chunks: usize,
+    span: usize,
+    held: usize,
+    s: usize,
+    bases: &[u32; 500],
+    sums: &[u64; 3601],
+    begins: &mut [u64; 1000],
+) -> bool
+    requires { ⌜ PassFrom chunks span held s (now bases) (now sums) (now begins) ⌝ }
+    ensures { λ r. ⌜ PassDone chunks span held s (now (bases .entry)) (now (sums .entry)) (now (begins .exit)) r ⌝ }
+{
+    let last = (chunks - 1) * span + s;
+    let mut begin = sums[last];
+    let mut i = chunks;
+    while 0 < i {
+        let q = i - 1;
+        let due = q * span + s;
+        let before = due - 1;
+        let by = smaller(sums[due], begin);
+        let size = wide(bases[q]);
+        if by < size {
+            return false;
+        }
+        begin = by - size;
+        begins[q] = begin;
+        let back = q + held;
+        if begins[back] < sums[before] {
+            return false;
+        }
+        i = q;
+    }
+    true
+}
+
+// The first s that keeps every base, or 0. A pass writes only places below C, so one table serves every s.
+fn find_delay(
+    chunks: usize,
+    span: usize,
+    held: usize,
+    tries: usize,
+    bases: &[u32; 500],
+    sums: &[u64; 3601],
+    begins: &mut [u64; 1000],
+) -> usize
+    requires { ⌜ SearchFrom chunks span held tries (now bases) (now sums) (now begins) ⌝ }
+    ensures { λ r. ⌜ r ≡ firstFrom (keptBy chunks span held (now (bases .entry)) (now (sums .entry))) 1 tries ⌝ }
+{
+    let mut s: usize = 1;
+    while s <= tries {
+        if keeps_all(chunks, span, held, s, bases, sums, begins) {
+            return s;
+        }
+        s = s + 1;
+    }
+    0
+}
+
+// H, cut to 500: no chunk has more behind it.
+fn held_behind(p: Programme) -> usize
+    ensures { λ r. ⌜ r ≡ min (p .limit / p .span) 500 ⌝ }
+{
+    let held = job::held_most(p) as usize;
+    if held < 500 {
+        return held;
+    }
+    500
+}
+
+// How many s the forecast reaches, p being the programme with s = 1.
+fn count_tries(p: Programme, slots: usize) -> usize
+    requires { ⌜ p .delay ≡ 1 ⌝ }
+    ensures { λ r. ⌜ r ≡ slots - (p .chunks - 1) * p .span ⌝ }
+{
+    let last = job::last_due(p);
+    if slots < last {
+        return 0;
+    }
+    slots - last + 1
+}
+
+// The shortest wait of a film in range, p being its programme with s = 1; 0 if no s within the forecast works.
+fn shortest_delay(p: Programme, sizes: &[u32], forecast: &[u32]) -> usize
+    requires { ⌜ (p .delay ≡ 1) × InRange (filmOf (p .chunks) (p .span) (p .limit) (now sizes) (now forecast)) ⌝ }
+    ensures { λ r. ⌜ (r ≡ shortest (filmOf (p .chunks) (p .span) (p .limit) (now (sizes .entry)) (now (forecast .entry)))) × (r ≤ 3600) ⌝ }
+{
+    let mut sums = [0u64; 3601];
+    let mut bases = [0u32; 500];
+    let mut begins = [60397977600u64; 1000];
+    add_up(forecast, &mut sums);
+    set_bases(p.chunks, sizes, &mut bases);
+    let held = held_behind(p);
+    let tries = count_tries(p, forecast.len());
+    find_delay(
+        p.chunks as usize,
+        p.span as usize,
+        held,
+        tries,
+        &bases,
+        &sums,
+        &mut begins,
+    )
+}
+
+// 7: no slot, or above 3,600 slots.
+fn slots_refusal(forecast: &[u32]) -> u8
+    ensures { λ r. ⌜ r ≡ slotsRefusal (now (forecast .entry)) ⌝ }
+{
+    if forecast.len() < 1 {
+        return 7;
+    }
+    job::refuse_unless(7, forecast.len() <= 3600)
+}
+
+// 5, 6, 7 in that order, or 0 for none; s and d(C) are no part of it.
+fn input_refusal(p: Programme, sizes: &[u32], forecast: &[u32]) -> u8
+    ensures { λ r. ⌜ r ≡ inputRefusal (filmOf (p .chunks) (p .span) (p .limit) (now (sizes .entry)) (now (forecast .entry))) ⌝ }
+{
+    let seven = job::or_else(slots_refusal(forecast), job::bytes_refusal(forecast));
+    let six = job::sizes_refusal(sizes);
+    job::or_else(job::film_refusal(p), job::or_else(six, seven))
+}
+
+// How long the film must wait: the smallest s for which the plan skips no base. Refused: 5 for C, L and the limit, 6, 7, then 16 exactly
+// if no s within the forecast works.
+pub fn wait(chunks: u16, span: u16, limit: u16, sizes: &[u32], forecast: &[u32]) -> Answer
+    ensures answer { λ r. ⌜ r ≡ answerOf (filmOf chunks span limit (now (sizes .entry)) (now (forecast .entry))) ⌝ }
+    ensures delay { λ r. ⌜ DelayMeans (filmOf chunks span limit (now (sizes .entry)) (now (forecast .entry))) r ⌝ }
+    ensures sixteen { λ r. ⌜ SixteenMeans (filmOf chunks span limit (now (sizes .entry)) (now (forecast .entry))) r ⌝ }
+{
+    let p = Programme {
+        chunks,
+        span,
+        delay: 1,
+        limit,
+    };
+    let no = input_refusal(p, sizes, forecast);
+    if 0 < no {
+        return Answer::Refused(no);
+    }
+    let s = shortest_delay(p, sizes, forecast);
+    if s < 1 {
+        return Answer::Refused(16);
+    }
+    let delay = s as u16;
+    Answer::Delay(delay)
+}
