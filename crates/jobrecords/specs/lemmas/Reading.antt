@@ -1,0 +1,105 @@
+-- Lemmas. The state of the loop that reads a job file, which the contracts of its private functions cite: it stands for the records
+-- read so far. Assumes nothing.
+use Prim.Native.Nat.{ℕ, _+_, _-_, _≤_, _<_}
+use mathlib.Core.Path.{_≡_}
+use mathlib.Core.Bool.{Bool, false, cond}
+use mathlib.Core.List.{List, [], _∷_, _++_}
+use lib.ListN.{length, take}
+use lib.Dec.{leb, eqb}
+use Rattle.basics.specs.Refusals.{unless, _orElse_}
+use Rattle.records.specs.File.{split, recordsRefusal}
+use Rattle.records.specs.lemmas.Reading.{Reads}
+use Rattle.job.specs.declared.Programme.{Programme}
+use Rattle.job.specs.Job.{lastDue}
+use Rattle.jobrecords.specs.declared.Record.{Record}
+use Rattle.jobrecords.specs.declared.Record.the-variants.{En}
+use Rattle.jobrecords.specs.declared.Read.{Read}
+use Rattle.jobrecords.specs.declared.Read.the-variants.{Got, Refused}
+use Rattle.jobrecords.specs.declared.Sofar.{Sofar}
+use Rattle.jobrecords.specs.declared.Ending.{Ending}
+use Rattle.jobrecords.specs.declared.Ending.the-variants.{Whole, Broken}
+use Rattle.jobrecords.specs.declared.Turn.{Turn}
+use Rattle.jobrecords.specs.declared.Turn.the-variants.{On, Over}
+use Rattle.jobrecords.specs.Says.{hasProgramme, noProgramme, programmeIn, sizesIn, forecastIn}
+use Rattle.jobrecords.specs.Refusal.{secondRefusal, previous, sequenceRefusal, rangeFault, format}
+
+abbrev pub noRecords : Sofar
+noRecords = record { last = En; seen = false; programme = noProgramme; layers = 0; slots = 0 }
+
+-- A record of n bytes, where so many are left.
+abbrev pub readWhole : ℕ → ℕ → Record → ℕ → Read
+readWhole left n r at = cond (leb n left) (Got r (at + n)) (Refused 1)
+
+-- The refusal in an answer, 0 for none.
+abbrev pub readRefusalOf : Read → ℕ
+readRefusalOf (Got r next) = 0
+readRefusalOf (Refused n) = n
+
+abbrev pub endRefusalOf : Ending → ℕ
+endRefusalOf (Whole j) = 0
+endRefusalOf (Broken n) = n
+
+-- The fault of a record, by the state.
+abbrev pub faultAfter : Bool → Sofar → Record → ℕ
+faultAfter sequenced j r = secondRefusal (j .seen) r orElse sequenceRefusal sequenced (j .last) r orElse rangeFault (j .layers) (j .slots) r
+
+-- A record that is no second PG and in range can be taken.
+pub record Fine (j : Sofar) (r : Record) : Type 0 where
+  pub first : secondRefusal (j .seen) r ≡ 0
+  pub in-range : rangeFault (j .layers) (j .slots) r ≡ 0
+
+-- 4, 6, 7 at EN, by the state.
+abbrev pub endRefusal : Bool → Programme → ℕ → ℕ → ℕ
+endRefusal seen p layers slots = unless 4 seen orElse unless 6 (leb 1 layers) orElse unless 7 (eqb slots (lastDue p))
+
+-- EN with so many bytes after it, by the state.
+abbrev pub endCode : Sofar → ℕ → ℕ
+endCode j after = unless 3 (eqb after 0) orElse endRefusal (j .seen) (j .programme) (j .layers) (j .slots)
+
+abbrev pub endedBy : Sofar → ℕ → Ending
+endedBy j after = cond (eqb (endCode j after) 0) (Whole j) (Broken (endCode j after))
+
+-- Tables with room for every layer and every slot.
+pub record Room (j : Sofar) (z f : List ℕ) : Type 0 where
+  pub layers-in : j .layers ≤ 4
+  pub slots-in : j .slots ≤ 3600
+  pub sizes-room : length z ≡ 4
+  pub slots-room : length f ≡ 3600
+
+-- The state, with the sizes in the table z and the slots in the table f, stands for some records.
+pub record StandsFor (j : Sofar) (z f : List ℕ) (rs : List Record) : Type 0 where
+  pub room : Room j z f
+  pub last-is : j .last ≡ previous rs
+  pub seen-is : j .seen ≡ hasProgramme rs
+  pub programme-is : j .programme ≡ programmeIn rs
+  pub sizes-are : take (j .layers) z ≡ sizesIn rs
+  pub forecast-is : take (j .slots) f ≡ forecastIn rs
+
+module _ (sequenced : Bool) where
+  -- The file s is read up to a place without a refusal.
+  pub record Going (s : List ℕ) (at : ℕ) (j : Sofar) (z f : List ℕ) : Type 0 where
+    pub before : List Record
+    pub reads : Reads (format sequenced) s at before
+    pub stands : StandsFor j z f before
+
+  -- The file s is read to its end.
+  pub record Complete (s : List ℕ) (j : Sofar) (z f : List ℕ) : Type 0 where
+    pub none : recordsRefusal (format sequenced) s ≡ 0
+    pub stands : StandsFor j z f (split (format sequenced) s .records)
+
+  pub record Refuses (s : List ℕ) (n : ℕ) : Type 0 where
+    pub is : recordsRefusal (format sequenced) s ≡ n
+    pub some : n ≡ 0 → ⊥
+
+  abbrev pub Ended : List ℕ → List ℕ → List ℕ → Ending → Type 0
+  Ended s z f (Whole j) = Complete s j z f
+  Ended s z f (Broken n) = Refuses s n
+
+  -- What a turn leaves.
+  abbrev pub Turned : List ℕ → ℕ → List ℕ → List ℕ → Turn → Type 0
+  Turned s at z f (On j next) = (at < next) × Going s next j z f
+  Turned s at z f (Over e) = Ended s z f e
+
+-- A record without a fault goes into the tables: whatever the state stood for, it then stands for that record too.
+pub record Takes (j : Sofar) (z f : List ℕ) (r : Record) (j′ : Sofar) (z′ f′ : List ℕ) : Type 0 where
+  pub stands : (rs : List Record) → StandsFor j z f rs → StandsFor j′ z′ f′ (rs ++ (r ∷ []))
