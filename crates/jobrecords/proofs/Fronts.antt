@@ -8,9 +8,9 @@ use lib.ListN.{length, take, drop, length-drop, drop-of-length-le}
 use lib.Seq.{take-all}
 use lib.Dec.{leb}
 use borrow.Author.Tests.{le-leb, lt-leb}
-use Rattle.records.specs.Fields.{marked}
+use Rattle.records.specs.Fields.{hAt, wAt, marked}
 use Rattle.jobrecords.specs.declared.Record.{Record}
-use Rattle.jobrecords.specs.declared.Record.the-variants.{En}
+use Rattle.jobrecords.specs.declared.Record.the-variants.{Pg, Ly, Bw, En}
 use Rattle.jobrecords.specs.declared.Read.the-variants.{Refused}
 use Rattle.jobrecords.specs.Records.{PG, LY, BW, EN, whole, programmeAt, layerAt, runAt, byMark, front}
 use Rattle.jobrecords.specs.Reader.{readFront, readAt}
@@ -43,20 +43,20 @@ module _ (s : List ℕ) (at : ℕ) where
     unfolding front
     front-is = rw (le-leb 2 (length s) l)
 
-    pub programme-read : marked PG s ≡ true → readFront at (front s) ≡ readWhole (length s) 10 (programmeAt s) at
-    programme-read p = rw (front-is, p) (read-whole 10 (programmeAt s) (leb 10 (length s)) refl)
+    pub programme-read : marked PG s ≡ true → (a b d e : ℕ) → a ≡ hAt s 2 → b ≡ hAt s 4 → d ≡ hAt s 6 → e ≡ hAt s 8 → readWhole (length s) 10 (Pg (record { chunks = a; span = b; delay = d; limit = e })) at ≡ readFront at (front s)
+    programme-read p a b d e u v w x = rw (front-is, p, u, v, w, x) (sym (read-whole 10 (programmeAt s) (leb 10 (length s)) refl))
 
     module _ (p : marked PG s ≡ false) where
-      pub layer-read : marked LY s ≡ true → readFront at (front s) ≡ readWhole (length s) 6 (layerAt s) at
-      layer-read y = rw (front-is, p, y) (read-whole 6 (layerAt s) (leb 6 (length s)) refl)
+      pub layer-read : marked LY s ≡ true → (x : ℕ) → x ≡ wAt s 2 → readWhole (length s) 6 (Ly x) at ≡ readFront at (front s)
+      layer-read y x u = rw (front-is, p, y, u) (sym (read-whole 6 (layerAt s) (leb 6 (length s)) refl))
 
       module _ (y : marked LY s ≡ false) where
-        pub run-read : marked BW s ≡ true → readFront at (front s) ≡ readWhole (length s) 8 (runAt s) at
-        run-read b = rw (front-is, p, y, b) (read-whole 8 (runAt s) (leb 8 (length s)) refl)
+        pub run-read : marked BW s ≡ true → (n x : ℕ) → n ≡ hAt s 2 → x ≡ wAt s 4 → readWhole (length s) 8 (Bw n x) at ≡ readFront at (front s)
+        run-read b n x u v = rw (front-is, p, y, b, u, v) (sym (read-whole 8 (runAt s) (leb 8 (length s)) refl))
 
         module _ (b : marked BW s ≡ false) where
-          pub end-read : marked EN s ≡ true → readFront at (front s) ≡ readWhole (length s) 2 En at
-          end-read e = rw (front-is, p, y, b, e) (read-whole 2 En (leb 2 (length s)) refl)
+          pub end-read : marked EN s ≡ true → readWhole (length s) 2 En at ≡ readFront at (front s)
+          end-read e = rw (front-is, p, y, b, e) (sym (read-whole 2 En (leb 2 (length s)) refl))
 
           pub unknown-read : marked EN s ≡ false → readFront at (front s) ≡ Refused 2
           unknown-read e = rw (front-is, p, y, b, e)

@@ -1,5 +1,5 @@
 pub mod Clean
-pub mod Fronts
+pub mod Exact
 pub mod Joined
 pub mod Reading
 pub mod Sequence

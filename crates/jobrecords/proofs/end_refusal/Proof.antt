@@ -1,5 +1,9 @@
 -- `jobrecords::end_refusal` meets its contract. Assumes nothing.
 use borrow.Author.Needs.{needs}
+use Prim.Native.Nat.{ℕ}
+use mathlib.Core.Path.{ap, ap₂, _∙_}
+use lib.Dec.{eqb}
+use Rattle.basics.specs.Refusals.{unless, _orElse_}
 use Rattle.jobrecords.proofs.end_refusal.Statement.{statement}
 use Rattle.jobrecords.proofs.end_refusal.Tie as tie
 
@@ -22,7 +26,11 @@ or-else-requires-2 : tie.Need-or-else-requires-2
 or-else-requires-2 c κs = search needs
 
 returns : tie.Need-returns
-returns c = cc
+returns c =
+    c .or-else2 .ensures
+    ∙ ap₂ _orElse_ (c .before .before .refuse-unless3 .ensures)
+    (c .before .or-else .ensures
+    ∙ ap₂ _orElse_ (c .before .before .before .before .before .refuse-unless .ensures) (c .before .before .before .refuse-unless2 .ensures ∙ ap (λ (d : ℕ). unless 7 (eqb (c .before .before .before .before .before .before .args .slots) d)) (c .before .before .before .before .last-due .ensures)))
 
 pub end-refusal-spec : {M : Type 1} → statement M
 end-refusal-spec =

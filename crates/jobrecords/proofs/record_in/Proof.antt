@@ -27,7 +27,7 @@ whole-requires : tie.Need-whole-requires
 whole-requires c κs = search needs
 
 returns-2 : tie.Need-returns-2
-returns-2 c = rw (programme-read (c .before .before .before .before .before .before .before .before .before .before .args .rest .now) (c .before .before .before .before .before .before .before .before .before .before .args .at) (c .before .before .before .before .before .before .before .before .if1 .left) (known (c .before .before .before .before .before .before .is-mark .ensures) (c .before .before .before .before .before .if2 .taken))) (cc)
+returns-2 c = c .whole .ensures ∙ programme-read (c .before .before .before .before .before .before .before .before .before .before .args .rest .now) (c .before .before .before .before .before .before .before .before .before .before .args .at) (c .before .before .before .before .before .before .before .before .if1 .left) (known (c .before .before .before .before .before .before .is-mark .ensures) (c .before .before .before .before .before .if2 .taken)) _ _ _ _ (c .before .before .before .before .h-at .ensures) (c .before .before .before .h-at2 .ensures) (c .before .before .h-at3 .ensures) (c .before .h-at4 .ensures)
 
 is-mark-requires-2 : tie.Need-is-mark-requires-2
 is-mark-requires-2 c κs = search needs
@@ -39,7 +39,7 @@ whole-requires-2 : tie.Need-whole-requires-2
 whole-requires-2 c κs = search needs
 
 returns-3 : tie.Need-returns-3
-returns-3 c = rw (layer-read (c .before .before .before .before .before .before .before .before .before .before .args .rest .now) (c .before .before .before .before .before .before .before .before .before .before .args .at) (c .before .before .before .before .before .before .before .before .if1 .left) (known (c .before .before .before .before .before .before .is-mark .ensures) (c .before .before .before .before .before .if2 .left)) (known (c .before .before .before .is-mark2 .ensures) (c .before .before .if3 .taken))) (cc)
+returns-3 c = c .whole2 .ensures ∙ layer-read (c .before .before .before .before .before .before .before .before .before .before .args .rest .now) (c .before .before .before .before .before .before .before .before .before .before .args .at) (c .before .before .before .before .before .before .before .before .if1 .left) (known (c .before .before .before .before .before .before .is-mark .ensures) (c .before .before .before .before .before .if2 .left)) (known (c .before .before .before .is-mark2 .ensures) (c .before .before .if3 .taken)) _ (c .before .w-at .ensures)
 
 is-mark-requires-3 : tie.Need-is-mark-requires-3
 is-mark-requires-3 c κs = search needs
@@ -54,7 +54,7 @@ whole-requires-3 : tie.Need-whole-requires-3
 whole-requires-3 c κs = search needs
 
 returns-4 : tie.Need-returns-4
-returns-4 c = rw (run-read (c .before .before .before .before .before .before .before .before .before .before .before .before .before .before .args .rest .now) (c .before .before .before .before .before .before .before .before .before .before .before .before .before .before .args .at) (c .before .before .before .before .before .before .before .before .before .before .before .before .if1 .left) (known (c .before .before .before .before .before .before .before .before .before .before .is-mark .ensures) (c .before .before .before .before .before .before .before .before .before .if2 .left)) (known (c .before .before .before .before .before .before .before .is-mark2 .ensures) (c .before .before .before .before .before .before .if3 .left)) (known (c .before .before .before .before .is-mark3 .ensures) (c .before .before .before .if4 .taken))) (cc)
+returns-4 c = c .whole3 .ensures ∙ run-read (c .before .before .before .before .before .before .before .before .before .before .before .before .before .before .args .rest .now) (c .before .before .before .before .before .before .before .before .before .before .before .before .before .before .args .at) (c .before .before .before .before .before .before .before .before .before .before .before .before .if1 .left) (known (c .before .before .before .before .before .before .before .before .before .before .is-mark .ensures) (c .before .before .before .before .before .before .before .before .before .if2 .left)) (known (c .before .before .before .before .before .before .before .is-mark2 .ensures) (c .before .before .before .before .before .before .if3 .left)) (known (c .before .before .before .before .is-mark3 .ensures) (c .before .before .before .if4 .taken)) _ _ (c .before .before .h-at5 .ensures) (c .before .w-at2 .ensures)
 
 is-mark-requires-4 : tie.Need-is-mark-requires-4
 is-mark-requires-4 c κs = search needs
@@ -63,7 +63,7 @@ whole-requires-4 : tie.Need-whole-requires-4
 whole-requires-4 c κs = search needs
 
 returns-5 : tie.Need-returns-5
-returns-5 c = c .whole4 .ensures ∙ sym (end-read (c .before .before .before .before .before .before .before .before .before .before .before .before .before .before .before .args .rest .now) (c .before .before .before .before .before .before .before .before .before .before .before .before .before .before .before .args .at) (c .before .before .before .before .before .before .before .before .before .before .before .before .before .if1 .left) (known (c .before .before .before .before .before .before .before .before .before .before .before .is-mark .ensures) (c .before .before .before .before .before .before .before .before .before .before .if2 .left)) (known (c .before .before .before .before .before .before .before .before .is-mark2 .ensures) (c .before .before .before .before .before .before .before .if3 .left)) (known (c .before .before .before .before .before .is-mark3 .ensures) (c .before .before .before .before .if4 .left)) (known (c .before .before .is-mark4 .ensures) (c .before .if5 .taken)))
+returns-5 c = c .whole4 .ensures ∙ end-read (c .before .before .before .before .before .before .before .before .before .before .before .before .before .before .before .args .rest .now) (c .before .before .before .before .before .before .before .before .before .before .before .before .before .before .before .args .at) (c .before .before .before .before .before .before .before .before .before .before .before .before .before .if1 .left) (known (c .before .before .before .before .before .before .before .before .before .before .before .is-mark .ensures) (c .before .before .before .before .before .before .before .before .before .before .if2 .left)) (known (c .before .before .before .before .before .before .before .before .is-mark2 .ensures) (c .before .before .before .before .before .before .before .if3 .left)) (known (c .before .before .before .before .before .is-mark3 .ensures) (c .before .before .before .before .if4 .left)) (known (c .before .before .is-mark4 .ensures) (c .before .if5 .taken))
 
 returns-6 : tie.Need-returns-6
 returns-6 c = sym (unknown-read (c .before .before .before .before .before .before .before .before .before .before .before .before .before .before .args .rest .now) (c .before .before .before .before .before .before .before .before .before .before .before .before .before .before .args .at) (c .before .before .before .before .before .before .before .before .before .before .before .before .if1 .left) (known (c .before .before .before .before .before .before .before .before .before .before .is-mark .ensures) (c .before .before .before .before .before .before .before .before .before .if2 .left)) (known (c .before .before .before .before .before .before .before .is-mark2 .ensures) (c .before .before .before .before .before .before .if3 .left)) (known (c .before .before .before .before .is-mark3 .ensures) (c .before .before .before .if4 .left)) (known (c .before .is-mark4 .ensures) (c .if5 .left)))
