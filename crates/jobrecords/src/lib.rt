@@ -141,7 +141,10 @@ fn is_run_of(bytes: u32, record: Record) -> bool
     ensures { λ r. ⌜ r ≡ isRunOf bytes «record» ⌝ }
 {
     match record {
-        Record::Bw { count: _, bytes: same } => same == bytes,
+        Record::Bw {
+            count: _,
+            bytes: same,
+        } => same == bytes,
         Record::Pg(_) => false,
         Record::Ly(_) => false,
         Record::En => false,
@@ -351,7 +354,14 @@ fn refusal_of(read: Read) -> u8
 }
 
 // One record read, judged and taken.
-fn one_turn(sequenced: bool, file: &[u8], at: usize, j: Sofar, sizes: &mut [u32], slots: &mut [u32]) -> Turn
+fn one_turn(
+    sequenced: bool,
+    file: &[u8],
+    at: usize,
+    j: Sofar,
+    sizes: &mut [u32],
+    slots: &mut [u32],
+) -> Turn
     requires { ⌜ Going sequenced (now file) at j (now sizes) (now slots) ⌝ }
     ensures { λ r. ⌜ Turned sequenced (now (file .entry)) at (now (sizes .exit)) (now (slots .exit)) r ⌝ }
 {
