@@ -6,7 +6,7 @@ use crate::files::refused;
 use crate::files::word;
 use checker::Checked;
 use job::Programme;
-use jobfile::JobRead;
+use jobrecords::JobRead;
 use planfile::PlanRead;
 use planfile::Written;
 

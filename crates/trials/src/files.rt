@@ -1,7 +1,7 @@
 // The case files: j.. are job files, p.. plan files for job A.
 use checker::Checked;
 use job::Programme;
-use jobfile::JobRead;
+use jobrecords::JobRead;
 use libc::STDOUT_FILENO;
 use planfile::PlanRead;
 
