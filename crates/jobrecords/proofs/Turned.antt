@@ -8,6 +8,8 @@ use lib.ListN.{length, drop, length-drop}
 use lib.Seq.{length-take-le}
 use lib.Dec.{eqb}
 use borrow.Author.Tests.{eqb-true, eqb-false}
+use Rattle.basics.specs.Refusals.{_orElse_}
+use Rattle.basics.specs.lemmas.Refusals.{orElse-iff}
 use Rattle.records.specs.File.{Front, got, none, recordsRefusal, split}
 use Rattle.records.specs.lemmas.Reading.{reads-start, reads-none, reads-end, reads-fault, reads-more}
 use Rattle.jobrecords.specs.declared.Record.{Record}
@@ -21,10 +23,9 @@ use Rattle.jobrecords.specs.declared.Turn.the-variants.{On, Over}
 use Rattle.jobrecords.specs.Records.{front, isEnd}
 use Rattle.jobrecords.specs.lemmas.Sound.{front-sound}
 use Rattle.jobrecords.specs.Says.{sizesIn, forecastIn}
-use Rattle.jobrecords.specs.Refusal.{fault, lacking, format}
-use Rattle.jobrecords.specs.lemmas.Clean.{faultless}
+use Rattle.jobrecords.specs.Refusal.{secondRefusal, previous, rangeFault, fault, lacking, format}
 use Rattle.jobrecords.specs.Reader.{readFront, readAt}
-use Rattle.jobrecords.specs.lemmas.Reading.{noRecords, faultAfter, endRefusal, endCode, endedBy, Fine, StandsFor, Takes, Going, Refuses, Ended, Turned}
+use Rattle.jobrecords.specs.lemmas.Reading.{noRecords, sequenceAt, sequence-at, faultAfter, endRefusal, endCode, endedBy, Fine, StandsFor, Takes, Going, Refuses, Ended, Turned}
 
 -- ---- what stands in front
 
@@ -56,7 +57,7 @@ module _ (j : Sofar) (z f : List ℕ) (rs : List Record) (i : StandsFor j z f rs
 
   -- By the state a record has the fault that it has after the records that the state stands for.
   fault-is : (q : Bool) (r : Record) → faultAfter q j r ≡ fault q rs r
-  fault-is q r = rw (i .seen-is, i .last-is, layers-are, slots-are)
+  fault-is q r = let turn = sequence-at q (previous rs) r in rw (i .seen-is, i .place-is, i .bytes-is, turn, layers-are, slots-are)
 
   end-is : endRefusal (j .seen) (j .programme) (j .layers) (j .slots) ≡ lacking rs
   end-is = rw (i .seen-is, i .programme-is, layers-are, slots-are)
@@ -68,7 +69,8 @@ going-start q s z f h k =
       reads = reads-start (format q) s;
       stands = record {
         room = record { layers-in = omega arith; slots-in = omega arith; sizes-room = h; slots-room = k };
-        last-is = refl;
+        place-is = refl;
+        bytes-is = refl;
         seen-is = refl;
         programme-is = refl;
         sizes-are = refl;
@@ -118,7 +120,9 @@ module _ (q : Bool) (s : List ℕ) (at : ℕ) (j : Sofar) (z f : List ℕ) (g : 
           }
 
       pub turn-fine : faultAfter q j r ≡ 0 → Fine j r
-      turn-fine clean = let f = faultless q (j .seen) (j .last) (j .layers) (j .slots) r clean in record { first = f .first; in-range = f .in-range }
+      turn-fine clean =
+          let u = orElse-iff (secondRefusal (j .seen) r) (sequenceAt q (j .place) (j .bytes) r orElse rangeFault (j .layers) (j .slots) r) .0 clean in
+          record { first = u .0; in-range = orElse-iff (sequenceAt q (j .place) (j .bytes) r) (rangeFault (j .layers) (j .slots) r) .0 (u .1) .1 }
 
       pub turn-more : faultAfter q j r ≡ 0 → (j′ : Sofar) (z′ f′ : List ℕ) → Takes j z f r j′ z′ f′ → (at < next) × Going q s next j′ z′ f′
       turn-more clean j′ z′ f′ t =

@@ -6,12 +6,10 @@ ghost use Prim.Native.Nat.{_+_, _≤_, _<_};
 ghost use mathlib.Core.List.{_++_};
 ghost use lib.ListN.{length, replicate, take, drop};
 ghost use lib.Seq.{paste};
-ghost use lib.Dec.{leb};
-ghost use mathlib.Core.Bool.{not, _&&_};
 ghost use Rattle.job.specs.Refusal.{within};
 ghost use Rattle.jobrecords.specs.Records.{front, isEnd};
-ghost use Rattle.jobrecords.specs.Refusal.{secondRefusal, place, isRunOf, follows, sequenceRefusal, layerFault, runFault, rangeFault};
-ghost use Rattle.jobrecords.specs.lemmas.Reading.{noRecords, readWhole, faultAfter, endRefusal, endedBy, readRefusalOf, endRefusalOf, Room, Fine, Takes, Going, Turned, Ended};
+ghost use Rattle.jobrecords.specs.Refusal.{secondRefusal, layerFault, runFault, rangeFault};
+ghost use Rattle.jobrecords.specs.lemmas.Reading.{noRecords, readWhole, runFollows, followsAt, sequenceAt, faultAfter, endRefusal, endedBy, readRefusalOf, endRefusalOf, Room, Fine, Takes, Going, Turned, Ended};
 ghost use Rattle.jobrecords.specs.Reader.{readFront, readAt, readAnswer, sizesRead, forecastRead};
 use job::Programme;
 
@@ -39,9 +37,11 @@ pub enum JobRead {
     Refused(u8),
 }
 
-// What the records so far say beside the sizes and the forecast, which stand in tables; the last of them, EN if there is none.
+// What the records so far say beside the sizes and the forecast, which stand in tables; of the last record its place in the sequence, 0 if
+// there is none, and its bytes, if it is a run.
 struct Sofar {
-    last: Record,
+    place: u8,
+    bytes: u32,
     seen: bool,
     programme: Programme,
     layers: usize,
@@ -125,70 +125,46 @@ fn second_refusal(seen: bool, record: Record) -> u8
     }
 }
 
-// The place of a record in the sequence, 0 of EN.
-fn place_of(record: Record) -> u8
-    ensures { λ r. ⌜ r ≡ place «record» ⌝ }
+// Whether an LY, and whether a run of those bytes, may stand after a record of that place and, if it is a run, of those last bytes.
+fn layer_follows(place: u8) -> bool
+    ensures { λ r. ⌜ r ≡ within 1 2 place ⌝ }
 {
-    match record {
-        Record::Pg(_) => 1,
-        Record::Ly(_) => 2,
-        Record::Bw { count: _, bytes: _ } => 3,
-        Record::En => 0,
-    }
-}
-
-fn is_run_of(bytes: u32, record: Record) -> bool
-    ensures { λ r. ⌜ r ≡ isRunOf bytes «record» ⌝ }
-{
-    match record {
-        Record::Bw {
-            count: _,
-            bytes: same,
-        } => same == bytes,
-        Record::Pg(_) => false,
-        Record::Ly(_) => false,
-        Record::En => false,
-    }
-}
-
-// Whether an LY, and whether a run of those bytes, may stand after the record before it.
-fn layer_follows(last: Record) -> bool
-    ensures { λ r. ⌜ r ≡ within 1 2 (place last) ⌝ }
-{
-    let n = place_of(last);
-    if n < 1 {
+    if place < 1 {
         return false;
     }
-    n <= 2
+    place <= 2
 }
 
-fn run_follows(last: Record, bytes: u32) -> bool
-    ensures { λ r. ⌜ r ≡ leb 1 (place last) && not (isRunOf bytes last) ⌝ }
+fn run_follows(place: u8, last: u32, bytes: u32) -> bool
+    ensures { λ r. ⌜ r ≡ runFollows place last bytes ⌝ }
 {
-    if place_of(last) < 1 {
+    if place < 1 {
         return false;
     }
-    !is_run_of(bytes, last)
+    if place <= 2 {
+        return true;
+    }
+    last != bytes
 }
 
-// Whether a record may stand after the record before it.
-fn may_follow(last: Record, record: Record) -> bool
-    ensures { λ r. ⌜ r ≡ follows last «record» ⌝ }
+// Whether a record may stand after such a record.
+fn may_follow(place: u8, last: u32, record: Record) -> bool
+    ensures { λ r. ⌜ r ≡ followsAt place last «record» ⌝ }
 {
     match record {
-        Record::Pg(_) => place_of(last) == 0,
-        Record::Ly(_) => layer_follows(last),
-        Record::Bw { count: _, bytes } => run_follows(last, bytes),
+        Record::Pg(_) => place == 0,
+        Record::Ly(_) => layer_follows(place),
+        Record::Bw { count: _, bytes } => run_follows(place, last, bytes),
         Record::En => true,
     }
 }
 
-// 17 of a record after the record before it, where one sequence is asked.
-fn sequence_refusal(sequenced: bool, last: Record, record: Record) -> u8
-    ensures { λ r. ⌜ r ≡ sequenceRefusal sequenced last «record» ⌝ }
+// 17 of a record after such a record, where one sequence is asked.
+fn sequence_refusal(sequenced: bool, place: u8, last: u32, record: Record) -> u8
+    ensures { λ r. ⌜ r ≡ sequenceAt sequenced place last «record» ⌝ }
 {
     if sequenced {
-        return job::refuse_unless(17, may_follow(last, record));
+        return job::refuse_unless(17, may_follow(place, last, record));
     }
     0
 }
@@ -253,9 +229,8 @@ fn range_fault(layers: usize, slots: usize, record: Record) -> u8
 fn fault_of(sequenced: bool, j: Sofar, record: Record) -> u8
     ensures { λ r. ⌜ r ≡ faultAfter sequenced j «record» ⌝ }
 {
-    let last = j.last;
     let second = second_refusal(j.seen, record);
-    let sequence = sequence_refusal(sequenced, last, record);
+    let sequence = sequence_refusal(sequenced, j.place, j.bytes, record);
     let range = range_fault(j.layers, j.slots, record);
     job::or_else(second, job::or_else(sequence, range))
 }
@@ -307,7 +282,8 @@ fn take_record(j: Sofar, record: Record, sizes: &mut [u32], slots: &mut [u32]) -
     let p = j.programme;
     match record {
         Record::Pg(programme) => Sofar {
-            last: record,
+            place: 1,
+            bytes: 0,
             seen: true,
             programme,
             layers: n,
@@ -316,7 +292,8 @@ fn take_record(j: Sofar, record: Record, sizes: &mut [u32], slots: &mut [u32]) -
         Record::Ly(size) => {
             sizes[n] = size;
             Sofar {
-                last: record,
+                place: 2,
+                bytes: 0,
                 seen,
                 programme: p,
                 layers: n + 1,
@@ -327,7 +304,8 @@ fn take_record(j: Sofar, record: Record, sizes: &mut [u32], slots: &mut [u32]) -
             let more = count as usize;
             fill(slots, from, more, bytes);
             Sofar {
-                last: record,
+                place: 3,
+                bytes,
                 seen,
                 programme: p,
                 layers: n,
@@ -335,7 +313,8 @@ fn take_record(j: Sofar, record: Record, sizes: &mut [u32], slots: &mut [u32]) -
             }
         }
         Record::En => Sofar {
-            last: record,
+            place: 0,
+            bytes: 0,
             seen,
             programme: p,
             layers: n,
@@ -391,7 +370,8 @@ fn nothing() -> Sofar
         limit: 0,
     };
     Sofar {
-        last: Record::En,
+        place: 0,
+        bytes: 0,
         seen: false,
         programme,
         layers: 0,

@@ -1,8 +1,8 @@
 -- Lemmas. The state of the loop that reads a job file, which the contracts of its private functions cite: it stands for the records
 -- read so far. Assumes nothing.
 use Prim.Native.Nat.{ℕ, _+_, _-_, _≤_, _<_}
-use mathlib.Core.Path.{_≡_}
-use mathlib.Core.Bool.{Bool, false, cond}
+use mathlib.Core.Path.{_≡_, refl, ap}
+use mathlib.Core.Bool.{Bool, true, false, not, _&&_, _||_, cond}
 use mathlib.Core.List.{List, [], _∷_, _++_}
 use lib.ListN.{length, take}
 use lib.Dec.{leb, eqb}
@@ -11,8 +11,9 @@ use Rattle.records.specs.File.{split, recordsRefusal}
 use Rattle.records.specs.lemmas.Reading.{Reads}
 use Rattle.job.specs.declared.Programme.{Programme}
 use Rattle.job.specs.Job.{lastDue}
+use Rattle.job.specs.Refusal.{within}
 use Rattle.jobrecords.specs.declared.Record.{Record}
-use Rattle.jobrecords.specs.declared.Record.the-variants.{En}
+use Rattle.jobrecords.specs.declared.Record.the-variants.{Pg, Ly, Bw, En}
 use Rattle.jobrecords.specs.declared.Read.{Read}
 use Rattle.jobrecords.specs.declared.Read.the-variants.{Got, Refused}
 use Rattle.jobrecords.specs.declared.Sofar.{Sofar}
@@ -21,10 +22,10 @@ use Rattle.jobrecords.specs.declared.Ending.the-variants.{Whole, Broken}
 use Rattle.jobrecords.specs.declared.Turn.{Turn}
 use Rattle.jobrecords.specs.declared.Turn.the-variants.{On, Over}
 use Rattle.jobrecords.specs.Says.{hasProgramme, noProgramme, programmeIn, sizesIn, forecastIn}
-use Rattle.jobrecords.specs.Refusal.{secondRefusal, previous, sequenceRefusal, rangeFault, format}
+use Rattle.jobrecords.specs.Refusal.{secondRefusal, previous, place, isRunOf, follows, sequenceRefusal, rangeFault, format}
 
 abbrev pub noRecords : Sofar
-noRecords = record { last = En; seen = false; programme = noProgramme; layers = 0; slots = 0 }
+noRecords = record { place = 0; bytes = 0; seen = false; programme = noProgramme; layers = 0; slots = 0 }
 
 -- A record of n bytes, where so many are left.
 abbrev pub readWhole : ℕ → ℕ → Record → ℕ → Read
@@ -39,9 +40,43 @@ abbrev pub endRefusalOf : Ending → ℕ
 endRefusalOf (Whole j) = 0
 endRefusalOf (Broken n) = n
 
+-- 17 by the place of the record before and, if it is a run, its bytes.
+abbrev pub runBytes : Record → ℕ
+runBytes (Pg p) = 0
+runBytes (Ly size) = 0
+runBytes (Bw count bytes) = bytes
+runBytes En = 0
+
+abbrev pub runFollows : ℕ → ℕ → ℕ → Bool
+runFollows before last bytes = leb 1 before && (leb before 2 || not (eqb last bytes))
+
+abbrev pub followsAt : ℕ → ℕ → Record → Bool
+followsAt before last (Pg p) = eqb before 0
+followsAt before last (Ly size) = within 1 2 before
+followsAt before last (Bw count bytes) = runFollows before last bytes
+followsAt before last En = true
+
+abbrev pub sequenceAt : Bool → ℕ → ℕ → Record → ℕ
+sequenceAt sequenced before last r = unless 17 (not sequenced || followsAt before last r)
+
+run-follows-at : (q : Record) (bytes : ℕ) → runFollows (place q) (runBytes q) bytes ≡ leb 1 (place q) && not (isRunOf bytes q)
+run-follows-at (Pg p) bytes = refl
+run-follows-at (Ly size) bytes = refl
+run-follows-at (Bw count same) bytes = refl
+run-follows-at En bytes = refl
+
+follows-at : (q r : Record) → followsAt (place q) (runBytes q) r ≡ follows q r
+follows-at q (Pg p) = refl
+follows-at q (Ly size) = refl
+follows-at q (Bw count bytes) = run-follows-at q bytes
+follows-at q En = refl
+
+pub sequence-at : (sequenced : Bool) (q r : Record) → sequenceAt sequenced (place q) (runBytes q) r ≡ sequenceRefusal sequenced q r
+sequence-at sequenced q r = ap (λ (b : Bool). unless 17 (not sequenced || b)) (follows-at q r)
+
 -- The fault of a record, by the state.
 abbrev pub faultAfter : Bool → Sofar → Record → ℕ
-faultAfter sequenced j r = secondRefusal (j .seen) r orElse sequenceRefusal sequenced (j .last) r orElse rangeFault (j .layers) (j .slots) r
+faultAfter sequenced j r = secondRefusal (j .seen) r orElse sequenceAt sequenced (j .place) (j .bytes) r orElse rangeFault (j .layers) (j .slots) r
 
 -- A record that is no second PG and in range can be taken.
 pub record Fine (j : Sofar) (r : Record) : Type 0 where
@@ -69,7 +104,8 @@ pub record Room (j : Sofar) (z f : List ℕ) : Type 0 where
 -- The state, with the sizes in the table z and the slots in the table f, stands for some records.
 pub record StandsFor (j : Sofar) (z f : List ℕ) (rs : List Record) : Type 0 where
   pub room : Room j z f
-  pub last-is : j .last ≡ previous rs
+  pub place-is : j .place ≡ place (previous rs)
+  pub bytes-is : j .bytes ≡ runBytes (previous rs)
   pub seen-is : j .seen ≡ hasProgramme rs
   pub programme-is : j .programme ≡ programmeIn rs
   pub sizes-are : take (j .layers) z ≡ sizesIn rs
