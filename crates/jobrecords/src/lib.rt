@@ -6,10 +6,12 @@ ghost use Prim.Native.Nat.{_+_, _≤_, _<_};
 ghost use mathlib.Core.List.{_++_};
 ghost use lib.ListN.{length, replicate, take, drop};
 ghost use lib.Seq.{paste};
+ghost use mathlib.Core.Bool.{not, _||_};
+ghost use Rattle.basics.specs.Refusals.{unless};
 ghost use Rattle.job.specs.Refusal.{within};
 ghost use Rattle.jobrecords.specs.Records.{front, isEnd};
-ghost use Rattle.jobrecords.specs.Refusal.{secondRefusal, layerFault, runFault, rangeFault};
-ghost use Rattle.jobrecords.specs.lemmas.Reading.{noRecords, readWhole, runFollows, followsAt, sequenceAt, faultAfter, endRefusal, endedBy, readRefusalOf, endRefusalOf, Room, Fine, Takes, Going, Turned, Ended};
+ghost use Rattle.jobrecords.specs.Refusal.{layerFault, runFault};
+ghost use Rattle.jobrecords.specs.lemmas.Reading.{noRecords, readWhole, runFollows, faultAfter, endRefusal, endedBy, readRefusalOf, endRefusalOf, Room, Fine, Takes, Going, Turned, Ended};
 ghost use Rattle.jobrecords.specs.Reader.{readFront, readAt, readAnswer, sizesRead, forecastRead};
 use job::Programme;
 
@@ -113,18 +115,6 @@ fn record_at(file: &[u8], at: usize) -> Read
     record_in(&file[at..], at)
 }
 
-// 4 of a record, whether or not a PG has come before.
-fn second_refusal(seen: bool, record: Record) -> u8
-    ensures { λ r. ⌜ r ≡ secondRefusal seen «record» ⌝ }
-{
-    match record {
-        Record::Pg(_) => job::refuse_unless(4, !seen),
-        Record::Ly(_) => 0,
-        Record::Bw { count: _, bytes: _ } => 0,
-        Record::En => 0,
-    }
-}
-
 // Whether an LY, and whether a run of those bytes, may stand after a record of that place and, if it is a run, of those last bytes.
 fn layer_follows(place: u8) -> bool
     ensures { λ r. ⌜ r ≡ within 1 2 place ⌝ }
@@ -147,24 +137,12 @@ fn run_follows(place: u8, last: u32, bytes: u32) -> bool
     last != bytes
 }
 
-// Whether a record may stand after such a record.
-fn may_follow(place: u8, last: u32, record: Record) -> bool
-    ensures { λ r. ⌜ r ≡ followsAt place last «record» ⌝ }
-{
-    match record {
-        Record::Pg(_) => place == 0,
-        Record::Ly(_) => layer_follows(place),
-        Record::Bw { count: _, bytes } => run_follows(place, last, bytes),
-        Record::En => true,
-    }
-}
-
-// 17 of a record after such a record, where one sequence is asked.
-fn sequence_refusal(sequenced: bool, place: u8, last: u32, record: Record) -> u8
-    ensures { λ r. ⌜ r ≡ sequenceAt sequenced place last «record» ⌝ }
+// 17 unless a record follows, where one sequence is asked.
+fn out_of_sequence(sequenced: bool, follows: bool) -> u8
+    ensures { λ r. ⌜ r ≡ unless 17 (not sequenced || follows) ⌝ }
 {
     if sequenced {
-        return job::refuse_unless(17, may_follow(place, last, record));
+        return job::refuse_unless(17, follows);
     }
     0
 }
@@ -213,26 +191,46 @@ fn end_refusal(seen: bool, p: Programme, layers: usize, slots: usize) -> u8
     job::or_else(job::refuse_unless(4, seen), job::or_else(bare, total))
 }
 
-// 5, 6, 7 of a record after so many layers and slots.
-fn range_fault(layers: usize, slots: usize, record: Record) -> u8
-    ensures { λ r. ⌜ r ≡ rangeFault layers slots «record» ⌝ }
+// 4, 17, 5 of a PG after the records that the state stands for.
+fn programme_refusal(sequenced: bool, j: Sofar, p: Programme) -> u8
+    ensures { λ r. ⌜ r ≡ faultAfter sequenced j (Record.Pg p) ⌝ }
 {
-    match record {
-        Record::Pg(p) => job::or_else(job::fields_refusal(p), job::last_due_refusal(p)),
-        Record::Ly(size) => layer_fault(layers, size),
-        Record::Bw { count, bytes } => run_fault(slots, count, bytes),
-        Record::En => 0,
+    let second = job::refuse_unless(4, !j.seen);
+    let sequence = out_of_sequence(sequenced, j.place == 0);
+    let range = job::or_else(job::fields_refusal(p), job::last_due_refusal(p));
+    job::or_else(second, job::or_else(sequence, range))
+}
+
+// 17, 6 of an LY.
+fn layer_refusal(sequenced: bool, j: Sofar, size: u32) -> u8
+    ensures { λ r. ⌜ r ≡ faultAfter sequenced j (Record.Ly size) ⌝ }
+{
+    let sequence = out_of_sequence(sequenced, layer_follows(j.place));
+    let layer = layer_fault(j.layers, size);
+    job::or_else(sequence, layer)
+}
+
+// 17, 7 of a BW. A file has up to 3,600 of them: no range is looked at where 17 applies.
+fn run_refusal(sequenced: bool, j: Sofar, count: u16, bytes: u32) -> u8
+    ensures { λ r. ⌜ r ≡ faultAfter sequenced j (Record.Bw count bytes) ⌝ }
+{
+    let sequence = out_of_sequence(sequenced, run_follows(j.place, j.bytes, bytes));
+    if sequence != 0 {
+        return sequence;
     }
+    run_fault(j.slots, count, bytes)
 }
 
 // The fault of a record after those that the state stands for.
 fn fault_of(sequenced: bool, j: Sofar, record: Record) -> u8
     ensures { λ r. ⌜ r ≡ faultAfter sequenced j «record» ⌝ }
 {
-    let second = second_refusal(j.seen, record);
-    let sequence = sequence_refusal(sequenced, j.place, j.bytes, record);
-    let range = range_fault(j.layers, j.slots, record);
-    job::or_else(second, job::or_else(sequence, range))
+    match record {
+        Record::Pg(p) => programme_refusal(sequenced, j, p),
+        Record::Ly(size) => layer_refusal(sequenced, j, size),
+        Record::Bw { count, bytes } => run_refusal(sequenced, j, count, bytes),
+        Record::En => 0,
+    }
 }
 
 fn is_end(record: Record) -> bool

@@ -78,6 +78,10 @@ sequence-at sequenced q r = ap (λ (b : Bool). unless 17 (not sequenced || b)) (
 abbrev pub faultAfter : Bool → Sofar → Record → ℕ
 faultAfter sequenced j r = secondRefusal (j .seen) r orElse sequenceAt sequenced (j .place) (j .bytes) r orElse rangeFault (j .layers) (j .slots) r
 
+pub end-after : (sequenced : Bool) (j : Sofar) → faultAfter sequenced j En ≡ 0
+end-after true j = refl
+end-after false j = refl
+
 -- A record that is no second PG and in range can be taken.
 pub record Fine (j : Sofar) (r : Record) : Type 0 where
   pub first : secondRefusal (j .seen) r ≡ 0
