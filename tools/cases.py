@@ -8,6 +8,7 @@ from reference import *
 A = Job(3, 2, 2, 2, [2, 1], [3, 0, 1, 0, 2, 0])
 PG, LY, EN = pg(3, 2, 2, 2), ly(2) + ly(1), b"EN"
 BW = b"".join(bw(1, b) for b in A.forecast)
+TWO = bw(3, 1) + bw(3, 2)
 
 # (what the case is, its bytes). Each refusal alone, then pairs where two compete and the order decides.
 JOBS = [
@@ -22,7 +23,7 @@ JOBS = [
     ("half of EN", PG + LY + BW + b"E"),
     ("a byte after EN", PG + LY + BW + EN + b"\0"),
     ("a second PG", PG + LY + PG + BW + EN),
-    ("no PG by EN", LY + BW + EN),
+    ("EN alone: no PG", EN),
     ("no chunk", pg(0, 2, 2, 2)),
     ("500 chunks", pg(500, 1, 1, 9) + ly(1) + bw(500, 1) + EN),
     ("501 chunks", pg(501, 1, 1, 9) + ly(1) + bw(501, 1) + EN),
@@ -43,7 +44,7 @@ JOBS = [
     ("a run of no slots", PG + LY + bw(0, 1)),
     ("16,777,216 bytes in a slot", PG + LY + bw(6, 1 << 24) + EN),
     ("one byte more in a slot", PG + LY + bw(6, (1 << 24) + 1) + EN),
-    ("runs beyond 3,600 slots", PG + LY + bw(3600, 1) + bw(1, 1)),
+    ("runs beyond 3,600 slots", PG + LY + bw(3600, 1) + bw(1, 2)),
     ("a slot too few", PG + LY + bw(5, 1) + EN),
     ("a slot too many", PG + LY + bw(7, 1) + EN),
     ("records mixed, PG last", LY[:6] + BW[:24] + LY[6:] + BW[24:] + PG + EN),
@@ -54,12 +55,34 @@ JOBS = [
     ("out of range, then an unknown mark: 5 before 2", pg(0, 1, 1, 1) + b"XX"),
     ("an unknown mark, then out of range: 2 before 5", b"XX" + pg(0, 1, 1, 1)),
     ("a bad run, then a bad size: 7 before 6", PG + bw(0, 1) + ly(0)),
-    ("bytes after EN and no PG: 3 before 4", LY + EN + b"\0"),
-    ("no PG and no layer: 4 before 6", BW + EN),
+    ("bytes after EN and no PG: 3 before 4", EN + b"\0"),
+    ("a BW straight after PG is in sequence: 6 at EN", PG + TWO + EN),
     ("no layer and a slot too few: 6 before 7", PG + bw(5, 1) + EN),
-    ("65,536 bytes", ly(1) + bytes(65530)),
+    ("65,536 bytes", PG + bytes(65526)),
     ("65,537 bytes: 9 before all", b"XX" + bytes(65535)),
     ("70,000 bytes", PG + LY + BW + EN + bytes(70000 - 74)),
+    ("an LY after a BW", PG + LY[:6] + TWO[:8] + LY[6:] + TWO[8:] + EN),
+    ("PG second, after an LY", LY[:6] + PG + LY[6:] + BW + EN),
+    ("PG not first, after a BW", BW + PG + LY + EN),
+    ("PG missing", LY + BW + EN),
+    ("no PG and no layer", BW + EN),
+    ("an LY first, bytes after EN", LY + EN + b"\0"),
+    ("runs of the same bytes with another between", PG + LY + bw(2, 5) + bw(2, 1) + bw(2, 5) + EN),
+    ("three runs that could be two", PG + LY + bw(2, 1) + bw(2, 5) + bw(2, 5) + EN),
+    ("a second PG after a BW: 4 before 17", PG + LY + BW + PG + EN),
+    ("a second PG after a BW, out of range: 4 before 17 and 5", PG + LY + BW + pg(0, 1, 1, 1) + EN),
+    ("an LY first, then a PG out of range: 17 before 5", LY + pg(0, 1, 1, 1)),
+    ("an LY first, of no bytes: 17 before 6", ly(0) + PG),
+    ("an LY after a BW, of no bytes: 17 before 6", PG + LY + BW + ly(0)),
+    ("a fifth LY, after a BW: 17 before 6", PG + ly(1) * 4 + BW + ly(1)),
+    ("a BW first, of no slots: 17 before 7", bw(0, 1) + PG),
+    ("an empty run of the same bytes: 17 before 7", PG + LY + bw(1, 1) + bw(0, 1)),
+    ("the same bytes, beyond 3,600 slots: 17 before 7", PG + LY + bw(3600, 1) + bw(1, 1)),
+    ("bytes out of range twice: 7 at the first", PG + LY + bw(1, (1 << 24) + 1) * 2),
+    ("an LY after a BW, cut off: 1 before 17", PG + LY + BW + ly(0)[:-1]),
+    ("an LY first, then an unknown mark: 17 before 2", LY + b"XX"),
+    ("an unknown mark, then an LY: 2 before 17", b"XX" + LY),
+    ("3,600 runs of one slot that could be one, PG last", ly(1) + bw(1, 0) * 3600 + pg(1, 1, 3600, 0) + EN),
 ]
 
 KP = kp(1, 0) + kp(2, 3) + kp(3, 1)
@@ -164,12 +187,18 @@ last 9
 """
 
 
-def job_line(data):
+def job_line(data, mixed):
     try:
-        job = read_job(data)
+        job = read_job(data, mixed)
     except Refused as r:
         return f"refused {r.number}"
-    return f"chunks {job.chunks} layers {len(job.sizes)} slots {len(job.forecast)} written {len(write_job(job))}"
+    said = f"layers {len(job.sizes)} slots {len(job.forecast)}"
+    assert read_job(write_job(job)) == job
+    return f"chunks {job.chunks} {said} written {len(write_job(job))} again {said}"
+
+
+def job_lines(data):
+    return job_line(data, False) + "\n    mixed " + job_line(data, True)
 
 
 def plan_line(data):
@@ -184,7 +213,7 @@ def write_trials():
     shutil.rmtree("crates/trials/data", ignore_errors=True)
     os.makedirs("crates/trials/data")
     lines = []
-    for kind, cases, line in (("j", JOBS, job_line), ("p", PLANS, plan_line)):
+    for kind, cases, line in (("j", JOBS, job_lines), ("p", PLANS, plan_line)):
         for k, (_, data) in enumerate(cases):
             name = f"{kind}{k:02d}"
             with open(f"crates/trials/data/{name}", "wb") as f:
@@ -197,7 +226,7 @@ def write_trials():
     with open("crates/trials/stdout", "w") as f:
         f.write("\n".join(lines) + "\n")
     with open("crates/trials/CASES.md", "w") as f:
-        f.write("# The trials' case files\n\nMade by tools/cases.py. `j..` are job files, `p..` plan files for job A. `q00` is a plan file of 6 chunks and 5,955 rows: 65,537 bytes.\n\n")
+        f.write("# The trials' case files\n\nMade by tools/cases.py. `j..` are job files, read in one sequence and then as mixed files, `p..` plan files for job A. `q00` is a plan file of 6 chunks and 5,955 rows: 65,537 bytes.\n\n")
         for kind, cases in (("j", JOBS), ("p", PLANS)):
             for k, (what, _) in enumerate(cases):
                 f.write(f"- {kind}{k:02d}: {what}\n")

@@ -55,14 +55,21 @@ def records(data, bodies):
             return
 
 
-def read_job(data):
+def read_job(data, mixed=False):
+    """A job file in one sequence; a mixed one, as document 01 has it, too if mixed."""
     if len(data) > 65536:
         raise Refused(9)
-    programme, sizes, forecast = None, [], []
+    programme, sizes, forecast, seen = None, [], [], []
     for mark, body in records(data, {b"PG": 8, b"LY": 4, b"BW": 6, b"EN": 0}):
+        if mark == b"PG" and programme:
+            raise Refused(4)
+        if mark != b"EN":
+            seen.append((mark, body))
+            marks = b"".join(m[:1] for m, _ in seen).lstrip(b"P").lstrip(b"L").lstrip(b"B")
+            again = mark == b"BW" and [m for m, _ in seen[-2:]] == [b"BW"] * 2 and seen[-2][1][2:] == body[2:]
+            if not mixed and (marks or again or seen[0][0] != b"PG"):
+                raise Refused(17)
         if mark == b"PG":
-            if programme:
-                raise Refused(4)
             programme = [number(body[k:k + 2]) for k in (0, 2, 4, 6)]
             check_fields(*programme)
         elif mark == b"LY":
@@ -84,6 +91,11 @@ def read_job(data):
     if len(forecast) != due(job, job.chunks):
         raise Refused(7)
     return job
+
+
+def convert(data):
+    """What program convert writes for a file of either form."""
+    return write_job(read_job(data, mixed=True))
 
 
 def write_job(job):

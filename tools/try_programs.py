@@ -1,5 +1,6 @@
-"""Runs the built programs on case files, damaged and oversized files and random small jobs, and compares every output with
-`reference.py`. Run it at the root of the repository after `rt check plan film_report verdict`: python3 tools/try_programs.py"""
+"""Runs the built programs on case files, damaged, truncated and oversized files, random small jobs and random mixed files, and compares
+every output with `reference.py`. Run it at the root of the repository after `rt check plan film_report verdict convert`:
+python3 tools/try_programs.py"""
 import glob
 import os
 import random
@@ -41,9 +42,42 @@ def random_job():
     return Job(chunks, span, delay, random.randint(0, 12), sizes, [random.choice([0, 0, 1, 2, 5, 9]) for _ in range(last)])
 
 
+def mixed_file(job):
+    """A file that says the job: runs split anywhere, PG anywhere, LYs and BWs mixed."""
+    layers, runs, k = [ly(z) for z in job.sizes], [], 0
+    while k < len(job.forecast):
+        n = random.randint(1, 3)
+        n = n if job.forecast[k:k + n] == [job.forecast[k]] * n else 1
+        runs.append(bw(n, job.forecast[k]))
+        k += n
+    out = []
+    while layers or runs:
+        out.append((layers if not runs or layers and random.random() < 0.5 else runs).pop(0))
+    out.insert(random.randint(0, len(out)), pg(job.chunks, job.span, job.delay, job.limit))
+    return b"".join(out) + b"EN"
+
+
+def try_convert():
+    mixed = [mixed_file(random_job()) for _ in range(300)]
+    cases = [open(f, "rb").read() for f in sorted(glob.glob("crates/trials/data/j*"))]
+    cases += mixed + [damaged(m) for m in mixed] + [write_job(random_job()) for _ in range(100)]
+    cases += [mixed[0][:k] for k in range(len(mixed[0]))] + [bytes(65536), bytes(65537), mixed[0] + bytes(200000), b"\xff" * 1000000]
+    refused = 0
+    for data in cases:
+        try:
+            wanted = convert(data)
+        except Refused as r:
+            wanted = b"refused %d\n" % r.number
+            refused += 1
+        else:
+            assert read_job(wanted) == read_job(data, mixed=True) and run("convert", wanted) == wanted, data[:80]
+        assert run("convert", data) == wanted, data[:80]
+    print(len(cases), "inputs of convert,", refused, "of them refused")
+
+
 def try_jobs():
     cases = [open(f, "rb").read() for f in sorted(glob.glob("crates/trials/data/j*"))]
-    cases += [damaged(A) for _ in range(300)] + [write_job(random_job()) for _ in range(200)]
+    cases += [damaged(A) for _ in range(300)] + [write_job(random_job()) for _ in range(200)] + [mixed_file(random_job()) for _ in range(100)]
     cases += [bytes(65536), bytes(65537), A + bytes(200000), b"\xff" * 1000000]
     tried = 0
     for data in cases:
@@ -84,3 +118,4 @@ def try_verdicts():
 random.seed(7)
 try_jobs()
 try_verdicts()
+try_convert()

@@ -3,8 +3,8 @@ use mathlib.Core.Path.{_≡_, refl}
 use mathlib.Core.List.{[]}
 use lib.ListN.{length}
 use Rattle.records.specs.File.{fileRefusal, splitUpTo}
-use Rattle.jobfile.specs.Records.{front}
-use Rattle.jobfile.specs.Refusal.{refusalOf}
+use Rattle.jobrecords.specs.Records.{front}
+use Rattle.jobrecords.specs.Refusal.{oneSequence, refusalOf}
 use Rattle.jobfile.specs.Writer.{jobFile}
 use Rattle.examples.specs.Worked.{A}
 
@@ -14,6 +14,6 @@ unfolding jobFile
 A-file = refl
 
 -- The empty file: refusal 1.
-pub empty-file : refusalOf [] ≡ 1
+pub empty-file : refusalOf oneSequence [] ≡ 1
 unfolding fileRefusal splitUpTo front
 empty-file = refl

@@ -1,6 +1,6 @@
 // Reads a job on standard input and prints its report; on a refusal, `refused n`.
 use job::Programme;
-use jobfile::JobRead;
+use jobrecords::JobRead;
 use libc::STDIN_FILENO;
 use libc::STDOUT_FILENO;
 use report::Written;

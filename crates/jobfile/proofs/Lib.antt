@@ -1,7 +1,2 @@
-mod Fronts
-mod Turns
-mod Turned
-mod Copies
-mod Answers
 mod Queues
 mod Writes

@@ -5,9 +5,9 @@ use mathlib.Core.List.{List, [], _∷_, map}
 use native.Mathlib.Numerals.{add-one}
 use lib.ListN.{length, getD, drop, drop-of-length-le}
 use lib.Seq.{drop-cons}
-use Rattle.jobfile.specs.declared.Record.{Record}
-use Rattle.jobfile.specs.declared.Record.the-variants.{Ly, Bw}
-use Rattle.jobfile.specs.Records.{encode}
+use Rattle.jobrecords.specs.declared.Record.{Record}
+use Rattle.jobrecords.specs.declared.Record.the-variants.{Ly, Bw}
+use Rattle.jobrecords.specs.Records.{encode}
 use Rattle.jobfile.specs.Writer.{runs, layerRecord, runRecord}
 use Rattle.jobfile.specs.lemmas.Runs.{runEnd, run-at}
 use Rattle.jobfile.specs.lemmas.Puts.{Puts, bytesOf, Underway, underway-fits, underway-more, underway-end}

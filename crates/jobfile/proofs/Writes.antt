@@ -9,10 +9,10 @@ use Rattle.basics.specs.Refusals.{_orElse_}
 use Rattle.basics.specs.lemmas.Refusals.{orElse-none, orElse-some}
 use Rattle.job.specs.Job.{Job, Accepted}
 use Rattle.job.specs.Refusal.{refusal, accepted-iff}
-use Rattle.jobfile.specs.declared.Record.the-variants.{Pg}
+use Rattle.jobrecords.specs.declared.Record.the-variants.{Pg}
 use Rattle.jobfile.specs.declared.Written.{Written}
 use Rattle.jobfile.specs.declared.Written.the-variants.{Bytes, Refused}
-use Rattle.jobfile.specs.Records.{EN, encode}
+use Rattle.jobrecords.specs.Records.{EN, encode}
 use Rattle.jobfile.specs.Writer.{runs, layerRecord, runRecord, jobFile, longRefusal, shortRefusal, writeRefusal, writeAnswer, fileWritten}
 use Rattle.jobfile.specs.lemmas.Puts.{Puts, bytesOf, bytes-append, puts-then, length-puts}
 use Rattle.records.specs.lemmas.Puts.{written-fits}

@@ -1,7 +1,3 @@
-pub mod Records
-pub mod Says
-pub mod Refusal
-pub mod Reader
 pub mod Writer
 pub mod Theorems
 pub mod lemmas

@@ -1,66 +1,70 @@
--- Theorems. Job files: demand 2, "Job and plan files read back as the job and plan written", and demand 1, "gets a result or, exactly in
--- the cases that document 01 lists, a refusal number". `refusalOf` and `jobOfFile` are what the reader's contract cites, `jobFile` what
--- the writer's does.
+-- Theorems. Job files in one sequence: demand 2, "Job and plan files read back as the job and plan written", and document 02, request 6,
+-- "Each job then has a single file". `fileRefusal` and `jobOfFile` are what the reader's contract cites, `jobFile` what the writer's does.
 use Prim.Native.Nat.{ℕ, _+_, _≤_}
-use mathlib.Core.Path.{_≡_, refl, sym, ap, _∙_}
-use mathlib.Core.Bool.{_&&_}
+use mathlib.Core.Path.{_≡_, refl, sym, ap, subst, _∙_}
 use mathlib.Core.List.{List, _++_}
+use mathlib.Core.Logic.{_↔_}
 use native.Mathlib.Omega.{arith}
 use lib.ListN.{length, drop}
-use lib.Dec.{leb}
 use borrow.Author.Tests.{le-leb}
-use Rattle.basics.specs.Refusals.{unless}
 use Rattle.basics.specs.lemmas.Refusals.{orElse-none}
+use Rattle.records.specs.Fields.{Bytes}
+use Rattle.records.specs.File.{split, encodeAll}
 use Rattle.records.specs.lemmas.Written.{split-written, refusal-written}
+use Rattle.records.specs.lemmas.Exact.{split-exact, none-end}
 use Rattle.job.specs.Job.{Job, Accepted, layers}
-use Rattle.jobfile.specs.declared.Record.the-variants.{En}
-use Rattle.jobfile.specs.declared.JobRead.the-variants as jobRead
-use Rattle.jobfile.specs.Records.{encode}
-use Rattle.jobfile.specs.Refusal.{format, refusalOf, jobOfFile}
-use Rattle.jobfile.specs.Reader.{roomRefusal, readRefusal, readAnswer, sizesRead, forecastRead}
+use Rattle.jobrecords.specs.declared.Record.{Record}
+use Rattle.jobrecords.specs.declared.Record.the-variants.{En}
+use Rattle.jobrecords.specs.Records.{encode}
+use Rattle.jobrecords.specs.Refusal.{oneSequence, format, refusalOf, jobOfFile}
+use Rattle.jobrecords.specs.Reader.{roomRefusal, jobAnswer, readRefusal, readAnswer, sizesRead, forecastRead}
+use Rattle.jobrecords.specs.Theorems.{file-accepted}
+use Rattle.jobrecords.specs.lemmas.Clean.{taken}
+use Rattle.jobrecords.specs.lemmas.Exact.{exact, file-bytes}
 use Rattle.jobfile.specs.Writer.{runs, Longest, recordsOf, jobFile, longRefusal}
 use Rattle.jobfile.specs.lemmas.Runs.{longest-runs}
 use Rattle.jobfile.specs.lemmas.FileLength.{short-file}
 use Rattle.jobfile.specs.lemmas.Back.{end-back, records-back, records-clean, nothing-lacking, job-back}
-use Rattle.jobfile.specs.lemmas.Clean.{file-clean}
+use Rattle.jobfile.specs.lemmas.Shape.{records-of}
 
 -- ---- "Job and plan files read back as the job and plan written."
 
 -- The written file of an accepted job is never refused.
-pub never-refused : (j : Job) → Accepted j → refusalOf (jobFile j) ≡ 0
+pub never-refused : (j : Job) → Accepted j → refusalOf oneSequence (jobFile j) ≡ 0
 unfolding jobFile
 never-refused j a =
     let short : length (jobFile j) ≤ 65536 = omega (arith, short-file j a) in
-    refusal-written format encode En end-back refl (recordsOf j) (records-back j a) ∙ rw (le-leb (length (jobFile j)) 65536 short, records-clean j a) (nothing-lacking j a)
+    refusal-written (format oneSequence) encode En end-back refl (recordsOf j) (records-back j a) ∙ rw (le-leb (length (jobFile j)) 65536 short, records-clean j a) (nothing-lacking j a)
 
 -- Reading what was written gives the same job.
-pub reads-back : (j : Job) → Accepted j → jobOfFile (jobFile j) ≡ j
+pub reads-back : (j : Job) → Accepted j → jobOfFile oneSequence (jobFile j) ≡ j
 unfolding jobFile
-reads-back j a = rw (split-written format encode En end-back refl (recordsOf j) (records-back j a)) (job-back j)
+reads-back j a = rw (split-written (format oneSequence) encode En end-back refl (recordsOf j) (records-back j a)) (job-back j)
 
 -- So the reader, lent enough room, answers with the job that was written, and its sizes and forecast stand in the buffers.
 pub record ReadAgain (j : Job) (sizes forecast : List ℕ) : Type 0 where
-  pub answer : readAnswer (jobFile j) (length sizes) (length forecast) ≡ jobRead.Job (j .programme) (layers j) (length (j .forecast))
-  pub sizes-are : sizesRead (jobFile j) sizes forecast ≡ j .sizes ++ drop (layers j) sizes
-  pub forecast-is : forecastRead (jobFile j) sizes forecast ≡ j .forecast ++ drop (length (j .forecast)) forecast
+  pub answer : readAnswer oneSequence (jobFile j) (length sizes) (length forecast) ≡ jobAnswer j
+  pub sizes-are : sizesRead oneSequence (jobFile j) sizes forecast ≡ j .sizes ++ drop (layers j) sizes
+  pub forecast-is : forecastRead oneSequence (jobFile j) sizes forecast ≡ j .forecast ++ drop (length (j .forecast)) forecast
 
 pub read-again : (j : Job) (sizes forecast : List ℕ) → Accepted j → layers j ≤ length sizes → length (j .forecast) ≤ length forecast → ReadAgain j sizes forecast
 unfolding readAnswer sizesRead forecastRead
 read-again j sizes forecast a h k =
     let back = reads-back j a in
-    let room : (i : Job) → i ≡ j → unless 11 (leb (layers i) (length sizes) && leb (length (i .forecast)) (length forecast)) ≡ 0 =
-    λ i e. rw (e, le-leb (layers j) (length sizes) h, le-leb (length (j .forecast)) (length forecast) k) in
-    let none : readRefusal (jobFile j) (length sizes) (length forecast) ≡ 0 =
-    orElse-none (refusalOf (jobFile j)) (roomRefusal (jobFile j) (length sizes) (length forecast)) (never-refused j a) ∙ room (jobOfFile (jobFile j)) back in
+    let room : roomRefusal j (length sizes) (length forecast) ≡ 0 = rw (le-leb (layers j) (length sizes) h, le-leb (length (j .forecast)) (length forecast) k) in
+    let none : readRefusal oneSequence (jobFile j) (length sizes) (length forecast) ≡ 0 =
+    orElse-none (refusalOf oneSequence (jobFile j)) (roomRefusal (jobOfFile oneSequence (jobFile j)) (length sizes) (length forecast)) (never-refused j a)
+    ∙ ap (λ (i : Job). roomRefusal i (length sizes) (length forecast)) back
+    ∙ room in
     record {
-      answer = rw none (ap (λ (i : Job). jobRead.Job (i .programme) (layers i) (length (i .forecast))) back);
+      answer = rw none (ap jobAnswer back);
       sizes-are = rw none (ap (λ (i : Job). i .sizes ++ drop (layers i) sizes) back);
       forecast-is = rw none (ap (λ (i : Job). i .forecast ++ drop (length (i .forecast)) forecast) back);
     }
 
 -- Two accepted jobs with the same file are the same job.
 pub same-file : (j k : Job) → Accepted j → Accepted k → jobFile j ≡ jobFile k → j ≡ k
-same-file j k a b e = sym (reads-back j a) ∙ ap jobOfFile e ∙ reads-back k b
+same-file j k a b e = sym (reads-back j a) ∙ ap (jobOfFile oneSequence) e ∙ reads-back k b
 
 -- ---- "A file above 65,536 bytes, read or to be written": a job file never is.
 
@@ -70,12 +74,39 @@ file-short j a = short-file j a
 pub never-long : (j : Job) → Accepted j → longRefusal j ≡ 0
 never-long j a = rw (le-leb (length (jobFile j)) 65536 (omega (arith, short-file j a)))
 
--- ---- "A job is accepted if no refusal that comes from the input applies to it": a file that is not refused says an accepted job.
-
-pub file-accepted : (s : List ℕ) → refusalOf s ≡ 0 → Accepted (jobOfFile s)
-file-accepted s e = file-clean s e
-
 -- ---- "one BW per longest run"
 
 pub runs-longest : (l : List ℕ) → Longest (runs l)
 runs-longest l = longest-runs l
+
+-- ---- "Each job then has a single file."
+
+-- A string of bytes that is not refused is the file of the job that it says, byte for byte.
+pub single-file : (s : List ℕ) → Bytes s → refusalOf oneSequence s ≡ 0 → jobFile (jobOfFile oneSequence s) ≡ s
+unfolding jobFile
+single-file s b e =
+    let form = format oneSequence in
+    let t = taken oneSequence s e in
+    ap (λ (rs : List Record). encodeAll encode rs ++ encode En) (records-of (split form s .records) (t .no-faults) (t .none-lacking) (none-end form s))
+    ∙ sym (split-exact form encode En (exact oneSequence) s b (t .ends))
+
+-- So two files that are not refused and say one job are one file.
+pub same-job : (s t : List ℕ) → Bytes s → Bytes t → refusalOf oneSequence s ≡ 0 → refusalOf oneSequence t ≡ 0 → jobOfFile oneSequence s ≡ jobOfFile oneSequence t → s ≡ t
+same-job s t b c d e f = sym (single-file s b d) ∙ ap jobFile f ∙ single-file t c e
+
+-- A written file is a string of bytes.
+pub bytes-written : (j : Job) → Bytes (jobFile j)
+unfolding jobFile
+bytes-written j = file-bytes (recordsOf j)
+
+-- A string of bytes is taken exactly if it is the file of an accepted job.
+pub record FileOf (s : List ℕ) : Type 0 where
+  pub job : Job
+  pub accepted : Accepted job
+  pub is : jobFile job ≡ s
+
+pub taken-iff : (s : List ℕ) → Bytes s → (refusalOf oneSequence s ≡ 0) ↔ FileOf s
+taken-iff s b = (
+  λ e. record { job = jobOfFile oneSequence s; accepted = file-accepted oneSequence s e; is = single-file s b e },
+  λ f. subst (λ (t : List ℕ). refusalOf oneSequence t ≡ 0) (f .is) (never-refused (f .job) (f .accepted)),
+)

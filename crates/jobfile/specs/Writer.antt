@@ -12,12 +12,12 @@ use Rattle.basics.specs.Refusals.{unless, _orElse_}
 use Rattle.records.specs.File.{encodeAll}
 use Rattle.job.specs.Job.{Job}
 use Rattle.job.specs.Refusal.{refusal}
-use Rattle.jobfile.specs.declared.Record.{Record}
-use Rattle.jobfile.specs.declared.Record.the-variants.{Pg, Ly, Bw, En}
+use Rattle.jobrecords.specs.declared.Record.{Record}
+use Rattle.jobrecords.specs.declared.Record.the-variants.{Pg, Ly, Bw, En}
 use Rattle.jobfile.specs.declared.Written.{Written}
 use Rattle.jobfile.specs.declared.Written.the-variants.{Bytes, Refused}
-use Rattle.jobfile.specs.Records.{encode}
-use Rattle.jobfile.specs.Refusal.{format}
+use Rattle.jobrecords.specs.Records.{encode}
+use Rattle.jobrecords.specs.Refusal.{format}
 
 -- A run of equal slots.
 pub record Run : Type 0 where

@@ -1,6 +1,6 @@
 // Reads a job on standard input and writes its plan file to standard output; on a refusal, `refused n`.
 use job::Programme;
-use jobfile::JobRead;
+use jobrecords::JobRead;
 use libc::STDIN_FILENO;
 use libc::STDOUT_FILENO;
 use planfile::Written;

@@ -1,3 +1,4 @@
+pub mod Exact
 pub mod Puts
 pub mod Reading
 pub mod Written

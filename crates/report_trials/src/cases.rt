@@ -1,6 +1,6 @@
 // The case files: r.. are job files.
 use job::Programme;
-use jobfile::JobRead;
+use jobrecords::JobRead;
 use libc::STDOUT_FILENO;
 use report::Written;
 

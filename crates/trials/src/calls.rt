@@ -6,7 +6,7 @@ use crate::files::refused;
 use crate::files::word;
 use checker::Checked;
 use job::Programme;
-use jobfile::JobRead;
+use jobrecords::JobRead;
 use planfile::PlanRead;
 use planfile::Written;
 
@@ -83,15 +83,8 @@ fn file_a(out: &mut [u8; 72]) {
     jobfile::write_job(job_a(), &sizes, &forecast, out);
 }
 
-// The first n bytes of job A's file are read into room for so many layers and slots, after which the bytes before and past the job show.
-fn read_job(file: &[u8; 72], n: usize, layers: usize, slots: usize) {
-    let mut sizes = [9u32; 3];
-    let mut forecast = [9u32; 7];
-    match jobfile::read_job(
-        parts::bytes(file, n),
-        room32(&mut sizes, layers),
-        room32(&mut forecast, slots),
-    ) {
+fn read_said(read: JobRead) {
+    match read {
         JobRead::Job {
             programme: _,
             layers: a,
@@ -107,6 +100,31 @@ fn read_job(file: &[u8; 72], n: usize, layers: usize, slots: usize) {
             number(r as usize);
         }
     }
+}
+
+// The first n bytes of job A's file are read into room for so many layers and slots, after which the bytes before and past the job show.
+fn read_job(file: &[u8; 72], n: usize, layers: usize, slots: usize) {
+    let mut sizes = [9u32; 3];
+    let mut forecast = [9u32; 7];
+    let read = jobfile::read_job(
+        parts::bytes(file, n),
+        room32(&mut sizes, layers),
+        room32(&mut forecast, slots),
+    );
+    read_said(read);
+    shown(&sizes, &forecast);
+}
+
+// The same by document 01's reader.
+fn read_mixed(file: &[u8; 72], n: usize, layers: usize, slots: usize) {
+    let mut sizes = [9u32; 3];
+    let mut forecast = [9u32; 7];
+    let read = mixed::read_job(
+        parts::bytes(file, n),
+        room32(&mut sizes, layers),
+        room32(&mut forecast, slots),
+    );
+    read_said(read);
     shown(&sizes, &forecast);
 }
 
@@ -139,6 +157,14 @@ fn read_rooms(file: &[u8; 72]) {
     read_job(file, 72, 3, 5);
     word(b"1 before 11: ");
     read_job(file, 71, 1, 5);
+    word(b"mixed: ");
+    read_mixed(file, 72, 3, 7);
+    word(b"mixed, no room for a layer: ");
+    read_mixed(file, 72, 1, 7);
+    word(b"mixed, no room for a slot: ");
+    read_mixed(file, 72, 3, 5);
+    word(b"mixed, 1 before 11: ");
+    read_mixed(file, 71, 1, 5);
 }
 
 fn check(p: Programme, layers: usize, marks: usize, chunks: usize, depths: usize, bytes: usize) {

@@ -1,7 +1,7 @@
-// The case files: j.. are job files, p.. plan files for job A.
+// The case files: j.. are job files, read in one sequence and then as mixed files, p.. plan files for job A.
 use checker::Checked;
 use job::Programme;
-use jobfile::JobRead;
+use jobrecords::JobRead;
 use libc::STDOUT_FILENO;
 use planfile::PlanRead;
 
@@ -38,19 +38,48 @@ pub(crate) fn read_case(kind: u8, i: u8, file: &mut [u8; 65537]) -> usize {
     n
 }
 
-// How many bytes the job has when it is written.
+fn layers_and_slots(layers: usize, slots: usize) {
+    word(b" layers ");
+    number(layers);
+    word(b" slots ");
+    number(slots);
+}
+
+// What a written job reads back as.
+fn again(file: &[u8]) {
+    let mut sizes = [0u32; 4];
+    let mut forecast = [0u32; 3600];
+    match jobfile::read_job(file, &mut sizes, &mut forecast) {
+        JobRead::Refused(n) => refused(n),
+        JobRead::Job {
+            programme: _,
+            layers,
+            slots,
+        } => {
+            layers_and_slots(layers, slots);
+            word(b"\n");
+        }
+    }
+}
+
+fn written_bytes(out: &[u8; 28836], n: usize) {
+    word(b" written ");
+    number(n);
+    word(b" again");
+    again(parts::bytes(out, n));
+}
+
+// How many bytes the job has when it is written, and what they read back as.
 fn written(p: Programme, sizes: &[u32], forecast: &[u32]) {
     let mut out = [0u8; 28836];
     match jobfile::write_job(p, sizes, forecast, &mut out) {
-        jobfile::Written::Bytes(n) => line(b" written ", n),
+        jobfile::Written::Bytes(n) => written_bytes(&out, n),
         jobfile::Written::Refused(n) => refused(n),
     }
 }
 
-fn job_file(file: &[u8]) {
-    let mut sizes = [0u32; 4];
-    let mut forecast = [0u32; 3600];
-    match jobfile::read_job(file, &mut sizes, &mut forecast) {
+fn job_said(read: JobRead, sizes: &[u32; 4], forecast: &[u32; 3600]) {
+    match read {
         JobRead::Refused(n) => refused(n),
         JobRead::Job {
             programme,
@@ -59,17 +88,28 @@ fn job_file(file: &[u8]) {
         } => {
             word(b"chunks ");
             number(programme.chunks as usize);
-            word(b" layers ");
-            number(layers);
-            word(b" slots ");
-            number(slots);
+            layers_and_slots(layers, slots);
             written(
                 programme,
-                parts::words(&sizes, layers),
-                parts::words(&forecast, slots),
+                parts::words(sizes, layers),
+                parts::words(forecast, slots),
             );
         }
     }
+}
+
+fn job_file(file: &[u8]) {
+    let mut sizes = [0u32; 4];
+    let mut forecast = [0u32; 3600];
+    let read = jobfile::read_job(file, &mut sizes, &mut forecast);
+    job_said(read, &sizes, &forecast);
+}
+
+fn mixed_file(file: &[u8]) {
+    let mut sizes = [0u32; 4];
+    let mut forecast = [0u32; 3600];
+    let read = mixed::read_job(file, &mut sizes, &mut forecast);
+    job_said(read, &sizes, &forecast);
 }
 
 // The verdict on the first rows of the four slices, for job A.
@@ -142,6 +182,8 @@ fn job_case(i: u8) {
 
 fn job_file_of(file: &[u8; 65537], n: usize) {
     job_file(parts::bytes(file, n));
+    word(b"    mixed ");
+    mixed_file(parts::bytes(file, n));
 }
 
 fn plan_case(i: u8) {
@@ -155,7 +197,7 @@ fn plan_file_of(file: &[u8; 65537], n: usize) {
 }
 
 pub(crate) fn job_files() {
-    for i in 0u8..49 {
+    for i in 0u8..71 {
         job_case(i);
     }
 }

@@ -1,7 +1,7 @@
 // Reads the files `job`, then `plan`, and prints `verdict n`; on a refusal, `refused n`. A file that can't be opened is read as empty.
 use checker::Checked;
 use job::Programme;
-use jobfile::JobRead;
+use jobrecords::JobRead;
 use libc::STDOUT_FILENO;
 use planfile::PlanRead;
 

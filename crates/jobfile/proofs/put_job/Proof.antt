@@ -5,8 +5,8 @@ use Rattle.jobfile.proofs.put_job.Tie as tie
 use mathlib.Core.List.{map}
 use denote.Ref.{now}
 use Rattle.job.specs.Job.{jobOf}
-use Rattle.jobfile.specs.declared.Record.the-variants.{Pg}
-use Rattle.jobfile.specs.Records.{EN, encode}
+use Rattle.jobrecords.specs.declared.Record.the-variants.{Pg}
+use Rattle.jobrecords.specs.Records.{EN, encode}
 use Rattle.jobfile.specs.Writer.{runs, layerRecord, runRecord, jobFile}
 use Rattle.jobfile.specs.lemmas.Puts.{bytesOf}
 use Rattle.jobfile.proofs.Writes.{file-parts, first-room, second-room, third-room, last-room, all-parts}

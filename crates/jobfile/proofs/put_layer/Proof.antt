@@ -5,7 +5,7 @@ use Rattle.jobfile.proofs.put_layer.Tie as tie
 use native.Mathlib.Omega.{arith}
 use denote.Ref.{now}
 use Rattle.records.specs.Fields.{w}
-use Rattle.jobfile.specs.Records.{LY}
+use Rattle.jobrecords.specs.Records.{LY}
 use Rattle.jobfile.specs.lemmas.Puts.{puts-then}
 
 slice-aggregate-put-bytes : tie.Need-slice-aggregate-put-bytes

@@ -6,7 +6,7 @@ use native.Mathlib.Omega.{arith}
 use mathlib.Core.List.{_++_}
 use denote.Ref.{now}
 use Rattle.records.specs.Fields.{h}
-use Rattle.jobfile.specs.Records.{PG}
+use Rattle.jobrecords.specs.Records.{PG}
 use Rattle.jobfile.specs.lemmas.Puts.{puts-then}
 
 slice-aggregate-put-bytes : tie.Need-slice-aggregate-put-bytes

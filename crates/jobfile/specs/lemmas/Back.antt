@@ -1,29 +1,33 @@
 -- Lemmas. The records of an accepted job read back, without a fault, as that job. Assumes nothing.
 use Prim.Native.Nat.{ℕ, suc, _+_, _≤_, _<_}
-use mathlib.Core.Path.{_≡_, refl, sym, ap, _∙_}
-use mathlib.Core.Bool.{Bool, true, false}
-use mathlib.Core.List.{List, [], _∷_, _++_, map, append-assoc, append-nil}
+use mathlib.Core.Path.{_≡_, refl, ap, _∙_}
+use mathlib.Core.Bool.{not}
+use mathlib.Core.List.{List, [], _∷_, _++_, map, append-nil}
 use native.Mathlib.Omega.{arith}
 use lib.ListN.{length, length-append, length-replicate, replicate}
-use lib.Dec.{eqb}
+use lib.Dec.{T, leb, eqb, eqb→eq, not-T}
 use borrow.Author.Tests.{le-leb, eq-eqb}
 use Rattle.basics.specs.Tests.{All}
-use Rattle.basics.specs.lemmas.Tests.{all-map, all-append, by-cond}
-use Rattle.basics.specs.Refusals.{_orElse_}
-use Rattle.records.specs.Fields.{h}
-use Rattle.records.specs.File.{firstFault}
+use Rattle.basics.specs.lemmas.Tests.{T-and, leb-iff, all-map, all-append, by-cond}
+use Rattle.basics.specs.lemmas.Refusals.{unless-iff, orElse-iff}
+use Rattle.records.specs.File.{Format, firstFault}
 use Rattle.records.specs.lemmas.Written.{h-back, w-back, ReadsBack, Plain}
 use Rattle.job.specs.declared.Programme.{Programme}
 use Rattle.job.specs.Job.{Job, Within, Accepted, layers, lastSlot}
-use Rattle.job.specs.Refusal.{film-iff, delay-iff, last-due-iff}
-use Rattle.jobfile.specs.declared.Record.{Record}
-use Rattle.jobfile.specs.declared.Record.the-variants.{Pg, Ly, Bw, En}
-use Rattle.jobfile.specs.Records.{encode, front}
-use Rattle.jobfile.specs.Says.{sizesIn, forecastIn, jobIn}
-use Rattle.jobfile.specs.Refusal.{fault, programmeFault, layerFault, runFault, lacking, format}
-use Rattle.jobfile.specs.Writer.{Run, inFront, runs, layerRecord, runRecord, recordsOf}
-use Rattle.jobfile.specs.lemmas.Joined.{sizes-append, forecast-append}
-use Rattle.jobfile.specs.lemmas.Runs.{runs-spread}
+use Rattle.job.specs.Refusal.{within-iff, film-iff, delay-iff, last-due-iff}
+use Rattle.jobrecords.specs.declared.Record.{Record}
+use Rattle.jobrecords.specs.declared.Record.the-variants.{Pg, Ly, Bw, En}
+use Rattle.jobrecords.specs.Records.{encode, front}
+use Rattle.jobrecords.specs.Says.{hasProgramme, sizesIn, forecastIn, jobIn}
+use Rattle.jobrecords.specs.Refusal.{oneSequence, secondRefusal, previous, place, isRunOf, follows, layerFault, runFault, rangeFault, fault, lacking, format}
+use Rattle.jobrecords.specs.lemmas.Clean.{no-fault}
+use Rattle.jobrecords.specs.lemmas.Sequence.{previous-snoc}
+use Rattle.jobrecords.specs.lemmas.Joined.{sizes-append, forecast-append}
+use Rattle.jobfile.specs.Writer.{Run, inFront, runs, Differ, layerRecord, runRecord, recordsOf}
+use Rattle.jobfile.specs.lemmas.Runs.{runs-spread, longest-runs}
+
+abbrev form : Format Record
+form = format oneSequence
 
 -- ---- a record
 
@@ -34,7 +38,7 @@ pub record Narrow (p : Programme) : Type 0 where
   pub delay-fit : p .delay < 65536
   pub limit-fit : p .limit < 65536
 
-programme-back : (p : Programme) → Narrow p → Plain format encode (Pg p)
+programme-back : (p : Programme) → Narrow p → Plain form encode (Pg p)
 unfolding front
 programme-back p n =
     record {
@@ -53,7 +57,7 @@ programme-back p n =
       not-end = refl;
     }
 
-layer-back : (size : ℕ) → size < 4294967296 → Plain format encode (Ly size)
+layer-back : (size : ℕ) → size < 4294967296 → Plain form encode (Ly size)
 unfolding front
 layer-back size fit =
     record {
@@ -64,7 +68,7 @@ layer-back size fit =
       not-end = refl;
     }
 
-run-back : (count bytes : ℕ) → count < 65536 → bytes < 4294967296 → Plain format encode (Bw count bytes)
+run-back : (count bytes : ℕ) → count < 65536 → bytes < 4294967296 → Plain form encode (Bw count bytes)
 unfolding front
 run-back count bytes fit fits =
     record {
@@ -81,7 +85,7 @@ run-back count bytes fit fits =
       not-end = refl;
     }
 
-pub end-back : ReadsBack format encode En
+pub end-back : ReadsBack form encode En
 unfolding front
 end-back = record { front-is = λ rest. rw (le-leb 2 (length (encode En ++ rest)) (omega arith)); some = omega arith }
 
@@ -107,11 +111,11 @@ runs-good (x ∷ l) a = front-good (length l) x (runs l) (a .0) (runs-good l (a 
 
 -- ---- every record of an accepted job reads back
 
-layers-back : (l : List ℕ) → All (Within 1 16777216) l → All (Plain format encode) (map layerRecord l)
+layers-back : (l : List ℕ) → All (Within 1 16777216) l → All (Plain form encode) (map layerRecord l)
 layers-back [] a = tt
 layers-back (x ∷ l) a = (layer-back x (omega (arith, a .0 .high)), layers-back l (a .1))
 
-runs-back : (n : ℕ) (l : List Run) → n ≤ 3600 → All (GoodRun n) l → All (Plain format encode) (map runRecord l)
+runs-back : (n : ℕ) (l : List Run) → n ≤ 3600 → All (GoodRun n) l → All (Plain form encode) (map runRecord l)
 runs-back n [] h a = tt
 runs-back n (r ∷ l) h a = (run-back (r .count) (r .bytes) (omega (arith, a .0 .most)) (omega (arith, a .0 .bytes-in .high)), runs-back n l h (a .1))
 
@@ -119,7 +123,7 @@ module _ (j : Job) (a : Accepted j) where
   few-slots : length (j .forecast) ≤ 3600
   few-slots = omega (arith, a .slots-in, a .last-in)
 
-  pub records-back : All (Plain format encode) (recordsOf j)
+  pub records-back : All (Plain form encode) (recordsOf j)
   records-back =
       let narrow : Narrow (j .programme) = record {
         chunks-fit = omega (arith, a .chunks-in .high);
@@ -127,18 +131,17 @@ module _ (j : Job) (a : Accepted j) where
         delay-fit = omega (arith, a .delay-in .high);
         limit-fit = omega (arith, a .limit-in .high);
       } in
-      all-append (Plain format encode) (Pg (j .programme) ∷ map layerRecord (j .sizes)) (map runRecord (runs (j .forecast)))
+      all-append (Plain form encode) (Pg (j .programme) ∷ map layerRecord (j .sizes)) (map runRecord (runs (j .forecast)))
       (programme-back (j .programme) narrow, layers-back (j .sizes) (a .sizes-in))
       (runs-back (length (j .forecast)) (runs (j .forecast)) few-slots (runs-good (j .forecast) (a .forecast-in)))
 
 -- ---- and has no fault
 
-pub faults-append : (before a b : List Record) → firstFault format before (a ++ b) ≡ firstFault format before a orElse firstFault format (before ++ a) b
-faults-append before [] b = ap (λ (l : List Record). firstFault format l b) (sym (append-nil before))
-faults-append before (r ∷ a) b = by-fault (faults-append (before ++ (r ∷ [])) a b) (eqb (fault before r) 0) refl where
-  by-fault : firstFault format (before ++ (r ∷ [])) (a ++ b) ≡ firstFault format (before ++ (r ∷ [])) a orElse firstFault format (before ++ (r ∷ []) ++ a) b → (t : Bool) → eqb (fault before r) 0 ≡ t → firstFault format before (r ∷ a ++ b) ≡ firstFault format before (r ∷ a) orElse firstFault format (before ++ (r ∷ a)) b
-  by-fault more true t = rw (t, more, append-assoc before (r ∷ []) a)
-  by-fault more false t = rw (t, t)
+-- A record after some others that is no second PG, follows the last of them and is in range.
+good-next : (before : List Record) (r : Record) → secondRefusal (hasProgramme before) r ≡ 0 → T (follows (previous before) r) → rangeFault (length (sizesIn before)) (length (forecastIn before)) r ≡ 0 → fault oneSequence before r ≡ 0
+good-next before r first turn range =
+    no-fault oneSequence (hasProgramme before) (previous before) (length (sizesIn before)) (length (forecastIn before)) r
+    (record { first = first; turn = unless-iff 17 (follows (previous before) r) (omega arith) .1 turn; in-range = range })
 
 layer-clean : (n size : ℕ) → n < 4 → Within 1 16777216 size → layerFault n size ≡ 0
 layer-clean n size few i = rw (le-leb 1 size (i .low), le-leb size 16777216 (i .high), le-leb (n + 1) 4 (omega arith))
@@ -146,24 +149,64 @@ layer-clean n size few i = rw (le-leb 1 size (i .low), le-leb size 16777216 (i .
 run-clean : (n count bytes : ℕ) → n + count ≤ 3600 → 1 ≤ count → Within 0 16777216 bytes → runFault n count bytes ≡ 0
 run-clean n count bytes few some i = rw (le-leb 1 count some, le-leb (n + count) 3600 few, le-leb 0 bytes (i .low), le-leb bytes 16777216 (i .high))
 
--- Layers after records that leave room for them.
-layers-clean : (before : List Record) (l : List ℕ) → length (sizesIn before) + length l ≤ 4 → All (Within 1 16777216) l → firstFault format before (map layerRecord l) ≡ 0
-layers-clean before [] few a = refl
-layers-clean before (x ∷ l) few a =
+-- The last of some records is PG or an LY, and they give no slots.
+record Ready (before : List Record) : Type 0 where
+  turn : Within 1 2 (place (previous before))
+  no-slots : forecastIn before ≡ []
+
+-- Layers after records that leave room for them, then records that have no fault after layers.
+layers-clean :
+    (before : List Record) (l : List ℕ) (rest : List Record) → Ready before → length (sizesIn before) + length l ≤ 4 → All (Within 1 16777216) l →
+    ((b : List Record) → Ready b → firstFault form b rest ≡ 0) → firstFault form before (map layerRecord l ++ rest) ≡ 0
+layers-clean before [] rest y few a f = f before y
+layers-clean before (x ∷ l) rest y few a f =
     let one : length (sizesIn (before ++ (Ly x ∷ []))) ≡ length (sizesIn before) + 1 = ap length (sizes-append before (Ly x ∷ [])) ∙ length-append (sizesIn before) (x ∷ []) in
-    rw (layer-clean (length (sizesIn before)) x (omega arith) (a .0)) (layers-clean (before ++ (Ly x ∷ [])) l (omega arith) (a .1))
+    let good : fault oneSequence before (Ly x) ≡ 0 = good-next before (Ly x) refl (within-iff 1 2 (place (previous before)) .1 (y .turn)) (layer-clean (length (sizesIn before)) x (omega arith) (a .0)) in
+    let next : Ready (before ++ (Ly x ∷ [])) = record {
+      turn = rw (previous-snoc before (Ly x)) (record { low = omega arith; high = omega arith });
+      no-slots = forecast-append before (Ly x ∷ []) ∙ append-nil (forecastIn before) ∙ y .no-slots;
+    } in
+    orElse-iff (fault oneSequence before (Ly x)) (firstFault form (before ++ (Ly x ∷ [])) (map layerRecord l ++ rest)) .1
+    (good, layers-clean (before ++ (Ly x ∷ [])) l rest next (omega arith) (a .1) f)
+
+-- The record before is no run of the bytes of the first.
+abbrev Other : Record → List Run → Type 0
+Other q [] = Unit {0}
+Other q (r ∷ l) = T (not (isRunOf (r .bytes) q))
+
+other-all : (q : Record) (l : List Run) → place q ≤ 2 → Other q l
+other-all q [] h = tt
+other-all (Pg p) (r ∷ l) h = tt
+other-all (Ly size) (r ∷ l) h = tt
+other-all (Bw count bytes) (r ∷ l) h = absurd (omega arith)
+other-all En (r ∷ l) h = tt
+
+other-next : (r : Run) (l : List Run) → Differ (r ∷ l) → Other (runRecord r) l
+other-next r [] d = tt
+other-next r (q ∷ l) d = not-T (eqb (r .bytes) (q .bytes)) (λ t. d .0 (eqb→eq (r .bytes) (q .bytes) t))
+
+differ-rest : (r : Run) (l : List Run) → Differ (r ∷ l) → Differ l
+differ-rest r [] d = tt
+differ-rest r (q ∷ l) d = d .1
 
 -- Runs after records that leave room for their slots.
-runs-clean : (n : ℕ) (before : List Record) (l : List Run) → length (forecastIn before) + length (forecastIn (map runRecord l)) ≤ 3600 → All (GoodRun n) l → firstFault format before (map runRecord l) ≡ 0
-runs-clean n before [] few a = refl
-runs-clean n before (r ∷ l) few a =
+runs-clean :
+    (n : ℕ) (before : List Record) (l : List Run) → 1 ≤ place (previous before) → Other (previous before) l → Differ l →
+    length (forecastIn before) + length (forecastIn (map runRecord l)) ≤ 3600 → All (GoodRun n) l → firstFault form before (map runRecord l) ≡ 0
+runs-clean n before [] y o d few a = refl
+runs-clean n before (r ∷ l) y o d few a =
     let k = r .count in
+    let q = runRecord r in
     let all-slots : length (replicate k (r .bytes) ++ forecastIn (map runRecord l)) ≡ k + length (forecastIn (map runRecord l)) = length-append (replicate k (r .bytes)) (forecastIn (map runRecord l)) ∙ rw (length-replicate k (r .bytes)) refl in
-    let one : length (forecastIn (before ++ (runRecord r ∷ []))) ≡ length (forecastIn before) + k =
-    ap length (forecast-append before (runRecord r ∷ []))
+    let one : length (forecastIn (before ++ (q ∷ []))) ≡ length (forecastIn before) + k =
+    ap length (forecast-append before (q ∷ []))
     ∙ length-append (forecastIn before) (replicate k (r .bytes) ++ [])
     ∙ rw (append-nil (replicate k (r .bytes)), length-replicate k (r .bytes)) refl in
-    rw (run-clean (length (forecastIn before)) k (r .bytes) (omega arith) (a .0 .some) (a .0 .bytes-in)) (runs-clean n (before ++ (runRecord r ∷ [])) l (omega arith) (a .1))
+    let turn = T-and (leb 1 (place (previous before))) (not (isRunOf (r .bytes) (previous before))) (leb-iff 1 (place (previous before)) .1 y) o in
+    let good : fault oneSequence before q ≡ 0 = good-next before q refl turn (run-clean (length (forecastIn before)) k (r .bytes) (omega arith) (a .0 .some) (a .0 .bytes-in)) in
+    let after = previous-snoc before q in
+    orElse-iff (fault oneSequence before q) (firstFault form (before ++ (q ∷ [])) (map runRecord l)) .1
+    (good, runs-clean n (before ++ (q ∷ [])) l (rw after (omega arith)) (rw after (other-next r l d)) (differ-rest r l d) (omega arith) (a .1))
 
 -- ---- what the records of a job say
 
@@ -191,22 +234,23 @@ module _ (j : Job) where
   job-back = rw (sizes-back, forecast-back)
 
   module _ (a : Accepted j) where
-    programme-clean : programmeFault false (j .programme) ≡ 0
+    programme-clean : fault oneSequence [] (Pg (j .programme)) ≡ 0
     programme-clean =
         let p = j .programme in
         let film = film-iff p .1 (a .chunks-in, (a .span-in, a .limit-in)) in
-        rw (film, delay-iff p .1 (a .delay-in), last-due-iff p .1 (a .last-in))
+        good-next [] (Pg p) refl tt (rw (film, delay-iff p .1 (a .delay-in), last-due-iff p .1 (a .last-in)))
 
     -- No record has a fault, and nothing is lacking at EN.
-    pub records-clean : firstFault format [] (recordsOf j) ≡ 0
+    pub records-clean : firstFault form [] (recordsOf j) ≡ 0
     records-clean =
-        let first : List Record = Pg (j .programme) ∷ map layerRecord (j .sizes) in
+        let first : List Record = Pg (j .programme) ∷ [] in
         let back : List Record = map runRecord (runs (j .forecast)) in
-        let slots : forecastIn first ≡ [] = layer-forecast (j .sizes) in
         let spread = runs-spread (j .forecast) in
-        faults-append [] first back
-        ∙ rw (programme-clean, layers-clean (Pg (j .programme) ∷ []) (j .sizes) (omega (arith, a .layers-in .high)) (a .sizes-in))
-        (runs-clean (length (j .forecast)) first (runs (j .forecast)) (rw (slots, spread) (omega (arith, few-slots j a))) (runs-good (j .forecast) (a .forecast-in)))
+        orElse-iff (fault oneSequence [] (Pg (j .programme))) (firstFault form first (map layerRecord (j .sizes) ++ back)) .1 (
+          programme-clean,
+          layers-clean first (j .sizes) back (record { turn = record { low = omega arith; high = omega arith }; no-slots = refl }) (omega (arith, a .layers-in .high)) (a .sizes-in)
+              (λ b y. runs-clean (length (j .forecast)) b (runs (j .forecast)) (y .turn .low) (other-all (previous b) (runs (j .forecast)) (y .turn .high)) (longest-runs (j .forecast) .differ) (rw (y .no-slots, spread) (omega (arith, few-slots j a))) (runs-good (j .forecast) (a .forecast-in))),
+        )
 
     pub nothing-lacking : lacking (recordsOf j) ≡ 0
     nothing-lacking = rw (sizes-back, forecast-back, le-leb 1 (layers j) (a .layers-in .low), eq-eqb (length (j .forecast)) (lastSlot j) (a .slots-in))

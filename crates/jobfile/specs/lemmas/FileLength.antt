@@ -7,8 +7,8 @@ use lib.ListN.{length, length-append}
 use lib.Dec.{eqb}
 use Rattle.basics.specs.lemmas.Tests.{by-cond}
 use Rattle.job.specs.Job.{Job, layers, Accepted}
-use Rattle.jobfile.specs.declared.Record.the-variants.{Pg, En}
-use Rattle.jobfile.specs.Records.{encode}
+use Rattle.jobrecords.specs.declared.Record.the-variants.{Pg, En}
+use Rattle.jobrecords.specs.Records.{encode}
 use Rattle.jobfile.specs.Writer.{Run, inFront, runs, layerRecord, runRecord, jobFile}
 use Rattle.jobfile.specs.lemmas.Puts.{bytesOf, bytes-append}
 

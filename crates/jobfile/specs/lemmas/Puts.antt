@@ -8,9 +8,9 @@ use lib.ListN.{length, length-append}
 use Rattle.records.specs.Fields.{written}
 use Rattle.records.specs.File.{encodeAll}
 use Rattle.records.specs.lemmas.Puts.{length-written, written-append, written-none}
-use Rattle.jobfile.specs.declared.Record.{Record}
-use Rattle.jobfile.specs.Records.{encode}
-use Rattle.jobfile.specs.Refusal.{format}
+use Rattle.jobrecords.specs.declared.Record.{Record}
+use Rattle.jobrecords.specs.Records.{encode}
+use Rattle.jobrecords.specs.Refusal.{format}
 
 -- The bytes are written at a place, and the next place follows them.
 pub record Puts (out : List ℕ) (at : ℕ) (bytes : List ℕ) (out′ : List ℕ) (next : ℕ) : Type 0 where

@@ -10,7 +10,7 @@ use lib.Seq.{drop-cons, drop-drop}
 use lib.Dec.{eqb, T-not}
 use borrow.Author.Tests.{eq-eqb, ne-eqb, eqb-true}
 use Rattle.basics.specs.lemmas.Tests.{by-cond, eqb-iff}
-use Rattle.jobfile.specs.Says.{forecastIn}
+use Rattle.jobrecords.specs.Says.{forecastIn}
 use Rattle.jobfile.specs.Writer.{Run, inFront, runs, Differ, Longest, runRecord}
 
 -- How many slots in front have the bytes x.

@@ -1,0 +1,5 @@
+mod Fronts
+mod Turns
+mod Turned
+mod Copies
+mod Answers

@@ -1,0 +1,6 @@
+pub mod Records
+pub mod Says
+pub mod Refusal
+pub mod Reader
+pub mod Theorems
+pub mod lemmas

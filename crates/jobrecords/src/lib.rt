@@ -1,0 +1,452 @@
+// Records of job files, and the reading of a file of either form into lent buffers that a refusal leaves as they are: document 02's files,
+// in one sequence, and document 01's mixed ones. A record is read, judged and taken a turn; sizes and slots stand in tables until every
+// refusal has been ruled out.
+ghost use mathlib.Core.Path.{_≡_};
+ghost use Prim.Native.Nat.{_+_, _≤_, _<_};
+ghost use mathlib.Core.List.{_++_};
+ghost use lib.ListN.{length, replicate, take, drop};
+ghost use lib.Seq.{paste};
+ghost use mathlib.Core.Bool.{not, _||_};
+ghost use Rattle.basics.specs.Refusals.{unless};
+ghost use Rattle.job.specs.Refusal.{within};
+ghost use Rattle.jobrecords.specs.Records.{front, isEnd};
+ghost use Rattle.jobrecords.specs.Refusal.{layerFault, runFault};
+ghost use Rattle.jobrecords.specs.lemmas.Reading.{noRecords, readWhole, runFollows, faultAfter, endRefusal, endedBy, readRefusalOf, endRefusalOf, Room, Fine, Takes, Going, Turned, Ended};
+ghost use Rattle.jobrecords.specs.Reader.{readFront, readAt, readAnswer, sizesRead, forecastRead};
+use job::Programme;
+
+// A record of a job file, without its mark.
+pub enum Record {
+    Pg(Programme),
+    Ly(u32),
+    Bw { count: u16, bytes: u32 },
+    En,
+}
+
+// A record with the place after it, or a refusal.
+enum Read {
+    Got(Record, usize),
+    Refused(u8),
+}
+
+// What reading a job file gives: the job, whose sizes and forecast are in the lent buffers, or a refusal.
+pub enum JobRead {
+    Job {
+        programme: Programme,
+        layers: usize,
+        slots: usize,
+    },
+    Refused(u8),
+}
+
+// What the records so far say beside the sizes and the forecast, which stand in tables; of the last record its place in the sequence, 0 if
+// there is none, and its bytes, if it is a run.
+struct Sofar {
+    place: u8,
+    bytes: u32,
+    seen: bool,
+    programme: Programme,
+    layers: usize,
+    slots: usize,
+}
+
+// Where the records end: a whole job, or a refusal.
+enum Ending {
+    Whole(Sofar),
+    Broken(u8),
+}
+
+// What a record does: on from a place, or the end.
+enum Turn {
+    On(Sofar, usize),
+    Over(Ending),
+}
+
+// The record of n bytes, where so many are left from at.
+fn whole(left: usize, n: usize, record: Record, at: usize) -> Read
+    requires { ⌜ at + left < 18446744073709551616 ⌝ }
+    ensures { λ r. ⌜ r ≡ readWhole left n «record» at ⌝ }
+{
+    if left < n {
+        return Read::Refused(1);
+    }
+    Read::Got(record, at + n)
+}
+
+// The record in front of the bytes that start at a place.
+fn record_in(rest: &[u8], at: usize) -> Read
+    requires { ⌜ at + length (now rest) < 18446744073709551616 ⌝ }
+    ensures { λ r. ⌜ r ≡ readFront at (front (now (rest .entry))) ⌝ }
+{
+    let left = rest.len();
+    if left < 2 {
+        return Read::Refused(1);
+    }
+    if records::is_mark(rest, 0, b"PG") {
+        let p = Programme {
+            chunks: records::h_at(rest, 2),
+            span: records::h_at(rest, 4),
+            delay: records::h_at(rest, 6),
+            limit: records::h_at(rest, 8),
+        };
+        return whole(left, 10, Record::Pg(p), at);
+    }
+    if records::is_mark(rest, 0, b"LY") {
+        return whole(left, 6, Record::Ly(records::w_at(rest, 2)), at);
+    }
+    if records::is_mark(rest, 0, b"BW") {
+        let count = records::h_at(rest, 2);
+        let bytes = records::w_at(rest, 4);
+        return whole(left, 8, Record::Bw { count, bytes }, at);
+    }
+    if records::is_mark(rest, 0, b"EN") {
+        return whole(left, 2, Record::En, at);
+    }
+    Read::Refused(2)
+}
+
+// The record at a place: taken only if its mark and its whole body are there.
+fn record_at(file: &[u8], at: usize) -> Read
+    ensures { λ r. ⌜ r ≡ readAt (now (file .entry)) at ⌝ }
+{
+    if file.len() < at {
+        return Read::Refused(1);
+    }
+    record_in(&file[at..], at)
+}
+
+// Whether an LY, and whether a run of some bytes, may stand after a record of that place in the sequence and, if it is a run, of those last
+// bytes.
+fn layer_follows(place: u8) -> bool
+    ensures { λ r. ⌜ r ≡ within 1 2 place ⌝ }
+{
+    if place < 1 {
+        return false;
+    }
+    place <= 2
+}
+
+fn run_follows(place: u8, last: u32, bytes: u32) -> bool
+    ensures { λ r. ⌜ r ≡ runFollows place last bytes ⌝ }
+{
+    if place < 1 {
+        return false;
+    }
+    if place <= 2 {
+        return true;
+    }
+    last != bytes
+}
+
+// 17 unless a record follows, where one sequence is asked.
+fn out_of_sequence(sequenced: bool, follows: bool) -> u8
+    ensures { λ r. ⌜ r ≡ unless 17 (not sequenced || follows) ⌝ }
+{
+    if sequenced {
+        return job::refuse_unless(17, follows);
+    }
+    0
+}
+
+// 6 of an LY after so many layers.
+fn layer_fault(layers: usize, size: u32) -> u8
+    ensures { λ r. ⌜ r ≡ layerFault layers size ⌝ }
+{
+    if size < 1 {
+        return 6;
+    }
+    if 16777216 < size {
+        return 6;
+    }
+    if layers < 4 {
+        return 0;
+    }
+    6
+}
+
+// 7 of a BW after so many slots.
+fn run_fault(slots: usize, count: u16, bytes: u32) -> u8
+    ensures { λ r. ⌜ r ≡ runFault slots count bytes ⌝ }
+{
+    if count < 1 {
+        return 7;
+    }
+    if 3600 < slots {
+        return 7;
+    }
+    if 3600 - slots < (count as usize) {
+        return 7;
+    }
+    if 16777216 < bytes {
+        return 7;
+    }
+    0
+}
+
+// 4, 6, 7 at EN.
+fn end_refusal(seen: bool, p: Programme, layers: usize, slots: usize) -> u8
+    ensures { λ r. ⌜ r ≡ endRefusal seen p layers slots ⌝ }
+{
+    let bare = job::refuse_unless(6, 1 <= layers);
+    let total = job::refuse_unless(7, slots == job::last_due(p));
+    job::or_else(job::refuse_unless(4, seen), job::or_else(bare, total))
+}
+
+// 4, 17, 5 of a PG after the records that the state stands for.
+fn programme_refusal(sequenced: bool, j: Sofar, p: Programme) -> u8
+    ensures { λ r. ⌜ r ≡ faultAfter sequenced j (Record.Pg p) ⌝ }
+{
+    let second = job::refuse_unless(4, !j.seen);
+    let sequence = out_of_sequence(sequenced, j.place == 0);
+    let range = job::or_else(job::fields_refusal(p), job::last_due_refusal(p));
+    job::or_else(second, job::or_else(sequence, range))
+}
+
+// 17, 6 of an LY.
+fn layer_refusal(sequenced: bool, j: Sofar, size: u32) -> u8
+    ensures { λ r. ⌜ r ≡ faultAfter sequenced j (Record.Ly size) ⌝ }
+{
+    let sequence = out_of_sequence(sequenced, layer_follows(j.place));
+    let layer = layer_fault(j.layers, size);
+    job::or_else(sequence, layer)
+}
+
+// 17, 7 of a BW. By branches and not by `or_else`, which costs 20 instructions more for each of up to 3,600 runs.
+fn run_refusal(sequenced: bool, j: Sofar, count: u16, bytes: u32) -> u8
+    ensures { λ r. ⌜ r ≡ faultAfter sequenced j (Record.Bw count bytes) ⌝ }
+{
+    let sequence = out_of_sequence(sequenced, run_follows(j.place, j.bytes, bytes));
+    if sequence != 0 {
+        return sequence;
+    }
+    run_fault(j.slots, count, bytes)
+}
+
+// The fault of a record after those that the state stands for.
+fn fault_of(sequenced: bool, j: Sofar, record: Record) -> u8
+    ensures { λ r. ⌜ r ≡ faultAfter sequenced j «record» ⌝ }
+{
+    match record {
+        Record::Pg(p) => programme_refusal(sequenced, j, p),
+        Record::Ly(size) => layer_refusal(sequenced, j, size),
+        Record::Bw { count, bytes } => run_refusal(sequenced, j, count, bytes),
+        Record::En => 0,
+    }
+}
+
+fn is_end(record: Record) -> bool
+    ensures { λ r. ⌜ r ≡ isEnd «record» ⌝ }
+{
+    match record {
+        Record::En => true,
+        Record::Pg(_) => false,
+        Record::Ly(_) => false,
+        Record::Bw { count: _, bytes: _ } => false,
+    }
+}
+
+// EN with so many bytes after it.
+fn ended(j: Sofar, after: usize) -> Ending
+    ensures { λ r. ⌜ r ≡ endedBy j after ⌝ }
+{
+    let lacking = end_refusal(j.seen, j.programme, j.layers, j.slots);
+    let n = job::or_else(job::refuse_unless(3, after == 0), lacking);
+    if n == 0 {
+        return Ending::Whole(j);
+    }
+    Ending::Broken(n)
+}
+
+// So many numbers from a place on become v.
+fn fill(slots: &mut [u32], from: usize, count: usize, v: u32)
+    requires { ⌜ from + count ≤ length (now slots) ⌝ }
+    ensures { λ _. ⌜ now (slots .exit) ≡ paste (now (slots .entry)) from (replicate count v) count ⌝ }
+{
+    let mut i: usize = 0;
+    while i < count {
+        slots[from + i] = v;
+        i += 1;
+    }
+}
+
+// A record without a fault goes into the state and the tables.
+fn take_record(j: Sofar, record: Record, sizes: &mut [u32], slots: &mut [u32]) -> Sofar
+    requires { ⌜ Room j (now sizes) (now slots) ⌝ }
+    requires { ⌜ Fine j «record» ⌝ }
+    ensures { λ r. ⌜ Takes j (now (sizes .entry)) (now (slots .entry)) «record» r (now (sizes .exit)) (now (slots .exit)) ⌝ }
+{
+    let n = j.layers;
+    let from = j.slots;
+    let seen = j.seen;
+    let p = j.programme;
+    match record {
+        Record::Pg(programme) => Sofar {
+            place: 1,
+            bytes: 0,
+            seen: true,
+            programme,
+            layers: n,
+            slots: from,
+        },
+        Record::Ly(size) => {
+            sizes[n] = size;
+            Sofar {
+                place: 2,
+                bytes: 0,
+                seen,
+                programme: p,
+                layers: n + 1,
+                slots: from,
+            }
+        }
+        Record::Bw { count, bytes } => {
+            let more = count as usize;
+            fill(slots, from, more, bytes);
+            Sofar {
+                place: 3,
+                bytes,
+                seen,
+                programme: p,
+                layers: n,
+                slots: from + more,
+            }
+        }
+        Record::En => Sofar {
+            place: 0,
+            bytes: 0,
+            seen,
+            programme: p,
+            layers: n,
+            slots: from,
+        },
+    }
+}
+
+fn refusal_of(read: Read) -> u8
+    ensures { λ r. ⌜ r ≡ readRefusalOf read ⌝ }
+{
+    match read {
+        Read::Refused(n) => n,
+        Read::Got(_, _) => 0,
+    }
+}
+
+// One record read, judged and taken.
+fn one_turn(
+    sequenced: bool,
+    file: &[u8],
+    at: usize,
+    j: Sofar,
+    sizes: &mut [u32],
+    slots: &mut [u32],
+) -> Turn
+    requires { ⌜ Going sequenced (now file) at j (now sizes) (now slots) ⌝ }
+    ensures { λ r. ⌜ Turned sequenced (now (file .entry)) at (now (sizes .exit)) (now (slots .exit)) r ⌝ }
+{
+    let read = record_at(file, at);
+    let Read::Got(record, next) = read else {
+        return Turn::Over(Ending::Broken(refusal_of(read)));
+    };
+    if is_end(record) {
+        let after = file.len() - next;
+        return Turn::Over(ended(j, after));
+    }
+    let n = fault_of(sequenced, j, record);
+    if n != 0 {
+        return Turn::Over(Ending::Broken(n));
+    }
+    Turn::On(take_record(j, record, sizes, slots), next)
+}
+
+// The state before any record.
+fn nothing() -> Sofar
+    ensures { λ r. ⌜ r ≡ noRecords ⌝ }
+{
+    let programme = Programme {
+        chunks: 0,
+        span: 0,
+        delay: 0,
+        limit: 0,
+    };
+    Sofar {
+        place: 0,
+        bytes: 0,
+        seen: false,
+        programme,
+        layers: 0,
+        slots: 0,
+    }
+}
+
+// Every record, one a turn.
+fn read_all(sequenced: bool, file: &[u8], sizes: &mut [u32], slots: &mut [u32]) -> Ending
+    requires { ⌜ (length (now sizes) ≡ 4) × (length (now slots) ≡ 3600) ⌝ }
+    ensures { λ r. ⌜ Ended sequenced (now (file .entry)) (now (sizes .exit)) (now (slots .exit)) r ⌝ }
+{
+    let mut j = nothing();
+    let mut at: usize = 0;
+    loop {
+        match one_turn(sequenced, file, at, j, sizes, slots) {
+            Turn::On(more, next) => {
+                j = more;
+                at = next;
+            }
+            Turn::Over(end) => return end,
+        }
+    }
+}
+
+// The first n numbers of a table go to the start of a lent buffer.
+fn copy(from: &[u32], to: &mut [u32], n: usize)
+    requires { ⌜ (n ≤ length (now from)) × (n ≤ length (now to)) ⌝ }
+    ensures { λ _. ⌜ now (to .exit) ≡ take n (now (from .entry)) ++ drop n (now (to .entry)) ⌝ }
+{
+    let mut i: usize = 0;
+    while i < n {
+        to[i] = from[i];
+        i += 1;
+    }
+}
+
+fn refusal_at(end: Ending) -> u8
+    ensures { λ r. ⌜ r ≡ endRefusalOf end ⌝ }
+{
+    match end {
+        Ending::Broken(n) => n,
+        Ending::Whole(_) => 0,
+    }
+}
+
+// Reads a job file, in one sequence or mixed, into the lent sizes and forecast. Refusals: 9, then record by record, 17 where one sequence
+// is asked, at EN 3, 4, 6, 7; then 11 where a buffer is shorter than the job's sizes or slots. On a refusal both buffers stay as they are.
+pub fn read_job(sequenced: bool, file: &[u8], sizes: &mut [u32], forecast: &mut [u32]) -> JobRead
+    ensures answer { λ r. ⌜ r ≡ readAnswer sequenced (now (file .entry)) (length (now (sizes .entry))) (length (now (forecast .entry))) ⌝ }
+    ensures sizes { λ r. ⌜ now (sizes .exit) ≡ sizesRead sequenced (now (file .entry)) (now (sizes .entry)) (now (forecast .entry)) ⌝ }
+    ensures forecast { λ r. ⌜ now (forecast .exit) ≡ forecastRead sequenced (now (file .entry)) (now (sizes .entry)) (now (forecast .entry)) ⌝ }
+{
+    if 65536 < file.len() {
+        return JobRead::Refused(9);
+    }
+    let mut layer_table = [0u32; 4];
+    let mut slot_table = [0u32; 3600];
+    let end = read_all(sequenced, file, &mut layer_table, &mut slot_table);
+    let Ending::Whole(j) = end else {
+        return JobRead::Refused(refusal_at(end));
+    };
+    let layers = j.layers;
+    let slots = j.slots;
+    if sizes.len() < layers {
+        return JobRead::Refused(11);
+    }
+    if forecast.len() < slots {
+        return JobRead::Refused(11);
+    }
+    copy(&layer_table, sizes, layers);
+    copy(&slot_table, forecast, slots);
+    let programme = j.programme;
+    JobRead::Job {
+        programme,
+        layers,
+        slots,
+    }
+}
