@@ -83,23 +83,40 @@ fn count_mark(mark: u8, n: u8) -> usize
     0
 }
 
-// How many marks have layer n, for marks of any length: eight at once, and the odd rest by bytes.
-pub fn count_marks(marks: &[u8], n: u8) -> usize
-    ensures counted { λ r. ⌜ r ≡ markCount n (now (marks .entry)) ⌝ }
-    ensures summed { λ r. ⌜ r ≡ overWords n (now (marks .entry)) + overRest n (now (marks .entry)) ⌝ }
+// The sum over words: the whole eights of marks.
+fn count_words(marks: &[u8], n: u8) -> usize
+    ensures { λ r. ⌜ r ≡ overWords n (now (marks .entry)) ⌝ }
 {
-    let whole = marks.len() / 8 * 8;
+    let words = marks.len() / 8;
     let mut sum: usize = 0;
-    let mut at: usize = 0;
-    while at < whole {
-        sum = sum + (count_word(word_at(marks, at), n) as usize);
-        at = at + 8;
+    let mut k: usize = 0;
+    while k < words {
+        let word = word_at(marks, k * 8);
+        sum = sum + (count_word(word, n) as usize);
+        k = k + 1;
     }
+    sum
+}
+
+// The sum over the odd rest, by bytes.
+fn count_rest(marks: &[u8], n: u8) -> usize
+    ensures { λ r. ⌜ r ≡ overRest n (now (marks .entry)) ⌝ }
+{
+    let mut sum: usize = 0;
+    let mut at = marks.len() / 8 * 8;
     while at < marks.len() {
         sum = sum + count_mark(marks[at], n);
         at = at + 1;
     }
     sum
+}
+
+// How many marks have layer n, for marks of any length: eight at once, and the odd rest by bytes.
+pub fn count_marks(marks: &[u8], n: u8) -> usize
+    ensures counted { λ r. ⌜ r ≡ markCount n (now (marks .entry)) ⌝ }
+    ensures summed { λ r. ⌜ r ≡ overWords n (now (marks .entry)) + overRest n (now (marks .entry)) ⌝ }
+{
+    count_words(marks, n) + count_rest(marks, n)
 }
 
 // Refusal 8 of a list handed with its marks, or 0.
