@@ -3,6 +3,7 @@ ghost use mathlib.Core.Path.{_≡_};
 ghost use mathlib.Core.Bool.{cond};
 ghost use Prim.Native.Nat.{_+_, _*_, _^_, _≤_, _<_};
 ghost use lib.ListN.{length};
+ghost use lib.Count.{ones};
 ghost use Rattle.fetch.specs.Marks.{bit, withLayer, withoutLayer};
 ghost use Rattle.fetch.specs.Counts.{markCount, wordCount, wordOf, overWords, overRest};
 ghost use Rattle.fetch.specs.lemmas.Counts.{eight};
@@ -38,16 +39,22 @@ pub fn without(mark: u8, n: u8) -> u8
     mark & !(1 << n)
 }
 
+fn set_bits(x: u64) -> u8
+    ensures { λ r. ⌜ r ≡ ones x ⌝ }
+{
+    u64::count_ones(x) as u8
+}
+
 // How many of a word's eight bytes have bit n set, for n from 0 to 7, and 0 above. Shifted and masked, each byte is 0 or 1, so that no
 // count runs into the next byte; the compiler sums them by one multiplication.
 pub fn count_word(word: u64, n: u8) -> u8
     ensures { λ r. ⌜ r ≡ wordCount word n ⌝ }
 {
-    if 8 <= n {
+    if 7 < n {
         return 0;
     }
     let marked = (word >> n) & 0x0101_0101_0101_0101;
-    u64::count_ones(marked) as u8
+    set_bits(marked)
 }
 
 // A byte below the others.

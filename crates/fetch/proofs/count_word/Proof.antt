@@ -3,9 +3,8 @@ use mathlib.Core.Path.{sym, _∙_}
 use native.Mathlib.Omega.{arith}
 use borrow.Author.Needs.{needs}
 use borrow.Author.Tests.{le-ltb}
-use Rattle.fetch.specs.Counts.{wordBytes, wordCount}
-use Rattle.fetch.specs.Words.{word-length, word-count}
-use Rattle.fetch.specs.lemmas.Counts.{count-le}
+use Rattle.fetch.specs.Counts.{wordCount}
+use Rattle.fetch.specs.Words.{word-count}
 use Rattle.fetch.proofs.Masked.{word-ones}
 use Rattle.fetch.proofs.count_word.Statement.{statement}
 use Rattle.fetch.proofs.count_word.Tie as tie
@@ -17,14 +16,13 @@ returns c = rw (le-ltb (c .before .args .n) 8 (omega arith))
 shr-marked : tie.Need-shr-marked
 shr-marked c = search needs
 
-cast-result : tie.Need-cast-result
-cast-result c =
-    let w = c .before .args .word in
-    let n = c .before .args .n in
-    omega (arith, word-ones w n (omega arith), count-le n (wordBytes w), word-length w)
+set-bits-requires : tie.Need-set-bits-requires
+set-bits-requires c κs = search needs
 
 returns-2 : tie.Need-returns-2
-returns-2 c = let w = c .before .args .word in let n = c .before .args .n in word-ones w n (omega arith) ∙ sym (word-count w n)
+returns-2 c =
+    let a = c .before .before .args in
+    c .set-bits .ensures ∙ word-ones (a .word) (a .n) (omega arith) ∙ sym (word-count (a .word) (a .n))
 
 pub count-word-spec : {M : Type 1} → statement M
-count-word-spec = tie.close (tie.spec returns shr-marked cast-result returns-2)
+count-word-spec = tie.close (tie.spec returns shr-marked set-bits-requires returns-2)
