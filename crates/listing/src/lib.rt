@@ -1,4 +1,6 @@
-// The plan's own list, piece by piece: each piece goes into slot after slot, from its release on, until nothing is left of it.
+// Internal. The plan's own list, piece by piece: each piece, with so many bytes left, goes into slot after slot, from its release on,
+// until nothing is left of it. The part of the forecast may start at any slot, and the list may be under way already: the contracts
+// speak of every list that goes on with these pieces.
 ghost use mathlib.Core.Path.{_≡_};
 ghost use Prim.Native.Nat.{ℕ, _+_, _*_, _-_, _<_, _≤_};
 ghost use lib.ListN.{length, drop, set};
@@ -33,7 +35,7 @@ fn put_row(
 }
 
 // A chunk does not begin before its release.
-fn begin(part: &[u32], start: usize, at: At, ready: u16) -> At
+pub fn begin(part: &[u32], start: usize, at: At, ready: u16) -> At
     requires { ⌜ Part start (now part) × (start ≤ at .t) × (ready ≤ lastOf start (now part)) ⌝ }
     ensures { λ r. ⌜ r ≡ begun start (now (part .entry)) at ready ⌝ }
 {
@@ -47,7 +49,7 @@ fn begin(part: &[u32], start: usize, at: At, ready: u16) -> At
 }
 
 // A piece that may begin goes into slot after slot until nothing is left of it.
-fn put_piece(
+pub fn put_piece(
     part: &[u32],
     start: usize,
     at: At,
@@ -87,7 +89,7 @@ fn put_piece(
 }
 
 // The layers that a chunk carries.
-fn put_chunk(
+pub fn put_chunk(
     part: &[u32],
     start: usize,
     sizes: &[u32],

@@ -16,9 +16,8 @@ use Rattle.job.specs.Job.{Job, Accepted, chunks}
 use Rattle.job.specs.Refusal.{refusal, accepted-iff}
 use Rattle.schedule.specs.Plan.{plan}
 use Rattle.schedule.specs.lemmas.Plan.{plan-choice}
-use Rattle.schedule.specs.lemmas.Shape.{own-list-rows}
+use Rattle.schedule.specs.Theorems.{own-list-rows, best, plan-exists}
 use Rattle.schedule.specs.Statement.{countsOf, marksOf}
-use Rattle.schedule.specs.Theorems.{best, plan-exists}
 use Rattle.planner.specs.declared.Answer.the-variants.{Rows, Refused}
 use Rattle.planner.specs.declared.Planned.{Planned}
 use Rattle.planner.specs.Answer.{planRows, Lent, lentOf, holds, planRefusal, given, Handed, DecidedByLists, BestOfLists}

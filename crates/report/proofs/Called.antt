@@ -10,8 +10,7 @@ use borrow.Author.Tests.{le-leb}
 use Rattle.job.specs.Job.{Job, Accepted, chunks}
 use Rattle.job.specs.Refusal.{accepted-iff}
 use Rattle.schedule.specs.Plan.{plan}
-use Rattle.schedule.specs.lemmas.Shape.{own-list-rows}
-use Rattle.schedule.specs.Theorems.{plan-exists}
+use Rattle.schedule.specs.Theorems.{own-list-rows, plan-exists}
 use Rattle.planner.specs.Answer.{Handed, planRows, given, lentOf, sliceAfter}
 use Rattle.basics.specs.Lent.{over}
 use Rattle.planner.specs.declared.Planned.{Planned}

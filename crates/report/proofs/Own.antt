@@ -12,9 +12,8 @@ use Rattle.fetch.specs.Rows.{Row, rowAt, rowsOf}
 use Rattle.fetch.specs.Rules.{InRange, Keeps, WithinForecast}
 use Rattle.schedule.specs.Own.{ownList}
 use Rattle.schedule.specs.Plan.{plan}
-use Rattle.schedule.specs.lemmas.Shape.{own-list-rows}
+use Rattle.schedule.specs.Theorems.{own-list-rows, plan-exists, plan-carried}
 use Rattle.schedule.specs.Statement.{marksOf}
-use Rattle.schedule.specs.Theorems.{plan-exists, plan-carried}
 use Rattle.schedule.specs.lemmas.Words.{accepted-sized}
 use Rattle.report.specs.lemmas.Tables.{Listed}
 

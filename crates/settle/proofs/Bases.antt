@@ -4,13 +4,12 @@ use mathlib.Core.Bool.{Bool, true, false, cond, _&&_}
 use mathlib.Core.List.{List, [], _∷_, map}
 use Prim.Native.Nat.{ℕ, suc, _+_, _-_, _/_, _≤_, _<_, max}
 use native.Mathlib.Omega.{arith}
-use native.Mathlib.Nat.{mul-le-mul-right}
 use lib.ListN.{length, getD, set, drop, length-set, drop-of-length-le}
 use lib.Seq.{drop-set-lt, getD-drop}
 use lib.Dec.{leb}
 use borrow.Author.Tests.{le-leb, lt-leb}
 use Rattle.job.specs.declared.Programme.{Programme}
-use Rattle.job.specs.Job.{sizeIn, dueSlot, lastDue}
+use Rattle.job.specs.Job.{sizeIn, dueSlot}
 use Rattle.schedule.specs.lemmas.Ascending.{Asc, asc-lower}
 use Rattle.schedule.specs.lemmas.Trials.{Stack, candidate, keeps, push, bases}
 use Rattle.schedule.specs.lemmas.Parts.{at}

@@ -16,7 +16,7 @@ use Rattle.schedule.specs.lemmas.Ascending.{Asc}
 use Rattle.schedule.specs.Plan.{kept, plan}
 use Rattle.schedule.specs.lemmas.Linear.{bases-kept, decided-is, map-map}
 use Rattle.schedule.specs.lemmas.Necessity.{after}
-use Rattle.schedule.specs.lemmas.Sufficiency.{each, ones, releases}
+use Rattle.schedule.specs.lemmas.Sufficiency.{ones, releases}
 use Rattle.schedule.specs.lemmas.Trials.{Kept, Tried, bases, rooms, back, bytesOf, markOf, keptAt, onLayer, onLayers, based, keptBases}
 use Rattle.schedule.specs.lemmas.Parts.{at, padded, padded-long, part-small}
 use Rattle.settle.specs.lemmas.Decision.{keptOf, Sums, Slot, Bases, SumTable, LayersFrom, LayersDone, jobFrom, DecideFrom, Decides}

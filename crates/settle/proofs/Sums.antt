@@ -1,19 +1,15 @@
 -- Laws on the sums of a forecast. Assumes nothing.
 use mathlib.Core.Path.{_≡_, refl, sym, _∙_, ap}
 use mathlib.Core.Bool.{Bool, true, false, cond, _&&_}
-use mathlib.Core.List.{List, _++_}
+use mathlib.Core.List.{List}
 use mathlib.Core.Logic.{⊎-elim}
-use Prim.Native.Nat.{ℕ, zero, suc, _+_, _*_, _-_, _≤_, _<_}
+use Prim.Native.Nat.{ℕ, _+_, _*_, _-_, _≤_, _<_}
 use native.Mathlib.Omega.{arith}
-use native.Mathlib.Numerals.{add-one}
-use lib.ListN.{length, getD, set, replicate, length-set, length-append, length-replicate, getD-replicate, List·getD-append, List·getD-eq-default}
-use lib.Seq.{getD-append-add}
+use lib.ListN.{length, getD, set, length-set, List·getD-eq-default}
 use lib.Dec.{leb, ltb, ltb→lt, nltb→le}
 use borrow.Author.Tests.{le-leb, lt-leb, lt-ltb, le-ltb}
-use Rattle.basics.specs.Sums.{pre}
-use Rattle.basics.specs.lemmas.Ranges.{pre-mono}
 use Rattle.basics.specs.lemmas.Tests.{test}
-use Rattle.schedule.specs.lemmas.Parts.{at, padded, leftAfter, Small, Part, left-before, left-none, padded-long, left-step, padded-at}
+use Rattle.schedule.specs.lemmas.Parts.{at, padded, leftAfter, Part, left-before, left-none, padded-long, left-step, padded-at}
 use Rattle.settle.specs.lemmas.Decision.{Placed, SumTable}
 use Rattle.basics.specs.lemmas.Tables.{at-set, above-next}
 

@@ -1,5 +1,7 @@
-// Which layers of which chunks are carried, in time linear in slots + chunks x layers. The kept chunks stand at the end of tables of
-// 500 places, in playing order, from a first place on.
+// Internal. Which layers of which chunks are carried, in time linear in slots + chunks x layers. The kept chunks stand at the end of
+// tables of 500 places, in playing order, from a first place on. The passes serve any ascending set of kept chunks, over a part of the
+// forecast that starts at any slot: sum_after and keep_bases for the base, then, for kept chunks with their due slots and bytes
+// however they were found, set_releases and settle_layers.
 use job::Programme;
 ghost use mathlib.Core.Path.{_≡_};
 ghost use mathlib.Core.Bool.{cond, _&&_};
@@ -61,7 +63,7 @@ fn set_places(after: &mut [u64; 3601], from: usize, to: usize, v: u64)
 }
 
 // The forecast left after each slot, for a part of the forecast that starts at slot start. Sums in 64 bits: 3,600 slots need 36.
-fn sum_after(part: &[u32], start: usize, after: &mut [u64; 3601])
+pub fn sum_after(part: &[u32], start: usize, after: &mut [u64; 3601])
     requires { ⌜ Part start (now part) × (length (now after) ≡ 3601) ⌝ }
     ensures { λ _. ⌜ SumTable start (now (part .entry)) (now (after .exit)) ⌝ }
 {
@@ -92,7 +94,7 @@ fn need_at(needs: &[u64; 500], k: usize, held: usize) -> u64
 }
 
 // The base of each chunk from the last to the first. The kept chunks stand at the end of ids, in playing order.
-fn keep_bases(
+pub fn keep_bases(
     p: Programme,
     sizes: &[u32],
     after: &[u64; 3601],
@@ -134,7 +136,7 @@ fn keep_bases(
 }
 
 // The slot from which each kept chunk may begin.
-fn set_releases(held: usize, dues: &[u16; 500], first: usize, ready: &mut [u16; 500])
+pub fn set_releases(held: usize, dues: &[u16; 500], first: usize, ready: &mut [u16; 500])
     requires { ⌜ (first ≤ 500) × (length (now dues) ≡ 500) × (length (now ready) ≡ 500) ⌝ }
     ensures { λ _. ⌜ (length (now (ready .exit)) ≡ 500) × (drop first (now (ready .exit)) ≡ take (500 - first) (ones held ++ drop first (now (dues .entry)))) ⌝ }
 {
@@ -223,7 +225,7 @@ fn try_layer(
 }
 
 // All layers above the base.
-fn settle_layers(
+pub fn settle_layers(
     layers: usize,
     sizes: &[u32],
     all: u64,

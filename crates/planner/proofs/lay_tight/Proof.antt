@@ -12,7 +12,7 @@ use Rattle.job.specs.Job.{jobOf, chunks}
 use Rattle.job.specs.Refusal.{accepted-iff}
 use Rattle.schedule.specs.Plan.{plan}
 use Rattle.schedule.specs.lemmas.Plan.{plan-choice}
-use Rattle.schedule.specs.lemmas.Shape.{own-list-rows}
+use Rattle.schedule.specs.Theorems.{own-list-rows}
 use Rattle.schedule.specs.Statement.{marksOf}
 use Rattle.planner.specs.Answer.{planRows}
 use Rattle.fetch.specs.Rows.{rowSlot, rowChunk, rowLayer, rowBytes}

@@ -16,7 +16,7 @@ use Rattle.job.specs.Job.{Job, Layer, chunks, due, heldMost, layers, size}
 use Rattle.schedule.specs.lemmas.Ascending.{Asc}
 use Rattle.schedule.specs.lemmas.Count.{chunk-by-layers}
 use Rattle.schedule.specs.lemmas.Kept.{feas-picked, has-picked, picked-asc, picked-each}
-use Rattle.schedule.specs.Plan.{picked, after, bytes, kept}
+use Rattle.schedule.specs.Plan.{after, bytes, kept}
 use Rattle.basics.specs.lemmas.Ranges.{sum-below, sum-cong}
 use Rattle.schedule.specs.lemmas.Necessity.{carried-fit}
 use Rattle.schedule.specs.lemmas.Need.{Feas}

@@ -1,4 +1,4 @@
--- Lemmas. The trials of Trials.antt take exactly what the plan takes, for any sizes. Assumes nothing.
+-- Lemmas. The trials of Trials.antt take exactly what the plan takes, for any sizes. Assumes nothing. Section 4 of the argument.
 use Prim.Native.Nat.{ℕ, zero, suc, _+_, _-_, _≤_, _<_, max, min}
 use mathlib.Core.Path.{_≡_, refl, sym, ap, _∙_, subst}
 use mathlib.Core.Bool.{Bool, true, false, cond, _&&_}

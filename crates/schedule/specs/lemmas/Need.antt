@@ -1,12 +1,11 @@
 -- Lemmas. When kept chunks fit: the need of a list of chunks, first to last, and the test by suffixes. Section 1 of the argument.
 -- Throughout, w k are the bytes of chunk k, d k its due slot, A t what is forecast after slot t, and h how many chunks may be held.
-use Prim.Native.Nat.{ℕ, zero, suc, _+_, _-_, _≤_, max}
-use mathlib.Core.Bool.{Bool, true, _&&_}
+use Prim.Native.Nat.{ℕ, zero, suc, _-_, _≤_, max}
 use mathlib.Core.List.{List, [], _∷_}
 use mathlib.Core.Logic.{_↔_}
 use native.Mathlib.Omega.{arith}
 use lib.ListN.{drop, length, drop-of-length-le}
-use lib.Dec.{T, leb}
+use lib.Dec.{T}
 use Rattle.basics.specs.Tests.{All}
 use Rattle.basics.specs.lemmas.Tests.{tests}
 use Rattle.basics.specs.lemmas.Tables.{all-drop}

@@ -1,4 +1,4 @@
--- Lemmas, then the theorem `own-list-is`: the own list, which asks rule 6 itself, is the fill by releases. First in, first out, so
+-- Lemmas. The own list, which asks rule 6 itself, is the fill by releases (`own-list-is`). First in, first out, so
 -- when a piece comes up the chunks begun are those of the pieces before it. Section 3 of the argument.
 use Prim.Native.Nat.{ℕ, zero, suc, _+_, _-_, _≤_}
 use mathlib.Core.Path.{_≡_, refl, sym, ap, _∙_, subst, fun-ext}

@@ -2,7 +2,7 @@
 -- a plan in the sense of Statement. Sections 1 and 3 of the argument.
 use Prim.Native.Nat.{ℕ, zero, suc, _+_, _-_, _≤_, _<_, min}
 use mathlib.Core.Path.{_≡_, refl, sym, ap, _∙_, subst}
-use mathlib.Core.Bool.{Bool, true, false, cond, _&&_}
+use mathlib.Core.Bool.{Bool, true, false, cond}
 use mathlib.Core.List.{List, []}
 use mathlib.Core.Logic.{_⊎_, inl, inr, ⊎-elim, _↔_}
 use native.Mathlib.Omega.{arith}
@@ -13,7 +13,7 @@ use Rattle.basics.specs.lemmas.Tests.{T-and, T-true, and-T, by-cond, not-T-fals
 use Rattle.job.specs.Job.{Job, Layer, chunks, due, heldMost, layers, size}
 use Rattle.schedule.specs.lemmas.Choice.{Fits, can-carry-iff-fits}
 use Rattle.schedule.specs.Statement.{Same, Choice, IsPlan}
-use Rattle.schedule.specs.Plan.{bytes, kept, picked, feas, after, fits, plan, planTo, raise, sweep, takes, try}
+use Rattle.schedule.specs.Plan.{bytes, kept, picked, after, fits, plan, planTo, raise, sweep, takes, try}
 use Rattle.schedule.specs.lemmas.Kept.{feas-picked, picked-cong}
 use Rattle.schedule.specs.lemmas.Need.{Feas, feas-iff}
 pub use Rattle.schedule.specs.Statement.{settled, tried}

@@ -1,4 +1,4 @@
--- Lemmas, then the theorems `own-list-ascending` and `own-list-rows`: the own list of any choice has one row for each slot, chunk and
+-- Lemmas. The own list of any choice has one row for each slot, chunk and
 -- layer, in this order, and at most 5,599 rows. Section 3 of the argument.
 use Prim.Native.Nat.{ℕ, zero, suc, _+_, _*_, _-_, _≤_, _<_}
 use mathlib.Core.Path.{_≡_, refl, sym, subst}
@@ -139,9 +139,9 @@ queue-rises size choice (k ∷ ks) (r ∷ rs) lo c a =
     (test (ltb lo k))
 
 -- "One row per slot, chunk and layer", and the rows stand by slot, chunk, layer.
-pub own-list-ascending : (j : Job) (choice : ℕ → ℕ) → Ascending (ownList j choice)
+pub own-ascending : (j : Job) (choice : ℕ → ℕ) → Ascending (ownList j choice)
 unfolding fetch
-own-list-ascending j choice =
+own-ascending j choice =
     let ks = kept j choice in
     let rs = releases (due j) (heldMost j) ks in
     let f = queue-before 0 1 0 (queue (size j) choice ks rs) (omega arith) (queue-rises (size j) choice ks rs 1 (chunks j) (kept-asc j choice)) in
@@ -210,8 +210,8 @@ own-list-count j choice few =
     ))
 
 -- "It has at most 5,599 rows."
-pub own-list-rows : (j : Job) → Accepted j → (choice : ℕ → ℕ) → Choice j choice → length (ownList j choice) ≤ 5599
-own-list-rows j a choice few =
+pub own-few-rows : (j : Job) → Accepted j → (choice : ℕ → ℕ) → Choice j choice → length (ownList j choice) ≤ 5599
+own-few-rows j a choice few =
     omega (
       arith,
       own-list-count j choice few,

@@ -1,5 +1,6 @@
 -- Lemmas. The words that say what a plan is leave one choice only. Trial by trial, in the order in which layers are settled: where all
 -- that is settled before agrees, so does what the trial settles.
+-- Section 3 of the argument.
 use Prim.Native.Nat.{ℕ, zero, suc, _+_, _≤_, _<_, min}
 use mathlib.Core.Path.{_≡_, refl, sym, ap}
 use mathlib.Core.Logic.{⊎-elim}

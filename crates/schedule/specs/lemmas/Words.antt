@@ -6,10 +6,9 @@ use native.Mathlib.Omega.{arith}
 use native.Mathlib.Nat.{mul-le-mul-right}
 use lib.Dec.{eqb}
 use lib.ListN.{length, getD}
-use Rattle.basics.specs.Sums.{pre}
 use Rattle.basics.specs.lemmas.Ranges.{pre-mono}
 use Rattle.basics.specs.Tests.{All, any}
-use Rattle.job.specs.Job.{Accepted, Job, Layer, Within, chunks, due, forecast, lastSlot, layers, size, dueSlot, lastDue}
+use Rattle.job.specs.Job.{Accepted, Job, Layer, Within, chunks, due, forecast, layers, size, dueSlot, lastDue}
 use Rattle.fetch.specs.Rows.{Row, bytesIf}
 use Rattle.schedule.specs.Plan.{after}
 use Rattle.job.specs.declared.Programme.{Programme}
