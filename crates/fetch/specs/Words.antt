@@ -43,6 +43,10 @@ word-count w n =
 
 -- ---- marks of any length
 
+-- No mark has a bit above 7.
+pub none-above : (n : ℕ) (marks : List ℕ) → 8 ≤ n → All (λ m. m < 256) marks → markCount n marks ≡ 0
+none-above = count-none
+
 word-of-eight : (n : ℕ) (l : List ℕ) (at : ℕ) → All Byte l → at + 8 ≤ length l → wordCount (wordOf (take 8 (drop at l))) n ≡ markCount n (take 8 (drop at l))
 word-of-eight n l at a h =
     let e : length (take 8 (drop at l)) ≡ 8 = simp (length-take, length-drop) (omega arith) in

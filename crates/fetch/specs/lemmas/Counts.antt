@@ -47,7 +47,6 @@ pub count-le : (n : ℕ) (l : List ℕ) → markCount n l ≤ length l
 count-le n [] = omega arith
 count-le n (x ∷ l) = omega (arith, count-le n l, cond-most (bit x n) 1 1 (omega arith))
 
--- A byte has no bit 8 or above.
 pub count-none : (n : ℕ) (l : List ℕ) → 8 ≤ n → All Byte l → markCount n l ≡ 0
 count-none n [] h a = refl
 count-none n (x ∷ l) h a = let u = a .0 in rw (high-bit x 8 n u h, count-none n l h (a .1))
