@@ -1,277 +1,126 @@
-// A fetch list as a table, and what document 01 asks of it. Slots and chunks are counted from 0 here: slot t is the paper's slot t + 1,
-// chunk i its chunk i + 1. The bytes of layer n of chunk i in slot t stand at 6t + 2i + n. Lists that only split or repeat rows otherwise are
-// one table: rules 1 to 6 and playing order speak of sums and of first slots.
-use job::Programme;
+// A fetch list as its bytes, at most two a slot, in one word: its numbers 2t and 2t + 1 of four bits stand for slot t, and each is 0 or 1 +
+// the part that the byte is of. Lists that only split or repeat rows otherwise are one: rules 1 to 6 and playing order speak of sums and
+// of first slots.
+use crate::bits;
+use crate::film;
+use crate::film::Film;
+use crate::marks;
 ghost use Prim.Native.Nat.{_≤_};
 
-pub const SLOTS: u16 = 4;
+// How many bytes a list may have.
+pub(crate) const BYTES: u16 = 8;
 
-pub const CHUNKS: u16 = 3;
+// Rule 4: whether the forecast has byte k. Where it has one byte in the slot, that is the second.
+pub(crate) fn has_byte(f: Film, k: u16) -> bool {
+    2 <= bits::digit(f.forecast, k / 2) + (k % 2) as u32
+}
 
-pub const LAYERS: u16 = 2;
+// The list with byte k of the part v - 1, or of none if v is 0.
+pub(crate) fn with(list: u32, k: u16, v: u16) -> u32 {
+    if k < BYTES {
+        return list | (((v % 16) as u32) << (4 * k));
+    }
+    list
+}
 
-// A number of a table, or 0 outside of it.
-pub fn at(s: &[u32], k: usize) -> u32 {
-    if k < s.len() {
-        return s[k];
+// How many bytes of a part are in all slots; in slot t.
+pub(crate) fn in_all(list: u32, part: u16) -> u32 {
+    bits::count(list, 1 + (part % 15) as u32)
+}
+
+pub(crate) fn in_slot(list: u32, t: u16, part: u16) -> u32 {
+    if t < 4 {
+        return in_all((list >> (8 * t)) % 256, part);
     }
     0
 }
 
-pub fn put(s: &mut [u32], k: usize, v: u32) {
-    if k < s.len() {
-        s[k] = v;
+// Whether a part has all its bytes.
+pub(crate) fn is_whole(f: Film, list: u32, part: u16) -> bool {
+    bits::digit(f.sizes, part % 4) <= in_all(list, part)
+}
+
+// How many rows the list has, one for each slot, chunk and layer: byte 2t counts for none if byte 2t + 1 is of the same part.
+pub(crate) fn rows(list: u32) -> u32 {
+    let same = bits::zeros(list ^ (list >> 4)) & 0x01010101;
+    bits::ones(0x11111111 & !bits::zeros(list) & !same)
+}
+
+// The first slot in which chunk i has a row; 4 if it has none.
+fn begun(list: u32, i: u16) -> u16 {
+    let mut k: u16 = 0;
+    while k < BYTES {
+        if (bits::digit(list, k) + 3) / 4 == 1 + (i % 3) as u32 {
+            return k / 2;
+        }
+        k = k + 1;
     }
+    4
 }
 
-fn cell_at(t: u16, i: u16, n: u16) -> usize {
-    6 * (t as usize) + 2 * (i as usize) + (n as usize)
-}
-
-fn wide(x: u32) -> u64
-    ensures { λ r. ⌜ r ≤ 4294967295 ⌝ }
+// 1 if chunk i is held at the end of slot t: begun by then, and due later.
+fn held(f: Film, list: u32, t: u16, i: u16) -> u16
+    ensures { λ r. ⌜ r ≤ 1 ⌝ }
 {
-    x as u64
-}
-
-// The bytes of chunk i in slot t; of all chunks in slot t; of layer n of chunk i in all slots.
-fn in_chunk(table: &[u32], t: u16, i: u16) -> u64
-    ensures { λ r. ⌜ r ≤ 8589934590 ⌝ }
-{
-    wide(at(table, cell_at(t, i, 0))) + wide(at(table, cell_at(t, i, 1)))
-}
-
-pub fn in_slot(table: &[u32], t: u16) -> u64 {
-    let mut sum: u64 = 0;
-    let mut i: u16 = 0;
-    while i < CHUNKS {
-        sum = sum + in_chunk(table, t, i);
-        i = i + 1;
-    }
-    sum
-}
-
-pub fn in_layer(table: &[u32], i: u16, n: u16) -> u64 {
-    let mut sum: u64 = 0;
-    let mut t: u16 = 0;
-    while t < SLOTS {
-        sum = sum + wide(at(table, cell_at(t, i, n)));
-        t = t + 1;
-    }
-    sum
-}
-
-// The job's layers, of at most LAYERS.
-pub fn layers(sizes: &[u32]) -> u16
-    ensures { λ r. ⌜ r ≤ 2 ⌝ }
-{
-    if sizes.len() <= 2 {
-        return sizes.len() as u16;
-    }
-    LAYERS
-}
-
-// The paper's d(i + 1).
-pub fn due(p: Programme, i: u16) -> usize {
-    (i as usize) * (p.span as usize) + (p.delay as usize)
-}
-
-// H, the whole part of limit / L.
-pub fn held_most(p: Programme) -> u16 {
-    let span = p.span;
-    if span == 0 {
+    if t < begun(list, i) {
         return 0;
     }
-    p.limit / span
-}
-
-fn mark_at(marks: &[u8], i: u16) -> u8 {
-    let k = i as usize;
-    if k < marks.len() {
-        return marks[k];
+    if film::due(f, i) <= (t as usize) + 1 {
+        return 0;
     }
-    0
+    1
 }
 
-// Whether the marks say that layer n of chunk i is carried.
-pub fn carries(marks: &[u8], i: u16, n: u16) -> bool {
-    if LAYERS <= n {
-        return false;
-    }
-    (mark_at(marks, i) >> n) & 1 == 1
+// Rule 6 at the end of slot t: at most H chunks are held.
+pub(crate) fn holds_few(f: Film, list: u32, t: u16) -> bool {
+    held(f, list, t, 0) + held(f, list, t, 1) + held(f, list, t, 2) <= film::held_most(f)
 }
 
-pub fn mark(marks: &mut [u8], i: u16, n: u16) {
-    let k = i as usize;
-    if n < LAYERS {
-        if k < marks.len() {
-            marks[k] = marks[k] | (1 << n);
-        }
-    }
-}
-
-pub fn unmark(marks: &mut [u8], i: u16, n: u16) {
-    let k = i as usize;
-    if n < LAYERS {
-        if k < marks.len() {
-            marks[k] = marks[k] & !(1 << n);
-        }
-    }
-}
-
-// Whether two lists of marks differ.
-pub fn differ(a: &[u8], b: &[u8]) -> bool {
-    let mut i: u16 = 0;
-    while i < CHUNKS {
-        if mark_at(a, i) != mark_at(b, i) {
-            return true;
-        }
-        i = i + 1;
-    }
-    false
-}
-
-// How many chunks carry layer n.
-pub fn count(marks: &[u8], n: u16) -> u16 {
-    let mut c: u16 = 0;
-    let mut i: u16 = 0;
-    while i < CHUNKS {
-        if carries(marks, i, n) {
-            c = c + 1;
-        }
-        i = i + 1;
-    }
-    c
-}
-
-// A row of the paper's slot t, chunk i and layer n, as one byte.
-pub fn begin(t: u16, i: u16, n: u16, table: &mut [u32]) {
-    if 0 < t {
-        if 0 < i {
-            put(table, cell_at(t - 1, i - 1, n), 1);
-        }
-    }
-}
-
-// The first slot in which chunk i has a row; SLOTS if it has none.
-fn begun(table: &[u32], i: u16) -> u16 {
-    let mut t: u16 = 0;
-    while t < SLOTS {
-        if 0 < in_chunk(table, t, i) {
-            return t;
-        }
-        t = t + 1;
-    }
-    SLOTS
-}
-
-// Whether chunk i is held at the end of slot t: begun by then, and due later.
-fn is_held(p: Programme, table: &[u32], t: u16, i: u16) -> bool {
-    if t < begun(table, i) {
-        return false;
-    }
-    (t as usize) + 1 < due(p, i)
-}
-
-fn held(p: Programme, table: &[u32], t: u16) -> u16 {
-    let mut n: u16 = 0;
-    let mut i: u16 = 0;
-    while i < p.chunks {
-        if is_held(p, table, t, i) {
-            n = n + 1;
-        }
-        i = i + 1;
-    }
-    n
-}
-
-// Rule 6: at the end of each slot at most H chunks are held.
-fn holds_few(p: Programme, table: &[u32]) -> bool {
-    let most = held_most(p);
-    let mut t: u16 = 0;
-    while t < SLOTS {
-        if most < held(p, table, t) {
-            return false;
-        }
-        t = t + 1;
+// Whether chunk k is not begun in an earlier slot than chunk i, if that is carried.
+fn follows(marks: u32, list: u32, i: u16, k: u16) -> bool {
+    if marks::carries(marks, 4 * (i % 3)) {
+        return begun(list, i) <= begun(list, k);
     }
     true
-}
-
-// Rule 3: a carried layer has the layer below carried. Of two layers, a mark of 2 breaks it.
-fn is_layered(p: Programme, marks: &[u8]) -> bool {
-    let mut i: u16 = 0;
-    while i < p.chunks {
-        if mark_at(marks, i) == 2 {
-            return false;
-        }
-        i = i + 1;
-    }
-    true
-}
-
-// Whether a table passes that keeps rules 2, 4 and 5 and carries what the marks say.
-fn passes(p: Programme, marks: &[u8], table: &[u32]) -> bool {
-    if is_layered(p, marks) {
-        return holds_few(p, table);
-    }
-    false
 }
 
 // Playing order: no chunk is begun in an earlier slot than a carried chunk that plays before it.
-pub fn in_order(p: Programme, marks: &[u8], table: &[u32]) -> bool {
-    let mut latest: u16 = 0;
-    let mut i: u16 = 0;
-    while i < p.chunks {
-        let first = begun(table, i);
-        if first < latest {
-            return false;
-        }
-        if carries(marks, i, 0) {
-            latest = first;
-        }
-        i = i + 1;
-    }
-    true
+pub(crate) fn in_order(marks: u32, list: u32) -> bool {
+    follows(marks, list, 0, 1) && follows(marks, list, 0, 2) && follows(marks, list, 1, 2)
 }
 
-// Marks a layer that is carried; false for rule 2, if it has some of its bytes and not all.
-fn read_layer(sizes: &[u32], table: &[u32], i: u16, n: u16, marks: &mut [u8]) -> bool {
-    let bytes = in_layer(table, i, n);
-    if bytes == wide(at(sizes, n as usize)) {
-        mark(marks, i, n);
-        return true;
+// A bit above all marks, for rule 2: some part has some of its bytes and not all.
+const BROKEN: u32 = 0x1000;
+
+// The marks with a part, if it has all its bytes.
+fn with_part(f: Film, list: u32, part: u16, marks: u32) -> u32 {
+    let bytes = in_all(list, part);
+    if bytes == 0 {
+        return marks;
     }
-    bytes == 0
+    if bytes == bits::digit(f.sizes, part % 4) {
+        return marks::with(marks, part);
+    }
+    BROKEN
 }
 
-fn read_chunk(sizes: &[u32], table: &[u32], i: u16, marks: &mut [u8]) -> bool {
-    let count = layers(sizes);
-    let mut n: u16 = 0;
-    while n < count {
-        if !read_layer(sizes, table, i, n, marks) {
-            return false;
-        }
-        n = n + 1;
+// The marks that the rows give.
+pub(crate) fn marks_given(f: Film, list: u32) -> u32 {
+    let mut marks: u32 = 0;
+    let mut part: u16 = 0;
+    while part < marks::PARTS {
+        marks = with_part(f, list, part, marks);
+        part = part + 1;
     }
-    true
+    marks
 }
 
-fn read_chunks(p: Programme, sizes: &[u32], table: &[u32], marks: &mut [u8]) -> bool {
-    let mut i: u16 = 0;
-    while i < p.chunks {
-        if !read_chunk(sizes, table, i, marks) {
-            return false;
-        }
-        i = i + 1;
-    }
-    true
-}
-
-// Whether a table passes that keeps rules 4 and 5, and its marks, which are handed blank.
-pub fn read(p: Programme, sizes: &[u32], table: &[u32], marks: &mut [u8]) -> bool {
-    if read_chunks(p, sizes, table, marks) {
-        return passes(p, marks, table);
-    }
-    false
+// Whether a list passes that keeps rules 4 and 5 and gives these marks.
+pub(crate) fn passes(f: Film, list: u32, given: u32) -> bool {
+    given < BROKEN
+        && marks::keep_rule_3(given)
+        && holds_few(f, list, 0)
+        && holds_few(f, list, 1)
+        && holds_few(f, list, 2)
+        && holds_few(f, list, 3)
 }

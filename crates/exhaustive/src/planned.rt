@@ -1,21 +1,50 @@
-// The planner's own answer for a job, against the marks found by search: the same marks, the counts that are theirs, and a list that the
-// checker passes and that is in playing order.
+// The planner's own answer for a job, against the marks found by search: the same marks, the counts that are theirs, the rows of their own
+// list, a list that the checker passes and that is in playing order.
+use crate::bits;
+use crate::film;
+use crate::film::Film;
 use crate::lists;
+use crate::marks;
 use crate::tally;
 use checker::Checked;
-use job::Programme;
 use planner::Answer;
 use planner::Order;
+ghost use Prim.Native.Nat.{_≤_};
 
-// The plan has at most a row for each layer of each chunk and for each slot but the last.
-pub fn compare(p: Programme, sizes: &[u32], forecast: &[u32], found: &[u8], tally: &mut [u64]) {
+// The sizes and the forecast as the calls take them.
+fn four(word: u32) -> [u32; 4] {
+    [
+        bits::digit(word, 0),
+        bits::digit(word, 1),
+        bits::digit(word, 2),
+        bits::digit(word, 3),
+    ]
+}
+
+// What of the planner's answer is as it should be, as flags of the tally. Playing order is asked of the own list, whose rows the planner's
+// are to be.
+pub(crate) fn compare(f: Film, found: u32, own: u32) -> u32 {
+    let sizes = four(f.sizes);
+    let forecast = four(f.forecast);
+    tally::flag_if(tally::ORDERED, lists::in_order(found, own))
+        | plan(
+            f,
+            found,
+            own,
+            parts::words(&sizes, bits::nonzero(f.sizes) as usize),
+            parts::words(&forecast, film::last_due(f)),
+        )
+}
+
+// A plan has at most a row for each layer of each chunk and for each slot but the last.
+fn plan(f: Film, found: u32, own: u32, sizes: &[u32], forecast: &[u32]) -> u32 {
     let mut marks = [0u8; 3];
-    let mut slots = [0u16; 9];
-    let mut chunks = [0u16; 9];
-    let mut layers = [0u8; 9];
-    let mut bytes = [0u32; 9];
+    let mut slots = [0u16; 15];
+    let mut chunks = [0u16; 15];
+    let mut layers = [0u8; 15];
+    let mut bytes = [0u32; 15];
     let plan = planner::plan(
-        p,
+        film::programme(f),
         sizes,
         forecast,
         &mut marks,
@@ -26,84 +55,61 @@ pub fn compare(p: Programme, sizes: &[u32], forecast: &[u32], found: &[u8], tall
     );
     let answer = plan.answer;
     let counts = plan.counts;
-    note(
-        p,
-        sizes,
-        forecast,
-        found,
-        counts,
-        rows(answer),
-        &marks,
-        &slots,
-        &chunks,
-        &layers,
-        &bytes,
-        tally,
-    );
+    let n = rows_of(answer);
+    tally::flag_if(tally::SAME_MARKS, marks_as(marks, found))
+        | tally::flag_if(tally::SAME_COUNTS, counts_as(counts, found))
+        | tally::flag_if(
+            tally::SAME_ROWS,
+            are_rows(own, slots, chunks, layers, bytes, n),
+        )
+        | tally::flag_if(
+            tally::PASSED,
+            pass(
+                f,
+                sizes,
+                forecast,
+                &marks,
+                &slots,
+                &chunks,
+                &layers,
+                &bytes,
+                n,
+            ),
+        )
 }
 
-fn note(
-    p: Programme,
-    sizes: &[u32],
-    forecast: &[u32],
-    found: &[u8],
-    counts: [u16; 4],
-    n: usize,
-    marks: &[u8],
-    slots: &[u16],
-    chunks: &[u16],
-    layers: &[u8],
-    bytes: &[u32],
-    tally: &mut [u64],
-) {
-    note_marks(counts, marks, found, tally);
-    note_list(
-        p,
-        sizes,
-        forecast,
-        marks,
-        slots,
-        chunks,
-        layers,
-        bytes,
-        n,
-        tally,
-    );
+fn wide(x: u8) -> u32
+    ensures { λ r. ⌜ r ≤ 255 ⌝ }
+{
+    x as u32
 }
 
-fn note_marks(counts: [u16; 4], marks: &[u8], found: &[u8], tally: &mut [u64]) {
-    tally::add_if(tally, tally::SAME_MARKS, !lists::differ(marks, found));
-    tally::add_if(tally, tally::SAME_COUNTS, counts_as(counts, found));
-}
-
-fn note_list(
-    p: Programme,
-    sizes: &[u32],
-    forecast: &[u32],
-    marks: &[u8],
-    slots: &[u16],
-    chunks: &[u16],
-    layers: &[u8],
-    bytes: &[u32],
-    n: usize,
-    tally: &mut [u64],
-) {
-    let passed = passes(p, sizes, forecast, marks, slots, chunks, layers, bytes, n);
-    tally::add_if(tally, tally::PASSED, passed);
-    let ordered = in_order(p, marks, slots, chunks, layers, n);
-    tally::add_if(tally, tally::ORDERED, ordered);
+// Whether the mark bytes are those of marks in one word.
+fn marks_as(marks: [u8; 3], found: u32) -> bool {
+    if wide(marks[0]) != bits::digit(found, 0) {
+        return false;
+    }
+    if wide(marks[1]) != bits::digit(found, 1) {
+        return false;
+    }
+    wide(marks[2]) == bits::digit(found, 2)
 }
 
 // The number of rows, or one that no plan here has.
-fn rows(answer: Answer) -> usize {
+fn rows_of(answer: Answer) -> usize {
     match answer {
         Answer::Rows(n) => n,
-        Answer::Refused(_) => 10,
+        Answer::Refused(_) => 16,
     }
 }
 
-fn counts_as(counts: [u16; 4], marks: &[u8]) -> bool {
-    let theirs = [lists::count(marks, 0), lists::count(marks, 1), 0, 0];
+fn counts_as(counts: [u16; 4], marks: u32) -> bool {
+    let theirs = [
+        marks::count(marks, 0) as u16,
+        marks::count(marks, 1) as u16,
+        marks::count(marks, 2) as u16,
+        marks::count(marks, 3) as u16,
+    ];
     let order = planner::compare(counts, theirs);
     match order {
         Order::Same => true,
@@ -111,30 +117,9 @@ fn counts_as(counts: [u16; 4], marks: &[u8]) -> bool {
     }
 }
 
-fn first8(s: &[u8], n: usize) -> &[u8] {
-    if n <= s.len() {
-        return &s[..n];
-    }
-    s
-}
-
-fn first16(s: &[u16], n: usize) -> &[u16] {
-    if n <= s.len() {
-        return &s[..n];
-    }
-    s
-}
-
-fn first32(s: &[u32], n: usize) -> &[u32] {
-    if n <= s.len() {
-        return &s[..n];
-    }
-    s
-}
-
 // Whether the checker's verdict on the first n rows is 0.
-fn passes(
-    p: Programme,
+fn pass(
+    f: Film,
     sizes: &[u32],
     forecast: &[u32],
     marks: &[u8],
@@ -145,14 +130,14 @@ fn passes(
     n: usize,
 ) -> bool {
     let verdict = checker::check(
-        p,
+        film::programme(f),
         sizes,
         forecast,
-        first8(marks, p.chunks as usize),
-        first16(slots, n),
-        first16(chunks, n),
-        first8(layers, n),
-        first32(bytes, n),
+        parts::bytes(marks, f.chunks as usize),
+        parts::halves(slots, n),
+        parts::halves(chunks, n),
+        parts::bytes(layers, n),
+        parts::words(bytes, n),
     );
     match verdict {
         Checked::Verdict(v) => v == 0,
@@ -160,39 +145,37 @@ fn passes(
     }
 }
 
-fn wide(x: u8) -> u16 {
-    x as u16
-}
-
-// Where row r stands, a cell with a byte.
-fn lay_row(slots: &[u16], chunks: &[u16], layers: &[u8], r: usize, table: &mut [u32]) {
-    if r < slots.len() {
-        if r < chunks.len() {
-            if r < layers.len() {
-                lists::begin(slots[r], chunks[r], wide(layers[r]), table);
-            }
-        }
+// Whether a row is that of a cell: its slot, chunk and layer, with all its bytes.
+fn is_row(list: u32, cell: u16, slot: u16, chunk: u16, layer: u8, bytes: u32) -> bool {
+    if slot != 1 + cell / 12 % 4 || chunk != 1 + cell / 4 % 3 {
+        return false;
     }
+    wide(layer) == (cell % 4) as u32 && bytes == lists::in_slot(list, cell / 12, cell % 12)
 }
 
-fn lay(slots: &[u16], chunks: &[u16], layers: &[u8], n: usize, table: &mut [u32]) {
-    let mut r: usize = 0;
-    while r < n {
-        lay_row(slots, chunks, layers, r, table);
-        r = r + 1;
-    }
-}
-
-// Whether the first n rows are in playing order.
-fn in_order(
-    p: Programme,
-    marks: &[u8],
-    slots: &[u16],
-    chunks: &[u16],
-    layers: &[u8],
+// "One row per slot, chunk and layer", handed by slot, chunk, layer: whether the first n rows are those of the list, one for each cell 12t +
+// 4i + n with bytes of layer n of chunk i in slot t, and no others.
+fn are_rows(
+    list: u32,
+    slots: [u16; 15],
+    chunks: [u16; 15],
+    layers: [u8; 15],
+    bytes: [u32; 15],
     n: usize,
 ) -> bool {
-    let mut table = [0u32; 24];
-    lay(slots, chunks, layers, n, &mut table);
-    lists::in_order(p, marks, &table)
+    let mut r: usize = 0;
+    let mut cell: u16 = 0;
+    while cell < 48 {
+        if 0 < lists::in_slot(list, cell / 12, cell % 12) {
+            if 15 <= r {
+                return false;
+            }
+            if !is_row(list, cell, slots[r], chunks[r], layers[r], bytes[r]) {
+                return false;
+            }
+            r = r + 1;
+        }
+        cell = cell + 1;
+    }
+    r == n
 }

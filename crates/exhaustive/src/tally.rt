@@ -1,55 +1,79 @@
-// What the trials count.
-pub const JOBS: usize = 0;
+// What the trials count. The first 20 numbers are flags: so many jobs, lists or plans had them.
+pub(crate) const JOBS: u16 = 0;
 
-pub const NONE_HELD: usize = 1;
+pub(crate) const THREE_LAYERS: u16 = 1;
 
-pub const UNEVEN: usize = 2;
+pub(crate) const FOUR_LAYERS: u16 = 2;
 
-pub const EMPTY: usize = 3;
+pub(crate) const NONE_HELD: u16 = 3;
 
-pub const BINDING: usize = 4;
+pub(crate) const UNEVEN: u16 = 4;
 
-pub const BASES: usize = 5;
+pub(crate) const EMPTY: u16 = 5;
 
-pub const UPPERS: usize = 6;
+pub(crate) const BINDING: u16 = 6;
 
-pub const LISTS: usize = 7;
+pub(crate) const LISTS: u16 = 7;
 
-pub const ANY_ORDER: usize = 8;
+pub(crate) const ANY_ORDER: u16 = 8;
 
-pub const BY_LAYER: usize = 9;
+// Of layer 0; those of the layers above stand after it.
+pub(crate) const BY_LAYER: u16 = 9;
 
-pub const WHOLE: usize = 10;
+pub(crate) const WHOLE: u16 = 13;
 
-pub const BROKEN: usize = 11;
+pub(crate) const BROKEN: u16 = 14;
 
-pub const SAME_MARKS: usize = 12;
+pub(crate) const SAME_MARKS: u16 = 15;
 
-pub const SAME_COUNTS: usize = 13;
+pub(crate) const SAME_COUNTS: u16 = 16;
 
-pub const PASSED: usize = 14;
+pub(crate) const SAME_ROWS: u16 = 17;
 
-pub const ORDERED: usize = 15;
+pub(crate) const PASSED: u16 = 18;
 
-pub fn add(tally: &mut [u64], k: usize, n: u16) {
-    if k < tally.len() {
-        let x = tally[k];
-        if x < 1 << 63 {
-            tally[k] = x + (n as u64);
+pub(crate) const ORDERED: u16 = 19;
+
+pub(crate) const BASES: u16 = 20;
+
+pub(crate) const UPPERS: u16 = 21;
+
+pub(crate) const ROWS: u16 = 22;
+
+pub(crate) fn flag(k: u16) -> u32 {
+    1 << (k % 32)
+}
+
+pub(crate) fn flag_if(k: u16, test: bool) -> u32 {
+    if test {
+        return flag(k);
+    }
+    0
+}
+
+pub(crate) fn add(tally: &mut [u64], k: u16, n: u32) {
+    let at = k as usize;
+    if at < tally.len() {
+        let x = tally[at];
+        if x < 1000000000000000 {
+            tally[at] = x + (n as u64);
         }
     }
 }
 
-// One more of k, where the test holds.
-pub fn add_if(tally: &mut [u64], k: usize, test: bool) {
-    if test {
-        add(tally, k, 1);
+// One more of each flag.
+pub(crate) fn add_flags(tally: &mut [u64], flags: u32) {
+    let mut k: u16 = 0;
+    while k < BASES {
+        add(tally, k, (flags >> k) % 2);
+        k = k + 1;
     }
 }
 
-pub fn number(tally: &[u64], k: usize) -> u64 {
-    if k < tally.len() {
-        return tally[k];
+pub(crate) fn number(tally: &[u64], k: u16) -> u64 {
+    let at = k as usize;
+    if at < tally.len() {
+        return tally[at];
     }
     0
 }

@@ -11,28 +11,28 @@ use planfile::PlanRead;
 use planfile::Written;
 
 // Room for n elements at most.
-pub fn room8(s: &mut [u8], n: usize) -> &mut [u8] {
+pub(crate) fn room8(s: &mut [u8], n: usize) -> &mut [u8] {
     if s.len() < n {
         return s;
     }
     &mut s[..n]
 }
 
-pub fn room16(s: &mut [u16], n: usize) -> &mut [u16] {
+pub(crate) fn room16(s: &mut [u16], n: usize) -> &mut [u16] {
     if s.len() < n {
         return s;
     }
     &mut s[..n]
 }
 
-pub fn room32(s: &mut [u32], n: usize) -> &mut [u32] {
+pub(crate) fn room32(s: &mut [u32], n: usize) -> &mut [u32] {
     if s.len() < n {
         return s;
     }
     &mut s[..n]
 }
 
-pub fn chunks_501() -> Programme {
+pub(crate) fn chunks_501() -> Programme {
     Programme {
         chunks: 501,
         span: 1,
@@ -65,7 +65,7 @@ fn write_job(p: Programme, layers: usize, slots: usize, room: usize) {
     }
 }
 
-pub fn jobs() {
+pub(crate) fn jobs() {
     write_job(job_a(), 2, 6, 72);
     write_job(job_a(), 2, 6, 71);
     word(b"5 before 6 and 7: ");
@@ -124,7 +124,7 @@ fn shown(sizes: &[u32; 3], forecast: &[u32; 7]) {
     line(b" ", wide(forecast[6]));
 }
 
-pub fn rooms() {
+pub(crate) fn rooms() {
     let mut file = [0u8; 72];
     file_a(&mut file);
     read_rooms(&file);
@@ -164,7 +164,7 @@ fn check(p: Programme, layers: usize, marks: usize, chunks: usize, depths: usize
     }
 }
 
-pub fn lists() {
+pub(crate) fn lists() {
     check(job_a(), 2, 3, 3, 3, 3);
     word(b"a mark too few: ");
     check(job_a(), 2, 2, 3, 3, 3);
@@ -251,7 +251,7 @@ fn byte(x: u8) -> usize {
     x as usize
 }
 
-pub fn marks_shown(marks: &[u8; 4], layers: &[u8; 4]) {
+pub(crate) fn marks_shown(marks: &[u8; 4], layers: &[u8; 4]) {
     word(b", then ");
     number(byte(marks[1]));
     word(b" ");
@@ -261,7 +261,7 @@ pub fn marks_shown(marks: &[u8; 4], layers: &[u8; 4]) {
     line(b" ", byte(layers[3]));
 }
 
-pub fn plans() {
+pub(crate) fn plans() {
     let mut file = [0u8; 50];
     word(b"7 before 8: ");
     write_plan(two_chunks(), 3, 50, &mut file);

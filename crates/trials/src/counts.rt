@@ -29,7 +29,7 @@ fn word_counts(text: &[u8], marks: u64) {
     word(b"\n");
 }
 
-pub fn words() {
+pub(crate) fn words() {
     word_counts(b"a word of ones:", 0xFFFF_FFFF_FFFF_FFFF);
     word_counts(b"ones beside none:", 0xFF00_FF00_FF00_FF00);
     word_counts(b"none beside ones:", 0x00FF_00FF_00FF_00FF);
@@ -110,7 +110,7 @@ fn mixed() {
     first(&file, n);
 }
 
-pub fn marks() {
+pub(crate) fn marks() {
     mixed();
     mark_counts(b" of ones:", &[255u8; 17]);
     mark_counts(b" of ones:", &[255u8; 500]);

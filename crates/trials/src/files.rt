@@ -5,27 +5,27 @@ use jobfile::JobRead;
 use libc::STDOUT_FILENO;
 use planfile::PlanRead;
 
-pub fn word(text: &[u8]) {
+pub(crate) fn word(text: &[u8]) {
     io::write_all(STDOUT_FILENO, text);
 }
 
-pub fn number(n: usize) {
+pub(crate) fn number(n: usize) {
     io::print_decimal(STDOUT_FILENO, n as u64);
 }
 
 // A word, a number and a line feed.
-pub fn line(text: &[u8], n: usize) {
+pub(crate) fn line(text: &[u8], n: usize) {
     word(text);
     number(n);
     word(b"\n");
 }
 
-pub fn refused(n: u8) {
+pub(crate) fn refused(n: u8) {
     line(b"refused ", n as usize);
 }
 
 // The bytes of a case file go to the start of file, at most as many as that has. A file that can't be opened is read as empty.
-pub fn read_case(kind: u8, i: u8, file: &mut [u8; 65537]) -> usize {
+pub(crate) fn read_case(kind: u8, i: u8, file: &mut [u8; 65537]) -> usize {
     let path = [kind, 48 + i / 10 % 10, 48 + i % 10];
     word(&path);
     word(b" ");
@@ -91,7 +91,7 @@ fn judged(marks: &[u8], slots: &[u16], chunks: &[u16], layers: &[u8], bytes: &[u
     }
 }
 
-pub fn job_a() -> Programme {
+pub(crate) fn job_a() -> Programme {
     Programme {
         chunks: 3,
         span: 2,
@@ -154,13 +154,13 @@ fn plan_file_of(file: &[u8; 65537], n: usize) {
     plan_file(parts::bytes(file, n));
 }
 
-pub fn job_files() {
+pub(crate) fn job_files() {
     for i in 0u8..49 {
         job_case(i);
     }
 }
 
-pub fn plan_files() {
+pub(crate) fn plan_files() {
     for i in 0u8..39 {
         plan_case(i);
     }

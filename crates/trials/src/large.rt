@@ -88,7 +88,7 @@ fn too_long() {
     read_first(6, &file, n);
 }
 
-pub fn plan_files() {
+pub(crate) fn plan_files() {
     written_and_read(8, 5954);
     written_and_read(6, 5954);
     written_and_read(6, 5955);

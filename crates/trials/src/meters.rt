@@ -21,7 +21,7 @@ fn forecast(m: Meter) {
     }
 }
 
-pub fn samples() {
+pub(crate) fn samples() {
     word(b"slot 0: ");
     let m = take(meter::new(), 0, 1);
     word(b"16,777,217 bytes: ");
@@ -48,7 +48,7 @@ fn odd(kept: u8, slot: u16) -> Meter {
     }
 }
 
-pub fn forecasts() {
+pub(crate) fn forecasts() {
     word(b"no sample: ");
     forecast(meter::new());
     let m = take(take(meter::new(), 1, 6), 2, 3);

@@ -60,7 +60,7 @@ fn plan(p: Programme, room: usize, slot: usize, chunk: usize, layer: usize, byte
     marks_shown(&marks, &layers);
 }
 
-pub fn rooms() {
+pub(crate) fn rooms() {
     plan(job_a(), 4, 4, 4, 4, 4);
     plan(job_a(), 3, 3, 3, 3, 3);
     word(b"no room for a mark: ");

@@ -5,22 +5,31 @@ use Rattle.exhaustive.proofs.lists.begun.Statement.{statement}
 use Rattle.exhaustive.proofs.lists.begun.Tie as tie
 
 abbrev Inv-loop : tie.InvT-loop
-Inv-loop table i t₀ t = t ≤ 4
+Inv-loop list i k₀ k = k ≤ 8
 
 abbrev μ-loop : tie.MeasureT-loop
-μ-loop table i t₀ t = 4 - t
+μ-loop list i k₀ k = 8 - k
 
 loop-holds : tie.Need-loop-holds Inv-loop μ-loop
 loop-holds c = search needs
 
-in-chunk-requires : tie.Need-in-chunk-requires Inv-loop μ-loop
-in-chunk-requires c κs = search needs
+digit-requires : tie.Need-digit-requires Inv-loop μ-loop
+digit-requires c κs = search needs
+
+add-if1 : tie.Need-add-if1 Inv-loop μ-loop
+add-if1 c = search needs
+
+cast-if1 : tie.Need-cast-if1 Inv-loop μ-loop
+cast-if1 c = search needs
+
+add-if1-2 : tie.Need-add-if1-2 Inv-loop μ-loop
+add-if1-2 c = search needs
 
 returns : tie.Need-returns Inv-loop μ-loop
 returns c = search needs
 
-add-t : tie.Need-add-t Inv-loop μ-loop
-add-t c = search needs
+add-k : tie.Need-add-k Inv-loop μ-loop
+add-k c = search needs
 
 loop-less : tie.Need-loop-less Inv-loop μ-loop
 loop-less c = search needs
@@ -38,9 +47,12 @@ begun-spec =
     Inv-loop
     μ-loop
     loop-holds
-    in-chunk-requires
+    digit-requires
+    add-if1
+    cast-if1
+    add-if1-2
     returns
-    add-t
+    add-k
     loop-less
     loop-again
     returns-2)
