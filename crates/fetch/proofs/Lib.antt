@@ -1,1 +1,3 @@
 mod Bits
+mod Masked
+mod Walk

@@ -7,44 +7,19 @@ use Prim.Native.Nat.{ℕ, suc, _+_, _≤_, _<_}
 use native.Mathlib.Omega.{arith}
 use native.Mathlib.Numerals.{add-one}
 use lib.ListN.{length, getD, set, take, drop, drop-of-length-le, length-set, List·getD-eq-default}
-use lib.Seq.{take-suc, take-all, getD-drop}
+use lib.Seq.{getD-drop}
 use lib.Dec.{eqb, ltb, ltb→lt, nltb→le}
 use borrow.Author.Tests.{eq-eqb, ne-eqb}
 use Rattle.basics.specs.Lists.{upTo}
 use Rattle.basics.specs.lemmas.Lists.{length-upTo}
 use Rattle.basics.specs.lemmas.Tests.{test}
-use Rattle.fetch.specs.Marks.{bit}
 use Rattle.schedule.specs.lemmas.Ascending.{Asc}
 use Rattle.planner.specs.declared.Order.the-variants.{Less, Same, More}
 use Rattle.planner.specs.Answer.{compared}
-use Rattle.planner.specs.lemmas.Handing.{carriedIn, markIn}
+use Rattle.planner.specs.lemmas.Handing.{markIn}
 use Rattle.basics.specs.Lent.{over}
 use Rattle.basics.specs.lemmas.Lent.{over-next}
 use Rattle.basics.specs.lemmas.Tables.{drop-next, above-next}
-
--- ---- counts
-
-carried-snoc : (n : ℕ) (ms : List ℕ) (m : ℕ) → carriedIn n (ms ++ (m ∷ [])) ≡ carriedIn n ms + cond (bit m n) 1 0
-carried-snoc n [] m = omega arith
-carried-snoc n (x ∷ ms) m = omega (arith, carried-snoc n ms m)
-
-pub record Counting (marks : List ℕ) (n sum i : ℕ) : Type 0 where
-  pub within : i ≤ length marks
-  pub is : sum ≡ carriedIn n (take i marks)
-  pub small : sum ≤ i
-
-module _ (marks : List ℕ) (n sum i : ℕ) (s : Counting marks n sum i) (h : i < length marks) where
-  step : carriedIn n (take (i + 1) marks) ≡ sum + cond (bit (getD marks i 0) n) 1 0
-  step = rw (add-one, take-suc marks i 0) (omega (arith, carried-snoc n (take i marks) (getD marks i 0), s .is))
-
-  pub counting-one : bit (getD marks i 0) n ≡ true → Counting marks n (sum + 1) (i + 1)
-  counting-one e = record { within = omega arith; is = sym (step ∙ rw e); small = omega (arith, s .small) }
-
-  pub counting-none : bit (getD marks i 0) n ≡ false → Counting marks n sum (i + 1)
-  counting-none e = let z : sum + 0 ≡ sum = omega arith in record { within = omega arith; is = sym (step ∙ rw (e, z)); small = omega (arith, s .small) }
-
-pub counting-end : (marks : List ℕ) (n sum i : ℕ) → Counting marks n sum i → length marks ≤ i → sum ≡ carriedIn n marks
-counting-end marks n sum i s h = s .is ∙ ap (carriedIn n) (take-all i marks h)
 
 -- ---- a mark for each chunk
 

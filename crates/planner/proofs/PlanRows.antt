@@ -18,6 +18,8 @@ use Rattle.job.specs.declared.Programme.{Programme}
 use Rattle.job.specs.Job.{Job, Accepted, jobOf, sizeIn, size, chunks, layers, due, forecast, heldMost, lastSlot}
 use Rattle.job.specs.lemmas.Within.{all-most}
 use Rattle.fetch.specs.Marks.{bit}
+use Rattle.fetch.specs.Counts.{markCount}
+use Rattle.fetch.specs.lemmas.Counts.{count-up-to}
 use Rattle.fetch.specs.lemmas.Marks.{mark-cong}
 use Rattle.fetch.specs.Rows.{Row, markByte, rowSlot, rowChunk, rowLayer, rowBytes}
 use Rattle.schedule.specs.lemmas.Ascending.{Asc}
@@ -38,7 +40,7 @@ use Rattle.listing.specs.declared.At.{At}
 use Rattle.planner.specs.Answer.{planRows}
 use Rattle.schedule.specs.lemmas.Parts.{at, Part}
 use Rattle.settle.specs.lemmas.Decision.{DecideFrom, Decides}
-use Rattle.planner.specs.lemmas.Handing.{carriedIn, markIn}
+use Rattle.planner.specs.lemmas.Handing.{markIn}
 use Rattle.basics.specs.Lent.{over}
 use Rattle.listing.specs.lemmas.Listing.{lastOf, bytesAt, leftAt, onward, load, Fed, Made, Puts, levelOf, Levels, queueOf, AllFrom}
 use Rattle.planner.proofs.Marks.{asc-none}
@@ -288,20 +290,9 @@ module _ (p : Programme) (sizes f : List ℕ) (ok : Accepted (jobOf p sizes f)) 
 
 -- ---- the counts
 
-carried-append : (n : ℕ) (a b : List ℕ) → carriedIn n (a ++ b) ≡ carriedIn n a + carriedIn n b
-carried-append n [] b = omega arith
-carried-append n (m ∷ a) b = omega (arith, carried-append n a b)
-
-carried-up-to : (n : ℕ) (g : ℕ → ℕ) (q : ℕ → Bool) (c : ℕ) → ((k : ℕ) → k < c → bit (g k) n ≡ q (suc k)) → carriedIn n (upTo g c) ≡ count q c
-carried-up-to n g q zero h = refl
-carried-up-to n g q (suc c) h =
-    let one : Bool → ℕ = λ b. cond b 1 0 in
-    let e = ap one (h c (omega arith)) in
-    omega (arith, carried-append n (upTo g c) (g c ∷ []), carried-up-to n g q c (λ k u. h k (omega arith)), e)
-
-pub counts-are : (j : Job) → upTo (λ n. carriedIn n (marksOf j (plan j))) 4 ≡ countsOf j (plan j)
+pub counts-are : (j : Job) → upTo (λ n. markCount n (marksOf j (plan j))) 4 ≡ countsOf j (plan j)
 counts-are j =
     upTo-cong _ _ 4 (λ n h.
-    carried-up-to n (λ k. markByte (λ i. ltb i (plan j (k + 1))) (layers j)) (λ i. ltb n (plan j i)) (chunks j) (λ k u.
+    count-up-to n (λ k. markByte (λ i. ltb i (plan j (k + 1))) (layers j)) (λ i. ltb n (plan j i)) (chunks j) (λ k u.
     let e : k + 1 ≡ suc k = omega arith in
     ap (λ (m : ℕ). bit m n) (mark-level (plan j (k + 1)) (layers j) (plan-choice j (k + 1) (omega arith) (omega arith))) ∙ level-bit (plan j (k + 1)) n ∙ rw e))

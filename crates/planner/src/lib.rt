@@ -8,9 +8,10 @@ ghost use lib.Dec.{leb, eqb};
 ghost use mathlib.Core.Bool.{_&&_};
 ghost use Rattle.basics.specs.Lists.{upTo};
 ghost use Rattle.job.specs.Job.{Accepted, jobOf};
+ghost use Rattle.fetch.specs.Counts.{markCount};
 ghost use Rattle.schedule.specs.lemmas.Ascending.{Asc};
 ghost use Rattle.planner.specs.Answer.{Handed, DecidedByLists, BestOfLists, compared};
-ghost use Rattle.planner.specs.lemmas.Handing.{carriedIn, markIn, LaidFrom, Laid};
+ghost use Rattle.planner.specs.lemmas.Handing.{markIn, LaidFrom, Laid};
 ghost use Rattle.basics.specs.Lent.{over};
 
 // How many rows the plan has, or the refusal's number.
@@ -76,25 +77,15 @@ fn handed(made: Filled) -> Planned
 // How many marks have layer n.
 fn carried(marks: &[u8], n: u8) -> u16
     requires { ⌜ length (now marks) ≤ 500 ⌝ }
-    ensures { λ r. ⌜ r ≡ carriedIn n (now (marks .entry)) ⌝ }
+    ensures { λ r. ⌜ r ≡ markCount n (now (marks .entry)) ⌝ }
 {
-    let mut sum: u16 = 0;
-    let mut i: usize = 0;
-    while i < marks.len() {
-        if fetch::has(marks[i], n) {
-            sum = sum + 1;
-            i = i + 1;
-        } else {
-            i = i + 1;
-        }
-    }
-    sum
+    fetch::count_marks(marks, n) as u16
 }
 
 // The counts of all four layers.
 fn count_layers(marks: &[u8]) -> [u16; 4]
     requires { ⌜ length (now marks) ≤ 500 ⌝ }
-    ensures { λ r. ⌜ r ≡ upTo (λ n. carriedIn n (now (marks .entry))) 4 ⌝ }
+    ensures { λ r. ⌜ r ≡ upTo (λ n. markCount n (now (marks .entry))) 4 ⌝ }
 {
     let base = carried(marks, 0);
     let first = carried(marks, 1);

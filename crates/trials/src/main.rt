@@ -1,6 +1,7 @@
 // Trials of the public calls. First the case files of data/ (CASES.md says what each is), whose lines tools/reference.py, another reading
 // of document 01, computes; then calls that no file reaches, whose lines are written by hand in tools/expected_calls.txt.
 mod calls;
+mod counts;
 mod files;
 mod large;
 mod meters;
@@ -18,4 +19,6 @@ fn main() {
     meters::samples();
     meters::forecasts();
     meters::means();
+    counts::words();
+    counts::marks();
 }

@@ -66,3 +66,12 @@ pub all-take : (P : ℕ → Type 0) (n : ℕ) (l : List ℕ) → All P l → All
 all-take P zero l a = tt
 all-take P (suc n) [] a = tt
 all-take P (suc n) (x ∷ l) a = (a .0, all-take P n l (a .1))
+
+pub all-drop : (P : ℕ → Type 0) (n : ℕ) (l : List ℕ) → All P l → All P (drop n l)
+all-drop P zero l a = a
+all-drop P (suc n) [] a = tt
+all-drop P (suc n) (x ∷ l) a = all-drop P n l (a .1)
+
+pub all-each : (P : ℕ → Type 0) (l : List ℕ) → ((k : ℕ) → P (getD l k 0)) → All P l
+all-each P [] h = tt
+all-each P (x ∷ l) h = (h 0, all-each P l (λ k. h (suc k)))

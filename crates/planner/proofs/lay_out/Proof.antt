@@ -9,7 +9,7 @@ use denote.Ref.{now}
 use Rattle.basics.specs.Lists.{upTo}
 use Rattle.job.specs.Job.{jobOf, chunks}
 use Rattle.schedule.specs.Plan.{plan}
-use Rattle.planner.specs.lemmas.Handing.{carriedIn}
+use Rattle.fetch.specs.Counts.{markCount}
 use Rattle.planner.proofs.PlanRows.{decide-from, all-from, listed, ascending, laid-marks, laid-long, laid-front, laid-front-long, counts-are}
 use Rattle.planner.proofs.lay_out.Statement.{statement}
 use Rattle.planner.proofs.lay_out.Tie as tie
@@ -62,7 +62,7 @@ returns c =
     let l = listed (a .p) (now (a .sizes)) (now (a .forecast)) (o .accepted) _ _ _ _ d _ (now (a .slots)) (now (a .chunks)) (now (a .layers)) (now (a .bytes)) _ _ _ _ _ (c .before .before .before .before .before .before .before .before .before .before .before .before .before .before .before .before .put-all .ensures) in
     record {
       rows = l .counted;
-      counts = c .count-layers .ensures ∙ ap (λ (m : List ℕ). upTo (λ n. carriedIn n m) 4) (laid-front (a .p) (now (a .sizes)) (now (a .forecast)) (o .accepted) _ _ _ _ d (now (a .marks)) _ (o .marks-fit) e) ∙ counts-are (jobOf (a .p) (now (a .sizes)) (now (a .forecast)));
+      counts = c .count-layers .ensures ∙ ap (λ (m : List ℕ). upTo (λ n. markCount n m) 4) (laid-front (a .p) (now (a .sizes)) (now (a .forecast)) (o .accepted) _ _ _ _ d (now (a .marks)) _ (o .marks-fit) e) ∙ counts-are (jobOf (a .p) (now (a .sizes)) (now (a .forecast)));
       marks-are = laid-marks (a .p) (now (a .sizes)) (now (a .forecast)) (o .accepted) _ _ _ _ d (now (a .marks)) _ (o .marks-fit) e;
       slots-are = l .slots;
       chunks-are = l .chunks-are;

@@ -1,4 +1,4 @@
--- Lemmas. What the functions of lib.rt hand each other: marks and counts of the kept chunks, and a plan laid out where there is room.
+-- Lemmas. What the functions of lib.rt hand each other: marks of the kept chunks, and a plan laid out where there is room.
 use Prim.Native.Nat.{ℕ, _+_, _≤_}
 use mathlib.Core.Path.{_≡_}
 use mathlib.Core.Bool.{cond}
@@ -6,18 +6,12 @@ use mathlib.Core.List.{List, [], _∷_, map}
 use lib.ListN.{length}
 use lib.Dec.{eqb}
 use Rattle.job.specs.Job.{Job, Accepted, chunks}
-use Rattle.fetch.specs.Marks.{bit}
 use Rattle.schedule.specs.Plan.{plan}
 use Rattle.schedule.specs.Statement.{countsOf, marksOf}
 use Rattle.planner.specs.declared.Filled.{Filled}
 use Rattle.planner.specs.Answer.{planRows}
 use Rattle.basics.specs.Lent.{over}
 use Rattle.fetch.specs.Rows.{rowSlot, rowChunk, rowLayer, rowBytes}
-
--- How many marks have layer n.
-abbrev pub carriedIn : ℕ → List ℕ → ℕ
-carriedIn n [] = 0
-carriedIn n (m ∷ ms) = cond (bit m n) 1 0 + carriedIn n ms
 
 -- The mark that stands with chunk i, or 0.
 abbrev pub markIn : ℕ → List ℕ → List ℕ → ℕ

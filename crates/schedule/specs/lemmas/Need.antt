@@ -8,6 +8,7 @@ use lib.ListN.{drop, length, drop-of-length-le}
 use lib.Dec.{T}
 use Rattle.basics.specs.Tests.{All}
 use Rattle.basics.specs.lemmas.Tests.{tests}
+use Rattle.basics.specs.lemmas.Tables.{all-drop}
 use Rattle.schedule.specs.Plan.{feas, need, tails}
 
 -- For each chunk, those from h places behind it on fit into the slots from its due slot on.
@@ -52,11 +53,6 @@ feas-tail w d A h k ks f = record { whole = omega (arith, f .whole); tails = f .
 pub need-mono : (v w d A : ℕ → ℕ) (ks : List ℕ) → All (λ k. v k ≤ w k) ks → need v d A ks ≤ need w d A ks
 need-mono v w d A [] a = omega arith
 need-mono v w d A (k ∷ ks) a = omega (arith, need-mono v w d A ks (a .1), a .0)
-
-all-drop : (P : ℕ → Type 0) (n : ℕ) (ks : List ℕ) → All P ks → All P (drop n ks)
-all-drop P zero ks a = a
-all-drop P (suc n) [] a = tt
-all-drop P (suc n) (k ∷ ks) a = all-drop P n ks (a .1)
 
 tails-mono : (v w d A : ℕ → ℕ) (h : ℕ) (ks : List ℕ) → All (λ k. v k ≤ w k) ks → Tails w d A h ks → Tails v d A h ks
 tails-mono v w d A h [] a t = tt
