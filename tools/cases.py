@@ -1,5 +1,5 @@
-"""Writes the trials program's case files (crates/trials/data) and what it has to print (crates/trials/stdout): for the case files from
-`reference.py`, for the direct calls from `expected_calls.txt`, which is written by hand.
+"""Writes the case files of the programs `trials` and `report_trials` (crates/NAME/data) and what they have to print (crates/NAME/stdout):
+for the case files from `reference.py`, for the direct calls from `expected_calls.txt` and `ROOMS`, which are written by hand.
 Run it at the root of the repository after changing a case: python3 tools/cases.py"""
 import os
 import shutil
@@ -115,6 +115,42 @@ PLANS = [
 ]
 
 
+def stepped(span, sizes, slots):
+    """A job of one chunk for each number in `slots`: of the slots up to its due slot so many have the base's bytes."""
+    forecast = [sizes[0] if t < n else 0 for n in slots for t in range(span)]
+    return Job(len(slots), span, span, span, sizes, forecast)
+
+
+TOP = 1 << 24
+
+# Jobs whose report is printed.
+REPORTS = [
+    ("job A", A),
+    ("one chunk", Job(1, 1, 1, 0, [5], [5])),
+    ("nothing carried", A._replace(forecast=[0] * 6)),
+    ("more switched than film shown", Job(2, 1, 1, 2, [1, 7], [1, 8])),
+    ("less switched than film shown", Job(4, 1, 1, 4, [9, 3], [12, 9, 12, 9])),
+    ("the largest layers, nothing left over", stepped(4, [TOP] * 4, [4, 1, 4, 0, 2, 4, 3])),
+    ("the largest layers, something left over", stepped(5, [TOP, TOP - 1, TOP - 2, TOP - 3], [4, 1, 4, 0, 2, 4, 3])),
+]
+
+# Job A's report has 86 bytes. Room for them, for one more, for one less; then a job that is refused whatever the room.
+ROOMS = """\
+written 86
+first 115
+last 10
+written 86
+first 115
+last 9
+refused 11
+first 9
+last 9
+5 before 11: refused 5
+first 9
+last 9
+"""
+
+
 def job_line(data):
     try:
         job = read_job(data)
@@ -131,7 +167,7 @@ def plan_line(data):
     return f"rows {len(rows)} verdict {verdict(A, rows, marks)}"
 
 
-def main():
+def write_trials():
     shutil.rmtree("crates/trials/data", ignore_errors=True)
     os.makedirs("crates/trials/data")
     lines = []
@@ -155,4 +191,19 @@ def main():
     print(len(JOBS), "job files,", len(PLANS), "plan files")
 
 
-main()
+def write_reports():
+    shutil.rmtree("crates/report_trials/data", ignore_errors=True)
+    os.makedirs("crates/report_trials/data")
+    with open("crates/report_trials/stdout", "w") as out, open("crates/report_trials/CASES.md", "w") as cases:
+        cases.write("# The report trials' case files\n\nMade by tools/cases.py. `r..` are job files.\n\n")
+        for k, (what, job) in enumerate(REPORTS):
+            with open(f"crates/report_trials/data/r{k:02d}", "wb") as f:
+                f.write(write_job(job))
+            out.write(f"r{k:02d}\n{report(job)}")
+            cases.write(f"- r{k:02d}: {what}\n")
+        out.write(ROOMS)
+    print(len(REPORTS), "reports")
+
+
+write_trials()
+write_reports()

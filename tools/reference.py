@@ -1,5 +1,5 @@
-"""Document 01 once more, in plain Python and independent of the proved crates: job and plan files, the seven rules, the plan.
-`cases.py` computes from it what the trials program has to print."""
+"""Documents 01 and 02 once more, in plain Python and independent of the proved crates: job and plan files, the seven rules, the plan, the report.
+`cases.py` computes from it what the trials programs have to print."""
 from collections import namedtuple
 
 Job = namedtuple("Job", "chunks span delay limit sizes forecast")
@@ -209,3 +209,15 @@ def plan(job):
                 if fits(job, tried):
                     levels = tried
     return levels, own_list(job, levels)
+
+
+def report(job):
+    levels, rows = plan(job)
+    carried = [sum(x.bytes for x in rows if x.chunk == i) for i in range(1, job.chunks + 1)]
+    lines = [f"slots {due(job, job.chunks)} chunks {job.chunks} held {job.limit // job.span}"]
+    lines += [f"{i + 1} {levels[i]} {carried[i]}" for i in range(job.chunks)]
+    lines.append("layers " + " ".join(str(sum(k > n for k in levels)) for n in range(len(job.sizes))))
+    lines.append(f"bytes {sum(carried)} left {sum(job.forecast) - sum(carried)}")
+    switch, film = sum(abs(a - b) for a, b in zip(carried, carried[1:])), job.chunks * job.span
+    lines += [f"switch {switch}", f"rate {switch // film} {switch % film}"]
+    return "".join(line + "\n" for line in lines)

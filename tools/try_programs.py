@@ -21,17 +21,6 @@ def plan_file(job):
     return b"".join(kp(i + 1, m) for i, m in enumerate(marks)) + b"".join(ft(*row) for row in rows) + b"EN"
 
 
-def report(job):
-    levels, rows = plan(job)
-    carried = [sum(x.bytes for x in rows if x.chunk == i) for i in range(1, job.chunks + 1)]
-    lines = [f"slots {due(job, job.chunks)} chunks {job.chunks} held {job.limit // job.span}"]
-    lines += [f"{i + 1} {levels[i]} {carried[i]}" for i in range(job.chunks)]
-    lines.append("layers " + " ".join(str(sum(k > n for k in levels)) for n in range(len(job.sizes))))
-    lines.append(f"bytes {sum(carried)} left {sum(job.forecast) - sum(carried)}")
-    lines.append(f"switch {sum(abs(a - b) for a, b in zip(carried, carried[1:]))}")
-    return "".join(line + "\n" for line in lines).encode()
-
-
 def damaged(data):
     data = bytearray(data)
     for _ in range(random.randint(1, 3)):
@@ -65,7 +54,7 @@ def try_jobs():
         else:
             if job.chunks > 20:
                 continue
-            wanted = plan_file(job), report(job)
+            wanted = plan_file(job), report(job).encode()
         assert (run("plan", data), run("film_report", data)) == wanted, data[:80]
         tried += 1
     print(tried, "inputs of plan and film_report")

@@ -1,6 +1,7 @@
--- Meaning. The report of a job and a fetch list: document 01, "The report program reads a job on standard input. For A it prints ..".
+-- Meaning. The report of a job and a fetch list: document 01, "The report program reads a job on standard input. For A it prints ..",
+-- and the last line of document 02's request 1.
 -- A report is lines; a line is words and numbers; a number of the list is a sum over its rows.
-use Prim.Native.Nat.{ℕ, _+_, _-_}
+use Prim.Native.Nat.{ℕ, _+_, _*_, _-_, _/_, _%_}
 use mathlib.Core.Bool.{cond, true}
 use mathlib.Core.List.{List, [], _∷_, _++_}
 use Rattle.basics.specs.Lists.{upTo}
@@ -58,6 +59,14 @@ switchSum j rows = pre (λ i. apart (shown j rows i) (shown j rows (i + 1))) (ch
 abbrev pub switchLine : Job → List Row → List ℕ
 switchLine j rows = line (ascii "switch") (digits (switchSum j rows) ∷ [])
 
+-- C × L, the slots of film in the programme.
+abbrev pub filmSlots : Job → ℕ
+filmSlots j = chunks j * j .programme .span
+
+-- "a last line, `rate q r`, with the whole quotient and the exact remainder" of the switch sum by C × L.
+abbrev pub rateLine : Job → List Row → List ℕ
+rateLine j rows = line (ascii "rate") (digits (switchSum j rows / filmSlots j) ∷ digits (switchSum j rows % filmSlots j) ∷ [])
+
 -- The whole report.
 unfoldable pub reportOf : Job → List Row → List ℕ
-reportOf j rows = slotsLine j ++ (chunkLines j rows ++ (layersLine j rows ++ (bytesLine j rows ++ switchLine j rows)))
+reportOf j rows = slotsLine j ++ (chunkLines j rows ++ (layersLine j rows ++ (bytesLine j rows ++ (switchLine j rows ++ rateLine j rows))))

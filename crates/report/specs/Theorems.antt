@@ -1,10 +1,11 @@
 -- Theorems. What the report's numbers say of each other, and how long its text is.
-use Prim.Native.Nat.{ℕ, _+_, _≤_, _<_}
+use Prim.Native.Nat.{ℕ, _+_, _*_, _/_, _%_, _≤_, _<_}
 use mathlib.Core.Path.{_≡_, refl, sym, _∙_}
 use mathlib.Core.Bool.{cond, not}
 use mathlib.Core.List.{List, _++_}
 use mathlib.Core.Logic.{⊎-elim}
 use native.Mathlib.Omega.{arith}
+use native.Mathlib.Nat.{div-add-mod', mod-lt, mod-eq-of-lt, div-eq-of-lt, mul-add-div-right, mul-add-mod-self-right}
 use lib.ListN.{length, length-append}
 use lib.Dec.{T, T-not, eqb→eq}
 use borrow.Author.Tests.{eq-eqb}
@@ -17,8 +18,8 @@ use Rattle.fetch.specs.Rules.{InRange, WholeLayers, LowerCarried, WithinForecas
 use Rattle.fetch.specs.lemmas.Rows.{base-carried}
 use Rattle.basics.specs.lemmas.Ranges.{pre-cong, sum-cong, sum-zero}
 use Rattle.report.specs.lemmas.Bounds.{rows-within, layers-sum}
-use Rattle.report.specs.lemmas.Widths.{slots-width, chunks-width, layers-width, bytes-width, switch-width}
-use Rattle.report.specs.Report.{slotsLine, bytesCarried, chunkLines, layersLine, bytesInRows, forecastSum, left, bytesLine, shown, switchLine, reportOf}
+use Rattle.report.specs.lemmas.Widths.{slots-width, chunks-width, layers-width, bytes-width, switch-width, film-some, rate-width}
+use Rattle.report.specs.Report.{slotsLine, bytesCarried, chunkLines, layersLine, bytesInRows, forecastSum, left, bytesLine, shown, switchSum, switchLine, filmSlots, rateLine, reportOf}
 
 -- ---- "bytes in rows and forecast bytes unspent"
 
@@ -63,11 +64,32 @@ shown-is-carried j rows lower i u v =
         absurd (T-not (carried j rows i 0) t (eqb-iff (bytesOfLayer rows i 0) (size j i 0) .1 e)))
         (λ c. refl)
 
+-- ---- "q × C × L + r is the switch sum and r is below C × L"
+
+-- What the numbers of the last line keep:
+pub record Rate (j : Job) (rows : List Row) (q r : ℕ) : Type 0 where
+  pub sums : q * filmSlots j + r ≡ switchSum j rows
+  pub below : r < filmSlots j
+
+-- those of an accepted job's report do, and no others.
+pub rate-is : (j : Job) (rows : List Row) → Accepted j → Rate j rows (switchSum j rows / filmSlots j) (switchSum j rows % filmSlots j)
+rate-is j rows ok = record {
+  sums = div-add-mod' (switchSum j rows) (filmSlots j);
+  below = mod-lt (switchSum j rows) (film-some j rows ok);
+}
+
+pub rate-only : (j : Job) (rows : List Row) (q r : ℕ) → Rate j rows q r → (q ≡ switchSum j rows / filmSlots j) × (r ≡ switchSum j rows % filmSlots j)
+rate-only j rows q r k =
+    let n = filmSlots j in (
+      rw (← k .sums, mul-add-div-right {m = n} (omega (arith, k .below)) q r, div-eq-of-lt (k .below)) (omega arith),
+      rw (← k .sums, mul-add-mod-self-right q n r, mod-eq-of-lt (k .below)),
+    )
+
 -- ---- how long the text is
 
--- The report of an accepted job and a list that keeps rules 1 and 4 has at most 7,610 bytes, so a local buffer holds it: 33 in line 1,
--- 15 for each of 500 chunks, 23 for the counts, 35 for bytes and left, 19 for the switch sum.
-pub report-fits : (j : Job) (rows : List Row) → Accepted j → All (InRange j) rows → WithinForecast j rows → length (reportOf j rows) ≤ 7610
+-- The report of an accepted job and a list that keeps rules 1 and 4 has at most 7,633 bytes, so a local buffer holds it: 33 in line 1,
+-- 15 for each of 500 chunks, 23 for the counts, 35 for bytes and left, 19 for the switch sum, 23 for the rate.
+pub report-fits : (j : Job) (rows : List Row) → Accepted j → All (InRange j) rows → WithinForecast j rows → length (reportOf j rows) ≤ 7633
 unfolding reportOf
 report-fits j rows ok a w =
     omega (
@@ -77,8 +99,10 @@ report-fits j rows ok a w =
       layers-width j rows ok,
       bytes-width j rows ok (rows-within j rows a w),
       switch-width j rows ok,
-      length-append (slotsLine j) (chunkLines j rows ++ (layersLine j rows ++ (bytesLine j rows ++ switchLine j rows))),
-      length-append (chunkLines j rows) (layersLine j rows ++ (bytesLine j rows ++ switchLine j rows)),
-      length-append (layersLine j rows) (bytesLine j rows ++ switchLine j rows),
-      length-append (bytesLine j rows) (switchLine j rows),
+      rate-width j rows ok,
+      length-append (slotsLine j) (chunkLines j rows ++ (layersLine j rows ++ (bytesLine j rows ++ (switchLine j rows ++ rateLine j rows)))),
+      length-append (chunkLines j rows) (layersLine j rows ++ (bytesLine j rows ++ (switchLine j rows ++ rateLine j rows))),
+      length-append (layersLine j rows) (bytesLine j rows ++ (switchLine j rows ++ rateLine j rows)),
+      length-append (bytesLine j rows) (switchLine j rows ++ rateLine j rows),
+      length-append (switchLine j rows) (rateLine j rows),
     )

@@ -8,7 +8,7 @@ mod table;
 
 ghost use mathlib.Core.Path.{_≡_};
 ghost use mathlib.Core.List.{_∷_};
-ghost use Prim.Native.Nat.{_+_, _-_, _≤_};
+ghost use Prim.Native.Nat.{_+_, _*_, _-_, _≤_};
 ghost use lib.ListN.{length};
 ghost use Rattle.basics.specs.Lists.{upTo};
 ghost use Rattle.job.specs.Job.{jobOf, Accepted};
@@ -97,6 +97,15 @@ fn less(total: u64, spent: u64) -> u64
     total - spent
 }
 
+// C × L, the slots of film in the programme.
+fn film_slots(p: Programme) -> u64
+    ensures { λ r. ⌜ r ≡ p .chunks * p .span ⌝ }
+{
+    let chunks = p.chunks as u64;
+    let span = p.span as u64;
+    chunks * span
+}
+
 // The lines, by the table and the sums.
 fn put_lines(
     p: Programme,
@@ -107,10 +116,11 @@ fn put_lines(
     left: u64,
     out: &mut [u8],
 ) -> usize
-    requires { ⌜ (depth ≤ 4) × (1 ≤ p .chunks) × (p .chunks ≤ 500) × (length (linesBy p (now sizes) depth (now table) spent left) ≤ length (now out)) ⌝ }
+    requires { ⌜ (depth ≤ 4) × (1 ≤ p .chunks) × (p .chunks ≤ 500) × (1 ≤ p .span) × (length (linesBy p (now sizes) depth (now table) spent left) ≤ length (now out)) ⌝ }
     ensures { λ r. ⌜ Put (now (out .entry)) 0 (linesBy p (now (sizes .entry)) depth (now (table .entry)) spent left) (now (out .exit)) r ⌝ }
 {
     let count = p.chunks;
+    let film = film_slots(p);
     let last = job::last_due(p) as u64;
     let held = job::held_most(p) as u64;
     let switch = table::switch_sum(sizes, depth, table, count);
@@ -118,7 +128,7 @@ fn put_lines(
     let layers = chunk_lines(out, chunks, sizes, depth, table, count);
     let bytes = layers_line(out, layers, sizes, depth, table, count);
     let end = lines::bytes_line(out, bytes, spent, left);
-    lines::switch_line(out, end, switch)
+    lines::switch_lines(out, end, switch, film)
 }
 
 // The report of rows handed, into a buffer that holds it.
@@ -170,7 +180,7 @@ fn report_rows(
     requires { ⌜ Listed (jobOf p (now sizes) (now forecast)) depth (now slots) (now chunks) (now layers) (now bytes) × WithinForecast (jobOf p (now sizes) (now forecast)) (rowsOf (now slots) (now chunks) (now layers) (now bytes)) ⌝ }
     ensures { λ r. ⌜ Answered (reportOf (jobOf p (now (sizes .entry)) (now (forecast .entry))) (rowsOf (now (slots .entry)) (now (chunks .entry)) (now (layers .entry)) (now (bytes .entry)))) (now (out .entry)) (now (out .exit)) r ⌝ }
 {
-    let mut text = [0u8; 7610];
+    let mut text = [0u8; 7633];
     let n = put_report(
         p,
         sizes,

@@ -1,9 +1,10 @@
 // Words and numbers into a buffer, and the lines that are made of them alone.
 ghost use mathlib.Core.List.{[], _∷_, _++_};
-ghost use Prim.Native.Nat.{_+_, _≤_};
+ghost use Prim.Native.Nat.{_+_, _/_, _%_, _≤_};
 ghost use lib.ListN.{length};
 ghost use Rattle.basics.specs.Text.{ascii, digits, line};
 ghost use Rattle.report.specs.lemmas.Places.{Put};
+ghost use Rattle.report.specs.lemmas.Tables.{switchLines};
 
 // The digits of n go to out at a place. The place after them.
 fn put_number(out: &mut [u8], at: usize, n: u64) -> usize
@@ -75,10 +76,30 @@ pub(crate) fn bytes_line(out: &mut [u8], at: usize, spent: u64, left: u64) -> us
     put_end(out, end)
 }
 
-pub(crate) fn switch_line(out: &mut [u8], at: usize, switch: u64) -> usize
+fn switch_line(out: &mut [u8], at: usize, switch: u64) -> usize
     requires { ⌜ at + length (line (ascii "switch") (digits switch ∷ [])) ≤ length (now out) ⌝ }
     ensures { λ r. ⌜ Put (now (out .entry)) at (line (ascii "switch") (digits switch ∷ [])) (now (out .exit)) r ⌝ }
 {
     let end = put_field(out, at, b"switch ", switch);
     put_end(out, end)
+}
+
+// The switch sum by the slots of film: quotient and remainder.
+fn rate_line(out: &mut [u8], at: usize, switch: u64, film: u64) -> usize
+    requires { ⌜ (1 ≤ film) × (at + length (line (ascii "rate") (digits (switch / film) ∷ digits (switch % film) ∷ [])) ≤ length (now out)) ⌝ }
+    ensures { λ r. ⌜ Put (now (out .entry)) at (line (ascii "rate") (digits (switch / film) ∷ digits (switch % film) ∷ [])) (now (out .exit)) r ⌝ }
+{
+    let whole = switch / film;
+    let rest = switch % film;
+    let quotient = put_field(out, at, b"rate ", whole);
+    let end = put_next(out, quotient, rest);
+    put_end(out, end)
+}
+
+pub(crate) fn switch_lines(out: &mut [u8], at: usize, switch: u64, film: u64) -> usize
+    requires { ⌜ (1 ≤ film) × (at + length (switchLines switch film) ≤ length (now out)) ⌝ }
+    ensures { λ r. ⌜ Put (now (out .entry)) at (switchLines switch film) (now (out .exit)) r ⌝ }
+{
+    let next = switch_line(out, at, switch);
+    rate_line(out, next, switch, film)
 }

@@ -2,24 +2,25 @@
 use borrow.Author.Needs.{needs}
 use Rattle.report.proofs.put_lines.Statement.{statement}
 use Rattle.report.proofs.put_lines.Tie as tie
-use Prim.Native.Nat.{ℕ, _+_, _/_, _≤_}
+use Prim.Native.Nat.{ℕ, _+_, _*_, _/_, _≤_}
 use mathlib.Core.Path.{_≡_}
 use mathlib.Core.List.{List, [], _∷_, _++_}
 use native.Mathlib.Omega.{arith}
+use native.Mathlib.Nat.{one-le-mul}
 use lib.ListN.{length}
 use denote.Ref.{now}
 use Rattle.basics.specs.Lists.{upTo}
 use Rattle.job.specs.declared.Programme.{Programme}
 use Rattle.job.specs.Job.{lastDue}
 use Rattle.basics.specs.Text.{ascii, digits, text, line}
-use Rattle.report.specs.lemmas.Tables.{chunkLineBy, countBy, switchBy, linesBy}
+use Rattle.report.specs.lemmas.Tables.{chunkLineBy, countBy, switchBy, switchLines, linesBy}
 use Rattle.report.specs.lemmas.Places.{Put, put-room, put-then, room-first}
 
 -- The five parts of the text, with the numbers that the calls before hand over, and the room for each after those before it.
 module _
-    (p : Programme) (sizes table out : List ℕ) (depth spent left : ℕ) {last held switch : ℕ}
+    (p : Programme) (sizes table out : List ℕ) (depth spent left : ℕ) {film last held switch : ℕ}
     (h : length (linesBy p sizes depth table spent left) ≤ length out)
-    (e : last ≡ lastDue p) (f : held ≡ p .limit / p .span) (g : switch ≡ switchBy sizes table depth (p .chunks)) where
+    (d : film ≡ p .chunks * p .span) (e : last ≡ lastDue p) (f : held ≡ p .limit / p .span) (g : switch ≡ switchBy sizes table depth (p .chunks)) where
   abbrev one : List ℕ
   one = line (ascii "slots") (digits last ∷ ascii "chunks" ∷ digits (p .chunks) ∷ ascii "held" ∷ digits held ∷ [])
 
@@ -33,11 +34,11 @@ module _
   four = line (ascii "bytes") (digits spent ∷ ascii "left" ∷ digits left ∷ [])
 
   abbrev five : List ℕ
-  five = line (ascii "switch") (digits switch ∷ [])
+  five = switchLines switch film
 
   room : 0 + length (one ++ (two ++ (three ++ (four ++ five)))) ≤ length out
   unfolding linesBy
-  room = rw (e, f, g) (omega arith)
+  room = rw (d, e, f, g) (omega arith)
 
   room-one : 0 + length one ≤ length out
   room-one = room-first 0 one (two ++ (three ++ (four ++ five))) room
@@ -70,8 +71,11 @@ module _
           whole : {out₅ : List ℕ} {at₅ : ℕ} → Put out₄ at₄ five out₅ at₅ → Put out 0 (linesBy p sizes depth table spent left) out₅ at₅
           unfolding linesBy
           whole p₅ =
-              rw (← e, ← f, ← g)
+              rw (← d, ← e, ← f, ← g)
               (put-then one (two ++ (three ++ (four ++ five))) room p₁ (put-then two (three ++ (four ++ five)) room₁ p₂ (put-then three (four ++ five) room₂ p₃ (put-then four five room₃ p₄ p₅))))
+
+film-slots-requires : tie.Need-film-slots-requires
+film-slots-requires c κs = search needs
 
 last-due-requires : tie.Need-last-due-requires
 last-due-requires c κs = search needs
@@ -90,41 +94,48 @@ cast-slots-line c = search needs
 
 slots-line-requires : tie.Need-slots-line-requires
 slots-line-requires c κs =
-    let a = c .before .before .before .before .before .before .args in
-    room-one (a .p) (now (a .sizes)) (now (a .table)) (now (a .out)) (a .depth) (a .spent) (a .left) (c .before .before .before .before .before .before .pre .3) (c .before .before .before .last-due .ensures) (c .before .before .held-most .ensures) (c .before .switch-sum .ensures)
+    let a = c .before .before .before .before .before .before .before .args in
+    let o = c .before .before .before .before .before .before .before .pre in
+    room-one (a .p) (now (a .sizes)) (now (a .table)) (now (a .out)) (a .depth) (a .spent) (a .left) (o .4) (c .before .before .before .before .film-slots .ensures) (c .before .before .before .last-due .ensures) (c .before .before .held-most .ensures) (c .before .switch-sum .ensures)
 
 chunk-lines-requires : tie.Need-chunk-lines-requires
 chunk-lines-requires c κs =
-    let a = c .before .before .before .before .before .before .before .before .before .before .args in
-    (c .before .before .before .before .before .before .before .before .before .before .pre .0, c .before .before .before .before .before .before .before .before .before .before .pre .2, room-two (a .p) (now (a .sizes)) (now (a .table)) (now (a .out)) (a .depth) (a .spent) (a .left) (c .before .before .before .before .before .before .before .before .before .before .pre .3) (c .before .before .before .before .before .before .before .last-due .ensures) (c .before .before .before .before .before .before .held-most .ensures) (c .before .before .before .before .before .switch-sum .ensures) (c .before .before .before .slots-line .ensures))
+    let a = c .before .before .before .before .before .before .before .before .before .before .before .args in
+    let o = c .before .before .before .before .before .before .before .before .before .before .before .pre in
+    (o .0, o .2, room-two (a .p) (now (a .sizes)) (now (a .table)) (now (a .out)) (a .depth) (a .spent) (a .left) (o .4) (c .before .before .before .before .before .before .before .before .film-slots .ensures) (c .before .before .before .before .before .before .before .last-due .ensures) (c .before .before .before .before .before .before .held-most .ensures) (c .before .before .before .before .before .switch-sum .ensures) (c .before .before .before .slots-line .ensures))
 
 layers-line-requires : tie.Need-layers-line-requires
 layers-line-requires c κs =
-    let a = c .before .before .before .before .before .before .before .before .before .before .before .before .before .before .args in
-    (c .before .before .before .before .before .before .before .before .before .before .before .before .before .before .pre .0, c .before .before .before .before .before .before .before .before .before .before .before .before .before .before .pre .2, room-three (a .p) (now (a .sizes)) (now (a .table)) (now (a .out)) (a .depth) (a .spent) (a .left) (c .before .before .before .before .before .before .before .before .before .before .before .before .before .before .pre .3) (c .before .before .before .before .before .before .before .before .before .before .before .last-due .ensures) (c .before .before .before .before .before .before .before .before .before .before .held-most .ensures) (c .before .before .before .before .before .before .before .before .before .switch-sum .ensures) (c .before .before .before .before .before .before .before .slots-line .ensures) (c .before .before .before .chunk-lines .ensures))
+    let a = c .before .before .before .before .before .before .before .before .before .before .before .before .before .before .before .args in
+    let o = c .before .before .before .before .before .before .before .before .before .before .before .before .before .before .before .pre in
+    (o .0, o .2, room-three (a .p) (now (a .sizes)) (now (a .table)) (now (a .out)) (a .depth) (a .spent) (a .left) (o .4) (c .before .before .before .before .before .before .before .before .before .before .before .before .film-slots .ensures) (c .before .before .before .before .before .before .before .before .before .before .before .last-due .ensures) (c .before .before .before .before .before .before .before .before .before .before .held-most .ensures) (c .before .before .before .before .before .before .before .before .before .switch-sum .ensures) (c .before .before .before .before .before .before .before .slots-line .ensures) (c .before .before .before .chunk-lines .ensures))
 
 bytes-line-requires : tie.Need-bytes-line-requires
 bytes-line-requires c κs =
-    let a = c .before .before .before .before .before .before .before .before .before .before .before .before .before .before .before .before .before .before .args in
-    room-four (a .p) (now (a .sizes)) (now (a .table)) (now (a .out)) (a .depth) (a .spent) (a .left) (c .before .before .before .before .before .before .before .before .before .before .before .before .before .before .before .before .before .before .pre .3) (c .before .before .before .before .before .before .before .before .before .before .before .before .before .before .before .last-due .ensures) (c .before .before .before .before .before .before .before .before .before .before .before .before .before .before .held-most .ensures) (c .before .before .before .before .before .before .before .before .before .before .before .before .before .switch-sum .ensures) (c .before .before .before .before .before .before .before .before .before .before .before .slots-line .ensures) (c .before .before .before .before .before .before .before .chunk-lines .ensures) (c .before .before .before .layers-line .ensures)
+    let a = c .before .before .before .before .before .before .before .before .before .before .before .before .before .before .before .before .before .before .before .args in
+    let o = c .before .before .before .before .before .before .before .before .before .before .before .before .before .before .before .before .before .before .before .pre in
+    room-four (a .p) (now (a .sizes)) (now (a .table)) (now (a .out)) (a .depth) (a .spent) (a .left) (o .4) (c .before .before .before .before .before .before .before .before .before .before .before .before .before .before .before .before .film-slots .ensures) (c .before .before .before .before .before .before .before .before .before .before .before .before .before .before .before .last-due .ensures) (c .before .before .before .before .before .before .before .before .before .before .before .before .before .before .held-most .ensures) (c .before .before .before .before .before .before .before .before .before .before .before .before .before .switch-sum .ensures) (c .before .before .before .before .before .before .before .before .before .before .before .slots-line .ensures) (c .before .before .before .before .before .before .before .chunk-lines .ensures) (c .before .before .before .layers-line .ensures)
 
-switch-line-requires : tie.Need-switch-line-requires
-switch-line-requires c κs =
-    let a = c .before .before .before .before .before .before .before .before .before .before .before .before .before .before .before .before .before .before .before .before .before .before .args in
-    room-five (a .p) (now (a .sizes)) (now (a .table)) (now (a .out)) (a .depth) (a .spent) (a .left) (c .before .before .before .before .before .before .before .before .before .before .before .before .before .before .before .before .before .before .before .before .before .before .pre .3) (c .before .before .before .before .before .before .before .before .before .before .before .before .before .before .before .before .before .before .before .last-due .ensures) (c .before .before .before .before .before .before .before .before .before .before .before .before .before .before .before .before .before .before .held-most .ensures) (c .before .before .before .before .before .before .before .before .before .before .before .before .before .before .before .before .before .switch-sum .ensures) (c .before .before .before .before .before .before .before .before .before .before .before .before .before .before .before .slots-line .ensures) (c .before .before .before .before .before .before .before .before .before .before .before .chunk-lines .ensures) (c .before .before .before .before .before .before .before .layers-line .ensures) (c .before .before .before .bytes-line .ensures)
+switch-lines-requires : tie.Need-switch-lines-requires
+switch-lines-requires c κs =
+    let a = c .before .before .before .before .before .before .before .before .before .before .before .before .before .before .before .before .before .before .before .before .before .before .before .args in
+    let o = c .before .before .before .before .before .before .before .before .before .before .before .before .before .before .before .before .before .before .before .before .before .before .before .pre in
+    (rw (c .before .before .before .before .before .before .before .before .before .before .before .before .before .before .before .before .before .before .before .before .film-slots .ensures) (one-le-mul (o .1) (o .3)), room-five (a .p) (now (a .sizes)) (now (a .table)) (now (a .out)) (a .depth) (a .spent) (a .left) (o .4) (c .before .before .before .before .before .before .before .before .before .before .before .before .before .before .before .before .before .before .before .before .film-slots .ensures) (c .before .before .before .before .before .before .before .before .before .before .before .before .before .before .before .before .before .before .before .last-due .ensures) (c .before .before .before .before .before .before .before .before .before .before .before .before .before .before .before .before .before .before .held-most .ensures) (c .before .before .before .before .before .before .before .before .before .before .before .before .before .before .before .before .before .switch-sum .ensures) (c .before .before .before .before .before .before .before .before .before .before .before .before .before .before .before .slots-line .ensures) (c .before .before .before .before .before .before .before .before .before .before .before .chunk-lines .ensures) (c .before .before .before .before .before .before .before .layers-line .ensures) (c .before .before .before .bytes-line .ensures))
 
 same-length : tie.Need-same-length
 same-length c = search needs
 
 returns : tie.Need-returns
 returns c =
-    let a = c .before .before .before .before .before .before .before .before .before .before .before .before .before .before .before .before .before .before .before .before .before .before .before .before .before .args in
-    whole (a .p) (now (a .sizes)) (now (a .table)) (now (a .out)) (a .depth) (a .spent) (a .left) (c .before .before .before .before .before .before .before .before .before .before .before .before .before .before .before .before .before .before .before .before .before .before .before .before .before .pre .3) (c .before .before .before .before .before .before .before .before .before .before .before .before .before .before .before .before .before .before .before .before .before .before .last-due .ensures) (c .before .before .before .before .before .before .before .before .before .before .before .before .before .before .before .before .before .before .before .before .before .held-most .ensures) (c .before .before .before .before .before .before .before .before .before .before .before .before .before .before .before .before .before .before .before .before .switch-sum .ensures) (c .before .before .before .before .before .before .before .before .before .before .before .before .before .before .before .before .before .before .slots-line .ensures) (c .before .before .before .before .before .before .before .before .before .before .before .before .before .before .chunk-lines .ensures) (c .before .before .before .before .before .before .before .before .before .before .layers-line .ensures) (c .before .before .before .before .before .before .bytes-line .ensures) (c .before .before .switch-line .ensures)
+    let a = c .before .before .before .before .before .before .before .before .before .before .before .before .before .before .before .before .before .before .before .before .before .before .before .before .before .before .args in
+    let o = c .before .before .before .before .before .before .before .before .before .before .before .before .before .before .before .before .before .before .before .before .before .before .before .before .before .before .pre in
+    whole (a .p) (now (a .sizes)) (now (a .table)) (now (a .out)) (a .depth) (a .spent) (a .left) (o .4) (c .before .before .before .before .before .before .before .before .before .before .before .before .before .before .before .before .before .before .before .before .before .before .before .film-slots .ensures) (c .before .before .before .before .before .before .before .before .before .before .before .before .before .before .before .before .before .before .before .before .before .before .last-due .ensures) (c .before .before .before .before .before .before .before .before .before .before .before .before .before .before .before .before .before .before .before .before .before .held-most .ensures) (c .before .before .before .before .before .before .before .before .before .before .before .before .before .before .before .before .before .before .before .before .switch-sum .ensures) (c .before .before .before .before .before .before .before .before .before .before .before .before .before .before .before .before .before .before .slots-line .ensures) (c .before .before .before .before .before .before .before .before .before .before .before .before .before .before .chunk-lines .ensures) (c .before .before .before .before .before .before .before .before .before .before .layers-line .ensures) (c .before .before .before .before .before .before .bytes-line .ensures) (c .before .before .switch-lines .ensures)
 
 pub put-lines-spec : {M : Type 1} → statement M
 put-lines-spec =
     tie.close
     (tie.spec
+    film-slots-requires
     last-due-requires
     held-most-requires
     cast-held
@@ -134,6 +145,6 @@ put-lines-spec =
     chunk-lines-requires
     layers-line-requires
     bytes-line-requires
-    switch-line-requires
+    switch-lines-requires
     same-length
     returns)

@@ -27,7 +27,7 @@ put-lines-requires c κs =
     let a = c .before .before .before .before .before .before .before .before .before .before .before .before .before .before .args in
     let l = c .before .before .before .before .before .before .before .before .before .before .before .before .before .before .pre .0 in
     let e = report-is (jobOf (a .p) (now (a .sizes)) (now (a .forecast))) (a .depth) (now (a .slots)) (now (a .chunks)) (now (a .layers)) (now (a .bytes)) l _ (c .before .before .before .before .before .add-rows .ensures) (c .before .before .before .before .sum-of .result) (c .before .before .less .result) (c .before .before .before .before .sum-of .ensures) (c .before .before .less .ensures ∙ rw (c .before .before .before .sum-of2 .ensures)) in
-    (omega (arith, l .depth-is, l .accepted .layers-in .high), l .accepted .chunks-in .low, l .accepted .chunks-in .high, rw e (c .before .before .before .before .before .before .before .before .before .before .before .before .before .before .pre .1))
+    (omega (arith, l .depth-is, l .accepted .layers-in .high), l .accepted .chunks-in .low, l .accepted .chunks-in .high, l .accepted .span-in .low, rw e (c .before .before .before .before .before .before .before .before .before .before .before .before .before .before .pre .1))
 
 same-length : tie.Need-same-length
 same-length c = search needs

@@ -17,13 +17,13 @@ use Rattle.report.specs.lemmas.Places.{Put, put-front}
 
 -- The text fits the local buffer, and stands at its front.
 module _ {j : Job} {depth : ℕ} {ss cs ls bs : List ℕ} (l : Listed j depth ss cs ls bs) (w : WithinForecast j (rowsOf ss cs ls bs)) where
-  fits : length (reportOf j (rowsOf ss cs ls bs)) ≤ 7610
+  fits : length (reportOf j (rowsOf ss cs ls bs)) ≤ 7633
   fits = report-fits j (rowsOf ss cs ls bs) (l .accepted) (l .in-range) w
 
   front :
-      {out : List ℕ} {next : ℕ} → Put (replicate 7610 0) 0 (reportOf j (rowsOf ss cs ls bs)) out next →
+      {out : List ℕ} {next : ℕ} → Put (replicate 7633 0) 0 (reportOf j (rowsOf ss cs ls bs)) out next →
       (next ≤ length out) × (take next out ≡ reportOf j (rowsOf ss cs ls bs))
-  front {out} {next} p = put-front {old = replicate 7610 0} {out = out} {t = reportOf j (rowsOf ss cs ls bs)} {next = next} p fits
+  front {out} {next} p = put-front {old = replicate 7633 0} {out = out} {t = reportOf j (rowsOf ss cs ls bs)} {next = next} p fits
 
 slice-aggregate-put-report : tie.Need-slice-aggregate-put-report
 slice-aggregate-put-report c = search needs

@@ -1,6 +1,6 @@
 -- Lemmas. What the report's table holds of a list of rows, and the numbers that are read from it: the contracts of private functions
 -- speak of these, no public one does.
-use Prim.Native.Nat.{ℕ, _+_, _*_, _-_, _/_, _≤_, _<_}
+use Prim.Native.Nat.{ℕ, _+_, _*_, _-_, _/_, _%_, _≤_, _<_}
 use mathlib.Core.Path.{_≡_}
 use mathlib.Core.Bool.{Bool, cond}
 use mathlib.Core.List.{List, [], _∷_, _++_}
@@ -74,6 +74,10 @@ shownBy sizes table depth i = cond (carriedBy sizes table i 0) (bytesBy sizes ta
 abbrev pub switchBy : List ℕ → List ℕ → ℕ → ℕ → ℕ
 switchBy sizes table depth chunks = pre (λ i. apart (shownBy sizes table depth i) (shownBy sizes table depth (i + 1))) (chunks - 1)
 
+-- The lines of a switch sum over so many slots of film.
+abbrev pub switchLines : ℕ → ℕ → List ℕ
+switchLines switch film = line (ascii "switch") (digits switch ∷ []) ++ line (ascii "rate") (digits (switch / film) ∷ digits (switch % film) ∷ [])
+
 -- The report's lines, by the table and the sums of rows and forecast.
 unfoldable pub linesBy : Programme → List ℕ → ℕ → List ℕ → ℕ → ℕ → List ℕ
 linesBy p sizes depth table spent left =
@@ -81,7 +85,7 @@ linesBy p sizes depth table spent left =
     ++ (text (upTo (λ k. chunkLineBy sizes table depth (k + 1)) (p .chunks))
     ++ (line (ascii "layers") (upTo (λ n. digits (countBy sizes table (p .chunks) n)) depth)
     ++ (line (ascii "bytes") (digits spent ∷ ascii "left" ∷ digits left ∷ [])
-    ++ line (ascii "switch") (digits (switchBy sizes table depth (p .chunks)) ∷ []))))
+    ++ switchLines (switchBy sizes table depth (p .chunks)) (p .chunks * p .span))))
 
 -- How many rows an answer of the planner says there are.
 abbrev pub rowsIn : Answer → ℕ

@@ -1,9 +1,9 @@
 -- Lemmas. How many bytes each line of an accepted job's report has at most. Assumes nothing.
-use Prim.Native.Nat.{ℕ, suc, _+_, _-_, _≤_}
+use Prim.Native.Nat.{ℕ, suc, _+_, _-_, _/_, _%_, _≤_}
 use mathlib.Core.Path.{_≡_, refl, ap, _∙_}
 use mathlib.Core.List.{List, [], _∷_}
 use native.Mathlib.Omega.{arith}
-use native.Mathlib.Nat.{div-le-self}
+use native.Mathlib.Nat.{div-le-self, mod-lt, mul-le-mul, one-le-mul}
 use lib.ListN.{length, length-append}
 use Rattle.basics.specs.Lists.{upTo}
 use Rattle.job.specs.Job.{Job, Accepted, chunks, layers, size, forecast, lastSlot, heldMost}
@@ -13,7 +13,7 @@ use Rattle.basics.specs.lemmas.Digits.{digits-few}
 use Rattle.report.specs.lemmas.Places.{text-most, ended-text}
 use Rattle.basics.specs.lemmas.Ranges.{sum-most, pre-most, cond-most}
 use Rattle.report.specs.lemmas.Bounds.{equal-most, apart-most, all-most}
-use Rattle.report.specs.Report.{slotsLine, layersCarried, bytesCarried, chunkLine, chunkLines, layersLine, bytesInRows, forecastSum, left, bytesLine, apart, shown, switchSum, switchLine}
+use Rattle.report.specs.Report.{slotsLine, layersCarried, bytesCarried, chunkLine, chunkLines, layersLine, bytesInRows, forecastSum, left, bytesLine, apart, shown, switchSum, switchLine, filmSlots, rateLine}
 
 -- The bytes after a line's first word: a space before each word, and the line feed.
 abbrev width : List (List ℕ) → ℕ
@@ -116,3 +116,22 @@ module _ (j : Job) (rows : List Row) (ok : Accepted j) where
 
   pub switch-width : length (switchLine j rows) ≤ 19
   switch-width = omega (arith, line-width (ascii "switch") (digits (switchSum j rows) ∷ []), digits-few 10 (switchSum j rows) (omega (arith, switch-most)))
+
+  -- C × L is at least 1 and at most 500 × 60.
+  pub film-some : 1 ≤ filmSlots j
+  film-some = one-le-mul (ok .chunks-in .low) (ok .span-in .low)
+
+  film-most : filmSlots j ≤ 30000
+  film-most = mul-le-mul (ok .chunks-in .high) (ok .span-in .high)
+
+  -- The quotient is at most the switch sum, and the remainder below C × L.
+  pub rate-width : length (rateLine j rows) ≤ 23
+  rate-width =
+      let q = switchSum j rows / filmSlots j in
+      let r = switchSum j rows % filmSlots j in
+      omega (
+        arith,
+        line-width (ascii "rate") (digits q ∷ digits r ∷ []),
+        digits-few 10 q (omega (arith, switch-most, div-le-self (switchSum j rows) (filmSlots j))),
+        digits-few 4 r (omega (arith, film-most, mod-lt (switchSum j rows) film-some)),
+      )
