@@ -121,6 +121,11 @@ def stepped(span, sizes, slots):
     return Job(len(slots), span, span, span, sizes, forecast)
 
 
+def by_slot(forecast):
+    """A job of a chunk a slot that holds nothing, of layers of 9 and 3 bytes: 12 in a slot carries both, 9 the base, less skips."""
+    return Job(len(forecast), 1, 1, 0, [9, 3], forecast)
+
+
 TOP = 1 << 24
 
 # Jobs whose report is printed.
@@ -132,6 +137,14 @@ REPORTS = [
     ("less switched than film shown", Job(4, 1, 1, 4, [9, 3], [12, 9, 12, 9])),
     ("the largest layers, nothing left over", stepped(4, [TOP] * 4, [4, 1, 4, 0, 2, 4, 3])),
     ("the largest layers, something left over", stepped(5, [TOP, TOP - 1, TOP - 2, TOP - 3], [4, 1, 4, 0, 2, 4, 3])),
+    ("no chunk skipped", by_slot([12, 9, 12, 12, 9])),
+    ("one carried, the first", by_slot([12, 0, 8])),
+    ("one carried between skipped ones", by_slot([0, 0, 9, 0])),
+    ("two carried, neighbours", by_slot([9, 12])),
+    ("two carried, a skipped run between", by_slot([12, 0, 8, 0, 9])),
+    ("a skipped run at both ends", by_slot([0, 0, 12, 9, 0, 0])),
+    ("skipped runs at both ends and in the middle", by_slot([0, 8, 12, 0, 9, 12, 0, 0, 9, 0])),
+    ("only skipped ones", by_slot([8, 0, 8])),
 ]
 
 # Job A's report has 86 bytes. Room for them, for one more, for one less; then a job that is refused whatever the room.

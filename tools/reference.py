@@ -218,6 +218,7 @@ def report(job):
     lines += [f"{i + 1} {levels[i]} {carried[i]}" for i in range(job.chunks)]
     lines.append("layers " + " ".join(str(sum(k > n for k in levels)) for n in range(len(job.sizes))))
     lines.append(f"bytes {sum(carried)} left {sum(job.forecast) - sum(carried)}")
-    switch, film = sum(abs(a - b) for a, b in zip(carried, carried[1:])), job.chunks * job.span
+    shown = [carried[i] for i in range(job.chunks) if levels[i]]
+    switch, film = sum(abs(a - b) for a, b in zip(shown, shown[1:])), job.chunks * job.span
     lines += [f"switch {switch}", f"rate {switch // film} {switch % film}"]
     return "".join(line + "\n" for line in lines)

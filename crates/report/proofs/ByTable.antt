@@ -18,8 +18,9 @@ use Rattle.fetch.specs.Rows.{Row, rowAt, rowsOf, carried, layerCount}
 use Rattle.fetch.specs.Rules.{InRange}
 use Rattle.basics.specs.lemmas.Ranges.{pre-cong, sum-cong}
 use Rattle.basics.specs.Text.{digits}
-use Rattle.report.specs.Report.{layersCarried, bytesCarried, chunkLine, bytesInRows, forecastSum, left, shown, switchSum, reportOf}
-use Rattle.report.specs.lemmas.Tables.{Rows, Listed, Summed, carriedBy, layersBy, bytesBy, chunkLineBy, countBy, shownBy, switchBy, linesBy}
+use Rattle.report.specs.Report.{layersCarried, bytesCarried, chunkLine, bytesInRows, forecastSum, left, switchSum, differences, reportOf}
+use Rattle.report.specs.lemmas.Tables.{Rows, Listed, Summed, carriedBy, layersBy, bytesBy, chunkLineBy, countBy, switchBy, linesBy}
+use Rattle.report.specs.lemmas.Switches.{those-cong}
 use Rattle.report.proofs.Laws.{bytes-snoc}
 
 -- A sum counted from 0 and from 1.
@@ -42,11 +43,8 @@ module _ (j : Job) (rows : List Row) (table : List ℕ) (s : Summed rows table) 
   count-is : (n : ℕ) → n < layers j → countBy (j .sizes) table (chunks j) n ≡ layerCount j rows n
   count-is n w = pre-cong _ _ (chunks j) (λ i u v. ap (λ (b : Bool). cond b 1 0) (carried-is i n u v (omega arith)))
 
-  shown-is : (i : ℕ) → 1 ≤ i → i ≤ chunks j → shownBy (j .sizes) table (layers j) i ≡ shown j rows i
-  shown-is i u v = rw (carried-is i 0 u v (omega arith), bytes-is i u v)
-
   switch-is : switchBy (j .sizes) table (layers j) (chunks j) ≡ switchSum j rows
-  switch-is = pre-cong _ _ (chunks j - 1) (λ i u v. rw (shown-is i u (omega arith), shown-is (i + 1) (omega arith) (omega arith)))
+  switch-is = ap differences (those-cong _ _ _ _ (chunks j) (λ i u v. carried-is i 0 u v (omega arith)) bytes-is)
 
   chunk-line-is : (k : ℕ) → k < chunks j → chunkLineBy (j .sizes) table (layers j) (k + 1) ≡ chunkLine j rows (k + 1)
   chunk-line-is k h = rw (layers-is (k + 1) (omega arith) (omega arith), bytes-is (k + 1) (omega arith) (omega arith))

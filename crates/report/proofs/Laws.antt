@@ -1,6 +1,6 @@
 -- The table after one row more, and bounds on the sums that are read from it. Assumes nothing.
 use Prim.Native.Nat.{ℕ, zero, suc, _+_, _*_, _-_, _≤_, _<_}
-use mathlib.Core.Path.{_≡_, refl, sym, ap, _∙_}
+use mathlib.Core.Path.{_≡_, refl, sym, _∙_}
 use mathlib.Core.Bool.{Bool, true, false, cond, _&&_}
 use mathlib.Core.List.{List, [], _∷_, _++_}
 use native.Mathlib.Omega.{arith}
@@ -10,13 +10,13 @@ use lib.Seq.{getD-set-same, getD-set-other}
 use lib.Dec.{eqb}
 use borrow.Author.Tests.{eqb-true, eqb-false}
 use Rattle.basics.specs.Lists.{upTo}
-use Rattle.basics.specs.Sums.{pre}
 use Rattle.job.specs.Job.{sizeIn}
 use Rattle.fetch.specs.Rows.{Row, rowAt, rowsOf, bytesIf, bytesOfLayer}
-use Rattle.basics.specs.lemmas.Ranges.{sum-most, pre-most, cond-most}
-use Rattle.report.specs.lemmas.Bounds.{equal-most, apart-most}
-use Rattle.report.specs.Report.{apart}
-use Rattle.report.specs.lemmas.Tables.{bytesAt, Summed, carriedBy, bytesBy, shownBy, switchBy}
+use Rattle.basics.specs.lemmas.Ranges.{sum-most, cond-most}
+use Rattle.report.specs.lemmas.Bounds.{equal-most}
+use Rattle.report.specs.lemmas.Switches.{differences-more, differences-most, last-more}
+use Rattle.report.specs.lemmas.Tables.{bytesAt, Summed, carriedBy, bytesBy, bytesTo, switchBy, pictureBy, changeOf, heldOf, lastOf}
+use Rattle.report.specs.declared.table.Picture.{Picture}
 
 -- ---- bounds
 
@@ -28,8 +28,8 @@ module _ (sizes table : List ℕ) (most : ℕ) (h : (n : ℕ) → getD sizes n 0
   pub bytes-most : (depth i : ℕ) → bytesBy sizes table depth i ≤ depth * most
   bytes-most depth i = sum-most (λ n. cond (carriedBy sizes table i n) (bytesAt table i n) 0) most depth (carried-most i)
 
-  pub shown-most : (depth i : ℕ) → shownBy sizes table depth i ≤ depth * most
-  shown-most depth i = cond-most (carriedBy sizes table i 0) (bytesBy sizes table depth i) (depth * most) (bytes-most depth i)
+  pub switch-most : (depth n : ℕ) → switchBy sizes table depth n ≤ n * (depth * most)
+  switch-most depth n = differences-most (λ i. carriedBy sizes table i 0) (bytesBy sizes table depth) (depth * most) n (bytes-most depth)
 
 -- ---- the table
 
@@ -108,21 +108,11 @@ module _ (ss cs ls bs : List ℕ) where
     pub summing-end : length ss ≤ i → Summed (rowsOf ss cs ls bs) table
     summing-end h = let e : i ≡ length ss = omega (arith, t .within) in rw e at (t .table-is)
 
--- ---- the switch sum
+-- ---- the switch sum, a chunk further
 
-module _ (sizes table : List ℕ) (depth : ℕ) where
-  pub switch-more : (i : ℕ) → 1 ≤ i → switchBy sizes table depth (i + 1) ≡ switchBy sizes table depth i + apart (shownBy sizes table depth i) (shownBy sizes table depth (i + 1))
-  switch-more zero h = absurd (omega arith)
-  switch-more (suc k) h =
-      let f : ℕ → ℕ = λ i. apart (shownBy sizes table depth i) (shownBy sizes table depth (i + 1)) in
-      let u : suc k + 1 - 1 ≡ suc k = omega arith in
-      let v : k ≡ suc k - 1 = omega arith in
-      ap (λ (m : ℕ). pre f m) u ∙ ap (λ (m : ℕ). pre f m + f (suc k)) v
+module _ (sizes table : List ℕ) (depth n : ℕ) {last here : Picture} (e : last ≡ lastOf (bytesTo sizes table depth n)) (f : here ≡ pictureBy sizes table depth (n + 1)) where
+  pub last-next : {r : Picture} → r ≡ heldOf last here → r ≡ lastOf (bytesTo sizes table depth (n + 1))
+  last-next h = h ∙ rw (e, f, add-one n) (sym (last-more (λ i. carriedBy sizes table i 0) (bytesBy sizes table depth) n))
 
-  pub switch-most : (most i : ℕ) → ((n : ℕ) → getD sizes n 0 ≤ most) → switchBy sizes table depth i ≤ (i - 1) * (depth * most)
-  switch-most most i h =
-      pre-most
-      (λ k. apart (shownBy sizes table depth k) (shownBy sizes table depth (k + 1)))
-      (depth * most)
-      (i - 1)
-      (λ k. apart-most (shownBy sizes table depth k) (shownBy sizes table depth (k + 1)) (depth * most) (shown-most sizes table most h depth k) (shown-most sizes table most h depth (k + 1)))
+  pub switch-next : {sum r : ℕ} → sum ≡ switchBy sizes table depth n → r ≡ changeOf last here → sum + r ≡ switchBy sizes table depth (n + 1)
+  switch-next g h = rw (g, h, e, f, add-one n) (sym (differences-more (λ i. carriedBy sizes table i 0) (bytesBy sizes table depth) n))

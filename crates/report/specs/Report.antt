@@ -1,8 +1,8 @@
 -- Meaning. The report of a job and a fetch list: document 01, "The report program reads a job on standard input. For A it prints ..",
--- and the last line of document 02's request 1.
+-- with the last line of document 02's request 1 and the switch sum of its request 2.
 -- A report is lines; a line is words and numbers; a number of the list is a sum over its rows.
-use Prim.Native.Nat.{ℕ, _+_, _*_, _-_, _/_, _%_}
-use mathlib.Core.Bool.{cond, true}
+use Prim.Native.Nat.{ℕ, zero, suc, _+_, _*_, _-_, _/_, _%_}
+use mathlib.Core.Bool.{Bool, cond, true}
 use mathlib.Core.List.{List, [], _∷_, _++_}
 use Rattle.basics.specs.Lists.{upTo}
 use Rattle.basics.specs.Sums.{pre, sum}
@@ -45,16 +45,27 @@ left j rows = forecastSum j - bytesInRows rows
 abbrev pub bytesLine : Job → List Row → List ℕ
 bytesLine j rows = line (ascii "bytes") (digits (bytesInRows rows) ∷ ascii "left" ∷ digits (left j rows) ∷ [])
 
--- "the sum of differences in bytes between neighbouring chunks, a skipped chunk being 0": a chunk is skipped if its base is not carried.
-abbrev pub shown : Job → List Row → ℕ → ℕ
-shown j rows i = cond (carried j rows i 0) (bytesCarried j rows i) 0
-
--- How far apart two numbers are.
+-- How far apart two numbers are, and the sum of that over the neighbours in a list.
 abbrev pub apart : ℕ → ℕ → ℕ
 apart a b = (a - b) + (b - a)
 
+abbrev pub differences : List ℕ → ℕ
+differences [] = 0
+differences (x ∷ []) = 0
+differences (x ∷ (y ∷ ys)) = apart x y + differences (y ∷ ys)
+
+-- f i for each i of 1 .. n that passes, in turn.
+abbrev pub those : (ℕ → Bool) → (ℕ → ℕ) → ℕ → List ℕ
+those p f zero = []
+those p f (suc n) = those p f n ++ cond (p (suc n)) (f (suc n) ∷ []) []
+
+-- The bytes of the carried chunks, in playing order: a chunk is carried if its base is.
+abbrev pub carriedBytes : Job → List Row → List ℕ
+carriedBytes j rows = those (λ i. carried j rows i 0) (bytesCarried j rows) (chunks j)
+
+-- "The switch sum now compares each carried chunk with the next carried one, however many skipped ones are between".
 abbrev pub switchSum : Job → List Row → ℕ
-switchSum j rows = pre (λ i. apart (shown j rows i) (shown j rows (i + 1))) (chunks j - 1)
+switchSum j rows = differences (carriedBytes j rows)
 
 abbrev pub switchLine : Job → List Row → List ℕ
 switchLine j rows = line (ascii "switch") (digits (switchSum j rows) ∷ [])

@@ -1,25 +1,24 @@
 -- Theorems. What the report's numbers say of each other, and how long its text is.
-use Prim.Native.Nat.{ℕ, _+_, _*_, _/_, _%_, _≤_, _<_}
+use Prim.Native.Nat.{ℕ, _+_, _*_, _-_, _/_, _%_, _≤_, _<_}
 use mathlib.Core.Path.{_≡_, refl, sym, _∙_}
-use mathlib.Core.Bool.{cond, not}
+use mathlib.Core.Bool.{cond}
 use mathlib.Core.List.{List, _++_}
 use mathlib.Core.Logic.{⊎-elim}
 use native.Mathlib.Omega.{arith}
 use native.Mathlib.Nat.{div-add-mod', mod-lt, mod-eq-of-lt, div-eq-of-lt, mul-add-div-right, mul-add-mod-self-right}
 use lib.ListN.{length, length-append}
-use lib.Dec.{T, T-not, eqb→eq}
 use borrow.Author.Tests.{eq-eqb}
 use Rattle.basics.specs.Tests.{All}
-use Rattle.basics.specs.lemmas.Tests.{by-cond, eqb-iff}
+use Rattle.basics.specs.lemmas.Tests.{by-cond}
 use Rattle.basics.specs.Sums.{pre, sum}
 use Rattle.job.specs.Job.{Job, Layer, Accepted, chunks, layers, size}
-use Rattle.fetch.specs.Rows.{Row, bytesOfLayer, carried}
-use Rattle.fetch.specs.Rules.{InRange, WholeLayers, LowerCarried, WithinForecast}
-use Rattle.fetch.specs.lemmas.Rows.{base-carried}
-use Rattle.basics.specs.lemmas.Ranges.{pre-cong, sum-cong, sum-zero}
+use Rattle.fetch.specs.Rows.{Row, bytesOfLayer, Carried, carried, layerCount}
+use Rattle.fetch.specs.Rules.{InRange, WholeLayers, WithinForecast}
+use Rattle.basics.specs.lemmas.Ranges.{pre-cong, sum-cong}
 use Rattle.report.specs.lemmas.Bounds.{rows-within, layers-sum}
+use Rattle.report.specs.lemmas.Switches.{those-length, differences-few, differences-all}
 use Rattle.report.specs.lemmas.Widths.{slots-width, chunks-width, layers-width, bytes-width, switch-width, film-some, rate-width}
-use Rattle.report.specs.Report.{slotsLine, bytesCarried, chunkLines, layersLine, bytesInRows, forecastSum, left, bytesLine, shown, switchSum, switchLine, filmSlots, rateLine, reportOf}
+use Rattle.report.specs.Report.{slotsLine, bytesCarried, chunkLines, layersLine, bytesInRows, forecastSum, left, bytesLine, apart, carriedBytes, switchSum, switchLine, filmSlots, rateLine, reportOf}
 
 -- ---- "bytes in rows and forecast bytes unspent"
 
@@ -43,26 +42,22 @@ chunks-and-bytes j rows a w =
         (λ e. rw (eq-eqb (bytesOfLayer rows i n) (size j i n) e))
         (w i n l)
 
--- ---- "a skipped chunk being 0"
+-- ---- "each carried chunk with the next carried one"
 
--- For a list that keeps rule 3 the switch sum compares the bytes of the chunks' own lines: a skipped chunk carries none.
-pub shown-is-carried : (j : Job) (rows : List Row) → LowerCarried j rows → (i : ℕ) → 1 ≤ i → i ≤ chunks j → shown j rows i ≡ bytesCarried j rows i
-shown-is-carried j rows lower i u v =
-    by-cond
-    (λ (m : ℕ). m ≡ bytesCarried j rows i)
-    (carried j rows i 0)
-    (λ t. refl)
-    (λ t. sym (sum-cong _ (λ n. 0) (layers j) (λ n h. none t n h) ∙ sum-zero (layers j)))
-  where
-    none : T (not (carried j rows i 0)) → (n : ℕ) → n < layers j → cond (carried j rows i n) (bytesOfLayer rows i n) 0 ≡ 0
-    none t n h =
-        by-cond
-        (λ (m : ℕ). m ≡ 0)
-        (carried j rows i n)
-        (λ c.
-        let e = base-carried j rows lower i n (record { chunk-low = u; chunk-high = v; layer-in = h }) (eqb→eq (bytesOfLayer rows i n) (size j i n) c) in
-        absurd (T-not (carried j rows i 0) t (eqb-iff (bytesOfLayer rows i 0) (size j i 0) .1 e)))
-        (λ c. refl)
+-- "with fewer than two carried it is 0".
+pub few-carried : (j : Job) (rows : List Row) → layerCount j rows 0 ≤ 1 → switchSum j rows ≡ 0
+few-carried j rows h =
+    differences-few (carriedBytes j rows) (omega (arith, those-length (λ i. carried j rows i 0) (bytesCarried j rows) (chunks j)))
+
+-- Where no chunk is skipped it is document 01's sum over neighbouring chunks.
+pub none-skipped : (j : Job) (rows : List Row) → ((i : ℕ) → 1 ≤ i → i ≤ chunks j → Carried j rows i 0) →
+    switchSum j rows ≡ pre (λ i. apart (bytesCarried j rows i) (bytesCarried j rows (i + 1))) (chunks j - 1)
+none-skipped j rows all =
+    differences-all
+    (λ i. carried j rows i 0)
+    (bytesCarried j rows)
+    (chunks j)
+    (λ i u v. eq-eqb (bytesOfLayer rows i 0) (size j i 0) (all i u v))
 
 -- ---- "q × C × L + r is the switch sum and r is below C × L"
 

@@ -7,12 +7,18 @@ ghost use lib.Dec.{eqb};
 ghost use Rattle.basics.specs.Sums.{sum};
 ghost use Rattle.fetch.specs.Rows.{rowsOf};
 ghost use Rattle.report.specs.Report.{apart};
-ghost use Rattle.report.specs.lemmas.Tables.{Rows, Summed, bytesAt, carriedBy, ChunkBy, countBy, shownBy, switchBy};
+ghost use Rattle.report.specs.lemmas.Tables.{Rows, Summed, bytesAt, carriedBy, ChunkBy, countBy, pictureBy, changeOf, heldOf, switchBy};
 
 // What a chunk carries: how many layers and how many bytes.
 pub struct Chunk {
     pub layers: u64,
     pub bytes: u64,
+}
+
+// What is on the screen: nothing yet, or a chunk of so many bytes.
+pub enum Picture {
+    Nothing,
+    Bytes(u64),
 }
 
 // In 64 bits: 5,599 rows of 32 bits sum to 45.
@@ -137,27 +143,54 @@ fn distance(a: u64, b: u64) -> u64
     a - b
 }
 
-// The bytes of chunk i, 0 if it is skipped.
-fn shown(sizes: &[u32], depth: usize, table: &[u64; 2000], i: u16) -> u64
+// A chunk on the screen: its bytes, or nothing new if it is skipped.
+fn picture_of(sizes: &[u32], depth: usize, table: &[u64; 2000], i: u16) -> Picture
     requires { ⌜ (depth ≤ 4) × (1 ≤ i) × (i ≤ 500) ⌝ }
-    ensures { λ r. ⌜ r ≡ shownBy (now (sizes .entry)) (now (table .entry)) depth i ⌝ }
+    ensures { λ r. ⌜ r ≡ pictureBy (now (sizes .entry)) (now (table .entry)) depth i ⌝ }
 {
     let chunk = chunk_of(sizes, depth, table, i);
-    only_if(is_carried(sizes, table, i, 0), chunk.bytes)
+    let carried = is_carried(sizes, table, i, 0);
+    if !carried {
+        return Picture::Nothing;
+    }
+    Picture::Bytes(chunk.bytes)
+}
+
+// The difference in bytes where a picture follows another.
+fn change(last: Picture, here: Picture) -> u64
+    ensures { λ r. ⌜ r ≡ changeOf «last» «here» ⌝ }
+{
+    match last {
+        Picture::Nothing => 0,
+        Picture::Bytes(a) => match here {
+            Picture::Nothing => 0,
+            Picture::Bytes(b) => distance(a, b),
+        },
+    }
+}
+
+// A skipped chunk holds the last picture.
+fn held(last: Picture, here: Picture) -> Picture
+    ensures { λ r. ⌜ r ≡ heldOf «last» «here» ⌝ }
+{
+    match here {
+        Picture::Nothing => last,
+        Picture::Bytes(_) => here,
+    }
 }
 
 pub(crate) fn switch_sum(sizes: &[u32], depth: usize, table: &[u64; 2000], count: u16) -> u64
-    requires { ⌜ (depth ≤ 4) × (1 ≤ count) × (count ≤ 500) ⌝ }
+    requires { ⌜ (depth ≤ 4) × (count ≤ 500) ⌝ }
     ensures { λ r. ⌜ r ≡ switchBy (now (sizes .entry)) (now (table .entry)) depth count ⌝ }
 {
     let mut sum: u64 = 0;
-    let mut last = shown(sizes, depth, table, 1);
-    let mut i: u16 = 1;
+    let mut last = Picture::Nothing;
+    let mut i: u16 = 0;
     while i < count {
         let next = i + 1;
-        let here = shown(sizes, depth, table, next);
-        sum = sum + distance(last, here);
-        last = here;
+        let here = picture_of(sizes, depth, table, next);
+        sum = sum + change(last, here);
+        last = held(last, here);
         i = next;
     }
     sum

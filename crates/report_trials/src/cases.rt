@@ -65,7 +65,7 @@ fn case(i: u8) {
 }
 
 pub fn reports() {
-    for i in 0u8..7 {
+    for i in 0u8..15 {
         case(i);
     }
 }

@@ -7,7 +7,7 @@ use mathlib.Core.List.{List, [], _∷_, _++_}
 use lib.ListN.{length, getD}
 use lib.Dec.{eqb}
 use Rattle.basics.specs.Tests.{All}
-use Rattle.basics.specs.Sums.{pre, sum, count}
+use Rattle.basics.specs.Sums.{sum, count}
 use Rattle.basics.specs.Lists.{upTo}
 use Rattle.job.specs.declared.Programme.{Programme}
 use Rattle.job.specs.Job.{Job, sizeIn, layers, lastDue, Accepted}
@@ -16,8 +16,10 @@ use Rattle.fetch.specs.Rules.{InRange}
 use Rattle.planner.specs.declared.Answer.{Answer}
 use Rattle.planner.specs.declared.Answer.the-variants.{Rows as made, Refused as refused}
 use Rattle.basics.specs.Text.{ascii, digits, line, text}
-use Rattle.report.specs.Report.{apart}
+use Rattle.report.specs.Report.{apart, differences, those}
 use Rattle.report.specs.declared.table.Chunk.{Chunk}
+use Rattle.report.specs.declared.table.Picture.{Picture}
+use Rattle.report.specs.declared.table.Picture.the-variants.{Nothing, Bytes}
 
 -- Rows handed as four slices of one length, each with a place in the table.
 pub record Rows (slots chunks layers′ bytes : List ℕ) : Type 0 where
@@ -68,11 +70,33 @@ chunkLineBy sizes table depth i = line (digits i) (digits (layersBy sizes table 
 abbrev pub countBy : List ℕ → List ℕ → ℕ → ℕ → ℕ
 countBy sizes table chunks n = count (λ i. carriedBy sizes table i n) chunks
 
-abbrev pub shownBy : List ℕ → List ℕ → ℕ → ℕ → ℕ
-shownBy sizes table depth i = cond (carriedBy sizes table i 0) (bytesBy sizes table depth i) 0
+-- The bytes of the carried chunks among 1 .. n, and their differences.
+abbrev pub bytesTo : List ℕ → List ℕ → ℕ → ℕ → List ℕ
+bytesTo sizes table depth n = those (λ i. carriedBy sizes table i 0) (bytesBy sizes table depth) n
 
 abbrev pub switchBy : List ℕ → List ℕ → ℕ → ℕ → ℕ
-switchBy sizes table depth chunks = pre (λ i. apart (shownBy sizes table depth i) (shownBy sizes table depth (i + 1))) (chunks - 1)
+switchBy sizes table depth n = differences (bytesTo sizes table depth n)
+
+-- Chunk i on the screen.
+abbrev pub pictureBy : List ℕ → List ℕ → ℕ → ℕ → Picture
+pictureBy sizes table depth i = cond (carriedBy sizes table i 0) (Bytes (bytesBy sizes table depth i)) Nothing
+
+-- How far a picture differs from the last one.
+abbrev pub changeOf : Picture → Picture → ℕ
+changeOf Nothing here = 0
+changeOf (Bytes a) Nothing = 0
+changeOf (Bytes a) (Bytes b) = apart a b
+
+-- What is on the screen after a chunk.
+abbrev pub heldOf : Picture → Picture → Picture
+heldOf last Nothing = last
+heldOf last (Bytes b) = Bytes b
+
+-- The last of so many pictures.
+abbrev pub lastOf : List ℕ → Picture
+lastOf [] = Nothing
+lastOf (x ∷ []) = Bytes x
+lastOf (x ∷ (y ∷ ys)) = lastOf (y ∷ ys)
 
 -- The lines of a switch sum over so many slots of film.
 abbrev pub switchLines : ℕ → ℕ → List ℕ

@@ -12,8 +12,9 @@ use Rattle.basics.specs.Text.{ascii, digits, ended, line, text}
 use Rattle.basics.specs.lemmas.Digits.{digits-few}
 use Rattle.report.specs.lemmas.Places.{text-most, ended-text}
 use Rattle.basics.specs.lemmas.Ranges.{sum-most, pre-most, cond-most}
-use Rattle.report.specs.lemmas.Bounds.{equal-most, apart-most, all-most}
-use Rattle.report.specs.Report.{slotsLine, layersCarried, bytesCarried, chunkLine, chunkLines, layersLine, bytesInRows, forecastSum, left, bytesLine, apart, shown, switchSum, switchLine, filmSlots, rateLine}
+use Rattle.report.specs.lemmas.Bounds.{equal-most, all-most}
+use Rattle.report.specs.lemmas.Switches.{differences-most}
+use Rattle.report.specs.Report.{slotsLine, layersCarried, bytesCarried, chunkLine, chunkLines, layersLine, bytesInRows, forecastSum, left, bytesLine, switchSum, switchLine, filmSlots, rateLine}
 
 -- The bytes after a line's first word: a space before each word, and the line feed.
 abbrev width : List (List ℕ) → ℕ
@@ -99,20 +100,8 @@ module _ (j : Job) (rows : List Row) (ok : Accepted j) where
         digits-few 10 (left j rows) (omega (arith, forecast-most)),
       )
 
-  switch-most : switchSum j rows ≤ 33487323136
-  switch-most =
-      omega (
-        arith,
-        pre-most
-            (λ i. apart (shown j rows i) (shown j rows (i + 1)))
-            67108864
-            (chunks j - 1)
-            (λ i. apart-most (shown j rows i) (shown j rows (i + 1)) 67108864 (shown-most i) (shown-most (i + 1))),
-        ok .chunks-in .high,
-      )
-    where
-      shown-most : (i : ℕ) → shown j rows i ≤ 67108864
-      shown-most i = cond-most (carried j rows i 0) (bytesCarried j rows i) 67108864 (bytes-most i)
+  switch-most : switchSum j rows ≤ 33554432000
+  switch-most = omega (arith, differences-most (λ i. carried j rows i 0) (bytesCarried j rows) 67108864 (chunks j) bytes-most, ok .chunks-in .high)
 
   pub switch-width : length (switchLine j rows) ≤ 19
   switch-width = omega (arith, line-width (ascii "switch") (digits (switchSum j rows) ∷ []), digits-few 10 (switchSum j rows) (omega (arith, switch-most)))

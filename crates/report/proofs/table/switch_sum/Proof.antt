@@ -2,51 +2,48 @@
 use Rattle.report.proofs.table.switch_sum.Statement.{statement}
 use Rattle.report.proofs.table.switch_sum.Tie as tie
 use Prim.Native.Nat.{ℕ, _+_, _*_, _-_, _≤_}
-use mathlib.Core.Path.{_≡_, refl, sym}
+use mathlib.Core.Path.{_≡_, refl}
 use native.Mathlib.Omega.{arith}
-use native.Mathlib.Nat.{mul-le-mul-left}
+use native.Mathlib.Nat.{mul-le-mul}
 use borrow.Author.Needs.{needs}
 use lib.ListN.{getD}
 use denote.Ref.{now}
-use Rattle.report.specs.lemmas.Tables.{shownBy, switchBy}
-use Rattle.report.specs.lemmas.Bounds.{apart-most}
-use Rattle.report.proofs.Laws.{shown-most, switch-more, switch-most}
+use Rattle.report.specs.lemmas.Tables.{bytesTo, switchBy, lastOf}
+use Rattle.report.proofs.Laws.{switch-most, last-next, switch-next}
 
 abbrev Inv-loop : tie.InvT-loop
 Inv-loop sizes depth table count sum₀ last₀ i₀ sum last i =
-    (1 ≤ i) × (i ≤ count) × (last ≡ shownBy sizes table depth i) × (sum ≡ switchBy sizes table depth i)
+    (i ≤ count) × (last ≡ lastOf (bytesTo sizes table depth i)) × (sum ≡ switchBy sizes table depth i)
 
 abbrev μ-loop : tie.MeasureT-loop
 μ-loop sizes depth table count sum₀ last₀ i₀ sum last i = count - i
 
-shown-requires : tie.Need-shown-requires Inv-loop μ-loop
-shown-requires c κs = omega arith
-
 loop-holds : tie.Need-loop-holds Inv-loop μ-loop
-loop-holds c = (omega arith, omega arith, c .shown .ensures, refl)
+loop-holds c = (omega arith, refl, refl)
 
 add-next : tie.Need-add-next Inv-loop μ-loop
 add-next c = omega arith
 
-shown-requires-2 : tie.Need-shown-requires-2 Inv-loop μ-loop
-shown-requires-2 c κs = omega arith
+picture-of-requires : tie.Need-picture-of-requires Inv-loop μ-loop
+picture-of-requires c κs = omega arith
 
-distance-requires : tie.Need-distance-requires Inv-loop μ-loop
-distance-requires c κs = search needs
+change-requires : tie.Need-change-requires Inv-loop μ-loop
+change-requires c κs = search needs
 
 add-sum : tie.Need-add-sum Inv-loop μ-loop
 add-sum c =
-    let a = c .before .before .before .before .before .before .args in
+    let a = c .before .before .before .before .before .args in
     let l = c .before .before .before .loop in
     let s = now (a .sizes) in
     let t = now (a .table) in
-    let h : (n : ℕ) → getD s n 0 ≤ 4294967295 = λ n. omega (arith, c .before .before .before .before .before .shared-slice-known .given n) in
-    let d : a .depth * 4294967295 ≤ 17179869180 = omega (arith, c .before .before .before .before .before .before .pre) in
-    let e : c .distance .result ≤ a .depth * 4294967295 =
-    rw (c .distance .ensures, c .before .shown2 .ensures, l .inv .2)
-    (apart-most (shownBy s t (a .depth) (l .i)) (shownBy s t (a .depth) (l .i + 1)) (a .depth * 4294967295) (shown-most s t 4294967295 h (a .depth) (l .i)) (shown-most s t 4294967295 h (a .depth) (l .i + 1))) in
-    let m : (l .i - 1) * (a .depth * 4294967295) ≤ (l .i - 1) * 17179869180 = mul-le-mul-left (l .i - 1) d in
-    omega (arith, l .inv .3, switch-most s t (a .depth) 4294967295 (l .i) h, c .before .before .before .before .before .before .pre, c .before .before .loop-test .taken)
+    let h : (n : ℕ) → getD s n 0 ≤ 4294967295 = λ n. omega (arith, c .before .before .before .before .shared-slice-known .given n) in
+    let e = switch-next s t (a .depth) (l .i) (l .inv .1) (c .before .picture-of .ensures) (l .inv .2) (c .change .ensures) in
+    let i : l .i + 1 ≤ 500 = omega arith in
+    let d : a .depth * 4294967295 ≤ 17179869180 = omega arith in
+    omega (arith, e, switch-most s t 4294967295 h (a .depth) (l .i + 1), mul-le-mul i d)
+
+held-requires : tie.Need-held-requires Inv-loop μ-loop
+held-requires c κs = search needs
 
 loop-less : tie.Need-loop-less Inv-loop μ-loop
 loop-less c = omega arith
@@ -54,18 +51,20 @@ loop-less c = omega arith
 loop-again : tie.Need-loop-again Inv-loop μ-loop
 loop-again c =
     let a = c .before .before .before .before .before .before .args in
-    let l = c .before .before .before .loop in (
+    let l = c .before .before .before .before .loop in
+    let s = now (a .sizes) in
+    let t = now (a .table) in
+    let p = c .before .before .picture-of .ensures in (
       omega arith,
-      omega arith,
-      c .before .shown2 .ensures,
-      rw (c .distance .ensures, c .before .shown2 .ensures, l .inv .2, l .inv .3) (sym (switch-more (now (a .sizes)) (now (a .table)) (a .depth) (l .i) (l .inv .0))),
+      last-next s t (a .depth) (l .i) (l .inv .1) p (c .held .ensures),
+      switch-next s t (a .depth) (l .i) (l .inv .1) p (l .inv .2) (c .before .change .ensures),
     )
 
 returns : tie.Need-returns Inv-loop μ-loop
 returns c =
     let l = c .before .loop in
-    let e : l .i ≡ c .before .before .before .before .args .count = omega arith in
-    rw e at (l .inv .3)
+    let e : l .i ≡ c .before .before .before .args .count = omega arith in
+    rw e at (l .inv .2)
 
 pub switch-sum-spec : {M : Type 1} → statement M
 switch-sum-spec =
@@ -73,12 +72,12 @@ switch-sum-spec =
     (tie.spec
     Inv-loop
     μ-loop
-    shown-requires
     loop-holds
     add-next
-    shown-requires-2
-    distance-requires
+    picture-of-requires
+    change-requires
     add-sum
+    held-requires
     loop-less
     loop-again
     returns)
