@@ -10,8 +10,8 @@ abbrev pub six-three : Meter
 unfolding taken
 six-three = taken (taken empty 1 6 .meter) 2 3 .meter
 
--- Samples 6 then 3: forecast 4.
-pub six-three-forecast : answerOf six-three ≡ Bytes 4
+-- Samples 6 then 3: forecast 3, as request 3 of document 02 amends the row.
+pub six-three-forecast : answerOf six-three ≡ Bytes 3
 unfolding taken answerOf forecastOf
 six-three-forecast = refl
 

@@ -5,7 +5,6 @@ use mathlib.Core.Bool.{Bool, true, false, _||_}
 use mathlib.Core.List.{List, [], _∷_, _++_, map, map-append}
 use mathlib.Core.Logic.{inl, inr, ⊎-elim}
 use native.Mathlib.Omega.{arith}
-use native.Mathlib.Nat.{div-le-self}
 use native.Mathlib.Numerals.{add-one}
 use lib.ListN.{length, getD, length-map}
 use lib.Dec.{T}
@@ -18,7 +17,7 @@ use Rattle.meter.specs.declared.Meter.{Meter}
 use Rattle.meter.specs.declared.Answer.the-variants.{Bytes, Refused}
 use Rattle.meter.specs.Meter.{Sample, samplesOf, InOrder, inOrder}
 use Rattle.meter.specs.Forecast.{bytesOf, isZero, total, share, meanOf, forecastOf, answerOf}
-use Rattle.meter.specs.lemmas.Mean.{Counts, counts, total-pos, mean-high}
+use Rattle.meter.specs.lemmas.Mean.{Counts, counts, share-narrow, total-pos, mean-high}
 use Rattle.meter.proofs.Laws.{cell}
 
 bytes-snoc : (l : List Sample) (x : Sample) → bytesOf (l ++ (x ∷ [])) ≡ bytesOf l ++ (x .bytes ∷ [])
@@ -56,7 +55,7 @@ summed-more m sum i w h =
     rw (add-one i) record {
       none = rw (bytes-snoc l (cell m i), any-snoc isZero (bytesOf l) b, w .none, ne-eqb b 0 (λ e. omega arith));
       sums = rw (bytes-snoc l (cell m i), total-snoc (bytesOf l) b, w .sums);
-      small = omega (arith, w .small, div-le-self (2 ^ 56) b);
+      small = omega (arith, w .small, share-narrow b h);
     }
 
 -- A sample of 0 bytes.

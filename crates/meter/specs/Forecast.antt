@@ -1,9 +1,10 @@
--- Meaning. The forecast of a meter: document 01, "Link meter", refusals 10 and 12.
+-- Meaning. The forecast of a meter: document 01, "Link meter", as request 3 of document 02 rounds it; refusals 10 and 12.
 use Prim.Native.Nat.{ℕ, _+_, _*_, _/_, _^_}
 use mathlib.Core.Bool.{Bool, cond}
 use mathlib.Core.List.{List, [], _∷_, map}
 use lib.ListN.{length}
 use lib.Dec.{ltb, eqb}
+use Rattle.basics.specs.Division.{dividedUp}
 use Rattle.basics.specs.Tests.{any}
 use Rattle.basics.specs.Refusals.{unless, _orElse_}
 use Rattle.meter.specs.declared.Meter.{Meter}
@@ -18,9 +19,9 @@ abbrev pub total : List ℕ → ℕ
 total [] = 0
 total (q ∷ qs) = q + total qs
 
--- "each gives the whole part of 2^56 / bytes": the only rounding of a sample.
+-- "Each sample now gives 2^56 / bytes rounded up instead of down": the only rounding of a sample.
 abbrev pub share : ℕ → ℕ
-share b = 2 ^ 56 / b
+share b = dividedUp (2 ^ 56) b
 
 -- "the whole part of k × 2^56 / their sum".
 abbrev pub meanOf : List ℕ → ℕ

@@ -14,7 +14,11 @@ abbrev pub others : List ℕ → ℕ
 others [] = 0
 others (b ∷ bs) = product bs + b * others bs
 
+-- x is not above the exact harmonic mean.
+abbrev pub NotAbove : ℕ → List ℕ → Type 0
+NotAbove x bs = x * others bs ≤ length bs * product bs
+
 -- h is the whole part of the exact harmonic mean.
 pub record WholePart (bs : List ℕ) (h : ℕ) : Type 0 where
-  pub not-above : h * others bs ≤ length bs * product bs
+  pub not-above : NotAbove h bs
   pub next-above : length bs * product bs < (h + 1) * others bs

@@ -1,23 +1,24 @@
 -- Theorems. What the definitions of the meter promise: document 01, "Link meter", refusals 10, 12 and 13.
-use Prim.Native.Nat.{ℕ, _+_, _*_, _-_, _/_, _≤_, _<_}
+use Prim.Native.Nat.{ℕ, _+_, _*_, _-_, _/_, _^_, _≤_, _<_}
 use mathlib.Core.Path.{_≡_, refl, sym, ap, subst}
 use mathlib.Core.Bool.{true}
 use mathlib.Core.List.{List, [], _∷_, _++_}
 use mathlib.Core.Logic.{_⊎_, ⊎-elim, _↔_}
 use native.Mathlib.Omega.{arith}
-use lib.ListN.{length, length-append, length-drop, length-map}
+use lib.ListN.{length, replicate, length-append, length-drop, length-map}
 use lib.Dec.{T-not, ltb, eqb, eqb→eq}
 use borrow.Author.Tests.{eq-eqb, ne-eqb}
-use Rattle.basics.specs.lemmas.Tests.{eqb-iff, test, ltb-iff, by-cond, any-row}
+use Rattle.basics.specs.lemmas.Tests.{T-true, not-T-false, eqb-iff, test, ltb-iff, by-cond, any-row}
 use Rattle.basics.specs.Tests.{In, any}
 use Rattle.basics.specs.Refusals.{unless, _orElse_}
 use Rattle.basics.specs.lemmas.Refusals.{unless-as, orElse-as}
 use Rattle.meter.specs.declared.Meter.{Meter}
-use Rattle.meter.specs.declared.Answer.the-variants.{Bytes}
+use Rattle.meter.specs.declared.Answer.the-variants.{Bytes, Refused}
 use Rattle.meter.specs.Meter.{Sample, sample, samplesOf, empty, InRange, inRange, lastSlot, InOrder, inOrder, lastTen, sampleRefusal, meterRefusal, lateRefusal, takeRefusal, with-sample, taken}
 use Rattle.meter.specs.Forecast.{bytesOf, isZero, meanOf, forecastOf, forecastRefusal, answerOf}
-use Rattle.meter.specs.Harmonic.{product, others, WholePart}
-use Rattle.meter.specs.lemmas.Mean.{mean-high, mean-not-below, mean-near, whole-part, others-pos, zero-in, counts, at-most-one-more}
+use Rattle.meter.specs.Harmonic.{product, others, NotAbove, WholePart}
+use Rattle.meter.specs.lemmas.Mean.{mean-high, mean-some, mean-not-above, mean-near, whole-part, others-pos, zero-in, counts, one-less-at-most}
+use Rattle.meter.specs.lemmas.Steady.{power-steady, other-steady}
 use Rattle.meter.specs.lemmas.Order.{in-range-iff, in-order-iff, ten-first, then-after, Fine, fine-snoc, last-ten-in-order, stored-samples}
 
 -- ---- "gets a result or, exactly in the cases that document 01 lists, a refusal number"
@@ -114,12 +115,15 @@ module _ (m : Meter) (slot bytes : ℕ) where
       rw (eq-eqb (forecastRefusal after) 0 (forecast-iff after .1 (taken-in-order e, some)))
       (ap (λ (k : List Sample). Bytes (forecastOf (bytesOf k))) (taken-samples e))
 
--- ---- "the meter's forecast" is that of document 01
+-- ---- "the meter's forecast" is that of document 01, rounded as request 3 of document 02 says
 
--- "Its forecast is 0 if one of them is 0. Else .. That is the whole part of the exact harmonic mean or one more."
+-- "Its forecast is 0 if one of them is 0." "The meter's promise becomes the whole part of the exact harmonic mean or one less, and never
+-- more." A forecast is itself within the range of a job's.
 pub record Forecasts (bs : List ℕ) (f : ℕ) : Type 0 where
   pub zero-if : In 0 bs → f ≡ 0
-  pub mean-or-one-more : (In 0 bs → ⊥) → (h : ℕ) → WholePart bs h → (f ≡ h) ⊎ (f ≡ h + 1)
+  pub mean-or-one-less : (In 0 bs → ⊥) → (h : ℕ) → WholePart bs h → (f ≡ h) ⊎ (f + 1 ≡ h)
+  pub never-more : NotAbove f bs
+  pub some-if : (In 0 bs → ⊥) → 1 ≤ f
   pub high : f ≤ 16777216
 
 pub forecast-says : (l : List Sample) → InOrder l → 0 < length l → Forecasts (bytesOf l) (forecastOf (bytesOf l))
@@ -127,15 +131,46 @@ unfolding forecastOf
 forecast-says l o some =
     let bs = bytesOf l in
     by-cond (λ (f : ℕ). Forecasts bs f) (any isZero bs)
-    (λ t. record { zero-if = λ i. refl; mean-or-one-more = λ n. absurd (n (zero-in bs t)); high = omega arith })
+    (λ t.
+    let i = zero-in bs t in
+    record {
+      zero-if = λ i. refl;
+      mean-or-one-less = λ n. absurd (n i);
+      never-more = omega arith;
+      some-if = λ n. absurd (n i);
+      high = omega arith;
+    })
     (λ t.
     let some : 0 < length bs = omega (arith, length-map l (λ x. x .bytes)) in
     let a = counts l (o .each) t in
+    let not-more = mean-not-above bs some a in
     record {
       zero-if = λ i. absurd (T-not (any isZero bs) t (any-row isZero i tt));
-      mean-or-one-more = λ n h w. at-most-one-more h (meanOf bs) (mean-not-below bs some a h w) (mean-near bs some a h w);
+      mean-or-one-less = λ n h w. one-less-at-most bs h (meanOf bs) w not-more (mean-near bs some a);
+      never-more = not-more;
+      some-if = λ n. mean-some bs some a;
       high = mean-high bs some a;
     })
+
+-- Every forecast that the call answers keeps the promise.
+pub answer-says : (m : Meter) (f : ℕ) → answerOf m ≡ Bytes f → Forecasts (bytesOf (samplesOf m)) f
+unfolding answerOf
+answer-says m f e =
+    let l = samplesOf m in
+    let n = forecastRefusal l in
+    ⊎-elim
+    (λ t.
+    let o = forecast-iff l .0 (eqb→eq n 0 t) in
+    let is : forecastOf (bytesOf l) ≡ f = same-bytes _ f (rw (T-true (eqb n 0) t) at e) in
+    subst (Forecasts (bytesOf l)) is (forecast-says l (o .0) (o .1)))
+    (λ t. absurd (not-both n f (rw (not-T-false (eqb n 0) t) at e)))
+    (test (eqb n 0))
+  where
+    same-bytes : (a b : ℕ) → Bytes a ≡ Bytes b → a ≡ b
+    same-bytes a b e = cc
+
+    not-both : (a b : ℕ) → Refused a ≡ Bytes b → ⊥
+    not-both a b e = let z : _≡_ {A = ℕ} 0 1 = cc in omega arith
 
 -- The exact mean has a whole part.
 pub has-whole-part : (l : List Sample) → InOrder l → 0 < length l → (In 0 (bytesOf l) → ⊥) → (h : ℕ) × WholePart (bytesOf l) h
@@ -143,3 +178,13 @@ has-whole-part l o some n =
     let bs = bytesOf l in
     let a = counts l (o .each) (⊎-elim (λ t. absurd (n (zero-in bs t))) (λ t. t) (test (any isZero bs))) in
     (length bs * product bs / others bs, whole-part bs (others-pos bs (omega (arith, length-map l (λ x. x .bytes))) a))
+
+-- ---- a steady link, whose k samples have b bytes each
+
+-- A power of two is forecast as it is ..
+pub steady-power : (k i : ℕ) → 1 ≤ k → i ≤ 24 → forecastOf (replicate k (2 ^ i)) ≡ 2 ^ i
+steady-power = power-steady
+
+-- .. and any other number of bytes as one less.
+pub steady-other : (k b : ℕ) → 1 ≤ k → 1 ≤ b → b ≤ 16777216 → ((i : ℕ) → b ≡ 2 ^ i → ⊥) → forecastOf (replicate k b) + 1 ≡ b
+steady-other = other-steady

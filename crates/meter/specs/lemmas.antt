@@ -1,3 +1,4 @@
 pub mod Cells
 pub mod Mean
+pub mod Steady
 pub mod Order

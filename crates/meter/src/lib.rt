@@ -119,12 +119,15 @@ fn keep(m: Meter, slot: u16, bytes: u32) -> Meter
 // 2^56, of which each sample gives its share.
 const WHOLE: u64 = 72057594037927936;
 
-// The whole part of 2^56 / bytes: the only rounding of a sample.
+// 2^56 / bytes rounded up, so that no forecast is above the mean: the only rounding of a sample.
 fn share(bytes: u32) -> u64
     requires { ⌜ 0 < bytes ⌝ }
     ensures { λ r. ⌜ r ≡ share bytes ⌝ }
 {
-    WHOLE / (bytes as u64)
+    let divisor = bytes as u64;
+    let rest = divisor - 1;
+    let dividend = WHOLE + rest;
+    dividend / divisor
 }
 
 // The forecast of a meter in order that keeps samples.

@@ -17,4 +17,5 @@ fn main() {
     planned::rooms();
     meters::samples();
     meters::forecasts();
+    meters::means();
 }

@@ -66,3 +66,21 @@ pub fn forecasts() {
     let slots = full.slots;
     line(b"oldest slot ", wide(slots[0]));
 }
+
+// Ten samples of the same bytes.
+fn equal(bytes: u32) -> Meter {
+    Meter {
+        slots: [1, 2, 3, 4, 5, 6, 7, 8, 9, 10],
+        bytes: [bytes; 10],
+        kept: 10,
+    }
+}
+
+// Never above the mean, and at most one below its whole part.
+pub fn means() {
+    forecast(take(meter::new(), 1, 9));
+    forecast(take(take(meter::new(), 1, 15000000), 2, 10000100));
+    forecast(equal(16777216));
+    forecast(equal(16777215));
+    forecast(equal(3));
+}

@@ -1,12 +1,12 @@
 -- `meter::mean` meets its contract. The loop's invariant: the shares of the first i samples are summed, and none of them is 0.
 use Rattle.meter.proofs.mean.Statement.{statement}
 use Rattle.meter.proofs.mean.Tie as tie
-use Prim.Native.Nat.{_-_, _^_, _≤_}
-use native.Mathlib.Nat.{div-le-self}
+use Prim.Native.Nat.{_-_, _≤_}
 use native.Mathlib.Omega.{arith}
 use borrow.Author.Needs.{needs}
 use mathlib.Core.Path.{_≡_}
 use lib.ListN.{getD}
+use Rattle.meter.specs.lemmas.Mean.{share-narrow}
 use Rattle.meter.proofs.Laws.{in-order-kept}
 use Rattle.meter.proofs.Sums.{Summed, summed-start, summed-more, summed-zero, summed-pos, summed-high, summed-all}
 
@@ -37,7 +37,8 @@ share-requires c κs = omega arith
 add-sum : tie.Need-add-sum Inv-loop μ-loop
 add-sum c =
     let w = c .before .before .before .before .loop .inv .1 .1 .small in
-    omega (arith, c .share .ensures, div-le-self (2 ^ 56) (getD (c .before .before .before .before .before .args .t1 .bytes) (c .before .before .before .before .loop .i) 0))
+    let b = getD (c .before .before .before .before .before .args .t1 .bytes) (c .before .before .before .before .loop .i) 0 in
+    omega (arith, c .share .ensures, share-narrow b (omega arith))
 
 add-i : tie.Need-add-i Inv-loop μ-loop
 add-i c = omega arith

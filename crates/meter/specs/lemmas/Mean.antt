@@ -1,23 +1,41 @@
--- Lemmas. The forecast's quotient against the exact harmonic mean. Only the first group looks at how a share is rounded.
+-- Lemmas. The forecast's quotient against the exact harmonic mean. Only `share-is` looks at how a share is rounded.
 use Prim.Native.Nat.{ℕ, _+_, _*_, _-_, _/_, _^_, _≤_, _<_}
 use mathlib.Core.Path.{_≡_}
 use mathlib.Core.Bool.{Bool, true, false, not, _||_}
 use mathlib.Core.List.{List, [], _∷_, map}
 use mathlib.Core.Logic.{_⊎_, inl, inr, ⊎-elim}
 use native.Mathlib.Omega.{arith}
-use native.Mathlib.Nat.{mul-le-mul-left, mul-le-mul-right, mul-lt-mul-of-pos-left, mul-pos, le-of-mul-le-mul-right, lt-of-mul-lt-mul-left, div-mul-le-self, lt-div-mul-add, le-div-iff-mul-le, div-lt-iff-lt-mul, mul-div-right}
+use native.Mathlib.Nat.{mul-le-mul-left, mul-le-mul-right, mul-pos, le-of-mul-le-mul-right, lt-of-mul-lt-mul-right, div-mul-le-self, lt-div-mul-add, le-div-iff-mul-le, div-lt-iff-lt-mul, mul-div-right}
 use lib.ListN.{length}
 use lib.Dec.{T, T-not, leb, leb→le, nleb→lt, eqb→eq}
+use Rattle.basics.specs.lemmas.Division.{divided-up-enough, divided-up-near}
 use Rattle.basics.specs.Tests.{All, any, In, here, there}
 use Rattle.basics.specs.lemmas.Tests.{test, T-or-iff, eqb-iff}
 use Rattle.meter.specs.Forecast.{bytesOf, isZero, total, share, meanOf}
 use Rattle.meter.specs.Meter.{Sample, InRange}
-use Rattle.meter.specs.Harmonic.{product, others, WholePart}
+use Rattle.meter.specs.Harmonic.{product, others, NotAbove, WholePart}
 
 -- Bytes of which the mean is taken: in range and not 0.
 pub record Counts (b : ℕ) : Type 0 where
   pub low : 1 ≤ b
   pub high : b ≤ 16777216
+
+-- ---- one share
+
+-- It is not below 2^56 / bytes, and less than 1 above it.
+pub share-is : (b : ℕ) → 1 ≤ b → (2 ^ 56 ≤ share b * b) × (share b * b < 2 ^ 56 + b)
+share-is b low = omega (arith, divided-up-enough (2 ^ 56) b low, divided-up-near (2 ^ 56) b low)
+
+-- So it is at least 2^32 ..
+pub share-wide : (b : ℕ) → Counts b → 2 ^ 32 ≤ share b
+share-wide b c =
+    le-of-mul-le-mul-right {k = 16777216} (omega (arith, share-is b (c .low) .0, mul-le-mul-left (share b) (c .high))) (omega arith)
+
+-- .. and at most 2^56.
+pub share-narrow : (b : ℕ) → 1 ≤ b → share b ≤ 2 ^ 56
+share-narrow b low =
+    let l : share b < 2 ^ 56 + 1 = lt-of-mul-lt-mul-right b (omega (arith, share-is b low .1, mul-le-mul-left (2 ^ 56) low)) in
+    omega arith
 
 -- ---- what the shares sum to
 
@@ -25,35 +43,71 @@ pub product-pos : (bs : List ℕ) → All Counts bs → 0 < product bs
 product-pos [] a = omega arith
 product-pos (b ∷ bs) a = mul-pos (a .0 .low) (product-pos bs (a .1))
 
--- The shares are not above 2^56 / bytes ..
-pub shares-not-above : (bs : List ℕ) → total (map share bs) * product bs ≤ 2 ^ 56 * others bs
-shares-not-above [] = omega arith
-shares-not-above (b ∷ bs) =
-    omega (arith, mul-le-mul-right (product bs) (div-mul-le-self (2 ^ 56) b), mul-le-mul-left b (shares-not-above bs))
+-- The shares are not below 2^56 / bytes ..
+shares-not-below : (bs : List ℕ) → All Counts bs → 2 ^ 56 * others bs ≤ total (map share bs) * product bs
+shares-not-below [] a = omega arith
+shares-not-below (b ∷ bs) a =
+    omega (arith, mul-le-mul-right (product bs) (share-is b (a .0 .low) .0), mul-le-mul-left b (shares-not-below bs (a .1)))
 
--- .. and less than 1 below it.
-pub shares-near : (bs : List ℕ) → All Counts bs → 2 ^ 56 * others bs ≤ (total (map share bs) + length bs) * product bs
+-- .. and each less than 1 above it.
+shares-near : (bs : List ℕ) → All Counts bs → total (map share bs) * product bs ≤ 2 ^ 56 * others bs + length bs * product bs
 shares-near [] a = omega arith
 shares-near (b ∷ bs) a =
-    let h : 2 ^ 56 ≤ (share b + 1) * b = omega (arith, lt-div-mul-add {a = 2 ^ 56} (a .0 .low)) in
+    let h : share b * b ≤ 2 ^ 56 + b = omega (arith, share-is b (a .0 .low) .1) in
     omega (arith, mul-le-mul-right (product bs) h, mul-le-mul-left b (shares-near bs (a .1)))
 
--- Each is at least 2^32.
-pub shares-wide : (bs : List ℕ) → All Counts bs → length bs * 2 ^ 32 ≤ total (map share bs)
+shares-wide : (bs : List ℕ) → All Counts bs → length bs * 2 ^ 32 ≤ total (map share bs)
 shares-wide [] a = omega arith
-shares-wide (b ∷ bs) a =
-    let h : 2 ^ 32 ≤ share b = le-div-iff-mul-le {k = b} (a .0 .low) .1 (omega (arith, a .0 .high)) in
-    omega (arith, shares-wide bs (a .1))
+shares-wide (b ∷ bs) a = omega (arith, share-wide b (a .0), shares-wide bs (a .1))
 
--- ---- the quotient, from those three
+shares-narrow : (bs : List ℕ) → All Counts bs → total (map share bs) ≤ length bs * 2 ^ 56
+shares-narrow [] a = omega arith
+shares-narrow (b ∷ bs) a = omega (arith, share-narrow b (a .0 .low), shares-narrow bs (a .1))
 
-module _ (n k p s q h : ℕ) (p-pos : 0 < p) where
-  quotient-low : q * p ≤ n * s → h * s ≤ k * p → h * q ≤ k * n
-  quotient-low a b = le-of-mul-le-mul-right {k = p} (omega (arith, mul-le-mul-left h a, mul-le-mul-left n b)) p-pos
+-- ---- the exact mean
 
-  quotient-high : 0 < n → n * s ≤ (q + k) * p → k * p < (h + 1) * s → k * n < (h + 1) * (q + k)
-  quotient-high n-pos a b =
-      lt-of-mul-lt-mul-left p (omega (arith, mul-le-mul-left (h + 1) a, mul-lt-mul-of-pos-left b n-pos))
+pub others-pos : (bs : List ℕ) → 0 < length bs → All Counts bs → 0 < others bs
+others-pos [] l a = absurd (omega arith)
+others-pos (b ∷ bs) l a = omega (arith, product-pos bs (a .1))
+
+-- It is not above 16,777,216 ..
+mean-of-counts : (bs : List ℕ) → All Counts bs → length bs * product bs ≤ 16777216 * others bs
+mean-of-counts [] a = omega arith
+mean-of-counts (b ∷ bs) a =
+    omega (arith, mul-le-mul-right (product bs) (a .0 .high), mul-le-mul-left b (mean-of-counts bs (a .1)))
+
+-- .. and has a whole part,
+pub whole-part : (bs : List ℕ) → 0 < others bs → WholePart bs (length bs * product bs / others bs)
+whole-part bs pos = record {
+  not-above = div-mul-le-self (length bs * product bs) (others bs);
+  next-above = omega (arith, lt-div-mul-add {a = length bs * product bs} pos);
+}
+
+-- the greatest whole number that is not above it.
+pub whole-part-greatest : (bs : List ℕ) (h x : ℕ) → WholePart bs h → NotAbove x bs → x ≤ h
+whole-part-greatest bs h x w n =
+    let l : x < h + 1 = lt-of-mul-lt-mul-right (others bs) (omega (arith, n, w .next-above)) in
+    omega arith
+
+-- A number that is not above the exact mean, while what is one less than such a number is not above it, is the whole part or one less.
+pub one-less-at-most :
+    (bs : List ℕ) (h f : ℕ) → WholePart bs h → NotAbove f bs → ((g : ℕ) → NotAbove (g + 1) bs → g ≤ f) → (f ≡ h) ⊎ (f + 1 ≡ h)
+one-less-at-most bs h f w n near =
+    ⊎-elim (λ t. inl (omega (arith, leb→le h f t, whole-part-greatest bs h f w n)))
+    (λ t.
+    let l = nleb→lt h f t in
+    let e : h - 1 + 1 ≡ h = omega arith in
+    inr (omega (arith, near (h - 1) (rw e (w .not-above)))))
+    (test (leb h f))
+
+-- ---- the quotient, from those
+
+module _ (n k p s q g : ℕ) where
+  quotient-low : 0 < n → n * s ≤ q * p → g * q ≤ k * n → g * s ≤ k * p
+  quotient-low pos a b = le-of-mul-le-mul-right {k = n} (omega (arith, mul-le-mul-left g a, mul-le-mul-right p b)) pos
+
+  quotient-high : 0 < p → q * p ≤ n * s + k * p → (g + 1) * s ≤ k * p → g * (k * p) ≤ n * s → g * q ≤ k * n
+  quotient-high pos a b c = le-of-mul-le-mul-right {k = p} (omega (arith, mul-le-mul-left g a, mul-le-mul-left n b)) pos
 
 module _ (bs : List ℕ) (some : 0 < length bs) (a : All Counts bs) where
   pub total-pos : 0 < total (map share bs)
@@ -65,33 +119,27 @@ module _ (bs : List ℕ) (some : 0 < length bs) (a : All Counts bs) where
       let d : meanOf bs < 16777217 = div-lt-iff-lt-mul {k = q} total-pos .1 (omega (arith, shares-wide bs a, total-pos)) in
       omega arith
 
-  module _ (h : ℕ) (w : WholePart bs h) where
-    pub mean-not-below : h ≤ meanOf bs
-    mean-not-below =
-        le-div-iff-mul-le {k = total (map share bs)} total-pos .1
-        (quotient-low (2 ^ 56) (length bs) (product bs) (others bs) (total (map share bs)) h (product-pos bs a) (shares-not-above bs) (w .not-above))
+  pub mean-some : 1 ≤ meanOf bs
+  mean-some = le-div-iff-mul-le {k = total (map share bs)} total-pos .1 (omega (arith, shares-narrow bs a))
 
-    pub mean-near : meanOf bs ≤ h + 1
-    mean-near =
-        let q : ℕ = total (map share bs) in
-        let far = quotient-high (2 ^ 56) (length bs) (product bs) (others bs) q h (product-pos bs a) (omega arith) (shares-near bs a) (w .next-above) in
-        let small : h + 1 ≤ 2 ^ 32 = omega (arith, mean-not-below, mean-high) in
-        let spare = mul-le-mul-right (length bs) small in
-        let d : meanOf bs < h + 2 = div-lt-iff-lt-mul {k = q} total-pos .1 (omega (arith, far, spare, shares-wide bs a)) in
-        omega arith
+  -- "and never more".
+  pub mean-not-above : NotAbove (meanOf bs) bs
+  mean-not-above =
+      quotient-low (2 ^ 56) (length bs) (product bs) (others bs) (total (map share bs)) (meanOf bs) (omega arith) (shares-not-below bs a)
+      (div-mul-le-self (length bs * 2 ^ 56) (total (map share bs)))
 
--- ---- the whole part
+  -- "or one less": one less than what is not above the exact mean is not above the forecast.
+  pub mean-near : (g : ℕ) → NotAbove (g + 1) bs → g ≤ meanOf bs
+  mean-near g n =
+      let q : ℕ = total (map share bs) in
+      let wide = mean-of-counts bs a in
+      let low : g + 1 ≤ 16777216 = le-of-mul-le-mul-right {k = others bs} (omega (arith, n, wide)) (others-pos bs some a) in
+      let small : g ≤ 16777216 = omega arith in
+      let spare : g * (length bs * product bs) ≤ 2 ^ 56 * others bs = omega (arith, mul-le-mul-right (length bs * product bs) small, wide) in
+      le-div-iff-mul-le {k = q} total-pos .1
+      (quotient-high (2 ^ 56) (length bs) (product bs) (others bs) q g (product-pos bs a) (shares-near bs a) n spare)
 
--- The exact mean has a whole part.
-pub whole-part : (bs : List ℕ) → 0 < others bs → WholePart bs (length bs * product bs / others bs)
-whole-part bs pos = record {
-  not-above = div-mul-le-self (length bs * product bs) (others bs);
-  next-above = omega (arith, lt-div-mul-add {a = length bs * product bs} pos);
-}
-
-pub others-pos : (bs : List ℕ) → 0 < length bs → All Counts bs → 0 < others bs
-others-pos [] l a = absurd (omega arith)
-others-pos (b ∷ bs) l a = omega (arith, product-pos bs (a .1))
+-- ---- Σ (P / bytes)
 
 -- c × Σ (P / bytes), with the quotients as they stand.
 quotients : (c : ℕ) (bs : List ℕ) → All Counts bs → total (map (λ b. c * product bs / b) bs) ≡ c * others bs
@@ -130,6 +178,3 @@ counts (x ∷ l) a t =
     (λ v. absurd (T-not (isZero (x .bytes)) (u .0) (eqb-iff (x .bytes) 0 .1 (omega (arith, nleb→lt 1 (x .bytes) v)))))
     (test (leb 1 (x .bytes))) in
     (record { low = low; high = a .0 .bytes-high }, counts l (a .1) (u .1))
-
-pub at-most-one-more : (h f : ℕ) → h ≤ f → f ≤ h + 1 → (f ≡ h) ⊎ (f ≡ h + 1)
-at-most-one-more h f a b = ⊎-elim (λ t. inl (omega (arith, leb→le f h t))) (λ t. inr (omega (arith, nleb→lt f h t))) (test (leb f h))
