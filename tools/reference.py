@@ -1,5 +1,5 @@
-"""Documents 01 and 02 once more, in plain Python and independent of the proved crates: job and plan files, the seven rules, the plan, the report.
-`cases.py` computes from it what the trials programs have to print."""
+"""Documents 01 and 02 once more, in plain Python and independent of the proved crates: job and plan files, the seven rules, the plan, the
+report, link traces. `cases.py` and `traces.py` compute from it what the trials programs have to print."""
 from collections import namedtuple
 
 Job = namedtuple("Job", "chunks span delay limit sizes forecast")
@@ -222,3 +222,27 @@ def report(job):
     switch, film = sum(abs(a - b) for a, b in zip(shown, shown[1:])), job.chunks * job.span
     lines += [f"switch {switch}", f"rate {switch // film} {switch % film}"]
     return "".join(line + "\n" for line in lines)
+
+
+def read_trace(data, slots):
+    """Document 02, request 4: the forecast that a link trace gives."""
+    if not 1 <= slots <= 3600:
+        raise Refused(7)
+    *lines, rest = data.split(b"\n")
+    if rest or any(not 1 <= len(line) <= 7 or line.strip(b"0123456789") for line in lines):
+        raise Refused(14)
+    times = [int(line) for line in lines]
+    if times != sorted(times):
+        raise Refused(14)
+    forecast = [1500 * sum((j - 1) * 1000 <= t < j * 1000 for t in times) for j in range(1, slots + 1)]
+    if max(forecast) > 1 << 24:
+        raise Refused(15)
+    return forecast
+
+
+def write_trace(forecast):
+    if not 1 <= len(forecast) <= 3600:
+        raise Refused(7)
+    if any(b > 1 << 24 or b % 1500 for b in forecast):
+        raise Refused(15)
+    return b"".join(b"%d\n" % (j * 1000) * (b // 1500) for j, b in enumerate(forecast))

@@ -1,5 +1,5 @@
 -- Meaning. Text as bytes: words, decimal numbers and lines: document 01, "it prints, each line ended by a line feed".
-use Prim.Native.Nat.{ℕ, zero, suc, _+_, _/_, _%_}
+use Prim.Native.Nat.{ℕ, zero, suc, _+_, _*_, _-_, _/_, _%_}
 use Prim.Native.Char.{code}
 use Prim.Native.String.{String, [] as none, _∷_ as _then_}
 use mathlib.Core.Bool.{cond}
@@ -19,6 +19,11 @@ digitsIn (suc places) n = cond (ltb n 10) ((48 + n) ∷ []) (digitsIn places (n 
 -- The decimal digits of n, without leading zeros: no number has more digits than n + 1.
 unfoldable pub digits : ℕ → List ℕ
 digits n = digitsIn (suc n) n
+
+-- The number that a text of digits says, after the digits read before it.
+abbrev pub readOn : ℕ → List ℕ → ℕ
+readOn n [] = n
+readOn n (d ∷ ds) = readOn (n * 10 + (d - 48)) ds
 
 -- Each word or number after a space, then a line feed.
 abbrev pub ended : List (List ℕ) → List ℕ

@@ -1,5 +1,7 @@
-// The planner for callers in C or Rust: a slice is a pointer and a length. The answer is the number of rows, or 65,536 and the refusal's
-// number more; an answer of the planner is never that large, since a plan has at most 5,599 rows.
+// The planner, and the reader and writer of link traces, for callers in C or Rust: a slice is a pointer and a length. The planner answers the
+// number of rows, or 65,536 and the refusal's number more; no plan has that many rows, since it has at most 5,599.
+mod traces;
+
 use job::Programme;
 use planner::Answer;
 ghost use mathlib.Core.Path.{_≡_};

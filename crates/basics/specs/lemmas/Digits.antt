@@ -9,7 +9,7 @@ use lib.ListN.{length, getD, length-append, List·getD-append}
 use lib.Dec.{ltb, ltb→lt, nltb→le}
 use borrow.Author.Tests.{lt-ltb, le-ltb}
 use Rattle.basics.specs.lemmas.Tests.{test}
-use Rattle.basics.specs.Text.{digitsIn, digits}
+use Rattle.basics.specs.Text.{digitsIn, digits, readOn}
 
 -- ---- digits one by one
 
@@ -69,12 +69,7 @@ digits-few k n h = in-few (suc n) k n h
 
 -- ---- reading back
 
--- The number that a text of digits says, after the digits read before it.
-abbrev pub readOn : ℕ → List ℕ → ℕ
-readOn n [] = n
-readOn n (d ∷ ds) = readOn (n * 10 + (d - 48)) ds
-
-read-snoc : (n : ℕ) (ds : List ℕ) (d : ℕ) → readOn n (ds ++ (d ∷ [])) ≡ readOn n ds * 10 + (d - 48)
+pub read-snoc : (n : ℕ) (ds : List ℕ) (d : ℕ) → readOn n (ds ++ (d ∷ [])) ≡ readOn n ds * 10 + (d - 48)
 read-snoc n [] d = refl
 read-snoc n (x ∷ ds) d = read-snoc (n * 10 + (x - 48)) ds d
 

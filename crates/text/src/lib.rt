@@ -1,0 +1,19 @@
+// Numbers as text at a place of a lent buffer, for the crates that write text. Internal: what is written has to fit.
+ghost use Prim.Native.Nat.{_+_, _≤_};
+ghost use lib.ListN.{length};
+ghost use Rattle.basics.specs.Text.{digits};
+ghost use Rattle.text.specs.lemmas.Places.{Put};
+
+// The digits of n go to out at a place. The place after them.
+pub fn put_number(out: &mut [u8], at: usize, n: u64) -> usize
+    requires { ⌜ at + length (digits n) ≤ length (now out) ⌝ }
+    ensures { λ r. ⌜ Put (now (out .entry)) at (digits n) (now (out .exit)) r ⌝ }
+{
+    if n < 10 {
+        out[at] = 48 + (n as u8);
+        return at + 1;
+    }
+    let next = put_number(out, at, n / 10);
+    out[next] = 48 + ((n % 10) as u8);
+    next + 1
+}
