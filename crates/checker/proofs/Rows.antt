@@ -1,7 +1,7 @@
 -- Lemmas. The pass over the rows: tables after one row more, rules 1 and 5 so far. Assumes nothing.
 use Prim.Native.Nat.{ℕ, zero, suc, _+_, _*_, _-_, _≤_, _<_, min}
 use mathlib.Core.Path.{_≡_, refl, sym, ap, _∙_}
-use mathlib.Core.Bool.{Bool, true, false, cond, _&&_}
+use mathlib.Core.Bool.{Bool, true, false, cond, _&&_, and-false}
 use mathlib.Core.List.{List, [], _∷_, _++_}
 use mathlib.Core.Logic.{⊎-elim}
 use native.Mathlib.Omega.{arith}
@@ -11,17 +11,13 @@ use lib.Seq.{getD-set-same, getD-set-other}
 use lib.Dec.{T, eqb}
 use borrow.Author.Tests.{eqb-true, eqb-false}
 use Rattle.basics.specs.Tests.{all}
-use Rattle.basics.specs.lemmas.Tests.{last, true-T, tests, and-assoc, and-true, and-false}
+use Rattle.basics.specs.lemmas.Tests.{last, true-T, tests, all-snoc}
 use Rattle.basics.specs.Lists.{upTo}
 use Rattle.job.specs.declared.Programme.{Programme}
 use Rattle.fetch.specs.Rows.{Row, rowAt, rowsOf, bytesIf, bytesInSlot, bytesOfLayer}
 use Rattle.checker.specs.lemmas.Tables.{cap, inRange, onTime, firstOf, Tallied, Passed}
 
 -- ---- one row more
-
-all-snoc : (p : Row → Bool) (l : List Row) (x : Row) → all p (l ++ (x ∷ [])) ≡ all p l && p x
-all-snoc p [] x = and-true (p x)
-all-snoc p (y ∷ l) x = ap (λ (b : Bool). p y && b) (all-snoc p l x) ∙ and-assoc (p y) (all p l) (p x)
 
 bytes-snoc : (p : Row → Bool) (l : List Row) (x : Row) → bytesIf p (l ++ (x ∷ [])) ≡ bytesIf p l + cond (p x) (x .bytes) 0
 bytes-snoc p [] x = omega arith

@@ -17,7 +17,7 @@ ghost use Rattle.fetch.specs.Rules.{WithinForecast};
 ghost use Rattle.basics.specs.Text.{ascii, digits, line, text};
 ghost use Rattle.report.specs.Report.{reportOf};
 ghost use Rattle.report.specs.Answer.{planReport, Answered, Reported};
-ghost use Rattle.report.specs.lemmas.Places.{Put};
+ghost use Rattle.text.specs.lemmas.Places.{Put};
 ghost use Rattle.report.specs.lemmas.Tables.{Listed, chunkLineBy, countBy, linesBy, rowsIn};
 
 // The number of bytes written, or the number of a refusal.

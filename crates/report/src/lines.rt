@@ -3,22 +3,8 @@ ghost use mathlib.Core.List.{[], _∷_, _++_};
 ghost use Prim.Native.Nat.{_+_, _/_, _%_, _≤_};
 ghost use lib.ListN.{length};
 ghost use Rattle.basics.specs.Text.{ascii, digits, line};
-ghost use Rattle.report.specs.lemmas.Places.{Put};
+ghost use Rattle.text.specs.lemmas.Places.{Put};
 ghost use Rattle.report.specs.lemmas.Tables.{switchLines};
-
-// The digits of n go to out at a place. The place after them.
-fn put_number(out: &mut [u8], at: usize, n: u64) -> usize
-    requires { ⌜ at + length (digits n) ≤ length (now out) ⌝ }
-    ensures { λ r. ⌜ Put (now (out .entry)) at (digits n) (now (out .exit)) r ⌝ }
-{
-    if n < 10 {
-        out[at] = 48 + (n as u8);
-        return at + 1;
-    }
-    let next = put_number(out, at, n / 10);
-    out[next] = 48 + ((n % 10) as u8);
-    next + 1
-}
 
 // A word, and a number after it.
 fn put_field(out: &mut [u8], at: usize, word: &[u8], n: u64) -> usize
@@ -27,7 +13,7 @@ fn put_field(out: &mut [u8], at: usize, word: &[u8], n: u64) -> usize
 {
     records::put(out, at, word);
     let next = at + word.len();
-    put_number(out, next, n)
+    text::put_number(out, next, n)
 }
 
 // A number after a space.
@@ -61,7 +47,7 @@ pub(crate) fn chunk_line(out: &mut [u8], at: usize, i: u64, layers: u64, bytes: 
     requires { ⌜ at + length (line (digits i) (digits layers ∷ digits bytes ∷ [])) ≤ length (now out) ⌝ }
     ensures { λ r. ⌜ Put (now (out .entry)) at (line (digits i) (digits layers ∷ digits bytes ∷ [])) (now (out .exit)) r ⌝ }
 {
-    let number = put_number(out, at, i);
+    let number = text::put_number(out, at, i);
     let carried = put_next(out, number, layers);
     let end = put_next(out, carried, bytes);
     put_end(out, end)

@@ -1,7 +1,7 @@
 -- Lemmas. What tests over numbers, ranges and lists say, and laws of theirs. Assumes nothing.
 use Prim.Native.Nat.{ℕ, zero, suc, _+_, _≤_, _<_}
-use mathlib.Core.Path.{_≡_, refl, ap, _∙_}
-use mathlib.Core.Bool.{Bool, true, false, not, _&&_, _||_, cond}
+use mathlib.Core.Path.{_≡_, refl, sym, ap, _∙_}
+use mathlib.Core.Bool.{Bool, true, false, not, _&&_, _||_, cond, and-assoc, and-true, and-false}
 use mathlib.Core.List.{List, [], _∷_, _++_}
 use mathlib.Core.Logic.{_⊎_, inl, inr, ⊎-elim, _↔_}
 use native.Mathlib.Omega.{arith}
@@ -66,18 +66,6 @@ T-and-iff a b = (and-T a b, λ p. T-and a b (p .0) (p .1))
 pub T-or-iff : (a b : Bool) → T (a || b) ↔ (T a ⊎ T b)
 T-or-iff true b = (λ t. inl tt, λ s. tt)
 T-or-iff false b = (λ t. inr t, ⊎-elim (λ x. absurd x) (λ x. x))
-
-pub and-assoc : (a b c : Bool) → a && (b && c) ≡ (a && b) && c
-and-assoc true b c = refl
-and-assoc false b c = refl
-
-pub and-true : (a : Bool) → a && true ≡ a
-and-true true = refl
-and-true false = refl
-
-pub and-false : (a : Bool) → a && false ≡ false
-and-false true = refl
-and-false false = refl
 
 pub leb-iff : (a b : ℕ) → T (leb a b) ↔ (a ≤ b)
 leb-iff a b = (leb→le a b, le→leb a b)
@@ -164,6 +152,10 @@ module _ {A : Type 0} where
 
   pub all-iff : (p : A → Bool) (P : A → Type 0) → ((x : A) → T (p x) ↔ P x) → (l : List A) → T (all p l) ↔ All P l
   all-iff p P f l = (all-All p P (λ x. f x .0) l, All-all p P (λ x. f x .1) l)
+
+  pub all-snoc : (p : A → Bool) (l : List A) (x : A) → all p (l ++ (x ∷ [])) ≡ all p l && p x
+  all-snoc p [] x = and-true (p x)
+  all-snoc p (y ∷ l) x = ap (λ (b : Bool). p y && b) (all-snoc p l x) ∙ sym (and-assoc (p y) (all p l) (p x))
 
   pub at-row : (P : A → Type 0) {x : A} {l : List A} → In x l → All P l → P x
   at-row P here a = a .0

@@ -6,7 +6,8 @@ use mathlib.Core.List.{List}
 use native.Mathlib.Omega.{arith}
 use denote.Ref.{now}
 use Rattle.report.specs.lemmas.Tables.{chunkLineBy}
-use Rattle.report.specs.lemmas.Places.{Putting, put-length, putting-start, putting-room, putting-more, putting-end}
+use Rattle.text.specs.lemmas.Places.{put-length}
+use Rattle.text.specs.lemmas.Texts.{Putting, putting-start, putting-room, putting-more, putting-end}
 
 abbrev piece : List ℕ → List ℕ → ℕ → ℕ → List ℕ
 piece sizes table depth k = chunkLineBy sizes table depth (k + 1)
@@ -20,7 +21,7 @@ abbrev μ-loop : tie.MeasureT-loop
 loop-holds : tie.Need-loop-holds Inv-loop μ-loop
 loop-holds c =
     let a = c .before .before .args in
-    putting-start (piece (now (a .sizes)) (now (a .table)) (a .depth)) (a .count) (now (a .out)) (a .at) (omega (arith, c .before .before .pre))
+    putting-start (piece (now (a .sizes)) (now (a .table)) (a .depth)) (a .count) (now (a .out)) (a .at)
 
 add-k : tie.Need-add-k Inv-loop μ-loop
 add-k c = omega arith
@@ -47,9 +48,7 @@ loop-again c =
     putting-more (piece (now (a .sizes)) (now (a .table)) (a .depth)) (a .count) (now (a .out)) (a .at) (c .before .before .before .before .before .before .before .before .before .pre .2) (c .before .before .before .before .before .loop-test .taken) (c .before .before .before .before .before .before .loop .inv) p
 
 same-length : tie.Need-same-length Inv-loop μ-loop
-same-length c =
-    let a = c .before .before .before .before .args in
-    put-length (c .before .before .before .before .pre .2) (putting-end (piece (now (a .sizes)) (now (a .table)) (a .depth)) (a .count) (now (a .out)) (a .at) (c .loop-test .left) (c .before .loop .inv))
+same-length c = put-length (c .before .loop .inv .put)
 
 returns : tie.Need-returns Inv-loop μ-loop
 returns c =

@@ -7,7 +7,8 @@ use native.Mathlib.Omega.{arith}
 use denote.Ref.{now}
 use Rattle.basics.specs.Text.{digits}
 use Rattle.report.specs.lemmas.Tables.{countBy}
-use Rattle.report.specs.lemmas.Places.{Putting, put-length, putting-start, putting-room, putting-more, putting-end}
+use Rattle.text.specs.lemmas.Places.{put-length}
+use Rattle.text.specs.lemmas.Texts.{Putting, putting-start, putting-room, putting-more, putting-end}
 
 abbrev piece : List ℕ → List ℕ → ℕ → ℕ → List ℕ
 piece sizes table count n = 32 ∷ digits (countBy sizes table count n)
@@ -21,7 +22,7 @@ abbrev μ-loop : tie.MeasureT-loop
 loop-holds : tie.Need-loop-holds Inv-loop μ-loop
 loop-holds c =
     let a = c .before .before .args in
-    putting-start (piece (now (a .sizes)) (now (a .table)) (a .count)) (a .depth) (now (a .out)) (a .at) (omega (arith, c .before .before .pre))
+    putting-start (piece (now (a .sizes)) (now (a .table)) (a .count)) (a .depth) (now (a .out)) (a .at)
 
 layer-count-requires : tie.Need-layer-count-requires Inv-loop μ-loop
 layer-count-requires c κs = omega arith
@@ -45,9 +46,7 @@ loop-again c =
     putting-more (piece (now (a .sizes)) (now (a .table)) (a .count)) (a .depth) (now (a .out)) (a .at) (c .before .before .before .before .before .before .before .before .before .pre .2) (c .before .before .before .before .before .loop-test .taken) (c .before .before .before .before .before .before .loop .inv) p
 
 same-length : tie.Need-same-length Inv-loop μ-loop
-same-length c =
-    let a = c .before .before .before .before .args in
-    put-length (c .before .before .before .before .pre .2) (putting-end (piece (now (a .sizes)) (now (a .table)) (a .count)) (a .depth) (now (a .out)) (a .at) (c .loop-test .left) (c .before .loop .inv))
+same-length c = put-length (c .before .loop .inv .put)
 
 returns : tie.Need-returns Inv-loop μ-loop
 returns c =

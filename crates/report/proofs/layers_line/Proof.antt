@@ -3,13 +3,15 @@ use borrow.Author.Needs.{needs}
 use Rattle.report.proofs.layers_line.Statement.{statement}
 use Rattle.report.proofs.layers_line.Tie as tie
 use Prim.Native.Nat.{ℕ, _+_, _≤_}
+use mathlib.Core.Path.{refl}
 use mathlib.Core.List.{List, [], _∷_, _++_}
 use lib.ListN.{length}
 use denote.Ref.{now}
 use Rattle.basics.specs.Lists.{upTo}
 use Rattle.basics.specs.Text.{ascii, digits, text, line}
 use Rattle.report.specs.lemmas.Tables.{countBy}
-use Rattle.report.specs.lemmas.Places.{put-room, put-then, put-written, room-first, ended-text}
+use Rattle.text.specs.lemmas.Places.{Put, put-room, put-then, room-first}
+use Rattle.text.specs.lemmas.Texts.{ended-text}
 
 abbrev counts : List ℕ → List ℕ → ℕ → ℕ → List ℕ
 counts sizes table count depth = text (upTo (λ n. 32 ∷ digits (countBy sizes table count n)) depth)
@@ -35,7 +37,7 @@ layer-counts-requires c κs =
     let a = c .before .before .before .before .before .before .before .before .args in
     let t = counts (now (a .sizes)) (now (a .table)) (a .count) (a .depth) in
     let h = room (now (a .sizes)) (now (a .table)) (now (a .out)) (a .count) (a .depth) (a .at) (c .before .before .before .before .before .before .before .before .pre .2) in
-    let p = put-written (now (a .out)) (a .at) (ascii "layers") (room-first (a .at) (ascii "layers") (t ++ end) h) (c .before .before .before .put .ensures) in
+    let p : Put (now (a .out)) (a .at) (ascii "layers") _ (a .at + 6) = record { buffer = c .before .before .before .put .ensures; place = refl } in
     (c .before .before .before .before .before .before .before .before .pre .0, c .before .before .before .before .before .before .before .before .pre .1, room-first (a .at + 6) t end (put-room (ascii "layers") (t ++ end) h p))
 
 put-end-requires : tie.Need-put-end-requires
@@ -43,7 +45,7 @@ put-end-requires c κs =
     let a = c .before .before .before .before .before .before .before .before .before .before .before .before .args in
     let t = counts (now (a .sizes)) (now (a .table)) (a .count) (a .depth) in
     let h = room (now (a .sizes)) (now (a .table)) (now (a .out)) (a .count) (a .depth) (a .at) (c .before .before .before .before .before .before .before .before .before .before .before .before .pre .2) in
-    let p = put-written (now (a .out)) (a .at) (ascii "layers") (room-first (a .at) (ascii "layers") (t ++ end) h) (c .before .before .before .before .before .before .before .put .ensures) in
+    let p : Put (now (a .out)) (a .at) (ascii "layers") _ (a .at + 6) = record { buffer = c .before .before .before .before .before .before .before .put .ensures; place = refl } in
     put-room t end (put-room (ascii "layers") (t ++ end) h p) (c .before .before .before .layer-counts .ensures)
 
 same-length : tie.Need-same-length
@@ -54,7 +56,7 @@ returns c =
     let a = c .before .before .before .before .before .before .before .before .before .before .before .before .before .before .before .args in
     let t = counts (now (a .sizes)) (now (a .table)) (a .count) (a .depth) in
     let h = room (now (a .sizes)) (now (a .table)) (now (a .out)) (a .count) (a .depth) (a .at) (c .before .before .before .before .before .before .before .before .before .before .before .before .before .before .before .pre .2) in
-    let p = put-written (now (a .out)) (a .at) (ascii "layers") (room-first (a .at) (ascii "layers") (t ++ end) h) (c .before .before .before .before .before .before .before .before .before .before .put .ensures) in
+    let p : Put (now (a .out)) (a .at) (ascii "layers") _ (a .at + 6) = record { buffer = c .before .before .before .before .before .before .before .before .before .before .put .ensures; place = refl } in
     rw (ended-text (λ n. digits (countBy (now (a .sizes)) (now (a .table)) (a .count) n)) (a .depth))
     (put-then (ascii "layers") (t ++ end) h p (put-then t end (put-room (ascii "layers") (t ++ end) h p) (c .before .before .before .before .before .before .layer-counts .ensures) (c .before .before .put-end .ensures)))
 

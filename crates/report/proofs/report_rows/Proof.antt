@@ -13,7 +13,7 @@ use Rattle.fetch.specs.Rules.{WithinForecast}
 use Rattle.report.specs.Report.{reportOf}
 use Rattle.report.specs.lemmas.Tables.{Listed}
 use Rattle.report.specs.Theorems.{report-fits}
-use Rattle.report.specs.lemmas.Places.{Put, put-front}
+use Rattle.text.specs.lemmas.Places.{Put, put-front}
 
 -- The text fits the local buffer, and stands at its front.
 module _ {j : Job} {depth : ℕ} {ss cs ls bs : List ℕ} (l : Listed j depth ss cs ls bs) (w : WithinForecast j (rowsOf ss cs ls bs)) where
@@ -23,7 +23,7 @@ module _ {j : Job} {depth : ℕ} {ss cs ls bs : List ℕ} (l : Listed j depth ss
   front :
       {out : List ℕ} {next : ℕ} → Put (replicate 7633 0) 0 (reportOf j (rowsOf ss cs ls bs)) out next →
       (next ≤ length out) × (take next out ≡ reportOf j (rowsOf ss cs ls bs))
-  front {out} {next} p = put-front {old = replicate 7633 0} {out = out} {t = reportOf j (rowsOf ss cs ls bs)} {next = next} p fits
+  front {out} {next} p = put-front {old = replicate 7633 0} {out = out} {t = reportOf j (rowsOf ss cs ls bs)} {next = next} fits p
 
 slice-aggregate-put-report : tie.Need-slice-aggregate-put-report
 slice-aggregate-put-report c = search needs

@@ -10,7 +10,7 @@ use Rattle.job.specs.Job.{Job, Accepted, chunks, layers, size, forecast, lastSl
 use Rattle.fetch.specs.Rows.{Row, bytesOfLayer, carried, layerCount}
 use Rattle.basics.specs.Text.{ascii, digits, ended, line, text}
 use Rattle.basics.specs.lemmas.Digits.{digits-few}
-use Rattle.report.specs.lemmas.Places.{text-most, ended-text}
+use Rattle.text.specs.lemmas.Texts.{text-most, ended-text}
 use Rattle.basics.specs.lemmas.Ranges.{sum-most, pre-most, cond-most}
 use Rattle.report.specs.lemmas.Bounds.{equal-most, all-most}
 use Rattle.report.specs.lemmas.Switches.{differences-most}

@@ -1,11 +1,11 @@
--- Lemmas. Text put at a place of a lent buffer, and texts one after the other. Assumes nothing.
+-- Lemmas. Text put at a place of a lent buffer, and another behind it. Assumes nothing.
 use Prim.Native.Nat.{ℕ, _+_, _≤_, _<_}
 use mathlib.Core.Path.{_≡_, refl, sym, ap, _∙_}
 use mathlib.Core.List.{List, [], _∷_, _++_, append-assoc}
 use native.Mathlib.Omega.{arith}
 use native.Mathlib.Numerals.{add-one}
 use lib.ListN.{length, take, drop, set, length-append}
-use lib.Seq.{set-split}
+use lib.Seq.{set-split, take-at}
 use Rattle.records.specs.Fields.{written}
 use Rattle.records.specs.lemmas.Puts.{length-written, written-append, written-fits, written-none, written-whole}
 
@@ -24,6 +24,11 @@ put-between {old} {out} {t} {at} h p = p .buffer ∙ written-fits old at t h ∙
 -- A text at the front of a buffer.
 pub put-whole : {old out t : List ℕ} {next : ℕ} → length t ≤ length old → Put old 0 t out next → out ≡ t ++ drop (length t) old
 put-whole {old} {out} {t} h p = p .buffer ∙ written-whole old t h
+
+-- It is what stands before the place after it.
+pub put-front : {old out t : List ℕ} {next : ℕ} → length t ≤ length old → Put old 0 t out next → (next ≤ length out) × (take next out ≡ t)
+put-front {old} {out} {t} {next} h p =
+    (omega (arith, put-length p, p .place), rw (put-whole h p) (take-at t (drop (length t) old) next (omega (arith, p .place))))
 
 -- ---- nothing, a byte, one text after another
 

@@ -1,7 +1,7 @@
--- Lemmas. Tests and lists by index, with one element more. Assumes nothing.
+-- Lemmas. Lists by index, and one element again and again. Assumes nothing.
 use Prim.Native.Nat.{ℕ, zero, suc, _≤_}
 use mathlib.Core.Path.{_≡_, refl, sym, ap, _∙_}
-use mathlib.Core.Bool.{Bool, _&&_, and-assoc, and-true}
+use mathlib.Core.Bool.{Bool}
 use mathlib.Core.List.{List, [], _∷_, _++_, map}
 use mathlib.Core.Logic.{⊎-elim}
 use native.Mathlib.Omega.{arith}
@@ -11,17 +11,9 @@ use Rattle.basics.specs.Lists.{upTo}
 use Rattle.basics.specs.lemmas.Lent.{map-snoc}
 use Rattle.basics.specs.lemmas.Lists.{length-upTo}
 use Rattle.basics.specs.Tests.{All, all}
-use Rattle.basics.specs.lemmas.Tests.{last}
+use Rattle.basics.specs.lemmas.Tests.{last, all-snoc}
 
 module _ {A : Type 0} where
-  pub all-snoc : (p : A → Bool) (l : List A) (x : A) → all p (l ++ (x ∷ [])) ≡ all p l && p x
-  all-snoc p [] x = and-true (p x)
-  all-snoc p (y ∷ l) x = ap (λ (b : Bool). p y && b) (all-snoc p l x) ∙ sym (and-assoc (p y) (all p l) (p x))
-
-  pub All-snoc : (P : A → Type 0) (l : List A) (x : A) → All P l → P x → All P (l ++ (x ∷ []))
-  All-snoc P [] x a p = (p, tt)
-  All-snoc P (y ∷ l) x a p = (a .0, All-snoc P l x (a .1) p)
-
   pub All-replicate : (P : A → Type 0) (n : ℕ) (x : A) → P x → All P (replicate n x)
   All-replicate P zero x p = tt
   All-replicate P (suc n) x p = (p, All-replicate P n x p)

@@ -11,11 +11,10 @@ use lib.Dec.{T-not, leb, eqb, eqb→eq, eqb-refl}
 use Rattle.basics.specs.Tests.{All, all}
 use Rattle.basics.specs.Text.{readOn}
 use Rattle.basics.specs.lemmas.Digits.{read-snoc}
-use Rattle.basics.specs.lemmas.Tests.{by-cond, not-T-false, test}
+use Rattle.basics.specs.lemmas.Tests.{by-cond, not-T-false, test, all-append, all-snoc}
 use Rattle.job.specs.Refusal.{within}
 use Rattle.trace.specs.Trace.{Found, found, front, line, notBelow, time}
 use Rattle.trace.specs.lemmas.Lines.{found-line}
-use Rattle.trace.specs.lemmas.Lists.{All-snoc, all-snoc}
 
 -- ---- one pass
 
@@ -85,7 +84,7 @@ scan-agrees (b ∷ bs) l t a =
     (λ u.
     let k : List ℕ = l ++ (b ∷ []) in
     let ne : b ≡ 10 → ⊥ = λ e. T-not (eqb b 10) u (rw e (eqb-refl 10)) in
-    let r = scan-agrees bs k t (All-snoc (λ b. b ≡ 10 → ⊥) l b a ne) in
+    let r = scan-agrees bs k t (all-append (λ b. b ≡ 10 → ⊥) l (b ∷ []) a (ne, tt)) in
     let g : k ++ bs ≡ l ++ (b ∷ bs) = append-assoc l (b ∷ []) bs in
     let n : length k ≡ length l + 1 = length-append l (b ∷ []) in
     let s : scan (length k) (readOn 0 k) (all (within 48 57) k) t bs ≡ scan (length l + 1) (readOn 0 l * 10 + (b - 48)) (all (within 48 57) l && within 48 57 b) t bs =

@@ -6,7 +6,7 @@ use mathlib.Core.List.{List, [], _∷_}
 use native.Mathlib.Omega.{arith}
 use Prim.Native.Nat.{ℕ, _/_, _%_}
 use Rattle.basics.specs.Text.{ascii, digits, line}
-use Rattle.report.specs.lemmas.Places.{put-room, put-then, room-first}
+use Rattle.text.specs.lemmas.Places.{put-room, put-then, room-first}
 
 abbrev one : ℕ → List ℕ
 one switch = line (ascii "switch") (digits switch ∷ [])
