@@ -1,4 +1,5 @@
-// Job files: refusals 5, 6, 7, 11 and 1, and the order of those that compete. Each trial says how much of its slices and buffers it hands over.
+// Job files: refusals 1, 5, 6, 7 and 11, and the order of those that compete. Each trial says how much of its slices and buffers it hands
+// over.
 use crate::print::line;
 use crate::print::pair;
 use crate::print::refused;

@@ -1,4 +1,4 @@
-// Plan files: refusals 7, 8, 11, 5 and 1, and the order of those that compete.
+// Plan files: refusals 1, 5, 7, 8 and 11, and the order of those that compete.
 use crate::print::line;
 use crate::print::pair;
 use crate::print::refused;
