@@ -1,5 +1,6 @@
-"""Writes the case files of the programs `trials` and `report_trials` (crates/NAME/data) and what they have to print (crates/NAME/stdout):
-for the case files from `reference.py`, for the direct calls from `expected_calls.txt` and `ROOMS`, which are written by hand.
+"""Writes the case files of the programs `file_trials`, `trials` and `report_trials` (crates/NAME/data) and what they and `room_trials` have
+to print (crates/NAME/stdout): for the case files from `reference.py`, for the direct calls from `expected_calls.txt`, `expected_rooms.txt`,
+`LARGE` and `ROOMS`, which are written by hand.
 Run it at the root of the repository after changing a case: python3 tools/cases.py"""
 import os
 import shutil
@@ -138,6 +139,19 @@ PLANS = [
 ]
 
 
+# Plan files of 8 chunks and 5,954 rows, of 6 and 5,954, of 6 and 5,955, each written and what was written read; then `TOO_LONG`.
+LARGE = """\
+written 65536
+rows 5954
+written 65526
+rows 5954
+refused 9
+refused 1
+q00 refused 9
+"""
+TOO_LONG = b"".join(kp(i, 255) for i in range(1, 7)) + ft(65535, 1, 7, 0xFFFFFFFF) * 5955 + EN
+
+
 def stepped(span, sizes, slots):
     """A job of one chunk for each number in `slots`: of the slots up to its due slot so many have the base's bytes."""
     forecast = [sizes[0] if t < n else 0 for n in slots for t in range(span)]
@@ -209,43 +223,47 @@ def plan_line(data):
     return f"rows {len(rows)} verdict {verdict(A, rows, marks)}"
 
 
-def write_trials():
-    shutil.rmtree("crates/trials/data", ignore_errors=True)
-    os.makedirs("crates/trials/data")
-    lines = []
-    for kind, cases, line in (("j", JOBS, job_lines), ("p", PLANS, plan_line)):
-        for k, (_, data) in enumerate(cases):
-            name = f"{kind}{k:02d}"
-            with open(f"crates/trials/data/{name}", "wb") as f:
-                f.write(data)
-            lines.append(f"{name} {line(data)}")
-    with open("crates/trials/data/q00", "wb") as f:
-        f.write(b"".join(kp(i, 255) for i in range(1, 7)) + ft(65535, 1, 7, 0xFFFFFFFF) * 5955 + EN)
-    with open("tools/expected_calls.txt") as f:
-        lines += f.read().splitlines()
-    with open("crates/trials/stdout", "w") as f:
-        f.write("\n".join(lines) + "\n")
-    with open("crates/trials/CASES.md", "w") as f:
-        f.write("# The trials' case files\n\nMade by tools/cases.py. `j..` are job files, read in one sequence and then as mixed files, `p..` plan files for job A. `q00` is a plan file of 6 chunks and 5,955 rows: 65,537 bytes.\n\n")
-        for kind, cases in (("j", JOBS), ("p", PLANS)):
-            for k, (what, _) in enumerate(cases):
-                f.write(f"- {kind}{k:02d}: {what}\n")
+def write_data(program, files):
+    folder = f"crates/{program}/data"
+    shutil.rmtree(folder, ignore_errors=True)
+    os.makedirs(folder)
+    for name, data in files:
+        with open(f"{folder}/{name}", "wb") as f:
+            f.write(data)
+
+
+def write_files():
+    cases = [(f"{kind}{k:02d}", what, data, line)
+             for kind, of_kind, line in (("j", JOBS, job_lines), ("p", PLANS, plan_line)) for k, (what, data) in enumerate(of_kind)]
+    write_data("file_trials", [(name, data) for name, _, data, _ in cases] + [("q00", TOO_LONG)])
+    with open("crates/file_trials/stdout", "w") as f:
+        for name, _, data, line in cases:
+            f.write(f"{name} {line(data)}\n")
+        f.write(LARGE)
+    with open("crates/file_trials/CASES.md", "w") as f:
+        f.write("# The case files of file_trials\n\nMade by tools/cases.py. `j..` are job files, read in one sequence and then as mixed files, `p..` plan files for job A. `q00` is a plan file of 6 chunks and 5,955 rows: 65,537 bytes.\n\n")
+        for name, what, _, _ in cases:
+            f.write(f"- {name}: {what}\n")
     print(len(JOBS), "job files,", len(PLANS), "plan files")
 
 
+def write_calls():
+    write_data("trials", [("q00", TOO_LONG)])
+    shutil.copyfile("tools/expected_calls.txt", "crates/trials/stdout")
+    shutil.copyfile("tools/expected_rooms.txt", "crates/room_trials/stdout")
+
+
 def write_reports():
-    shutil.rmtree("crates/report_trials/data", ignore_errors=True)
-    os.makedirs("crates/report_trials/data")
+    write_data("report_trials", [(f"r{k:02d}", write_job(job)) for k, (_, job) in enumerate(REPORTS)])
     with open("crates/report_trials/stdout", "w") as out, open("crates/report_trials/CASES.md", "w") as cases:
         cases.write("# The report trials' case files\n\nMade by tools/cases.py. `r..` are job files.\n\n")
         for k, (what, job) in enumerate(REPORTS):
-            with open(f"crates/report_trials/data/r{k:02d}", "wb") as f:
-                f.write(write_job(job))
             out.write(f"r{k:02d}\n{report(job)}")
             cases.write(f"- r{k:02d}: {what}\n")
         out.write(ROOMS)
     print(len(REPORTS), "reports")
 
 
-write_trials()
+write_files()
+write_calls()
 write_reports()

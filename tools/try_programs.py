@@ -59,7 +59,7 @@ def mixed_file(job):
 
 def try_convert():
     mixed = [mixed_file(random_job()) for _ in range(300)]
-    cases = [open(f, "rb").read() for f in sorted(glob.glob("crates/trials/data/j*"))]
+    cases = [open(f, "rb").read() for f in sorted(glob.glob("crates/file_trials/data/j*"))]
     cases += mixed + [damaged(m) for m in mixed] + [write_job(random_job()) for _ in range(100)]
     cases += [mixed[0][:k] for k in range(len(mixed[0]))] + [bytes(65536), bytes(65537), mixed[0] + bytes(200000), b"\xff" * 1000000]
     refused = 0
@@ -76,7 +76,7 @@ def try_convert():
 
 
 def try_jobs():
-    cases = [open(f, "rb").read() for f in sorted(glob.glob("crates/trials/data/j*"))]
+    cases = [open(f, "rb").read() for f in sorted(glob.glob("crates/file_trials/data/j*"))]
     cases += [damaged(A) for _ in range(300)] + [write_job(random_job()) for _ in range(200)] + [mixed_file(random_job()) for _ in range(100)]
     cases += [bytes(65536), bytes(65537), A + bytes(200000), b"\xff" * 1000000]
     tried = 0
@@ -95,7 +95,7 @@ def try_jobs():
 
 
 def try_verdicts():
-    plans = [open(f, "rb").read() for f in sorted(glob.glob("crates/trials/data/p*"))] + [bytes(65537), bytes(300000)]
+    plans = [open(f, "rb").read() for f in sorted(glob.glob("crates/file_trials/data/p*"))] + [bytes(65537), bytes(300000)]
     tried = 0
     with tempfile.TemporaryDirectory() as folder:
         assert run("verdict", folder=folder) == b"refused 1\n"

@@ -1,17 +1,12 @@
 // Marks counted, for n from 0 to 8 and 255: words by themselves, and marks of every length to 17 and of 500, each count compared with
 // one by bytes.
-use crate::files::number;
-use crate::files::read_case;
-use crate::files::word;
+use crate::print::next;
+use crate::print::pair;
+use crate::print::word;
 ghost use Prim.Native.Nat.{_≤_};
 
-fn shown(n: usize) {
-    word(b" ");
-    number(n);
-}
-
 fn of_word(marks: u64, n: u8) {
-    shown(fetch::count_word(marks, n) as usize);
+    next(fetch::count_word(marks, n) as usize);
 }
 
 fn word_counts(text: &[u8], marks: u64) {
@@ -66,14 +61,14 @@ fn by_bytes(marks: &[u8], n: u8) -> usize {
 fn of_marks(marks: &[u8], n: u8) {
     let count = fetch::count_marks(marks, n);
     if count == by_bytes(marks, n) {
-        shown(count);
+        next(count);
     } else {
         word(b" wrong");
     }
 }
 
 fn mark_counts(text: &[u8], marks: &[u8]) {
-    number(marks.len());
+    pair(b"", marks.len());
     word(text);
     of_marks(marks, 0);
     of_marks(marks, 1);
@@ -101,10 +96,21 @@ fn short(file: &[u8; 65537]) {
     }
 }
 
+// The bytes of data/q00 go to the start of file, at most as many as that has. If it can't be opened it is read as empty.
+fn read_file(file: &mut [u8; 65537]) -> usize {
+    let fd = os::open_read(b"q00");
+    if fd < 0 {
+        return 0;
+    }
+    let n = io::read_full(fd, file);
+    libc::close(fd);
+    n
+}
+
 fn mixed() {
     let mut file = [0u8; 65537];
-    let n = read_case(b'q', 0, &mut file);
-    word(b"as marks\n");
+    let n = read_file(&mut file);
+    word(b"q00 as marks\n");
     short(&file);
     first(&file, 500);
     first(&file, n);

@@ -1,21 +1,12 @@
-// Trials of the public calls. First the case files of data/ (CASES.md says what each is), whose lines tools/reference.py, another reading
-// of document 01, computes; then calls that no file reaches, whose lines are written by hand in tools/expected_calls.txt.
-mod calls;
+// Trials of calls that no case file reaches: the checker's lengths, the meter and the counting of marks. The lines are written by hand in
+// tools/expected_calls.txt. The case files are those of program file_trials, trials of the lent room are in room_trials.
 mod counts;
-mod files;
-mod large;
+mod lists;
 mod meters;
-mod planned;
+mod print;
 
 fn main() {
-    files::job_files();
-    files::plan_files();
-    large::plan_files();
-    calls::jobs();
-    calls::rooms();
-    calls::lists();
-    calls::plans();
-    planned::rooms();
+    lists::lengths();
     meters::samples();
     meters::forecasts();
     meters::means();

@@ -1,7 +1,7 @@
 // The link meter: refusals 10, 12 and 13, the last ten samples, the forecast.
-use crate::files::line;
-use crate::files::refused;
-use crate::files::word;
+use crate::print::line;
+use crate::print::refused;
+use crate::print::word;
 use meter::Answer;
 use meter::Meter;
 
@@ -54,12 +54,20 @@ pub(crate) fn forecasts() {
     let m = take(take(meter::new(), 1, 6), 2, 3);
     forecast(m);
     forecast(take(m, 3, 0));
+    odd_forecasts();
+    full_forecasts();
+}
+
+fn odd_forecasts() {
     word(b"eleven kept: ");
     forecast(odd(11, 2));
     word(b"slots not rising: ");
     forecast(odd(2, 1));
     word(b"kept out of order: ");
-    let m = take(odd(2, 1), 3, 1);
+    take(odd(2, 1), 3, 1);
+}
+
+fn full_forecasts() {
     let full = take(odd(10, 2), 11, 1000);
     forecast(odd(10, 2));
     forecast(full);
@@ -77,7 +85,7 @@ fn equal(bytes: u32) -> Meter {
 }
 
 // Never above the mean, and at most one below its whole part.
-pub fn means() {
+pub(crate) fn means() {
     forecast(take(meter::new(), 1, 9));
     forecast(take(take(meter::new(), 1, 15000000), 2, 10000100));
     forecast(equal(16777216));

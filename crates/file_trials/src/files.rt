@@ -1,28 +1,12 @@
 // The case files: j.. are job files, read in one sequence and then as mixed files, p.. plan files for job A.
+use crate::print::line;
+use crate::print::pair;
+use crate::print::refused;
+use crate::print::word;
 use checker::Checked;
 use job::Programme;
 use jobrecords::JobRead;
-use libc::STDOUT_FILENO;
 use planfile::PlanRead;
-
-pub(crate) fn word(text: &[u8]) {
-    io::write_all(STDOUT_FILENO, text);
-}
-
-pub(crate) fn number(n: usize) {
-    io::print_decimal(STDOUT_FILENO, n as u64);
-}
-
-// A word, a number and a line feed.
-pub(crate) fn line(text: &[u8], n: usize) {
-    word(text);
-    number(n);
-    word(b"\n");
-}
-
-pub(crate) fn refused(n: u8) {
-    line(b"refused ", n as usize);
-}
 
 // The bytes of a case file go to the start of file, at most as many as that has. A file that can't be opened is read as empty.
 pub(crate) fn read_case(kind: u8, i: u8, file: &mut [u8; 65537]) -> usize {
@@ -39,10 +23,8 @@ pub(crate) fn read_case(kind: u8, i: u8, file: &mut [u8; 65537]) -> usize {
 }
 
 fn layers_and_slots(layers: usize, slots: usize) {
-    word(b" layers ");
-    number(layers);
-    word(b" slots ");
-    number(slots);
+    pair(b" layers ", layers);
+    pair(b" slots ", slots);
 }
 
 // What a written job reads back as.
@@ -63,8 +45,7 @@ fn again(file: &[u8]) {
 }
 
 fn written_bytes(out: &[u8; 28836], n: usize) {
-    word(b" written ");
-    number(n);
+    pair(b" written ", n);
     word(b" again");
     again(parts::bytes(out, n));
 }
@@ -86,8 +67,7 @@ fn job_said(read: JobRead, sizes: &[u32; 4], forecast: &[u32; 3600]) {
             layers,
             slots,
         } => {
-            word(b"chunks ");
-            number(programme.chunks as usize);
+            pair(b"chunks ", programme.chunks as usize);
             layers_and_slots(layers, slots);
             written(
                 programme,
@@ -112,11 +92,27 @@ fn mixed_file(file: &[u8]) {
     job_said(read, &sizes, &forecast);
 }
 
-// The verdict on the first rows of the four slices, for job A.
+fn job_a() -> Programme {
+    Programme {
+        chunks: 3,
+        span: 2,
+        delay: 2,
+        limit: 2,
+    }
+}
+
+fn verdict_said(checked: Checked) {
+    match checked {
+        Checked::Verdict(v) => line(b" verdict ", v as usize),
+        Checked::Refused(n) => refused(n),
+    }
+}
+
+// The verdict on the rows of the four slices, for job A.
 fn judged(marks: &[u8], slots: &[u16], chunks: &[u16], layers: &[u8], bytes: &[u32]) {
     let sizes = [2u32, 1];
     let forecast = [3u32, 0, 1, 0, 2, 0];
-    match checker::check(
+    verdict_said(checker::check(
         job_a(),
         &sizes,
         &forecast,
@@ -125,18 +121,29 @@ fn judged(marks: &[u8], slots: &[u16], chunks: &[u16], layers: &[u8], bytes: &[u
         chunks,
         layers,
         bytes,
-    ) {
-        Checked::Verdict(v) => line(b" verdict ", v as usize),
-        Checked::Refused(n) => refused(n),
-    }
+    ));
 }
 
-pub(crate) fn job_a() -> Programme {
-    Programme {
-        chunks: 3,
-        span: 2,
-        delay: 2,
-        limit: 2,
+fn plan_said(
+    read: PlanRead,
+    marks: &[u8; 3],
+    slots: &[u16; 8],
+    chunks: &[u16; 8],
+    layers: &[u8; 8],
+    bytes: &[u32; 8],
+) {
+    match read {
+        PlanRead::Refused(n) => refused(n),
+        PlanRead::Rows(n) => {
+            pair(b"rows ", n);
+            judged(
+                marks,
+                parts::halves(slots, n),
+                parts::halves(chunks, n),
+                parts::bytes(layers, n),
+                parts::words(bytes, n),
+            );
+        }
     }
 }
 
@@ -148,7 +155,7 @@ fn plan_file(file: &[u8]) {
     let mut chunks = [0u16; 8];
     let mut layers = [0u8; 8];
     let mut bytes = [0u32; 8];
-    match planfile::read_plan(
+    let read = planfile::read_plan(
         job_a(),
         &sizes,
         &forecast,
@@ -158,20 +165,8 @@ fn plan_file(file: &[u8]) {
         &mut chunks,
         &mut layers,
         &mut bytes,
-    ) {
-        PlanRead::Refused(n) => refused(n),
-        PlanRead::Rows(n) => {
-            word(b"rows ");
-            number(n);
-            judged(
-                &marks,
-                parts::halves(&slots, n),
-                parts::halves(&chunks, n),
-                parts::bytes(&layers, n),
-                parts::words(&bytes, n),
-            );
-        }
-    }
+    );
+    plan_said(read, &marks, &slots, &chunks, &layers, &bytes);
 }
 
 fn job_case(i: u8) {

@@ -1,7 +1,7 @@
 // Plan files at the limit of 65,536 bytes.
-use crate::files::line;
 use crate::files::read_case;
-use crate::files::refused;
+use crate::print::line;
+use crate::print::refused;
 use job::Programme;
 use planfile::PlanRead;
 use planfile::Written;
@@ -16,26 +16,9 @@ fn job_of(chunks: u16) -> Programme {
     }
 }
 
-// Writes a plan of so many chunks and rows, and answers how many bytes it has; 0 for a refusal.
-fn write(chunks: u16, rows: usize, out: &mut [u8; 65537]) -> usize {
-    let sizes = [1u32];
-    let forecast = [1u32; 8];
-    let marks = [255u8; 8];
-    let slots = [65535u16; 5955];
-    let row_chunks = [1u16; 5955];
-    let layers = [7u8; 5955];
-    let bytes = [4294967295u32; 5955];
-    match planfile::write_plan(
-        job_of(chunks),
-        &sizes,
-        parts::words(&forecast, chunks as usize),
-        parts::bytes(&marks, chunks as usize),
-        parts::halves(&slots, rows),
-        parts::halves(&row_chunks, rows),
-        parts::bytes(&layers, rows),
-        parts::words(&bytes, rows),
-        out,
-    ) {
+// The bytes written; 0 for a refusal.
+fn written(written: Written) -> usize {
+    match written {
         Written::Bytes(n) => {
             line(b"written ", n);
             n
@@ -47,6 +30,36 @@ fn write(chunks: u16, rows: usize, out: &mut [u8; 65537]) -> usize {
     }
 }
 
+fn rows_said(read: PlanRead) {
+    match read {
+        PlanRead::Refused(n) => refused(n),
+        PlanRead::Rows(n) => line(b"rows ", n),
+    }
+}
+
+// Writes a plan of so many chunks and rows, and answers how many bytes it has; 0 for a refusal.
+fn write(chunks: u16, rows: usize, out: &mut [u8; 65537]) -> usize {
+    let sizes = [1u32];
+    let forecast = [1u32; 8];
+    let marks = [255u8; 8];
+    let slots = [65535u16; 5955];
+    let row_chunks = [1u16; 5955];
+    let layers = [7u8; 5955];
+    let bytes = [4294967295u32; 5955];
+    let wrote = planfile::write_plan(
+        job_of(chunks),
+        &sizes,
+        parts::words(&forecast, chunks as usize),
+        parts::bytes(&marks, chunks as usize),
+        parts::halves(&slots, rows),
+        parts::halves(&row_chunks, rows),
+        parts::bytes(&layers, rows),
+        parts::words(&bytes, rows),
+        out,
+    );
+    written(wrote)
+}
+
 fn read(chunks: u16, file: &[u8]) {
     let sizes = [1u32];
     let forecast = [1u32; 8];
@@ -55,7 +68,7 @@ fn read(chunks: u16, file: &[u8]) {
     let mut row_chunks = [0u16; 5955];
     let mut layers = [0u8; 5955];
     let mut bytes = [0u32; 5955];
-    match planfile::read_plan(
+    let read = planfile::read_plan(
         job_of(chunks),
         &sizes,
         parts::words(&forecast, chunks as usize),
@@ -65,10 +78,8 @@ fn read(chunks: u16, file: &[u8]) {
         &mut row_chunks,
         &mut layers,
         &mut bytes,
-    ) {
-        PlanRead::Refused(n) => refused(n),
-        PlanRead::Rows(n) => line(b"rows ", n),
-    }
+    );
+    rows_said(read);
 }
 
 fn written_and_read(chunks: u16, rows: usize) {

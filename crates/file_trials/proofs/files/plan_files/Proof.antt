@@ -1,7 +1,7 @@
--- `trials::plan_files` meets its contract. Assumes nothing.
+-- `file_trials::plan_files` meets its contract. Assumes nothing.
 use borrow.Author.Needs.{needs}
-use Rattle.trials.proofs.files.plan_files.Statement.{statement}
-use Rattle.trials.proofs.files.plan_files.Tie as tie
+use Rattle.file_trials.proofs.files.plan_files.Statement.{statement}
+use Rattle.file_trials.proofs.files.plan_files.Tie as tie
 use Prim.Native.Nat.{_≤_, _-_}
 use native.Mathlib.Omega.{arith}
 
