@@ -1,5 +1,8 @@
 -- `job::film_refusal` meets its contract. Assumes nothing.
+use mathlib.Core.Path.{ap, ap₂, _∙_}
+use mathlib.Core.Bool.{_&&_}
 use borrow.Author.Needs.{needs}
+use Rattle.basics.specs.Refusals.{unless}
 use Rattle.job.proofs.film_refusal.Statement.{statement}
 use Rattle.job.proofs.film_refusal.Tie as tie
 
@@ -31,7 +34,12 @@ refuse-unless-requires : tie.Need-refuse-unless-requires
 refuse-unless-requires c κs = search needs
 
 returns : tie.Need-returns
-returns c = cc
+returns c =
+    let limit = c .before .before .before .before .before .before .before .is-within .ensures in
+    let span = c .before .before .before .before .before .is-within2 .ensures in
+    let chunks = c .before .before .before .is-within3 .ensures in
+    let in-range = c .before .both2 .ensures ∙ ap₂ _&&_ chunks (c .before .before .both .ensures ∙ ap₂ _&&_ span limit) in
+    c .refuse-unless .ensures ∙ ap (unless _) in-range
 
 pub film-refusal-spec : {M : Type 1} → statement M
 film-refusal-spec =

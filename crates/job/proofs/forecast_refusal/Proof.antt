@@ -1,5 +1,7 @@
 -- `job::forecast_refusal` meets its contract. Assumes nothing.
+use mathlib.Core.Path.{ap₂, _∙_}
 use borrow.Author.Needs.{needs}
+use Rattle.basics.specs.Refusals.{_orElse_}
 use Rattle.job.proofs.forecast_refusal.Statement.{statement}
 use Rattle.job.proofs.forecast_refusal.Tie as tie
 
@@ -13,7 +15,7 @@ or-else-requires : tie.Need-or-else-requires
 or-else-requires c κs = search needs
 
 returns : tie.Need-returns
-returns c = cc
+returns c = c .or-else .ensures ∙ ap₂ _orElse_ (c .before .before .bytes-refusal .ensures) (c .before .slots-refusal .ensures)
 
 pub forecast-refusal-spec : {M : Type 1} → statement M
 forecast-refusal-spec =

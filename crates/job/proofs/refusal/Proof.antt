@@ -1,5 +1,7 @@
 -- `job::refusal` meets its contract. Assumes nothing.
+use mathlib.Core.Path.{ap₂, _∙_}
 use borrow.Author.Needs.{needs}
+use Rattle.basics.specs.Refusals.{_orElse_}
 use Rattle.job.specs.Refusal.{refusal}
 use Rattle.job.proofs.refusal.Statement.{statement}
 use Rattle.job.proofs.refusal.Tie as tie
@@ -27,7 +29,13 @@ or-else-requires-3 c κs = search needs
 
 returns : tie.Need-returns
 unfolding refusal
-returns c = cc
+returns c =
+    let seven = c .before .before .before .before .before .before .forecast-refusal .ensures in
+    let six = c .before .before .before .before .before .sizes-refusal .ensures in
+    let due = c .before .before .before .before .last-due-refusal .ensures in
+    let from-six = c .before .before .or-else .ensures ∙ ap₂ _orElse_ six seven in
+    let from-due = c .before .or-else2 .ensures ∙ ap₂ _orElse_ due from-six in
+    c .or-else3 .ensures ∙ ap₂ _orElse_ (c .before .before .before .fields-refusal .ensures) from-due
 
 pub refusal-spec : {M : Type 1} → statement M
 refusal-spec =

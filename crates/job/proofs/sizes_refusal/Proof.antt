@@ -1,5 +1,8 @@
 -- `job::sizes_refusal` meets its contract. Assumes nothing.
+use mathlib.Core.Path.{ap, ap₂, _∙_}
+use mathlib.Core.Bool.{_&&_}
 use borrow.Author.Needs.{needs}
+use Rattle.basics.specs.Refusals.{unless}
 use Rattle.job.proofs.sizes_refusal.Statement.{statement}
 use Rattle.job.proofs.sizes_refusal.Tie as tie
 
@@ -16,7 +19,9 @@ refuse-unless-requires : tie.Need-refuse-unless-requires
 refuse-unless-requires c κs = search needs
 
 returns : tie.Need-returns
-returns c = cc
+returns c =
+    let in-range = c .before .both2 .ensures ∙ ap₂ _&&_ (c .before .before .before .both .ensures) (c .before .before .all-within .ensures) in
+    c .refuse-unless .ensures ∙ ap (unless _) in-range
 
 pub sizes-refusal-spec : {M : Type 1} → statement M
 sizes-refusal-spec =

@@ -1,9 +1,10 @@
 -- The four slices are filled row by row (`Filled`). Assumes nothing.
 use Rattle.planfile.proofs.copy_rows.Statement.{statement}
 use Rattle.planfile.proofs.copy_rows.Tie as tie
-use Prim.Native.Nat.{ℕ, _-_, _≤_}
+use Prim.Native.Nat.{ℕ, _-_, _≤_, _<_}
 use mathlib.Core.List.{List}
 use mathlib.Core.Path.{_≡_}
+use native.Mathlib.Nat.{le-trans}
 use native.Mathlib.Omega.{arith}
 use denote.Ref.{now}
 use borrow.Author.Needs.{needs}
@@ -104,12 +105,14 @@ loop-again : tie.Need-loop-again Inv-loop μ-loop
 loop-again c =
     let a = c .before .before .before .before .before .before .before .before .before .before .before .args in
     let file = now (a .file) in
-    let l = c .before .before .before .before .before .loop in (
+    let l = c .before .before .before .before .before .loop in
+    let t : l .i < a .rows = c .before .before .before .before .loop-test .taken in
+    let pre = c .before .before .before .before .before .before .before .before .before .before .before .pre in (
       omega arith,
-      filled-more (slotOn file (a .count)) (l .i) (now (a .slots)) (l .slots) (l .inv .1) (omega arith) (c .before .before .before .h-at .result) (c .before .before .before .h-at .ensures),
-      filled-more (chunkOn file (a .count)) (l .i) (now (a .chunks)) (l .chunks) (l .inv .2) (omega arith) (c .before .before .h-at2 .result) (c .before .before .h-at2 .ensures),
-      filled-more (layerOn file (a .count)) (l .i) (now (a .layers)) (l .layers) (l .inv .3) (omega arith) (c .before .byte-at .result) (c .before .byte-at .ensures),
-      filled-more (bytesOn file (a .count)) (l .i) (now (a .bytes)) (l .bytes) (l .inv .4) (omega arith) (c .w-at .result) (c .w-at .ensures),
+      filled-more (slotOn file (a .count)) (l .i) (now (a .slots)) (l .slots) (l .inv .1) (le-trans t (pre .0)) (c .before .before .before .h-at .result) (c .before .before .before .h-at .ensures),
+      filled-more (chunkOn file (a .count)) (l .i) (now (a .chunks)) (l .chunks) (l .inv .2) (le-trans t (pre .1)) (c .before .before .h-at2 .result) (c .before .before .h-at2 .ensures),
+      filled-more (layerOn file (a .count)) (l .i) (now (a .layers)) (l .layers) (l .inv .3) (le-trans t (pre .2)) (c .before .byte-at .result) (c .before .byte-at .ensures),
+      filled-more (bytesOn file (a .count)) (l .i) (now (a .bytes)) (l .bytes) (l .inv .4) (le-trans t (pre .3)) (c .w-at .result) (c .w-at .ensures),
     )
 
 same-length : tie.Need-same-length Inv-loop μ-loop

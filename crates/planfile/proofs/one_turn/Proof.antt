@@ -2,12 +2,10 @@
 use borrow.Author.Needs.{needs}
 use Rattle.planfile.proofs.one_turn.Statement.{statement}
 use Rattle.planfile.proofs.one_turn.Tie as tie
-use mathlib.Core.Path.{_≡_, sym, ap, _∙_}
+use mathlib.Core.Path.{sym, ap, ap₂, _∙_}
 use Prim.Native.Nat.{ℕ}
 use denote.Ref.{now}
-use lib.ListN.{length}
-use lib.Dec.{eqb}
-use Rattle.basics.specs.Refusals.{unless, _orElse_}
+use Rattle.basics.specs.Refusals.{_orElse_}
 use Rattle.planfile.specs.lemmas.Scan.{refusalOf, answerOf}
 use Rattle.planfile.proofs.Front.{known}
 use Rattle.planfile.proofs.Turns.{refused-turn, kp-turn, kp-refused, ft-turn, en-turn}
@@ -85,7 +83,7 @@ returns-5 : tie.Need-returns-5
 returns-5 c =
     let a = c .before .before .before .before .before .before .before .before .before .before .before .args in
     let n = c .before .before .before .before .before .before .before .read .given .0 .1 .0 in
-    let e : c .before .or-else .result ≡ unless 3 (eqb (length (now (a .file))) n) orElse unless 8 (eqb (a .kept) (a .count)) = cc in
+    let e = c .before .or-else .ensures ∙ ap₂ _orElse_ (c .before .before .before .refuse-unless .ensures) (c .before .before .refuse-unless2 .ensures) in
     ap End (c .answer .ensures ∙ ap (λ (x : ℕ). answerOf x (a .rows)) e) ∙ en-turn (a .count) (now (a .file)) (a .at) (a .kept) (a .rows) n (sym (c .before .before .before .before .before .before .before .before .before .record-at .ensures) ∙ c .before .before .before .before .before .before .before .read .given .1 ∙ ap (λ r. Got r n) (c .before .before .before .before .enum-told3 .given .1))
 
 pub one-turn-spec : {M : Type 1} → statement M

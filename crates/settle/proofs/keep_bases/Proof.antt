@@ -86,7 +86,7 @@ element-copy-out-if2 : tie.Need-element-copy-out-if2 Inv-loop μ-loop
 element-copy-out-if2 c = omega (arith, c .before .before .before .before .before .before .before .before .before .before .pre .long .0, c .before .before .before .before .due-slot .ensures, due-by (c .before .before .before .before .before .before .before .before .before .before .args .p) (c .before .before .before .before .before .before .loop .i) (c .before .before .before .before .before .before .loop .inv .left), c .before .before .before .before .before .before .before .before .before .before .pre .ends)
 
 need-at-requires : tie.Need-need-at-requires Inv-loop μ-loop
-need-at-requires c κs = (omega (arith, c .before .before .before .before .before .before .before .before .loop .inv .within, c .before .before .before .before .before .before .before .before .loop .inv .room, c .before .before .before .before .before .before .before .before .before .before .before .before .pre .few), omega arith, simp length-set (c .before .before .before .before .before .before .before .before .loop .inv .long .3))
+need-at-requires c κs = (omega (arith, c .before .before .before .before .before .before .before .before .loop .inv .within, c .before .before .before .before .before .before .before .before .loop .inv .room, c .before .before .before .before .before .before .before .before .before .before .before .before .pre .few), omega arith, rw length-set (c .before .before .before .before .before .before .before .before .loop .inv .long .3))
 
 sub-i-2 : tie.Need-sub-i-2 Inv-loop μ-loop
 sub-i-2 c = omega arith
