@@ -5,11 +5,11 @@ use mathlib.Core.Bool.{Bool, true, false, not, cond, _&&_, _||_}
 use mathlib.Core.List.{List, [], _∷_}
 use mathlib.Core.Logic.{⊎-elim}
 use native.Mathlib.Omega.{arith}
-use lib.ListN.{length, getD}
 use lib.Dec.{T, eqb}
-use Rattle.basics.specs.Tests.{All, all, any, In, here, there}
+use Rattle.basics.specs.Tests.{all, any, In, here, there}
 use Rattle.basics.specs.lemmas.Tests.{test, T-or-iff}
-use Rattle.job.specs.Job.{Job, Layer, Within, Accepted, size}
+use Rattle.job.specs.Job.{Job, Layer, Accepted, size}
+use Rattle.job.specs.lemmas.Within.{size-least}
 use Rattle.fetch.specs.Rows.{Row, bytesIf, Carried, Permuted, none, keep, swap, next}
 use Rattle.fetch.specs.Rules.{LowerCarried}
 use Rattle.fetch.specs.Verdict.{lowerCarried}
@@ -93,7 +93,4 @@ base-carried j rows f i (suc n) r c =
 
 -- A base of an accepted job has at least a byte.
 pub base-low : (j : Job) → Accepted j → (i : ℕ) → 1 ≤ size j i 0
-base-low j ok i = at (j .sizes) (ok .layers-in .low) (ok .sizes-in) where
-  at : (l : List ℕ) → 1 ≤ length l → All (Within 1 16777216) l → 1 ≤ getD l 0 0
-  at [] h a = absurd (omega arith)
-  at (x ∷ l) h a = a .0 .low
+base-low j ok i = size-least j ok i 0 (ok .layers-in .low)
