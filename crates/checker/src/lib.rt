@@ -8,13 +8,15 @@ ghost use Prim.Native.Nat.{ℕ, _+_, _*_, _-_, _/_, _<_, _≤_, min};
 ghost use lib.ListN.{length, getD, set, replicate};
 ghost use lib.Dec.{leb, eqb};
 ghost use Rattle.basics.specs.Tests.{allTo};
-ghost use Rattle.job.specs.Job.{jobOf, dueSlot, Accepted};
+ghost use Rattle.job.specs.Job.{dueSlot, lastDue};
+ghost use Rattle.job.specs.Handed.{handed};
+ghost use Rattle.job.specs.Table.{tableAt};
 ghost use Rattle.fetch.specs.Rows.{rowsOf};
 ghost use Rattle.fetch.specs.Handed.{Whole};
-ghost use Rattle.fetch.specs.Verdict.{lowest, verdict};
+ghost use Rattle.fetch.specs.Verdict.{lowest};
 ghost use Rattle.fetch.specs.Marks.{withLayer};
 ghost use Rattle.checker.specs.Checked.{checked};
-ghost use Rattle.checker.specs.lemmas.Tables.{cap, inRange, Passed, SeenChunk, SeenAll, heldBy, Marked};
+ghost use Rattle.checker.specs.lemmas.Tables.{cap, inRange, Passed, SeenChunk, SeenAll, heldBy, Marked, Judged};
 
 // The verdict 0 to 7, or the number of a refusal.
 pub enum Checked {
@@ -208,9 +210,9 @@ fn marked(mark: u8, n: usize, carried: bool) -> u8
 }
 
 // The layers of chunk i, from the base up.
-fn see_chunk(sizes: &[u32], depth: usize, layersum: &[u64; 2000], i: u16) -> Seen
+fn see_chunk(table: &[u32; 2000], depth: usize, layersum: &[u64; 2000], i: u16) -> Seen
     requires { ⌜ (depth ≤ 4) × (1 ≤ i) × (i ≤ 500) ⌝ }
-    ensures { λ r. ⌜ SeenChunk (now (sizes .entry)) (now (layersum .entry)) depth i r ⌝ }
+    ensures { λ r. ⌜ SeenChunk (tableAt (now (table .entry))) (now (layersum .entry)) depth i r ⌝ }
 {
     let from = 4 * (wide(i) - 1);
     let mut mark: u8 = 0;
@@ -221,7 +223,7 @@ fn see_chunk(sizes: &[u32], depth: usize, layersum: &[u64; 2000], i: u16) -> See
     while n < depth {
         let at = from + n;
         let sum = layersum[at];
-        let carried = same(sum, job::size_of(sizes, i, n));
+        let carried = same(sum, job::size_at(table, i, n));
         whole = both(none_or(sum, carried), whole);
         lower = both(only_if(carried, below), lower);
         mark = marked(mark, n, carried);
@@ -232,9 +234,15 @@ fn see_chunk(sizes: &[u32], depth: usize, layersum: &[u64; 2000], i: u16) -> See
 }
 
 // Rules 2, 3 and 7, chunk by chunk.
-fn see_all(sizes: &[u32], depth: usize, layersum: &[u64; 2000], marks: &[u8], count: u16) -> Layers
+fn see_all(
+    table: &[u32; 2000],
+    depth: usize,
+    layersum: &[u64; 2000],
+    marks: &[u8],
+    count: u16,
+) -> Layers
     requires { ⌜ (depth ≤ 4) × (count ≤ 500) × (length (now marks) ≡ count) ⌝ }
-    ensures { λ r. ⌜ SeenAll (now (sizes .entry)) (now (layersum .entry)) (now (marks .entry)) depth count r ⌝ }
+    ensures { λ r. ⌜ SeenAll (tableAt (now (table .entry))) (now (layersum .entry)) (now (marks .entry)) depth count r ⌝ }
 {
     let mut whole = true;
     let mut lower = true;
@@ -243,7 +251,7 @@ fn see_all(sizes: &[u32], depth: usize, layersum: &[u64; 2000], marks: &[u8], co
     while i < count {
         let at = i as usize;
         let next = i + 1;
-        let seen = see_chunk(sizes, depth, layersum, next);
+        let seen = see_chunk(table, depth, layersum, next);
         whole = both(seen.whole, whole);
         lower = both(seen.lower, lower);
         said = both(marks[at] == seen.mark, said);
@@ -338,10 +346,11 @@ fn lowest_broken(whole: bool, lower: bool, within: bool, timely: bool, few: bool
     0
 }
 
-// The verdict of an accepted job's list, its rows whole and its marks one byte a chunk. `depth` is the number of layers.
+// The verdict of an accepted job's list, its rows whole and its marks one byte a chunk. The job's sizes are seen by their table alone;
+// `depth` is the number of layers.
 fn verdict_of(
     p: Programme,
-    sizes: &[u32],
+    table: &[u32; 2000],
     depth: usize,
     forecast: &[u32],
     marks: &[u8],
@@ -350,8 +359,8 @@ fn verdict_of(
     layers: &[u8],
     bytes: &[u32],
 ) -> u8
-    requires { ⌜ Accepted (jobOf p (now sizes) (now forecast)) × (depth ≡ length (now sizes)) × Whole (p .chunks) (now marks) (now slots) (now chunks) (now layers) (now bytes) ⌝ }
-    ensures { λ r. ⌜ r ≡ verdict (jobOf p (now (sizes .entry)) (now (forecast .entry))) (now (marks .entry)) (rowsOf (now (slots .entry)) (now (chunks .entry)) (now (layers .entry)) (now (bytes .entry))) ⌝ }
+    requires { ⌜ (p .chunks ≤ 500) × (lastDue p ≤ 3600) × (depth ≤ 4) × (length (now forecast) ≤ 3600) × Whole (p .chunks) (now marks) (now slots) (now chunks) (now layers) (now bytes) ⌝ }
+    ensures { λ r. ⌜ Judged p (now (table .entry)) depth (now (forecast .entry)) (now (marks .entry)) (rowsOf (now (slots .entry)) (now (chunks .entry)) (now (layers .entry)) (now (bytes .entry))) r ⌝ }
 {
     let last = job::last_due(p);
     let mut slotsum = [0u64; 3601];
@@ -370,7 +379,7 @@ fn verdict_of(
         &mut first,
     );
     if pass.ranged {
-        let seen = see_all(sizes, depth, &layersum, marks, p.chunks);
+        let seen = see_all(table, depth, &layersum, marks, p.chunks);
         let room = within(forecast, &slotsum);
         let few = sweep(p, last, &first);
         return lowest_broken(seen.whole, seen.lower, room, pass.timely, few, seen.said);
@@ -379,10 +388,13 @@ fn verdict_of(
 }
 
 // The verdict for a job, marks and rows: any number of rows in any order, of equal rows each counts.
-// Refused: 5, 6, 7 by the job, then 8 by the marks and rows.
+// Refused: 5, 6, 18, 7 by the job, then 8 by the marks and rows.
 pub fn check(
     p: Programme,
     sizes: &[u32],
+    size_chunks: &[u16],
+    size_layers: &[u8],
+    size_bytes: &[u32],
     forecast: &[u32],
     marks: &[u8],
     slots: &[u16],
@@ -390,9 +402,9 @@ pub fn check(
     layers: &[u8],
     bytes: &[u32],
 ) -> Checked
-    ensures { λ r. ⌜ r ≡ checked (jobOf p (now (sizes .entry)) (now (forecast .entry))) (now (marks .entry)) (now (slots .entry)) (now (chunks .entry)) (now (layers .entry)) (now (bytes .entry)) ⌝ }
+    ensures { λ r. ⌜ r ≡ checked (handed p (now (sizes .entry)) (now («size_chunks» .entry)) (now («size_layers» .entry)) (now («size_bytes» .entry)) (now (forecast .entry))) (now (marks .entry)) (now (slots .entry)) (now (chunks .entry)) (now (layers .entry)) (now (bytes .entry)) ⌝ }
 {
-    let job = job::refusal(p, sizes, forecast);
+    let job = job::refusal(p, sizes, size_chunks, size_layers, size_bytes, forecast);
     if job != 0 {
         return Checked::Refused(job);
     }
@@ -401,9 +413,12 @@ pub fn check(
         return Checked::Refused(list);
     }
     let depth = sizes.len();
+    let unset = p.chunks as u32;
+    let mut table = [unset; 2000];
+    job::fill_sizes(sizes, size_chunks, size_layers, size_bytes, &mut table);
     Checked::Verdict(verdict_of(
         p,
-        sizes,
+        &table,
         depth,
         forecast,
         marks,

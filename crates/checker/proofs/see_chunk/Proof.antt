@@ -5,14 +5,15 @@ use Prim.Native.Nat.{_-_}
 use native.Mathlib.Omega.{arith}
 use denote.Ref.{now}
 use borrow.Author.Needs.{needs}
+use Rattle.job.specs.Table.{tableAt}
 use Rattle.checker.proofs.Seeing.{Seeing, seeing-start, seeing-more, seeing-end}
 
 abbrev Inv-loop : tie.InvT-loop
-Inv-loop sizes depth layersum i from mark₀ whole₀ lower₀ below₀ n₀ mark whole lower below n =
-    Seeing sizes layersum depth i mark whole lower below n
+Inv-loop table depth layersum i from mark₀ whole₀ lower₀ below₀ n₀ mark whole lower below n =
+    Seeing (tableAt table) layersum depth i mark whole lower below n
 
 abbrev μ-loop : tie.MeasureT-loop
-μ-loop sizes depth layersum i from mark₀ whole₀ lower₀ below₀ n₀ mark whole lower below n = depth - n
+μ-loop table depth layersum i from mark₀ whole₀ lower₀ below₀ n₀ mark whole lower below n = depth - n
 
 wide-requires : tie.Need-wide-requires Inv-loop μ-loop
 wide-requires c κs = search needs
@@ -25,20 +26,20 @@ mul-from c = omega (arith, c .wide .ensures)
 
 loop-holds : tie.Need-loop-holds Inv-loop μ-loop
 loop-holds c =
-    let a = c .before .before .args in
-    seeing-start (now (a .sizes)) (now (a .layersum)) (a .depth) (a .i)
+    let a = c .before .args in
+    seeing-start (tableAt (now (a .table))) (now (a .layersum)) (a .depth) (a .i)
 
 add-at : tie.Need-add-at Inv-loop μ-loop
-add-at c = omega (arith, c .before .before .wide .ensures, c .before .before .before .before .pre)
+add-at c = omega (arith, c .before .before .wide .ensures, c .before .before .before .pre)
 
 mul-sum : tie.Need-mul-sum Inv-loop μ-loop
-mul-sum c = omega (arith, c .before .before .wide .ensures, c .before .before .before .before .pre)
+mul-sum c = omega (arith, c .before .before .wide .ensures, c .before .before .before .pre)
 
 element-copy-out-sum : tie.Need-element-copy-out-sum Inv-loop μ-loop
-element-copy-out-sum c = omega (arith, c .before .before .wide .ensures, c .before .before .before .before .pre)
+element-copy-out-sum c = omega (arith, c .before .before .wide .ensures, c .before .before .before .pre)
 
-size-of-requires : tie.Need-size-of-requires Inv-loop μ-loop
-size-of-requires c κs = search needs
+size-at-requires : tie.Need-size-at-requires Inv-loop μ-loop
+size-at-requires c κs = search needs
 
 same-requires : tie.Need-same-requires Inv-loop μ-loop
 same-requires c κs = search needs
@@ -56,26 +57,26 @@ both-requires-2 : tie.Need-both-requires-2 Inv-loop μ-loop
 both-requires-2 c κs = search needs
 
 marked-requires : tie.Need-marked-requires Inv-loop μ-loop
-marked-requires c κs = omega (arith, c .before .before .before .before .before .before .before .loop-test .taken, c .before .before .before .before .before .before .before .before .before .before .before .pre)
+marked-requires c κs = omega (arith, c .before .before .before .before .before .before .before .loop-test .taken, c .before .before .before .before .before .before .before .before .before .before .pre)
 
 add-n : tie.Need-add-n Inv-loop μ-loop
-add-n c = omega (arith, c .before .before .before .before .before .before .before .before .loop-test .taken, c .before .before .before .before .before .before .before .before .before .before .before .before .pre)
+add-n c = omega (arith, c .before .before .before .before .before .before .before .before .loop-test .taken, c .before .before .before .before .before .before .before .before .before .before .before .pre)
 
 loop-less : tie.Need-loop-less Inv-loop μ-loop
 loop-less c = omega (arith, c .before .before .before .before .before .before .before .before .loop-test .taken)
 
 loop-again : tie.Need-loop-again Inv-loop μ-loop
 loop-again c =
-    let a = c .before .before .before .before .before .before .before .before .before .before .before .before .args in
+    let a = c .before .before .before .before .before .before .before .before .before .before .before .args in
     let l = c .before .before .before .before .before .before .before .before .before .loop in
-    rw (c .marked .ensures, c .before .before .before .both .ensures, c .before .before .before .before .none-or .ensures, c .before .both2 .ensures, c .before .before .only-if .ensures, c .before .before .before .before .before .same .ensures, c .before .before .before .before .before .before .size-of .ensures, c .before .before .before .before .before .before .before .before .before .before .wide .ensures)
-    (seeing-more (now (a .sizes)) (now (a .layersum)) (a .depth) (a .i) (l .mark) (l .whole) (l .lower) (l .below) (l .n) (l .inv) (c .before .before .before .before .before .before .before .before .before .before .before .before .pre .0) (c .before .before .before .before .before .before .before .before .loop-test .taken))
+    rw (c .marked .ensures, c .before .before .before .both .ensures, c .before .before .before .before .none-or .ensures, c .before .both2 .ensures, c .before .before .only-if .ensures, c .before .before .before .before .before .same .ensures, c .before .before .before .before .before .before .size-at .ensures, c .before .before .before .before .before .before .before .before .before .before .wide .ensures)
+    (seeing-more (tableAt (now (a .table))) (now (a .layersum)) (a .depth) (a .i) (l .mark) (l .whole) (l .lower) (l .below) (l .n) (l .inv) (c .before .before .before .before .before .before .before .before .before .before .before .pre .0) (c .before .before .before .before .before .before .before .before .loop-test .taken))
 
 returns : tie.Need-returns Inv-loop μ-loop
 returns c =
-    let a = c .before .before .before .before .args in
+    let a = c .before .before .before .args in
     let l = c .before .loop in
-    seeing-end (now (a .sizes)) (now (a .layersum)) (a .depth) (a .i) (l .mark) (l .whole) (l .lower) (l .below) (l .n) (l .inv) (c .loop-test .left)
+    seeing-end (tableAt (now (a .table))) (now (a .layersum)) (a .depth) (a .i) (l .mark) (l .whole) (l .lower) (l .below) (l .n) (l .inv) (c .loop-test .left)
 
 pub see-chunk-spec : {M : Type 1} → statement M
 see-chunk-spec =
@@ -90,7 +91,7 @@ see-chunk-spec =
     add-at
     mul-sum
     element-copy-out-sum
-    size-of-requires
+    size-at-requires
     same-requires
     none-or-requires
     both-requires
