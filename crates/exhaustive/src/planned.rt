@@ -30,16 +30,28 @@ fn forecast_of(f: Film) -> [u32; 4] {
     ]
 }
 
-// The SZs as the calls take them, and how many there are: the parts of later chunks whose size is not chunk 0's.
-fn uneven_sizes(f: Film, chunks: &mut [u16; 8], layers: &mut [u8; 8], bytes: &mut [u32; 8]) -> usize {
+// Whether a part of a later chunk has an SZ: its size is not chunk 0's.
+fn is_uneven(f: Film, part: u16) -> bool {
+    part / 4 < f.chunks && film::size(f, part) != film::size(f, part % 4)
+}
+
+// The SZs as the calls take them, and how many there are.
+fn uneven_sizes(
+    f: Film,
+    chunks: &mut [u16; 8],
+    layers: &mut [u8; 8],
+    bytes: &mut [u32; 8],
+) -> usize {
     let mut n: usize = 0;
     let mut part: u16 = 4;
     while part < 12 {
-        if part / 4 < f.chunks && film::size(f, part) != film::size(f, part % 4) && n < 8 {
-            chunks[n] = 1 + part / 4;
-            layers[n] = (part % 4) as u8;
-            bytes[n] = film::size(f, part);
-            n = n + 1;
+        if is_uneven(f, part) {
+            if n < 8 {
+                chunks[n] = 1 + part / 4;
+                layers[n] = (part % 4) as u8;
+                bytes[n] = film::size(f, part);
+                n = n + 1;
+            }
         }
         part = part + 1;
     }
@@ -54,14 +66,26 @@ pub(crate) fn compare(f: Film, found: u32, own: u32) -> u32 {
     let mut bytes = [0u32; 8];
     let n = uneven_sizes(f, &mut chunks, &mut layers, &mut bytes);
     tally::flag_if(tally::ORDERED, lists::in_order(found, own))
-        | plan(
-            f,
-            found,
-            own,
-            parts::halves(&chunks, n),
-            parts::bytes(&layers, n),
-            parts::words(&bytes, n),
-        )
+        | plan_first(f, found, own, &chunks, &layers, &bytes, n)
+}
+
+fn plan_first(
+    f: Film,
+    found: u32,
+    own: u32,
+    chunks: &[u16; 8],
+    layers: &[u8; 8],
+    bytes: &[u32; 8],
+    n: usize,
+) -> u32 {
+    plan(
+        f,
+        found,
+        own,
+        parts::halves(chunks, n),
+        parts::bytes(layers, n),
+        parts::words(bytes, n),
+    )
 }
 
 // A plan has at most a row for each layer of each chunk and for each slot but the last.
