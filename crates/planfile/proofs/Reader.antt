@@ -12,13 +12,13 @@ use Rattle.basics.specs.lemmas.Tests.{test, not-T-false, T-true, true-T, tests}
 use Rattle.basics.specs.Lists.{upTo}
 use Rattle.basics.specs.lemmas.Lists.{length-upTo}
 use Rattle.basics.specs.Refusals.{unless, _orElse_}
-use Rattle.basics.specs.lemmas.Refusals.{orElse-some}
+use Rattle.basics.specs.lemmas.Refusals.{orElse-some, orElse-none}
 use Rattle.records.specs.File.{fileRefusal}
-use Rattle.job.specs.Job.{Job, chunks}
-use Rattle.job.specs.Refusal.{refusal}
+use Rattle.job.specs.Job.{chunks}
+use Rattle.job.specs.Handed.{HandedJob, jobIn, jobRefusal}
 use Rattle.fetch.specs.Rows.{Row}
 use Rattle.planfile.specs.PlanFile.{format, planIn}
-use Rattle.planfile.specs.Calls.{Slices, slicesOf, room, readRefusal, readAnswer, readLent}
+use Rattle.planfile.specs.Calls.{Slices, slicesOf, room, readInput, readRefusal, readAnswer, readLent}
 use Rattle.planfile.specs.lemmas.Scan.{answerOf, markOn, rowOn, Laid, Done, filled}
 use Rattle.planfile.specs.lemmas.Writing.{map-upTo}
 use Rattle.planfile.specs.declared.PlanRead.{PlanRead}
@@ -67,63 +67,73 @@ pub record MayCopy (count rows : ℕ) (file : List ℕ) (lent : Slices) : Type 0
   pub for-bytes : rows ≤ length (lent .bytes)
   pub inside : 5 * count + 11 * rows ≤ length file
 
-abbrev pub HandsOver : Job → List ℕ → Slices → PlanRead → Slices → Type 0
-HandsOver j file lent a after = (a ≡ readAnswer j file lent) × (after ≡ readLent j file lent)
+abbrev pub HandsOver : HandedJob → List ℕ → Slices → PlanRead → Slices → Type 0
+HandsOver h file lent a after = (a ≡ readAnswer h file lent) × (after ≡ readLent h file lent)
 
-module _ (j : Job) (file : List ℕ) (lent : Slices) where
-  refuses : (r : ℕ) → (r ≡ 0 → ⊥) → readRefusal j file lent ≡ r → HandsOver j file lent (Refused r) lent
+-- ---- the input
+
+module _ (h : HandedJob) (file : List ℕ) (r : ℕ) (e : r ≡ jobRefusal h) where
+  pub job-refused : (r ≡ 0 → ⊥) → Done (chunks (jobIn h)) file (readInput h file) (Refused r)
+  unfolding readInput
+  job-refused n =
+      let is : readInput h file ≡ r = rw (← e) (orElse-some r (fileRefusal (format (chunks (jobIn h))) file) n) in
+      record { answer = rw (is, ne-eqb r 0 n); laid = λ z. absurd (n (sym is ∙ z)) }
+
+  pub job-accepted : r ≡ 0 → (a : PlanRead) → Done (chunks (jobIn h)) file (fileRefusal (format (chunks (jobIn h))) file) a → Done (chunks (jobIn h)) file (readInput h file) a
+  unfolding readInput
+  job-accepted z a d = rw (orElse-none (jobRefusal h) (fileRefusal (format (chunks (jobIn h))) file) (sym e ∙ z)) d
+
+-- ---- the lent slices
+
+module _ (h : HandedJob) (file : List ℕ) (lent : Slices) (a : PlanRead) (d : Done (chunks (jobIn h)) file (readInput h file) a) where
+  abbrev count : ℕ
+  count = chunks (jobIn h)
+
+  refuses : (r : ℕ) → (r ≡ 0 → ⊥) → readRefusal h file lent ≡ r → HandsOver h file lent (Refused r) lent
   refuses r n e = (rw (e, ne-eqb r 0 n), rw (e, ne-eqb r 0 n))
 
-  pub job-refused : (r : ℕ) → r ≡ refusal j → (r ≡ 0 → ⊥) → HandsOver j file lent (Refused r) lent
+  pub input-refused : (n : ℕ) → a ≡ Refused n → HandsOver h file lent a lent
   unfolding readRefusal
-  job-refused r e n = refuses r n (rw (← e, orElse-some r (fileRefusal (format (chunks j)) file orElse unless 11 (room lent (chunks j) (length (planIn (chunks j) file .rows)))) n))
+  input-refused n q =
+      let u = answer-refused (readInput h file) (length (planIn count file .rows)) n (sym q ∙ d .answer) in
+      rw q (refuses n (λ w. u .1 (u .0 ∙ w)) (orElse-some (readInput h file) (unless 11 (room lent count (length (planIn count file .rows)))) (u .1) ∙ u .0))
 
-  module _ (r : ℕ) (e : r ≡ refusal j) (z : r ≡ 0) (a : PlanRead) (d : Done (chunks j) file (fileRefusal (format (chunks j)) file) a) where
-    from-file : readRefusal j file lent ≡ fileRefusal (format (chunks j)) file orElse unless 11 (room lent (chunks j) (length (planIn (chunks j) file .rows)))
+  module _ (n : ℕ) (q : a ≡ Rows n) where
+    accepted : (readInput h file ≡ 0) × (n ≡ length (planIn count file .rows))
+    accepted = answer-rows (readInput h file) (length (planIn count file .rows)) n (sym q ∙ d .answer)
+
+    only-room : readRefusal h file lent ≡ unless 11 (room lent count n)
     unfolding readRefusal
-    from-file = rw (← e, z)
+    only-room = rw (accepted .0, ← accepted .1)
 
-    pub file-refused : (n : ℕ) → a ≡ Refused n → HandsOver j file lent a lent
-    file-refused n h =
-        let f = fileRefusal (format (chunks j)) file in
-        let u = answer-refused f (length (planIn (chunks j) file .rows)) n (sym h ∙ d .answer) in
-        rw h (refuses n (λ w. u .1 (u .0 ∙ w)) (from-file ∙ orElse-some f (unless 11 (room lent (chunks j) (length (planIn (chunks j) file .rows)))) (u .1) ∙ u .0))
+    laid : Laid count file
+    laid = d .laid (accepted .0)
 
-    module _ (n : ℕ) (h : a ≡ Rows n) where
-      accepted : (fileRefusal (format (chunks j)) file ≡ 0) × (n ≡ length (planIn (chunks j) file .rows))
-      accepted = answer-rows (fileRefusal (format (chunks j)) file) (length (planIn (chunks j) file .rows)) n (sym h ∙ d .answer)
+    pub may-copy : room lent count n ≡ true → MayCopy count n file lent
+    may-copy e =
+        let t = simp tests at (true-T (room lent count n) e) in
+        record {
+          for-marks = t .0;
+          for-slots = t .1 .0;
+          for-chunks = t .1 .1 .0;
+          for-layers = t .1 .1 .1 .0;
+          for-bytes = t .1 .1 .1 .1;
+          inside = rw (accepted .1) (laid .inside);
+        }
 
-      only-room : readRefusal j file lent ≡ unless 11 (room lent (chunks j) n)
-      only-room = from-file ∙ rw (accepted .0, ← accepted .1)
+    pub short : room lent count n ≡ false → HandsOver h file lent (Refused 11) lent
+    short t = refuses 11 (λ w. omega arith) (only-room ∙ rw t)
 
-      laid : Laid (chunks j) file
-      laid = d .laid (accepted .0)
-
-      pub may-copy : room lent (chunks j) n ≡ true → MayCopy (chunks j) n file lent
-      may-copy e =
-          let t = simp tests at (true-T (room lent (chunks j) n) e) in
-          record {
-            for-marks = t .0;
-            for-slots = t .1 .0;
-            for-chunks = t .1 .1 .0;
-            for-layers = t .1 .1 .1 .0;
-            for-bytes = t .1 .1 .1 .1;
-            inside = rw (accepted .1) (laid .inside);
-          }
-
-      pub short : room lent (chunks j) n ≡ false → HandsOver j file lent (Refused 11) lent
-      short t = refuses 11 (λ w. omega arith) (only-room ∙ rw t)
-
-      pub whole : room lent (chunks j) n ≡ true → HandsOver j file lent (Rows n) (filledAll (chunks j) file n lent)
-      whole t =
-          let e : readRefusal j file lent ≡ 0 = only-room ∙ rw t in
-          let plan = planIn (chunks j) file in
-          let rows : plan .rows ≡ upTo (rowOn file (chunks j)) n = rw (accepted .1) (laid .rows-are) in (
-            rw (e, ← accepted .1),
-            rw e (same-slices
-                (over (markOn file) (chunks j) (plan .marks) (lent .marks) (laid .marks-are))
-                (over (λ i. rowOn file (chunks j) i .slot) n (map (λ x. x .slot) (plan .rows)) (lent .slots) (ap (map (λ (x : Row). x .slot)) rows ∙ map-upTo (λ x. x .slot) (rowOn file (chunks j)) n))
-                (over (λ i. rowOn file (chunks j) i .chunk) n (map (λ x. x .chunk) (plan .rows)) (lent .chunks) (ap (map (λ (x : Row). x .chunk)) rows ∙ map-upTo (λ x. x .chunk) (rowOn file (chunks j)) n))
-                (over (λ i. rowOn file (chunks j) i .layer) n (map (λ x. x .layer) (plan .rows)) (lent .layers) (ap (map (λ (x : Row). x .layer)) rows ∙ map-upTo (λ x. x .layer) (rowOn file (chunks j)) n))
-                (over (λ i. rowOn file (chunks j) i .bytes) n (map (λ x. x .bytes) (plan .rows)) (lent .bytes) (ap (map (λ (x : Row). x .bytes)) rows ∙ map-upTo (λ x. x .bytes) (rowOn file (chunks j)) n))),
-          )
+    pub whole : room lent count n ≡ true → HandsOver h file lent (Rows n) (filledAll count file n lent)
+    whole t =
+        let e : readRefusal h file lent ≡ 0 = only-room ∙ rw t in
+        let plan = planIn count file in
+        let rows : plan .rows ≡ upTo (rowOn file count) n = rw (accepted .1) (laid .rows-are) in (
+          rw (e, ← accepted .1),
+          rw e (same-slices
+              (over (markOn file) count (plan .marks) (lent .marks) (laid .marks-are))
+              (over (λ i. rowOn file count i .slot) n (map (λ x. x .slot) (plan .rows)) (lent .slots) (ap (map (λ (x : Row). x .slot)) rows ∙ map-upTo (λ x. x .slot) (rowOn file count) n))
+              (over (λ i. rowOn file count i .chunk) n (map (λ x. x .chunk) (plan .rows)) (lent .chunks) (ap (map (λ (x : Row). x .chunk)) rows ∙ map-upTo (λ x. x .chunk) (rowOn file count) n))
+              (over (λ i. rowOn file count i .layer) n (map (λ x. x .layer) (plan .rows)) (lent .layers) (ap (map (λ (x : Row). x .layer)) rows ∙ map-upTo (λ x. x .layer) (rowOn file count) n))
+              (over (λ i. rowOn file count i .bytes) n (map (λ x. x .bytes) (plan .rows)) (lent .bytes) (ap (map (λ (x : Row). x .bytes)) rows ∙ map-upTo (λ x. x .bytes) (rowOn file count) n))),
+        )

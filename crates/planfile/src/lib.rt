@@ -5,16 +5,17 @@ ghost use mathlib.Core.List.{map};
 ghost use Prim.Native.Nat.{_+_, _*_, _≤_, _<_};
 ghost use lib.ListN.{length};
 ghost use lib.Dec.{leb};
-ghost use Rattle.job.specs.Job.{jobOf};
+ghost use Rattle.job.specs.Handed.{handed};
 ghost use Rattle.records.specs.File.{recordsRefusal, fileRefusal};
 ghost use Rattle.basics.specs.Refusals.{unless};
+ghost use Rattle.basics.specs.Lent.{lentAfter};
 ghost use Rattle.records.specs.Fields.{written};
 ghost use Rattle.fetch.specs.Rows.{rowsOf};
-ghost use Rattle.planfile.specs.Records.{encode, readAt};
-ghost use Rattle.planfile.specs.PlanFile.{format, kps, ftOf};
-ghost use Rattle.planfile.specs.Calls.{slicesOf, readAnswer, readLent, writeInput, writeAnswer, writeLent};
+ghost use Rattle.planfile.specs.Records.{encode, front, readOf, readAt};
+ghost use Rattle.planfile.specs.PlanFile.{format, kps, ftOf, fileOf};
+ghost use Rattle.planfile.specs.Calls.{slicesOf, readInput, readAnswer, readLent, planOf, rowsRefusal, writeRest, writtenBy, writeAnswer, writeLent};
 ghost use Rattle.planfile.specs.lemmas.Writing.{bytesOf};
-ghost use Rattle.planfile.specs.lemmas.Scan.{refusalOf, endOf, inTurn, answerOf, turnOf, Done, markOn, rowOn, filled};
+ghost use Rattle.planfile.specs.lemmas.Scan.{readWhole, refusalOf, endOf, inTurn, answerOf, turnOf, Done, markOn, rowOn, filled};
 use job::Programme;
 
 // A record without its mark.
@@ -56,46 +57,57 @@ enum Turn {
     End(PlanRead),
 }
 
-// The record at a place: 1 where the file ends before its mark or within it, 2 for an unknown mark.
-fn record_at(s: &[u8], at: usize) -> Read
-    ensures { λ r. ⌜ r ≡ readAt (now (s .entry)) at ⌝ }
+// The record of n bytes, where so many are left from at.
+fn whole(left: usize, n: usize, record: Record, at: usize) -> Read
+    requires { ⌜ at + left < 18446744073709551616 ⌝ }
+    ensures { λ r. ⌜ r ≡ readWhole left n «record» at ⌝ }
 {
-    if s.len() < at {
+    if left < n {
         return Read::Refused(1);
     }
-    let left = s.len() - at;
+    let next = at + n;
+    Read::Got(record, next)
+}
+
+// The record in front of the bytes that start at a place: 1 where they end before its mark or within it, 2 for an unknown mark.
+fn record_in(rest: &[u8], at: usize) -> Read
+    requires { ⌜ at + length (now rest) < 18446744073709551616 ⌝ }
+    ensures { λ r. ⌜ r ≡ readOf at (front (now (rest .entry))) ⌝ }
+{
+    let left = rest.len();
     if left < 2 {
         return Read::Refused(1);
     }
-    let body = at + 2;
-    if records::is_mark(s, at, b"KP") {
-        if left < 5 {
-            return Read::Refused(1);
-        }
-        let next = at + 5;
+    if records::is_mark(rest, 0, b"KP") {
         let kp = Record::Kp {
-            chunk: records::h_at(s, body),
-            marks: records::byte_at(s, body + 2),
+            chunk: records::h_at(rest, 2),
+            marks: records::byte_at(rest, 4),
         };
-        return Read::Got(kp, next);
+        return whole(left, 5, kp, at);
     }
-    if records::is_mark(s, at, b"FT") {
-        if left < 11 {
-            return Read::Refused(1);
-        }
-        let next = at + 11;
+    if records::is_mark(rest, 0, b"FT") {
         let ft = Record::Ft {
-            slot: records::h_at(s, body),
-            chunk: records::h_at(s, body + 2),
-            layer: records::byte_at(s, body + 4),
-            bytes: records::w_at(s, body + 5),
+            slot: records::h_at(rest, 2),
+            chunk: records::h_at(rest, 4),
+            layer: records::byte_at(rest, 6),
+            bytes: records::w_at(rest, 7),
         };
-        return Read::Got(ft, next);
+        return whole(left, 11, ft, at);
     }
-    if records::is_mark(s, at, b"EN") {
-        return Read::Got(Record::En, body);
+    if records::is_mark(rest, 0, b"EN") {
+        return whole(left, 2, Record::En, at);
     }
     Read::Refused(2)
+}
+
+// The record at a place.
+fn record_at(file: &[u8], at: usize) -> Read
+    ensures { λ r. ⌜ r ≡ readAt (now (file .entry)) at ⌝ }
+{
+    if file.len() < at {
+        return Read::Refused(1);
+    }
+    record_in(&file[at..], at)
 }
 
 fn refusal_of(read: Read) -> u8
@@ -273,10 +285,32 @@ fn copy_rows(
     }
 }
 
+// The handed job's refusal, then its file's; else how many rows the file has.
+fn read_input(
+    p: Programme,
+    sizes: &[u32],
+    size_chunks: &[u16],
+    size_layers: &[u8],
+    size_bytes: &[u32],
+    forecast: &[u32],
+    file: &[u8],
+) -> PlanRead
+    ensures { λ r. ⌜ Done (p .chunks) (now (file .entry)) (readInput (handed p (now (sizes .entry)) (now («size_chunks» .entry)) (now («size_layers» .entry)) (now («size_bytes» .entry)) (now (forecast .entry))) (now (file .entry))) r ⌝ }
+{
+    let refused = job::refusal(p, sizes, size_chunks, size_layers, size_bytes, forecast);
+    if refused != 0 {
+        return PlanRead::Refused(refused);
+    }
+    file_rows(p.chunks, file)
+}
+
 // A plan file's marks and rows into the lent slices: how many rows, or the refusal.
 pub fn read_plan(
     p: Programme,
     sizes: &[u32],
+    size_chunks: &[u16],
+    size_layers: &[u8],
+    size_bytes: &[u32],
     forecast: &[u32],
     file: &[u8],
     marks: &mut [u8],
@@ -285,14 +319,18 @@ pub fn read_plan(
     layers: &mut [u8],
     bytes: &mut [u32],
 ) -> PlanRead
-    ensures answer { λ r. ⌜ r ≡ readAnswer (jobOf p (now (sizes .entry)) (now (forecast .entry))) (now (file .entry)) (slicesOf (now (marks .entry)) (now (slots .entry)) (now (chunks .entry)) (now (layers .entry)) (now (bytes .entry))) ⌝ }
-    ensures lent { λ _. ⌜ slicesOf (now (marks .exit)) (now (slots .exit)) (now (chunks .exit)) (now (layers .exit)) (now (bytes .exit)) ≡ readLent (jobOf p (now (sizes .entry)) (now (forecast .entry))) (now (file .entry)) (slicesOf (now (marks .entry)) (now (slots .entry)) (now (chunks .entry)) (now (layers .entry)) (now (bytes .entry))) ⌝ }
+    ensures answer { λ r. ⌜ r ≡ readAnswer (handed p (now (sizes .entry)) (now («size_chunks» .entry)) (now («size_layers» .entry)) (now («size_bytes» .entry)) (now (forecast .entry))) (now (file .entry)) (slicesOf (now (marks .entry)) (now (slots .entry)) (now (chunks .entry)) (now (layers .entry)) (now (bytes .entry))) ⌝ }
+    ensures lent { λ _. ⌜ slicesOf (now (marks .exit)) (now (slots .exit)) (now (chunks .exit)) (now (layers .exit)) (now (bytes .exit)) ≡ readLent (handed p (now (sizes .entry)) (now («size_chunks» .entry)) (now («size_layers» .entry)) (now («size_bytes» .entry)) (now (forecast .entry))) (now (file .entry)) (slicesOf (now (marks .entry)) (now (slots .entry)) (now (chunks .entry)) (now (layers .entry)) (now (bytes .entry))) ⌝ }
 {
-    let refused = job::refusal(p, sizes, forecast);
-    if refused != 0 {
-        return PlanRead::Refused(refused);
-    }
-    let read = file_rows(p.chunks, file);
+    let read = read_input(
+        p,
+        sizes,
+        size_chunks,
+        size_layers,
+        size_bytes,
+        forecast,
+        file,
+    );
     let PlanRead::Rows(rows) = read else {
         return read;
     };
@@ -308,7 +346,7 @@ pub fn read_plan(
     ) {
         copy_marks(file, count, marks);
         copy_rows(file, count, rows, slots, chunks, layers, bytes);
-        return PlanRead::Rows(rows);
+        return read;
     }
     PlanRead::Refused(11)
 }
@@ -384,30 +422,25 @@ fn put_fts(out: &mut [u8], from: usize, slots: &[u16], chunks: &[u16], layers: &
     }
 }
 
-// The refusals of a plan to be written that come from the input.
-fn write_input(
-    p: Programme,
-    sizes: &[u32],
-    forecast: &[u32],
+// 8, then 9, of a plan to be written.
+fn rows_refusal(
+    count: u16,
     marks: &[u8],
     slots: &[u16],
     chunks: &[u16],
     layers: &[u8],
     bytes: &[u32],
 ) -> u8
-    ensures { λ r. ⌜ r ≡ writeInput (jobOf p (now (sizes .entry)) (now (forecast .entry))) (slicesOf (now (marks .entry)) (now (slots .entry)) (now (chunks .entry)) (now (layers .entry)) (now (bytes .entry))) ⌝ }
+    ensures { λ r. ⌜ r ≡ rowsRefusal count (slicesOf (now (marks .entry)) (now (slots .entry)) (now (chunks .entry)) (now (layers .entry)) (now (bytes .entry))) ⌝ }
 {
     let nine = size_refusal(marks.len(), slots.len());
-    let eight = fetch::handed_refusal(p.chunks, marks, slots, chunks, layers, bytes);
-    let job = job::refusal(p, sizes, forecast);
-    job::or_else(job, job::or_else(eight, nine))
+    let eight = fetch::handed_refusal(count, marks, slots, chunks, layers, bytes);
+    job::or_else(eight, nine)
 }
 
-// A plan's file into the lent buffer: how many bytes, or the refusal.
-pub fn write_plan(
-    p: Programme,
-    sizes: &[u32],
-    forecast: &[u32],
+// The file of a plan for a job with count chunks, into the lent buffer.
+fn write_file(
+    count: u16,
     marks: &[u8],
     slots: &[u16],
     chunks: &[u16],
@@ -415,10 +448,10 @@ pub fn write_plan(
     bytes: &[u32],
     out: &mut [u8],
 ) -> Written
-    ensures answer { λ r. ⌜ r ≡ writeAnswer (jobOf p (now (sizes .entry)) (now (forecast .entry))) (slicesOf (now (marks .entry)) (now (slots .entry)) (now (chunks .entry)) (now (layers .entry)) (now (bytes .entry))) (now (out .entry)) ⌝ }
-    ensures lent { λ _. ⌜ now (out .exit) ≡ writeLent (jobOf p (now (sizes .entry)) (now (forecast .entry))) (slicesOf (now (marks .entry)) (now (slots .entry)) (now (chunks .entry)) (now (layers .entry)) (now (bytes .entry))) (now (out .entry)) ⌝ }
+    ensures answer { λ r. ⌜ r ≡ writtenBy (writeRest count (slicesOf (now (marks .entry)) (now (slots .entry)) (now (chunks .entry)) (now (layers .entry)) (now (bytes .entry))) (now (out .entry))) (slicesOf (now (marks .entry)) (now (slots .entry)) (now (chunks .entry)) (now (layers .entry)) (now (bytes .entry))) ⌝ }
+    ensures lent { λ _. ⌜ now (out .exit) ≡ lentAfter (writeRest count (slicesOf (now (marks .entry)) (now (slots .entry)) (now (chunks .entry)) (now (layers .entry)) (now (bytes .entry))) (now (out .entry))) (fileOf (planOf (slicesOf (now (marks .entry)) (now (slots .entry)) (now (chunks .entry)) (now (layers .entry)) (now (bytes .entry))))) (now (out .entry)) ⌝ }
 {
-    let refused = write_input(p, sizes, forecast, marks, slots, chunks, layers, bytes);
+    let refused = rows_refusal(count, marks, slots, chunks, layers, bytes);
     if refused != 0 {
         return Written::Refused(refused);
     }
@@ -432,4 +465,29 @@ pub fn write_plan(
     put_fts(out, from, slots, chunks, layers, bytes);
     records::put(out, last, b"EN");
     Written::Bytes(end)
+}
+
+// A plan's file into the lent buffer: how many bytes, or the refusal.
+pub fn write_plan(
+    p: Programme,
+    sizes: &[u32],
+    size_chunks: &[u16],
+    size_layers: &[u8],
+    size_bytes: &[u32],
+    forecast: &[u32],
+    marks: &[u8],
+    slots: &[u16],
+    chunks: &[u16],
+    layers: &[u8],
+    bytes: &[u32],
+    out: &mut [u8],
+) -> Written
+    ensures answer { λ r. ⌜ r ≡ writeAnswer (handed p (now (sizes .entry)) (now («size_chunks» .entry)) (now («size_layers» .entry)) (now («size_bytes» .entry)) (now (forecast .entry))) (slicesOf (now (marks .entry)) (now (slots .entry)) (now (chunks .entry)) (now (layers .entry)) (now (bytes .entry))) (now (out .entry)) ⌝ }
+    ensures lent { λ _. ⌜ now (out .exit) ≡ writeLent (handed p (now (sizes .entry)) (now («size_chunks» .entry)) (now («size_layers» .entry)) (now («size_bytes» .entry)) (now (forecast .entry))) (slicesOf (now (marks .entry)) (now (slots .entry)) (now (chunks .entry)) (now (layers .entry)) (now (bytes .entry))) (now (out .entry)) ⌝ }
+{
+    let refused = job::refusal(p, sizes, size_chunks, size_layers, size_bytes, forecast);
+    if refused != 0 {
+        return Written::Refused(refused);
+    }
+    write_file(p.chunks, marks, slots, chunks, layers, bytes, out)
 }

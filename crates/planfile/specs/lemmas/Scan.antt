@@ -68,6 +68,10 @@ stands s =
 
 -- ---- a turn
 
+-- A record of n bytes at a place with so many left.
+abbrev pub readWhole : ℕ → ℕ → Record → ℕ → Read
+readWhole left n r at = cond (leb n left) (read.Got r (at + n)) (read.Refused 1)
+
 -- The number of rows, or a refusal.
 abbrev pub answerOf : ℕ → ℕ → PlanRead
 answerOf refused rows = cond (eqb refused 0) (Rows rows) (Refused refused)
