@@ -5,11 +5,12 @@ use mathlib.Core.List.{List, [], _∷_, map}
 use Prim.Native.Nat.{ℕ, _+_, _≤_, _<_}
 use native.Mathlib.Omega.{arith}
 use native.Mathlib.Numerals.{add-one}
-use lib.ListN.{length, getD, set, take, drop, length-set}
+use lib.ListN.{length, getD, set, take, drop, length-set, length-map}
 use lib.Seq.{take-suc, take-at, length-take-le}
 use lib.Dec.{leb, eqb}
 use borrow.Author.Tests.{eq-eqb, ne-eqb, le-leb, lt-leb}
 use Rattle.basics.specs.Refusals.{unless}
+use Rattle.basics.specs.lemmas.Lists.{length-upTo}
 use Rattle.basics.specs.lemmas.Refusals.{orElse-none, orElse-some}
 use Rattle.basics.specs.lemmas.Tests.{tests, true-T}
 use Rattle.job.specs.Job.{Job, Accepted, chunks}
@@ -20,9 +21,11 @@ use Rattle.schedule.specs.Theorems.{own-list-rows, best, plan-exists}
 use Rattle.schedule.specs.Statement.{countsOf, marksOf}
 use Rattle.planner.specs.declared.Answer.the-variants.{Rows, Refused}
 use Rattle.planner.specs.declared.Planned.{Planned}
+use Rattle.planner.specs.declared.Filled.{Filled}
+use Rattle.planner.specs.lemmas.Handing.{Laid}
 use Rattle.planner.specs.Answer.{planRows, Lent, lentOf, holds, planRefusal, given, Handed, DecidedByLists, BestOfLists}
 use Rattle.basics.specs.Lent.{over}
-use Rattle.fetch.specs.Rows.{rowSlot, rowChunk, rowLayer, rowBytes}
+use Rattle.fetch.specs.Rows.{Row, rowSlot, rowChunk, rowLayer, rowBytes}
 use Rattle.basics.specs.lemmas.Lent.{over-next, over-long}
 
 -- ---- a copy
@@ -116,11 +119,63 @@ four-hold n a b c d e =
 -- ---- a result laid out aside
 
 -- What was laid out aside, copied into a lent slice.
-pub copied-over : (t aside aside' to : List ℕ) (n : ℕ) → aside' ≡ over t aside → length t ≡ n → over (take n aside') to ≡ over t to
-copied-over t aside aside' to n e h = ap (λ (l : List ℕ). over l to) (ap (take n) e ∙ take-at t (drop (length t) aside) n h)
+copied-over : (t aside aside' to to' : List ℕ) (n : ℕ) → aside' ≡ over t aside → length t ≡ n → to' ≡ over (take n aside') to → to' ≡ over t to
+copied-over t aside aside' to to' n e f g = g ∙ ap (λ (x : List ℕ). over x to) (ap (take n) e ∙ take-at t (drop (length t) aside) n f)
 
-pub aside-long : (t aside aside' : List ℕ) → aside' ≡ over t aside → length t ≤ length aside → length aside' ≡ length aside
-aside-long t aside aside' e h = ap length e ∙ over-long t aside h
+module _ (h : HandedJob) (z : jobRefusal h ≡ 0) {ms ss cs ls bs : List ℕ} {made : Filled} {ms' ss' cs' ls' bs' : List ℕ} (l : Laid (jobIn h) ms ss cs ls bs made ms' ss' cs' ls' bs') where
+  ok : Accepted (jobIn h)
+  ok = handed-iff h .0 z .1
+
+  marks-long : length (marksOf (jobIn h) (plan (jobIn h))) ≡ chunks (jobIn h)
+  marks-long = length-upTo _ (chunks (jobIn h))
+
+  column : (f : Row → ℕ) → length (map f (planRows (jobIn h))) ≡ made .rows
+  column f = length-map (planRows (jobIn h)) f ∙ sym (l .rows)
+
+  -- What stands aside is long enough to be copied.
+  long-aside : (t old new : List ℕ) → new ≡ over t old → length t ≤ length old → length t ≤ length new
+  long-aside t old new e f = omega (arith, ap length e ∙ over-long t old f)
+
+  pub marks-aside : length ms ≡ 500 → chunks (jobIn h) ≤ length ms'
+  marks-aside e = omega (arith, marks-long, long-aside (marksOf (jobIn h) (plan (jobIn h))) ms ms' (l .marks-are) (omega (arith, marks-long, ok .chunks-in .high)))
+
+  few : made .rows ≤ 5599
+  few = omega (arith, own-list-rows (jobIn h) ok (plan (jobIn h)) (plan-choice (jobIn h)), l .rows)
+
+  column-aside : (f : Row → ℕ) (old new : List ℕ) → new ≡ over (map f (planRows (jobIn h))) old → length old ≡ 5599 → made .rows ≤ length new
+  column-aside f old new e long = omega (arith, column f, long-aside (map f (planRows (jobIn h))) old new e (omega (arith, column f, few)))
+
+  pub slots-aside : length ss ≡ 5599 → made .rows ≤ length ss'
+  slots-aside = column-aside rowSlot ss ss' (l .slots-are)
+
+  pub chunks-aside : length cs ≡ 5599 → made .rows ≤ length cs'
+  chunks-aside = column-aside rowChunk cs cs' (l .chunks-are)
+
+  pub layers-aside : length ls ≡ 5599 → made .rows ≤ length ls'
+  layers-aside = column-aside rowLayer ls ls' (l .layers-are)
+
+  pub bytes-aside : length bs ≡ 5599 → made .rows ≤ length bs'
+  bytes-aside = column-aside rowBytes bs bs' (l .bytes-are)
+
+  -- Copied into the lent slices, or refused.
+  module _ (marks slots chs layers bytes : List ℕ) (fit : chunks (jobIn h) ≤ length marks) (r : Planned) where
+    holds-made : (b : Bool) → rows-hold h marks slots chs layers bytes (made .rows) ≡ b → holds (jobIn h) (lentOf marks slots chs layers bytes) ≡ b
+    holds-made b e = holds-rows h marks slots chs layers bytes fit b (ap (rows-hold h marks slots chs layers bytes) (sym (l .rows)) ∙ e)
+
+    pub tight-plan : rows-hold h marks slots chs layers bytes (made .rows) ≡ true → (r .answer ≡ Rows (made .rows)) × (r .counts ≡ made .counts) → {marks' slots' chs' layers' bytes' : List ℕ}
+        → marks' ≡ over (take (chunks (jobIn h)) ms') marks → slots' ≡ over (take (made .rows) ss') slots → chs' ≡ over (take (made .rows) cs') chs
+        → layers' ≡ over (take (made .rows) ls') layers → bytes' ≡ over (take (made .rows) bs') bytes
+        → Handed h marks slots chs layers bytes r marks' slots' chs' layers' bytes'
+    tight-plan e x ma sl ch la by =
+        handed-plan h marks slots chs layers bytes z (holds-made true e) r _ _ _ _ _ (x .0 ∙ ap Rows (l .rows)) (x .1 ∙ l .counts)
+        (copied-over (marksOf (jobIn h) (plan (jobIn h))) ms ms' marks _ _ (l .marks-are) marks-long ma)
+        (copied-over (map rowSlot (planRows (jobIn h))) ss ss' slots _ _ (l .slots-are) (column rowSlot) sl)
+        (copied-over (map rowChunk (planRows (jobIn h))) cs cs' chs _ _ (l .chunks-are) (column rowChunk) ch)
+        (copied-over (map rowLayer (planRows (jobIn h))) ls ls' layers _ _ (l .layers-are) (column rowLayer) la)
+        (copied-over (map rowBytes (planRows (jobIn h))) bs bs' bytes _ _ (l .bytes-are) (column rowBytes) by)
+
+    pub tight-short : rows-hold h marks slots chs layers bytes (made .rows) ≡ false → (r .answer ≡ Refused 11) × (r .counts ≡ 0 ∷ 0 ∷ 0 ∷ 0 ∷ []) → Handed h marks slots chs layers bytes r marks slots chs layers bytes
+    tight-short e x = handed-refused h marks slots chs layers bytes 11 (refused-short h marks slots chs layers bytes z (holds-made false e)) (λ w. omega arith) r x
 
 -- ---- what holds of the plan
 
