@@ -13,7 +13,7 @@ use Rattle.basics.specs.Refusals.{unless}
 use Rattle.basics.specs.lemmas.Refusals.{orElse-none, orElse-some}
 use Rattle.basics.specs.lemmas.Tests.{tests, true-T}
 use Rattle.job.specs.Job.{Job, Accepted, chunks}
-use Rattle.job.specs.Refusal.{refusal, accepted-iff}
+use Rattle.job.specs.Handed.{HandedJob, jobIn, jobRefusal, handed-iff}
 use Rattle.schedule.specs.Plan.{plan}
 use Rattle.schedule.specs.lemmas.Plan.{plan-choice}
 use Rattle.schedule.specs.Theorems.{own-list-rows, best, plan-exists}
@@ -44,14 +44,17 @@ copied-more from old to n i s h a b =
 
 -- ---- what is handed
 
-module _ (j : Job) (marks slots cs layers bytes : List ℕ) where
+module _ (h : HandedJob) (marks slots cs layers bytes : List ℕ) where
+  abbrev j : Job
+  j = jobIn h
+
   abbrev lent : Lent
   lent = lentOf marks slots cs layers bytes
 
   -- Nothing but a number.
-  pub handed-refused : (k : ℕ) → planRefusal j lent ≡ k → (k ≡ 0 → ⊥) → (r : Planned) → (r .answer ≡ Refused k) × (r .counts ≡ 0 ∷ 0 ∷ 0 ∷ 0 ∷ []) → Handed j marks slots cs layers bytes r marks slots cs layers bytes
+  pub handed-refused : (k : ℕ) → planRefusal h lent ≡ k → (k ≡ 0 → ⊥) → (r : Planned) → (r .answer ≡ Refused k) × (r .counts ≡ 0 ∷ 0 ∷ 0 ∷ 0 ∷ []) → Handed h marks slots cs layers bytes r marks slots cs layers bytes
   handed-refused k e o r x =
-      let g : given j lent ≡ false = ap (λ (n : ℕ). eqb n 0) e ∙ ne-eqb k 0 o in
+      let g : given h lent ≡ false = ap (λ (n : ℕ). eqb n 0) e ∙ ne-eqb k 0 o in
       record {
         answer = x .0 ∙ sym (rw (g, e));
         counts = x .1 ∙ sym (rw g);
@@ -62,23 +65,23 @@ module _ (j : Job) (marks slots cs layers bytes : List ℕ) where
         bytes-are = sym (rw g);
       }
 
-  -- 5, 6 or 7.
-  pub refused-input : (refusal j ≡ 0 → ⊥) → planRefusal j lent ≡ refusal j
-  refused-input o = orElse-some (refusal j) (unless 11 (holds j lent)) o
+  -- 5, 6, 18 or 7.
+  pub refused-input : (jobRefusal h ≡ 0 → ⊥) → planRefusal h lent ≡ jobRefusal h
+  refused-input o = orElse-some (jobRefusal h) (unless 11 (holds j lent)) o
 
   -- 11.
-  pub refused-short : refusal j ≡ 0 → holds j lent ≡ false → planRefusal j lent ≡ 11
-  refused-short e h = orElse-none (refusal j) (unless 11 (holds j lent)) e ∙ rw h
+  pub refused-short : jobRefusal h ≡ 0 → holds j lent ≡ false → planRefusal h lent ≡ 11
+  refused-short e f = orElse-none (jobRefusal h) (unless 11 (holds j lent)) e ∙ rw f
 
   pub short-marks : length marks < chunks j → holds j lent ≡ false
-  short-marks h = rw (lt-leb (chunks j) (length marks) h)
+  short-marks f = rw (lt-leb (chunks j) (length marks) f)
 
   -- The marks fit: the rows say.
   abbrev rows-hold : ℕ → Bool
   rows-hold n = leb n (length slots) && (leb n (length cs) && (leb n (length layers) && leb n (length bytes)))
 
   pub holds-rows : chunks j ≤ length marks → (b : Bool) → rows-hold (length (planRows j)) ≡ b → holds j lent ≡ b
-  holds-rows h b e = rw (le-leb (chunks j) (length marks) h) e
+  holds-rows f b e = rw (le-leb (chunks j) (length marks) f) e
 
   -- Room for any plan is room for this one.
   pub ample-rows : Accepted j → 5599 ≤ length slots → 5599 ≤ length cs → 5599 ≤ length layers → 5599 ≤ length bytes → rows-hold (length (planRows j)) ≡ true
@@ -87,14 +90,14 @@ module _ (j : Job) (marks slots cs layers bytes : List ℕ) where
       rw (le-leb (length (planRows j)) (length slots) (omega arith), le-leb (length (planRows j)) (length cs) (omega arith), le-leb (length (planRows j)) (length layers) (omega arith), le-leb (length (planRows j)) (length bytes) (omega arith))
 
   -- The plan itself.
-  pub handed-plan : refusal j ≡ 0 → holds j lent ≡ true → (r : Planned) (marks' slots' cs' layers' bytes' : List ℕ)
+  pub handed-plan : jobRefusal h ≡ 0 → holds j lent ≡ true → (r : Planned) (marks' slots' cs' layers' bytes' : List ℕ)
       → r .answer ≡ Rows (length (planRows j)) → r .counts ≡ countsOf j (plan j)
       → marks' ≡ over (marksOf j (plan j)) marks → slots' ≡ over (map rowSlot (planRows j)) slots → cs' ≡ over (map rowChunk (planRows j)) cs
       → layers' ≡ over (map rowLayer (planRows j)) layers → bytes' ≡ over (map rowBytes (planRows j)) bytes
-      → Handed j marks slots cs layers bytes r marks' slots' cs' layers' bytes'
-  handed-plan e h r marks' slots' cs' layers' bytes' an co ma sl ch la by =
-      let z : planRefusal j lent ≡ 0 = orElse-none (refusal j) (unless 11 (holds j lent)) e ∙ rw h in
-      let g : given j lent ≡ true = eq-eqb (planRefusal j lent) 0 z in
+      → Handed h marks slots cs layers bytes r marks' slots' cs' layers' bytes'
+  handed-plan e f r marks' slots' cs' layers' bytes' an co ma sl ch la by =
+      let z : planRefusal h lent ≡ 0 = orElse-none (jobRefusal h) (unless 11 (holds j lent)) e ∙ rw f in
+      let g : given h lent ≡ true = eq-eqb (planRefusal h lent) 0 z in
       record {
         answer = an ∙ sym (rw g);
         counts = co ∙ sym (rw g);
@@ -121,8 +124,8 @@ aside-long t aside aside' e h = ap length e ∙ over-long t aside h
 
 -- ---- what holds of the plan
 
-pub decided-by-lists : (j : Job) → DecidedByLists j
-decided-by-lists j z = plan-exists j (accepted-iff j .0 z)
+pub decided-by-lists : (h : HandedJob) → DecidedByLists h
+decided-by-lists h z = plan-exists (jobIn h) (handed-iff h .0 z .1)
 
-pub best-of-lists : (j : Job) → BestOfLists j
-best-of-lists j z equal = let a = accepted-iff j .0 z in best j a equal (plan j) (plan-exists j a)
+pub best-of-lists : (h : HandedJob) → BestOfLists h
+best-of-lists h z equal = let j = jobIn h in let a = handed-iff h .0 z .1 in best j a equal (plan j) (plan-exists j a)
