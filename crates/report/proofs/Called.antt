@@ -1,26 +1,31 @@
 -- What a call of the planner with room for any plan leaves in the slices: the plan's own list, in front. Assumes nothing.
 use Prim.Native.Nat.{ℕ, _≤_}
-use mathlib.Core.Path.{_≡_, sym, ap, _∙_}
+use mathlib.Core.Path.{_≡_, sym, ap, subst, _∙_}
 use mathlib.Core.Bool.{true}
-use mathlib.Core.List.{List}
+use mathlib.Core.List.{List, map}
 use native.Mathlib.Omega.{arith}
-use lib.ListN.{length, take, drop, length-append, length-map, replicate, length-replicate}
+use lib.ListN.{length, getD, take, drop, length-append, length-map, replicate, length-replicate}
 use lib.Seq.{take-at, length-take-le}
 use borrow.Author.Tests.{le-leb}
-use Rattle.job.specs.Job.{Job, Accepted, chunks}
-use Rattle.job.specs.Refusal.{accepted-iff}
-use Rattle.schedule.specs.Plan.{plan}
-use Rattle.schedule.specs.Theorems.{own-list-rows, plan-exists}
-use Rattle.planner.specs.Answer.{Handed, planRows, given, lentOf, sliceAfter}
 use Rattle.basics.specs.Lent.{over}
+use Rattle.basics.specs.Sums.{sum}
+use Rattle.job.specs.Handed.{HandedJob, handed-iff, jobIn}
+use Rattle.job.specs.Job.{Accepted, chunks}
+use Rattle.fetch.specs.Rows.{Row, rowsOf, rowSlot, rowChunk, rowLayer, rowBytes}
+use Rattle.planner.specs.Answer.{Handed, planRows, given, lentOf, sliceAfter}
 use Rattle.planner.specs.declared.Planned.{Planned}
-use Rattle.report.specs.lemmas.Tables.{rowsIn}
-use Rattle.report.proofs.Own.{slotsOf, chunksOf, layersOf, bytesOf}
+use Rattle.report.specs.Report.{bytesInRows}
+use Rattle.report.specs.lemmas.Tables.{NotRefused, Rows, Summed, rowsIn}
+use Rattle.report.proofs.Own.{few, own-rows, rows-again, spent-again}
 
 -- The first n of a slice are a column of the plan's rows.
 pub record Column (result : List ℕ) (n : ℕ) (s : List ℕ) : Type 0 where
   pub fits : n ≤ length s
   pub is : take n s ≡ result
+
+-- They have that length.
+pub column-length : {result : List ℕ} {n : ℕ} {s : List ℕ} → Column result n s → n ≡ length (take n s)
+column-length {result} {n} {s} c = sym (length-take-le n s (c .fits))
 
 front : (result old : List ℕ) (n : ℕ) (s : List ℕ) → n ≡ length result → s ≡ over result old → Column result n s
 front result old n s e f = record {
@@ -29,67 +34,55 @@ front result old n s e f = record {
 }
 
 -- The four columns.
-pub record Columns (j : Job) (n : ℕ) (slots cs layers bytes : List ℕ) : Type 0 where
-  pub slots-are : Column (slotsOf (planRows j)) n slots
-  pub chunks-are : Column (chunksOf (planRows j)) n cs
-  pub layers-are : Column (layersOf (planRows j)) n layers
-  pub bytes-are : Column (bytesOf (planRows j)) n bytes
-
-module _ (j : Job) (a : Accepted j) (marks slots cs layers bytes : List ℕ) where
-  -- Room for any plan.
-  pub record Roomy : Type 0 where
-    pub marks-fit : 500 ≤ length marks
-    pub slots-fit : 5599 ≤ length slots
-    pub chunks-fit : 5599 ≤ length cs
-    pub layers-fit : 5599 ≤ length layers
-    pub bytes-fit : 5599 ≤ length bytes
-
-  module _ (room : Roomy) where
-    few : length (planRows j) ≤ 5599
-    few = own-list-rows j a (plan j) (plan-exists j a .choice)
-
-    is-given : given j (lentOf marks slots cs layers bytes) ≡ true
-    is-given =
-        let n = length (planRows j) in
-        rw (
-          accepted-iff j .1 a,
-          le-leb (chunks j) (length marks) (omega (arith, a .chunks-in .high, room .marks-fit)),
-          le-leb n (length slots) (omega (arith, few, room .slots-fit)),
-          le-leb n (length cs) (omega (arith, few, room .chunks-fit)),
-          le-leb n (length layers) (omega (arith, few, room .layers-fit)),
-          le-leb n (length bytes) (omega (arith, few, room .bytes-fit)),
-        )
-
-    handed : (result old : List ℕ) → sliceAfter j (lentOf marks slots cs layers bytes) result old ≡ over result old
-    handed result old = rw is-given
-
-    pub columns :
-        {r : Planned} {marks' slots' cs' layers' bytes' : List ℕ} → Handed j marks slots cs layers bytes r marks' slots' cs' layers' bytes' →
-        (n : ℕ) → n ≡ rowsIn (r .answer) → Columns j n slots' cs' layers' bytes'
-    columns {r} p n e =
-        let l = planRows j in
-        let h : n ≡ length l = e ∙ ap rowsIn (p .answer) ∙ rw is-given in
-        record {
-          slots-are = front (slotsOf l) slots n _ (h ∙ sym (length-map l (λ x. x .slot))) (p .slots-are ∙ handed (slotsOf l) slots);
-          chunks-are = front (chunksOf l) cs n _ (h ∙ sym (length-map l (λ x. x .chunk))) (p .chunks-are ∙ handed (chunksOf l) cs);
-          layers-are = front (layersOf l) layers n _ (h ∙ sym (length-map l (λ x. x .layer))) (p .layers-are ∙ handed (layersOf l) layers);
-          bytes-are = front (bytesOf l) bytes n _ (h ∙ sym (length-map l (λ x. x .bytes))) (p .bytes-are ∙ handed (bytesOf l) bytes);
-        }
-
--- The first so many have that length.
-pub column-length : {result : List ℕ} {n : ℕ} {s : List ℕ} → Column result n s → n ≡ length (take n s)
-column-length {result} {n} {s} c = sym (length-take-le n s (c .fits))
+pub record Columns (l : List Row) (n : ℕ) (slots cs layers bytes : List ℕ) : Type 0 where
+  pub slots-are : Column (map rowSlot l) n slots
+  pub chunks-are : Column (map rowChunk l) n cs
+  pub layers-are : Column (map rowLayer l) n layers
+  pub bytes-are : Column (map rowBytes l) n bytes
 
 -- The slices that the report lends: zeros.
 abbrev pub zeros : ℕ → List ℕ
 zeros n = replicate n 0
 
-pub local-columns :
-    {j : Job} (a : Accepted j) {r : Planned} {marks' slots' cs' layers' bytes' : List ℕ} →
-    Handed j (zeros 500) (zeros 5599) (zeros 5599) (zeros 5599) (zeros 5599) r marks' slots' cs' layers' bytes' →
-    {n : ℕ} → n ≡ rowsIn (r .answer) → Columns j n slots' cs' layers' bytes'
-local-columns {j} a p {n} e =
-    let rows : 5599 ≤ length (zeros 5599) = omega (arith, length-replicate {A = ℕ} 5599 0) in
-    let marks : 500 ≤ length (zeros 500) = omega (arith, length-replicate {A = ℕ} 500 0) in
-    columns j a (zeros 500) (zeros 5599) (zeros 5599) (zeros 5599) (zeros 5599)
-    (record { marks-fit = marks; slots-fit = rows; chunks-fit = rows; layers-fit = rows; bytes-fit = rows }) p n e
+module _ {h : HandedJob} (ok : NotRefused h) where
+  pub accepted : Accepted (jobIn h)
+  accepted = handed-iff h .0 (ok .none) .1
+
+  -- They have room for any plan.
+  is-given : given h (lentOf (zeros 500) (zeros 5599) (zeros 5599) (zeros 5599) (zeros 5599)) ≡ true
+  is-given =
+      let n = length (planRows (jobIn h)) in
+      let rows = le-leb n (length (zeros 5599)) (omega (arith, few accepted, length-replicate {A = ℕ} 5599 0)) in
+      rw (ok .none, le-leb (chunks (jobIn h)) (length (zeros 500)) (omega (arith, accepted .chunks-in .high, length-replicate {A = ℕ} 500 0)), rows)
+
+  handed-over :
+      (result old : List ℕ) → sliceAfter h (lentOf (zeros 500) (zeros 5599) (zeros 5599) (zeros 5599) (zeros 5599)) result old ≡ over result old
+  handed-over result old = rw is-given
+
+  pub columns :
+      {r : Planned} {marks' slots' cs' layers' bytes' : List ℕ} →
+      Handed h (zeros 500) (zeros 5599) (zeros 5599) (zeros 5599) (zeros 5599) r marks' slots' cs' layers' bytes' →
+      {n : ℕ} → n ≡ rowsIn (r .answer) → Columns (planRows (jobIn h)) n slots' cs' layers' bytes'
+  columns {r} p {n} e =
+      let l = planRows (jobIn h) in
+      let m : n ≡ length l = e ∙ ap rowsIn (p .answer) ∙ rw is-given in
+      record {
+        slots-are = front (map rowSlot l) (zeros 5599) n _ (m ∙ sym (length-map l rowSlot)) (p .slots-are ∙ handed-over (map rowSlot l) (zeros 5599));
+        chunks-are = front (map rowChunk l) (zeros 5599) n _ (m ∙ sym (length-map l rowChunk)) (p .chunks-are ∙ handed-over (map rowChunk l) (zeros 5599));
+        layers-are = front (map rowLayer l) (zeros 5599) n _ (m ∙ sym (length-map l rowLayer)) (p .layers-are ∙ handed-over (map rowLayer l) (zeros 5599));
+        bytes-are = front (map rowBytes l) (zeros 5599) n _ (m ∙ sym (length-map l rowBytes)) (p .bytes-are ∙ handed-over (map rowBytes l) (zeros 5599));
+      }
+
+  module _ {n : ℕ} {ss cs ls bs : List ℕ} (c : Columns (planRows (jobIn h)) n ss cs ls bs) where
+    pub made-rows : Rows (take n ss) (take n cs) (take n ls) (take n bs)
+    made-rows = rw (c .slots-are .is, c .chunks-are .is, c .layers-are .is, c .bytes-are .is) (own-rows accepted)
+
+    pub made-few : length (take n bs) ≤ 5599
+    made-few = omega (arith, made-rows .few, made-rows .bytes-each)
+
+    pub made-summed : {table : List ℕ} → Summed (rowsOf (take n ss) (take n cs) (take n ls) (take n bs)) table → Summed (planRows (jobIn h)) table
+    made-summed {table} s =
+        subst (λ (l : List Row). Summed l table) (rows-again (planRows (jobIn h))) (rw (c .slots-are .is, c .chunks-are .is, c .layers-are .is, c .bytes-are .is) at s)
+
+    pub made-spent : {r : ℕ} → r ≡ sum (λ k. getD (take n bs) k 0) (length (take n bs)) → r ≡ bytesInRows (planRows (jobIn h))
+    made-spent e = rw (c .bytes-are .is) at e ∙ spent-again (planRows (jobIn h))

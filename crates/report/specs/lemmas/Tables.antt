@@ -6,13 +6,13 @@ use mathlib.Core.Bool.{Bool, cond}
 use mathlib.Core.List.{List, [], _∷_, _++_}
 use lib.ListN.{length, getD}
 use lib.Dec.{eqb}
-use Rattle.basics.specs.Tests.{All}
 use Rattle.basics.specs.Sums.{sum, count}
 use Rattle.basics.specs.Lists.{upTo}
 use Rattle.job.specs.declared.Programme.{Programme}
-use Rattle.job.specs.Job.{Job, sizeIn, layers, lastDue, Accepted}
-use Rattle.fetch.specs.Rows.{Row, rowsOf, bytesOfLayer}
-use Rattle.fetch.specs.Rules.{InRange}
+use Rattle.job.specs.Handed.{HandedJob, jobRefusal}
+use Rattle.job.specs.Job.{lastDue}
+use Rattle.job.specs.Table.{tableAt}
+use Rattle.fetch.specs.Rows.{Row, bytesOfLayer}
 use Rattle.planner.specs.declared.Answer.{Answer}
 use Rattle.planner.specs.declared.Answer.the-variants.{Rows as made, Refused as refused}
 use Rattle.basics.specs.Text.{ascii, digits, line, text}
@@ -20,6 +20,10 @@ use Rattle.report.specs.Report.{apart, differences, those}
 use Rattle.report.specs.declared.table.Chunk.{Chunk}
 use Rattle.report.specs.declared.table.Picture.{Picture}
 use Rattle.report.specs.declared.table.Picture.the-variants.{Nothing, Bytes}
+
+-- A job as handed to which no refusal applies.
+pub record NotRefused (h : HandedJob) : Type 0 where
+  pub none : jobRefusal h ≡ 0
 
 -- Rows handed as four slices of one length, each with a place in the table.
 pub record Rows (slots chunks layers′ bytes : List ℕ) : Type 0 where
@@ -31,16 +35,6 @@ pub record Rows (slots chunks layers′ bytes : List ℕ) : Type 0 where
   pub chunk-high : (k : ℕ) → k < length slots → getD chunks k 0 ≤ 500
   pub layer-in : (k : ℕ) → k < length slots → getD layers′ k 0 < 4
 
--- The rows of an accepted job, each in range.
-pub record Listed (j : Job) (depth : ℕ) (slots chunks layers′ bytes : List ℕ) : Type 0 where
-  pub accepted : Accepted j
-  pub depth-is : depth ≡ layers j
-  pub chunk-each : length slots ≡ length chunks
-  pub layer-each : length slots ≡ length layers′
-  pub bytes-each : length slots ≡ length bytes
-  pub few : length slots ≤ 5599
-  pub in-range : All (InRange j) (rowsOf slots chunks layers′ bytes)
-
 -- The bytes of layer n of chunk i, by the table.
 abbrev pub bytesAt : List ℕ → ℕ → ℕ → ℕ
 bytesAt table i n = getD table (4 * (i - 1) + n) 0
@@ -50,8 +44,13 @@ pub record Summed (rows : List Row) (table : List ℕ) : Type 0 where
   pub by-layer : (i n : ℕ) → 1 ≤ i → i ≤ 500 → n < 4 → bytesAt table i n ≡ bytesOfLayer rows i n
   pub long : length table ≡ 2000
 
+-- A table of all sizes, each in range.
+abbrev pub SizesIn : List ℕ → Type 0
+SizesIn sizes = (i n : ℕ) → tableAt sizes i n ≤ 16777216
+
+-- Layer n of chunk i is carried.
 abbrev pub carriedBy : List ℕ → List ℕ → ℕ → ℕ → Bool
-carriedBy sizes table i n = eqb (bytesAt table i n) (sizeIn sizes i n)
+carriedBy sizes table i n = eqb (bytesAt table i n) (tableAt sizes i n)
 
 abbrev pub layersBy : List ℕ → List ℕ → ℕ → ℕ → ℕ
 layersBy sizes table depth i = sum (λ n. cond (carriedBy sizes table i n) 1 0) depth
