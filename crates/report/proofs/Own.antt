@@ -1,5 +1,5 @@
--- The plan's own list as four slices: its rows again, their bytes, and what the report asks of a list. Assumes nothing.
-use Prim.Native.Nat.{ℕ, zero, suc, _-_, _≤_, _<_}
+-- The plan's own list as four slices: its rows again, their bytes, and that each row has a place in the table. Assumes nothing.
+use Prim.Native.Nat.{ℕ, zero, suc, _≤_, _<_}
 use mathlib.Core.Path.{_≡_, sym, ap, _∙_}
 use mathlib.Core.List.{List, [], _∷_, map}
 use native.Mathlib.Omega.{arith}
@@ -8,10 +8,7 @@ use lib.Seq.{ext-getD}
 use Rattle.basics.specs.Tests.{All}
 use Rattle.basics.specs.Sums.{sum}
 use Rattle.basics.specs.lemmas.Lists.{length-upTo, getD-upTo}
-use Rattle.job.specs.Job.{Job, Accepted, layers}
-use Rattle.job.specs.Table.{sizesTable}
-use Rattle.job.specs.lemmas.Table.{table-says}
-use Rattle.job.specs.lemmas.Within.{size-most}
+use Rattle.job.specs.Job.{Job, Accepted}
 use Rattle.fetch.specs.Rows.{Row, rowAt, rowsOf, rowSlot, rowChunk, rowLayer, rowBytes}
 use Rattle.fetch.specs.Rules.{InRange, Keeps}
 use Rattle.schedule.specs.Plan.{plan}
@@ -19,11 +16,9 @@ use Rattle.schedule.specs.Theorems.{own-list-rows, plan-exists, plan-carried}
 use Rattle.schedule.specs.Statement.{marksOf}
 use Rattle.schedule.specs.lemmas.Words.{accepted-sized}
 use Rattle.planner.specs.Answer.{planRows}
-use Rattle.report.specs.Answer.{planReport}
 use Rattle.report.specs.Report.{bytesInRows}
-use Rattle.report.specs.Theorems.{report-fits}
-use Rattle.report.specs.lemmas.Tables.{Rows, SizesIn, Summed, linesBy}
-use Rattle.report.proofs.ByTable.{forecast-is, lines-are, spent-is}
+use Rattle.report.specs.lemmas.Tables.{Rows}
+use Rattle.report.proofs.ByTable.{spent-is}
 
 abbrev none : Row
 none = record { slot = 0; chunk = 0; layer = 0; bytes = 0 }
@@ -52,7 +47,7 @@ spent-again l =
     ∙ ap bytesInRows (rows-again l)
 
 module _ {j : Job} (a : Accepted j) where
-  keeps : Keeps j (marksOf j (plan j)) (planRows j)
+  pub keeps : Keeps j (marksOf j (plan j)) (planRows j)
   keeps = plan-carried j (accepted-sized j a) (plan j) (plan-exists j a) .0
 
   pub few : length (planRows j) ≤ 5599
@@ -72,19 +67,3 @@ module _ {j : Job} (a : Accepted j) where
         chunk-high = λ k h. rw (List·getD-map rowChunk l k none) (omega (arith, at k h .chunk-high, a .chunks-in .high));
         layer-in = λ k h. rw (List·getD-map rowLayer l k none) (omega (arith, at k h .layer-in, a .layers-in .high));
       }
-
-  -- The lines by the tables and the sums of the code are the report,
-  pub report-is :
-      {table stored : List ℕ} {spent unspent : ℕ} → Summed (planRows j) table → stored ≡ sizesTable (j .sizes) (j .overrides) → spent ≡ bytesInRows (planRows j) →
-      unspent ≡ sum (λ k. getD (j .forecast) k 0) (length (j .forecast)) - spent → linesBy (j .programme) stored (layers j) table spent unspent ≡ planReport j
-  unfolding planReport
-  report-is {table} s e f g = rw (g, e, f, forecast-is j (a .slots-in)) (lines-are j a (planRows j) table s)
-
-  -- a local buffer holds it,
-  pub report-short : length (planReport j) ≤ 7633
-  unfolding planReport
-  report-short = report-fits j (planRows j) a (keeps .in-range) (keeps .within)
-
-  -- and each size is in range.
-  pub sizes-in : {stored : List ℕ} → stored ≡ sizesTable (j .sizes) (j .overrides) → SizesIn stored
-  sizes-in e i n = rw (e, table-says j a i n) (size-most j a i n)

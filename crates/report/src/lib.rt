@@ -11,13 +11,11 @@ ghost use mathlib.Core.List.{_∷_};
 ghost use Prim.Native.Nat.{_+_, _*_, _-_, _≤_};
 ghost use lib.ListN.{length, replicate};
 ghost use Rattle.basics.specs.Lists.{upTo};
-ghost use Rattle.job.specs.Handed.{handed, jobIn};
-ghost use Rattle.planner.specs.Answer.{planRows};
+ghost use Rattle.job.specs.Handed.{handed};
 ghost use Rattle.basics.specs.Text.{ascii, digits, line, text};
-ghost use Rattle.report.specs.Report.{bytesInRows};
-ghost use Rattle.report.specs.Answer.{planReport, Answered, Reported};
+ghost use Rattle.report.specs.Answer.{Answered, Reported};
 ghost use Rattle.text.specs.lemmas.Places.{Put};
-ghost use Rattle.report.specs.lemmas.Tables.{NotRefused, SizesIn, Summed, chunkLineBy, countBy, linesBy, rowsIn};
+ghost use Rattle.report.specs.lemmas.Tables.{SizesIn, Tabled, chunkLineBy, countBy, linesBy};
 
 // The number of bytes written, or the number of a refusal.
 pub enum Written {
@@ -159,17 +157,8 @@ fn hand_lines(
     hand_over(&text[..n], out)
 }
 
-// How many rows the planner made.
-fn rows_in(a: Answer) -> usize
-    ensures { λ r. ⌜ r ≡ rowsIn a ⌝ }
-{
-    match a {
-        Answer::Rows(n) => n,
-        Answer::Refused(_) => 0,
-    }
-}
-
-// The rows of a job's plan: their bytes into the table, and their sum. They are made into local slices that have room for any plan.
+// The plan's rows, made into local slices that have room for any plan: their bytes go into the table. The bytes of all of them, or the
+// refusal of the job.
 fn plan_table(
     p: Programme,
     sizes: &[u32],
@@ -178,9 +167,9 @@ fn plan_table(
     size_bytes: &[u32],
     forecast: &[u32],
     table: &mut [u64; 2000],
-) -> u64
-    requires { ⌜ NotRefused (handed p (now sizes) (now «size_chunks») (now «size_layers») (now «size_bytes») (now forecast)) × (now table ≡ replicate 2000 0) ⌝ }
-    ensures { λ r. ⌜ Summed (planRows (jobIn (handed p (now (sizes .entry)) (now («size_chunks» .entry)) (now («size_layers» .entry)) (now («size_bytes» .entry)) (now (forecast .entry))))) (now (table .exit)) × (r ≡ bytesInRows (planRows (jobIn (handed p (now (sizes .entry)) (now («size_chunks» .entry)) (now («size_layers» .entry)) (now («size_bytes» .entry)) (now (forecast .entry)))))) ⌝ }
+) -> table::Spent
+    requires { ⌜ now table ≡ replicate 2000 0 ⌝ }
+    ensures { λ r. ⌜ Tabled (handed p (now (sizes .entry)) (now («size_chunks» .entry)) (now («size_layers» .entry)) (now («size_bytes» .entry)) (now (forecast .entry))) (now (table .exit)) r ⌝ }
 {
     let mut marks = [0u8; 500];
     let mut slots = [0u16; 5599];
@@ -201,40 +190,14 @@ fn plan_table(
         &mut bytes,
     );
     let answer = made.answer;
-    let n = rows_in(answer);
-    let each = &bytes[..n];
-    table::add_rows(&slots[..n], &chunks[..n], &layers[..n], each, table);
-    table::sum_of(each)
-}
-
-// The report of an accepted job's plan.
-fn report_plan(
-    p: Programme,
-    sizes: &[u32],
-    size_chunks: &[u16],
-    size_layers: &[u8],
-    size_bytes: &[u32],
-    forecast: &[u32],
-    out: &mut [u8],
-) -> Written
-    requires { ⌜ NotRefused (handed p (now sizes) (now «size_chunks») (now «size_layers») (now «size_bytes») (now forecast)) ⌝ }
-    ensures { λ r. ⌜ Answered (planReport (jobIn (handed p (now (sizes .entry)) (now («size_chunks» .entry)) (now («size_layers» .entry)) (now («size_bytes» .entry)) (now (forecast .entry))))) (now (out .entry)) (now (out .exit)) r ⌝ }
-{
-    let mut table = [0u64; 2000];
-    let spent = plan_table(
-        p,
-        sizes,
-        size_chunks,
-        size_layers,
-        size_bytes,
-        forecast,
-        &mut table,
-    );
-    let left = less(table::sum_of(forecast), spent);
-    let unset = p.chunks as u32;
-    let mut stored = [unset; 2000];
-    job::fill_sizes(sizes, size_chunks, size_layers, size_bytes, &mut stored);
-    hand_lines(p, &stored, sizes.len(), &table, spent, left, out)
+    match answer {
+        Answer::Refused(no) => table::Spent::Refused(no),
+        Answer::Rows(n) => {
+            let each = &bytes[..n];
+            table::add_rows(&slots[..n], &chunks[..n], &layers[..n], each, table);
+            table::Spent::Bytes(table::sum_of(each))
+        }
+    }
 }
 
 // The report of a job's plan. Refused: 5, 6, 18, 7 by the job, then 11 exactly if out is shorter than the text.
@@ -249,17 +212,24 @@ pub fn report(
 ) -> Written
     ensures { λ r. ⌜ Reported (handed p (now (sizes .entry)) (now («size_chunks» .entry)) (now («size_layers» .entry)) (now («size_bytes» .entry)) (now (forecast .entry))) (now (out .entry)) (now (out .exit)) r ⌝ }
 {
-    let no = job::refusal(p, sizes, size_chunks, size_layers, size_bytes, forecast);
-    if no != 0 {
-        return Written::Refused(no);
-    }
-    report_plan(
+    let mut table = [0u64; 2000];
+    let made = plan_table(
         p,
         sizes,
         size_chunks,
         size_layers,
         size_bytes,
         forecast,
-        out,
-    )
+        &mut table,
+    );
+    match made {
+        table::Spent::Refused(no) => Written::Refused(no),
+        table::Spent::Bytes(spent) => {
+            let left = less(table::sum_of(forecast), spent);
+            let unset = p.chunks as u32;
+            let mut stored = [unset; 2000];
+            job::fill_sizes(sizes, size_chunks, size_layers, size_bytes, &mut stored);
+            hand_lines(p, &stored, sizes.len(), &table, spent, left, out)
+        }
+    }
 }

@@ -15,6 +15,12 @@ pub struct Chunk {
     pub bytes: u64,
 }
 
+// The bytes in the rows of a plan, or the number of the job's refusal.
+pub enum Spent {
+    Bytes(u64),
+    Refused(u8),
+}
+
 // What is on the screen: nothing yet, or a chunk of so many bytes.
 pub enum Picture {
     Nothing,

@@ -9,21 +9,18 @@ use lib.Dec.{eqb}
 use Rattle.basics.specs.Sums.{sum, count}
 use Rattle.basics.specs.Lists.{upTo}
 use Rattle.job.specs.declared.Programme.{Programme}
-use Rattle.job.specs.Handed.{HandedJob, jobRefusal}
+use Rattle.job.specs.Handed.{HandedJob, jobIn, jobRefusal}
 use Rattle.job.specs.Job.{lastDue}
 use Rattle.job.specs.Table.{tableAt}
 use Rattle.fetch.specs.Rows.{Row, bytesOfLayer}
-use Rattle.planner.specs.declared.Answer.{Answer}
-use Rattle.planner.specs.declared.Answer.the-variants.{Rows as made, Refused as refused}
+use Rattle.planner.specs.Answer.{planRows}
 use Rattle.basics.specs.Text.{ascii, digits, line, text}
-use Rattle.report.specs.Report.{apart, differences, those}
+use Rattle.report.specs.Report.{apart, bytesInRows, differences, those}
+use Rattle.report.specs.declared.table.Spent.{Spent}
+use Rattle.report.specs.declared.table.Spent.the-variants.{Bytes as sent, Refused as refused}
 use Rattle.report.specs.declared.table.Chunk.{Chunk}
 use Rattle.report.specs.declared.table.Picture.{Picture}
 use Rattle.report.specs.declared.table.Picture.the-variants.{Nothing, Bytes}
-
--- A job as handed to which no refusal applies.
-pub record NotRefused (h : HandedJob) : Type 0 where
-  pub none : jobRefusal h ≡ 0
 
 -- Rows handed as four slices of one length, each with a place in the table.
 pub record Rows (slots chunks layers′ bytes : List ℕ) : Type 0 where
@@ -43,6 +40,14 @@ bytesAt table i n = getD table (4 * (i - 1) + n) 0
 pub record Summed (rows : List Row) (table : List ℕ) : Type 0 where
   pub by-layer : (i n : ℕ) → 1 ≤ i → i ≤ 500 → n < 4 → bytesAt table i n ≡ bytesOfLayer rows i n
   pub long : length table ≡ 2000
+
+-- The bytes of the plan's rows and their table, or the job's refusal.
+abbrev pub spentOf : HandedJob → Spent
+spentOf h = cond (eqb (jobRefusal h) 0) (sent (bytesInRows (planRows (jobIn h)))) (refused (jobRefusal h))
+
+pub record Tabled (h : HandedJob) (table : List ℕ) (r : Spent) : Type 0 where
+  pub spent : r ≡ spentOf h
+  pub by-rows : jobRefusal h ≡ 0 → Summed (planRows (jobIn h)) table
 
 -- A table of all sizes, each in range.
 abbrev pub SizesIn : List ℕ → Type 0
@@ -109,8 +114,3 @@ linesBy p sizes depth table spent left =
     ++ (line (ascii "layers") (upTo (λ n. digits (countBy sizes table (p .chunks) n)) depth)
     ++ (line (ascii "bytes") (digits spent ∷ ascii "left" ∷ digits left ∷ [])
     ++ switchLines (switchBy sizes table depth (p .chunks)) (p .chunks * p .span))))
-
--- How many rows an answer of the planner says there are.
-abbrev pub rowsIn : Answer → ℕ
-rowsIn (made n) = n
-rowsIn (refused m) = 0
