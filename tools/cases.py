@@ -1,15 +1,20 @@
-"""Writes the case files of the programs `file_trials`, `trials` and `report_trials` (crates/NAME/data) and what they and `room_trials` have
-to print (crates/NAME/stdout): for the case files from `reference.py`, for the direct calls from `expected_calls.txt`, `expected_rooms.txt`,
-`LARGE` and `ROOMS`, which are written by hand.
+"""Writes the case files of the programs `file_trials`, `trials` and `report_trials` (crates/NAME/data) and what they, `room_trials` and
+`uneven_trials` have to print (crates/NAME/stdout): for the case files from `reference.py`, for the direct calls from `expected_calls.txt`,
+`expected_rooms.txt`, `expected_uneven.txt`, `LARGE` and `ROOMS`, which are written by hand.
 Run it at the root of the repository after changing a case: python3 tools/cases.py"""
 import os
 import shutil
 from reference import *
 
-A = Job(3, 2, 2, 2, [2, 1], [3, 0, 1, 0, 2, 0])
+A = Job(3, 2, 2, 2, [2, 1], [], [3, 0, 1, 0, 2, 0])
 PG, LY, EN = pg(3, 2, 2, 2), ly(2) + ly(1), b"EN"
 BW = b"".join(bw(1, b) for b in A.forecast)
 TWO = bw(3, 1) + bw(3, 2)
+SZ = sz(2, 1, 2) + sz(3, 0, 1)
+
+# Every SZ that a job can have: 499 chunks of 4 layers.
+EVERY_SZ = b"".join(sz(i, n, 2) for i in range(2, 501) for n in range(4))
+LONG = pg(500, 1, 1, 9) + ly(1) * 4
 
 # (what the case is, its bytes). Each refusal alone, then pairs where two compete and the order decides.
 JOBS = [
@@ -84,6 +89,35 @@ JOBS = [
     ("an LY first, then an unknown mark: 17 before 2", LY + b"XX"),
     ("an unknown mark, then an LY: 2 before 17", b"XX" + LY),
     ("3,600 runs of one slot that could be one, PG last", ly(1) + bw(1, 0) * 3600 + pg(1, 1, 3600, 0) + EN),
+    ("uneven chunks", PG + LY + SZ + BW + EN),
+    ("an SZ of 16,777,216 bytes", PG + LY + sz(3, 1, 1 << 24) + BW + EN),
+    ("every SZ that a job can have", LONG + EVERY_SZ + bw(500, 1) + EN),
+    ("an SZ for chunk 1", PG + LY + sz(1, 0, 1) + BW + EN),
+    ("an SZ for chunk 0", PG + LY + sz(0, 0, 1) + BW + EN),
+    ("an SZ for a chunk that isn't in the job", PG + LY + sz(4, 0, 1) + BW + EN),
+    ("an SZ for a layer that isn't in the job", PG + LY + sz(2, 2, 1) + BW + EN),
+    ("the same layer of a chunk twice", PG + LY + sz(2, 0, 1) + sz(2, 0, 3) + BW + EN),
+    ("SZs with layers falling", PG + LY + sz(2, 1, 2) + sz(2, 0, 1) + BW + EN),
+    ("SZs with chunks falling", PG + LY + sz(3, 0, 1) + sz(2, 1, 2) + BW + EN),
+    ("an SZ of no bytes", PG + LY + sz(2, 0, 0) + BW + EN),
+    ("an SZ of 16,777,217 bytes", PG + LY + sz(2, 0, (1 << 24) + 1) + BW + EN),
+    ("an SZ of the layer's own size", PG + LY + sz(2, 0, 2) + BW + EN),
+    ("a bad SZ, then a good one", PG + LY + sz(2, 0, 2) + sz(3, 0, 1) + BW + EN),
+    ("one SZ more than any job has", LONG + EVERY_SZ + sz(500, 3, 3) + bw(500, 1) + EN),
+    ("7,000 SZs", PG + LY + sz(2, 0, 1) * 7000 + bw(6, 1) + EN),
+    ("an SZ for a layer that isn't in the job yet, and an LY after it: 17", PG + LY[:6] + sz(2, 1, 2) + LY[6:] + BW + EN),
+    ("an SZ first", SZ + PG + LY + BW + EN),
+    ("an SZ after a BW", PG + LY + BW + SZ + EN),
+    ("an SZ after a BW, for chunk 1: 17 before 18", PG + LY + BW + sz(1, 0, 1) + EN),
+    ("an SZ straight after PG is in sequence: 6 at EN", PG + SZ + BW + EN),
+    ("no layer and a bad SZ: 6 before 18", PG + sz(1, 0, 1) + BW + EN),
+    ("a bad SZ and a slot too few: 18 before 7", PG + LY + sz(1, 0, 1) + bw(5, 1) + EN),
+    ("a bad SZ, then a run of no slots: 7 at the run", PG + LY + sz(1, 0, 1) + bw(0, 1) + EN),
+    ("a bad SZ, then a run of the same bytes: 17 at the run", PG + LY + sz(1, 0, 1) + bw(3, 1) * 2 + EN),
+    ("a bad SZ and a byte after EN: 3 before 18", PG + LY + sz(1, 0, 1) + BW + EN + b"\0"),
+    ("a bad SZ, then a second PG: 4 at the PG", PG + LY + sz(1, 0, 1) + PG + BW + EN),
+    ("a bad SZ, then an unknown mark: 2 at the mark", PG + LY + sz(1, 0, 1) + b"XX"),
+    ("an SZ one byte short", PG + LY + SZ[:-1]),
 ]
 
 KP = kp(1, 0) + kp(2, 3) + kp(3, 1)
@@ -155,12 +189,12 @@ TOO_LONG = b"".join(kp(i, 255) for i in range(1, 7)) + ft(65535, 1, 7, 0xFFFFFFF
 def stepped(span, sizes, slots):
     """A job of one chunk for each number in `slots`: of the slots up to its due slot so many have the base's bytes."""
     forecast = [sizes[0] if t < n else 0 for n in slots for t in range(span)]
-    return Job(len(slots), span, span, span, sizes, forecast)
+    return Job(len(slots), span, span, span, sizes, [], forecast)
 
 
 def by_slot(forecast):
     """A job of a chunk a slot that holds nothing, of layers of 9 and 3 bytes: 12 in a slot carries both, 9 the base, less skips."""
-    return Job(len(forecast), 1, 1, 0, [9, 3], forecast)
+    return Job(len(forecast), 1, 1, 0, [9, 3], [], forecast)
 
 
 TOP = 1 << 24
@@ -168,10 +202,10 @@ TOP = 1 << 24
 # Jobs whose report is printed.
 REPORTS = [
     ("job A", A),
-    ("one chunk", Job(1, 1, 1, 0, [5], [5])),
+    ("one chunk", Job(1, 1, 1, 0, [5], [], [5])),
     ("nothing carried", A._replace(forecast=[0] * 6)),
-    ("more switched than film shown", Job(2, 1, 1, 2, [1, 7], [1, 8])),
-    ("less switched than film shown", Job(4, 1, 1, 4, [9, 3], [12, 9, 12, 9])),
+    ("more switched than film shown", Job(2, 1, 1, 2, [1, 7], [], [1, 8])),
+    ("less switched than film shown", Job(4, 1, 1, 4, [9, 3], [], [12, 9, 12, 9])),
     ("the largest layers, nothing left over", stepped(4, [TOP] * 4, [4, 1, 4, 0, 2, 4, 3])),
     ("the largest layers, something left over", stepped(5, [TOP, TOP - 1, TOP - 2, TOP - 3], [4, 1, 4, 0, 2, 4, 3])),
     ("no chunk skipped", by_slot([12, 9, 12, 12, 9])),
@@ -182,6 +216,10 @@ REPORTS = [
     ("a skipped run at both ends", by_slot([0, 0, 12, 9, 0, 0])),
     ("skipped runs at both ends and in the middle", by_slot([0, 8, 12, 0, 9, 12, 0, 0, 9, 0])),
     ("only skipped ones", by_slot([8, 0, 8])),
+    ("uneven bases", by_slot([12, 10, 4, 16, 9])._replace(overrides=[Override(2, 0, 7), Override(3, 0, 4), Override(4, 0, 13), Override(5, 0, 10)])),
+    ("uneven layers above", by_slot([12, 10, 18, 9])._replace(overrides=[Override(2, 1, 1), Override(3, 1, 9), Override(4, 1, 1)])),
+    ("chunks of the same bytes, other layers", by_slot([12, 12, 12])._replace(overrides=[Override(2, 0, 10), Override(2, 1, 2), Override(3, 0, 12)])),
+    ("the largest layers, uneven", stepped(4, [TOP] * 4, [4, 4, 4])._replace(overrides=[Override(2, 3, TOP - 1), Override(3, 0, 1)])),
 ]
 
 # Job A's report has 86 bytes. Room for them, for one more, for one less; then a job that is refused whatever the room.
@@ -206,7 +244,7 @@ def job_line(data, mixed):
         job = read_job(data, mixed)
     except Refused as r:
         return f"refused {r.number}"
-    said = f"layers {len(job.sizes)} slots {len(job.forecast)}"
+    said = f"layers {len(job.sizes)} SZs {len(job.overrides)} slots {len(job.forecast)}"
     assert read_job(write_job(job)) == job
     return f"chunks {job.chunks} {said} written {len(write_job(job))} again {said}"
 
@@ -251,6 +289,7 @@ def write_calls():
     write_data("trials", [("q00", TOO_LONG)])
     shutil.copyfile("tools/expected_calls.txt", "crates/trials/stdout")
     shutil.copyfile("tools/expected_rooms.txt", "crates/room_trials/stdout")
+    shutil.copyfile("tools/expected_uneven.txt", "crates/uneven_trials/stdout")
 
 
 def write_reports():

@@ -2,7 +2,8 @@
 report, link traces. `cases.py` and `traces.py` compute from it what the trials programs have to print."""
 from collections import namedtuple
 
-Job = namedtuple("Job", "chunks span delay limit sizes forecast")
+Job = namedtuple("Job", "chunks span delay limit sizes overrides forecast")
+Override = namedtuple("Override", "chunk layer bytes")
 Row = namedtuple("Row", "slot chunk layer bytes")
 
 
@@ -15,6 +16,11 @@ def due(job, i):
     return (i - 1) * job.span + job.delay
 
 
+def size(job, i, n):
+    """The bytes of layer n of chunk i: its SZ's, or the layer's own."""
+    return next((o.bytes for o in job.overrides if (o.chunk, o.layer) == (i, n)), job.sizes[n])
+
+
 def check_fields(chunks, span, delay, limit):
     if not (1 <= chunks <= 500 and 1 <= span <= 60 and 1 <= delay <= 3600):
         raise Refused(5)
@@ -22,10 +28,20 @@ def check_fields(chunks, span, delay, limit):
         raise Refused(5)
 
 
+def check_overrides(chunks, sizes, overrides):
+    """Document 02, request 8: refusal 18."""
+    for o in overrides:
+        if not (2 <= o.chunk <= chunks and o.layer < len(sizes) and 1 <= o.bytes <= 1 << 24 and o.bytes != sizes[o.layer]):
+            raise Refused(18)
+    if any(o[:2] >= q[:2] for o, q in zip(overrides, overrides[1:])):
+        raise Refused(18)
+
+
 def check_job(job):
     check_fields(job.chunks, job.span, job.delay, job.limit)
     if not 1 <= len(job.sizes) <= 4 or any(not 1 <= z <= 1 << 24 for z in job.sizes):
         raise Refused(6)
+    check_overrides(job.chunks, job.sizes, job.overrides)
     if any(b > 1 << 24 for b in job.forecast) or len(job.forecast) != due(job, job.chunks):
         raise Refused(7)
 
@@ -56,16 +72,19 @@ def records(data, bodies):
 
 
 def read_job(data, mixed=False):
-    """A job file in one sequence; a mixed one, as document 01 has it, too if mixed."""
+    """A job file in one sequence; a mixed one, as document 01 has it and so without SZ, too if mixed."""
     if len(data) > 65536:
         raise Refused(9)
-    programme, sizes, forecast, seen = None, [], [], []
-    for mark, body in records(data, {b"PG": 8, b"LY": 4, b"BW": 6, b"EN": 0}):
+    programme, sizes, overrides, forecast, seen = None, [], [], [], []
+    bodies = {b"PG": 8, b"LY": 4, b"SZ": 7, b"BW": 6, b"EN": 0}
+    if mixed:
+        del bodies[b"SZ"]
+    for mark, body in records(data, bodies):
         if mark == b"PG" and programme:
             raise Refused(4)
         if mark != b"EN":
             seen.append((mark, body))
-            marks = b"".join(m[:1] for m, _ in seen).lstrip(b"P").lstrip(b"L").lstrip(b"B")
+            marks = b"".join(m[:1] for m, _ in seen).lstrip(b"P").lstrip(b"L").lstrip(b"S").lstrip(b"B")
             again = mark == b"BW" and [m for m, _ in seen[-2:]] == [b"BW"] * 2 and seen[-2][1][2:] == body[2:]
             if not mixed and (marks or again or seen[0][0] != b"PG"):
                 raise Refused(17)
@@ -76,18 +95,21 @@ def read_job(data, mixed=False):
             if not 1 <= number(body) <= 1 << 24 or len(sizes) == 4:
                 raise Refused(6)
             sizes.append(number(body))
+        elif mark == b"SZ":
+            overrides.append(Override(number(body[:2]), body[2], number(body[3:])))
         elif mark == b"BW":
-            count, size = number(body[:2]), number(body[2:])
-            if count == 0 or len(forecast) + count > 3600 or size > 1 << 24:
+            count, slot = number(body[:2]), number(body[2:])
+            if count == 0 or len(forecast) + count > 3600 or slot > 1 << 24:
                 raise Refused(7)
-            forecast += [size] * count
+            forecast += [slot] * count
         elif body is None:
             raise Refused(3)
     if not programme:
         raise Refused(4)
     if not sizes:
         raise Refused(6)
-    job = Job(*programme, sizes, forecast)
+    check_overrides(programme[0], sizes, overrides)
+    job = Job(*programme, sizes, overrides, forecast)
     if len(forecast) != due(job, job.chunks):
         raise Refused(7)
     return job
@@ -99,7 +121,7 @@ def convert(data):
 
 
 def write_job(job):
-    out = pg(job.chunks, job.span, job.delay, job.limit) + b"".join(ly(z) for z in job.sizes)
+    out = pg(job.chunks, job.span, job.delay, job.limit) + b"".join(ly(z) for z in job.sizes) + b"".join(sz(*o) for o in job.overrides)
     k = 0
     while k < len(job.forecast):
         n = k
@@ -137,6 +159,10 @@ def ly(size):
     return b"LY" + size.to_bytes(4, "little")
 
 
+def sz(chunk, layer, size):
+    return b"SZ" + chunk.to_bytes(2, "little") + bytes([layer]) + size.to_bytes(4, "little")
+
+
 def bw(count, size):
     return b"BW" + count.to_bytes(2, "little") + size.to_bytes(4, "little")
 
@@ -154,7 +180,7 @@ def layer_sum(rows, i, n):
 
 
 def carried(job, rows, i, n):
-    return layer_sum(rows, i, n) == job.sizes[n]
+    return layer_sum(rows, i, n) == size(job, i, n)
 
 
 def marks_given(job, rows):
@@ -170,7 +196,7 @@ def verdict(job, rows, marks=None):
     chunks = range(1, job.chunks + 1)
     if any(not (1 <= x.slot <= last and 1 <= x.chunk <= job.chunks and x.layer in layers and x.bytes >= 1) for x in rows):
         return 1
-    if any(layer_sum(rows, i, n) not in (0, job.sizes[n]) for i in chunks for n in layers):
+    if any(layer_sum(rows, i, n) not in (0, size(job, i, n)) for i in chunks for n in layers):
         return 2
     if any(carried(job, rows, i, n) and not carried(job, rows, i, n - 1) for i in chunks for n in layers if n):
         return 3
@@ -188,21 +214,21 @@ def verdict(job, rows, marks=None):
 def fits(job, levels):
     """Whether some passing list in playing order carries exactly these layers: the fill of theory, slot by slot."""
     rows = own_list(job, levels)
-    return verdict(job, rows) == 0 and all(layer_sum(rows, i + 1, n) == job.sizes[n] for i, k in enumerate(levels) for n in range(k))
+    return verdict(job, rows) == 0 and all(layer_sum(rows, i + 1, n) == size(job, i + 1, n) for i, k in enumerate(levels) for n in range(k))
 
 
 def own_list(job, levels):
-    queue = [[i + 1, n, job.sizes[n]] for i, k in enumerate(levels) for n in range(k)]
+    queue = [[i + 1, n, size(job, i + 1, n)] for i, k in enumerate(levels) for n in range(k)]
     rows, begun = [], []
     for t in range(1, due(job, job.chunks) + 1):
         left = job.forecast[t - 1]
         while queue and left:
-            i, n, size = queue[0]
+            i, n, lacking = queue[0]
             now = begun if i in begun else begun + [i]
             if sum(1 for k in now if due(job, k) > t) > job.limit // job.span:
                 break
             begun = now
-            take = min(left, size)
+            take = min(left, lacking)
             rows.append(Row(t, i, n, take))
             left -= take
             queue[0][2] -= take

@@ -9,7 +9,8 @@ import tempfile
 from reference import *
 
 BIN = os.path.abspath("target/bin")
-A = write_job(Job(3, 2, 2, 2, [2, 1], [3, 0, 1, 0, 2, 0]))
+A = write_job(Job(3, 2, 2, 2, [2, 1], [], [3, 0, 1, 0, 2, 0]))
+U = write_job(Job(3, 2, 2, 2, [2, 1], [Override(2, 1, 2), Override(3, 0, 1)], [3, 0, 1, 0, 2, 0]))
 
 
 def run(program, data=b"", folder=None):
@@ -35,15 +36,22 @@ def damaged(data):
     return bytes(data)
 
 
-def random_job():
+def random_overrides(chunks, sizes):
+    spots = [(i, n) for i in range(2, chunks + 1) for n in range(len(sizes)) if random.random() < 0.3]
+    return [Override(i, n, z) for i, n in spots for z in [random.randint(1, 9)] if z != sizes[n]]
+
+
+def random_job(uneven=True):
+    """Of uneven chunks in about half the cases, or never."""
     chunks, span, delay = random.randint(1, 6), random.randint(1, 4), random.randint(1, 6)
     sizes = [random.randint(1, 9) for _ in range(random.randint(1, 4))]
     last = (chunks - 1) * span + delay
-    return Job(chunks, span, delay, random.randint(0, 12), sizes, [random.choice([0, 0, 1, 2, 5, 9]) for _ in range(last)])
+    overrides = random_overrides(chunks, sizes) if uneven and random.random() < 0.6 else []
+    return Job(chunks, span, delay, random.randint(0, 12), sizes, overrides, [random.choice([0, 0, 1, 2, 5, 9]) for _ in range(last)])
 
 
 def mixed_file(job):
-    """A file that says the job: runs split anywhere, PG anywhere, LYs and BWs mixed."""
+    """A file that says the job, which has no SZ: runs split anywhere, PG anywhere, LYs and BWs mixed."""
     layers, runs, k = [ly(z) for z in job.sizes], [], 0
     while k < len(job.forecast):
         n = random.randint(1, 3)
@@ -58,7 +66,7 @@ def mixed_file(job):
 
 
 def try_convert():
-    mixed = [mixed_file(random_job()) for _ in range(300)]
+    mixed = [mixed_file(random_job(False)) for _ in range(300)]
     cases = [open(f, "rb").read() for f in sorted(glob.glob("crates/file_trials/data/j*"))]
     cases += mixed + [damaged(m) for m in mixed] + [write_job(random_job()) for _ in range(100)]
     cases += [mixed[0][:k] for k in range(len(mixed[0]))] + [bytes(65536), bytes(65537), mixed[0] + bytes(200000), b"\xff" * 1000000]
@@ -77,7 +85,8 @@ def try_convert():
 
 def try_jobs():
     cases = [open(f, "rb").read() for f in sorted(glob.glob("crates/file_trials/data/j*"))]
-    cases += [damaged(A) for _ in range(300)] + [write_job(random_job()) for _ in range(200)] + [mixed_file(random_job()) for _ in range(100)]
+    cases += [damaged(A) for _ in range(300)] + [damaged(U) for _ in range(300)] + [write_job(random_job()) for _ in range(400)]
+    cases += [mixed_file(random_job(False)) for _ in range(100)]
     cases += [bytes(65536), bytes(65537), A + bytes(200000), b"\xff" * 1000000]
     tried = 0
     for data in cases:
@@ -99,7 +108,7 @@ def try_verdicts():
     tried = 0
     with tempfile.TemporaryDirectory() as folder:
         assert run("verdict", folder=folder) == b"refused 1\n"
-        for job_data in (A, b"", b"XX", A + b"\0", bytes(65537)):
+        for job_data in (A, U, b"", b"XX", A + b"\0", bytes(65537)):
             for plan_data in plans:
                 for name, data in (("job", job_data), ("plan", plan_data)):
                     with open(f"{folder}/{name}", "wb") as f:

@@ -11,7 +11,7 @@ for slots in range(1, 6):
             works = []
             for s in range(1, slots - (chunks - 1) * span + 1):
                 last = (chunks - 1) * span + s
-                works.append(all(plan(Job(chunks, span, s, limit, [size], list(forecast[:last])))[0]))
+                works.append(all(plan(Job(chunks, span, s, limit, [size], [], list(forecast[:last])))[0]))
             s = works.index(True) + 1 if any(works) else 0
             count["films"] += 1
             count["none_held"] += limit // span == 0

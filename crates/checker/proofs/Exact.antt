@@ -14,14 +14,15 @@ use Rattle.basics.specs.lemmas.Tests.{allTo-iff, same-test, eqb-iff, allTo-cong
 use Rattle.basics.specs.Lists.{upTo}
 use Rattle.basics.specs.lemmas.Lists.{length-upTo, getD-upTo}
 use Rattle.job.specs.declared.Programme.{Programme}
-use Rattle.job.specs.Job.{Job, Accepted, dueSlot, lastDue, chunks, layers, size}
-use Rattle.job.specs.lemmas.Within.{all-most}
+use Rattle.job.specs.Job.{Job, Accepted, jobOf, dueSlot, lastDue, chunks, layers, size}
+use Rattle.job.specs.Table.{tableAt}
+use Rattle.job.specs.lemmas.Within.{all-most, size-most}
 use Rattle.fetch.specs.Rows.{Row, begun, held, heldCount, carried, markByte, bytesInSlot, bytesOfLayer}
 use Rattle.fetch.specs.lemmas.Marks.{mark-cong}
 use Rattle.fetch.specs.Verdict.{rule1, rule2, rule3, rule4, rule6, rule7, lowerCarried, same, same-iff, lowest, verdict}
 use Rattle.checker.specs.declared.Pass.{Pass}
 use Rattle.checker.specs.declared.Layers.{Layers}
-use Rattle.checker.specs.lemmas.Tables.{cap, firstOf, Tallied, Passed, carriedBy, wholeBy, under, lowerBy, SeenAll, heldBy}
+use Rattle.checker.specs.lemmas.Tables.{cap, firstOf, Tallied, Passed, carriedBy, wholeBy, under, lowerBy, SeenAll, heldBy, Judged}
 use Rattle.basics.specs.lemmas.Ranges.{count-cong}
 
 -- ---- a sum that stops at the cap
@@ -70,29 +71,26 @@ same-is marks n f e =
 
 -- ---- the rules
 
-size-most : (j : Job) → Accepted j → (i n : ℕ) → size j i n ≤ 16777216
-size-most j ok i n = all-most 1 16777216 (j .sizes) (ok .sizes-in) n
-
 module _ (j : Job) (rows : List Row) (S L F : List ℕ) (ok : Accepted j) (t : Tallied rows S L F) where
-  carried-is : (i n : ℕ) → 1 ≤ i → i ≤ chunks j → n < layers j → carriedBy (j .sizes) L i n ≡ carried j rows i n
+  carried-is : (i n : ℕ) → 1 ≤ i → i ≤ chunks j → n < layers j → carriedBy (size j) L i n ≡ carried j rows i n
   carried-is i n u v w =
       ap (λ (s : ℕ). eqb s (size j i n)) (t .by-layer i n u (omega (arith, ok .chunks-in .high)) (omega (arith, ok .layers-in .high)))
       ∙ eqb-cap (bytesOfLayer rows i n) (size j i n) (omega (arith, size-most j ok i n))
 
-  whole-is : (i n : ℕ) → 1 ≤ i → i ≤ chunks j → n < layers j → wholeBy (j .sizes) L i n ≡ eqb (bytesOfLayer rows i n) 0 || carried j rows i n
+  whole-is : (i n : ℕ) → 1 ≤ i → i ≤ chunks j → n < layers j → wholeBy (size j) L i n ≡ eqb (bytesOfLayer rows i n) 0 || carried j rows i n
   whole-is i n u v w =
       ap (λ (b : Bool). eqb (getD L (4 * (i - 1) + n) 0) 0 || b) (carried-is i n u v w)
       ∙ ap (λ (b : Bool). b || carried j rows i n)
       (ap (λ (s : ℕ). eqb s 0) (t .by-layer i n u (omega (arith, ok .chunks-in .high)) (omega (arith, ok .layers-in .high))) ∙ eqb-cap (bytesOfLayer rows i n) 0 (omega arith))
 
-  under-is : (i n : ℕ) → 1 ≤ i → i ≤ chunks j → n < layers j → under (carriedBy (j .sizes) L i) n ≡ lowerCarried j rows i n
+  under-is : (i n : ℕ) → 1 ≤ i → i ≤ chunks j → n < layers j → under (carriedBy (size j) L i) n ≡ lowerCarried j rows i n
   under-is i zero u v w = refl
   under-is i (suc n) u v w = carried-is i n u v (omega arith)
 
-  rule2-is : allTo (chunks j) (λ i. allBelow (layers j) (wholeBy (j .sizes) L i)) ≡ rule2 j rows
+  rule2-is : allTo (chunks j) (λ i. allBelow (layers j) (wholeBy (size j) L i)) ≡ rule2 j rows
   rule2-is = allTo-cong (chunks j) _ _ (λ i u v. allBelow-cong (layers j) _ _ (λ n w. whole-is i n u v w))
 
-  rule3-is : allTo (chunks j) (λ i. allBelow (layers j) (lowerBy (carriedBy (j .sizes) L i))) ≡ rule3 j rows
+  rule3-is : allTo (chunks j) (λ i. allBelow (layers j) (lowerBy (carriedBy (size j) L i))) ≡ rule3 j rows
   rule3-is = allTo-cong (chunks j) _ _ (λ i u v. allBelow-cong (layers j) _ _ (λ n w. rw (carried-is i n u v w, under-is i n u v w)))
 
   rule4-is : allTo (length (j .forecast)) (λ u. leb (getD S u 0) (getD (j .forecast) (u - 1) 0)) ≡ rule4 j rows
@@ -108,15 +106,15 @@ module _ (j : Job) (rows : List Row) (S L F : List ℕ) (ok : Accepted j) (t : T
   rule6-is : allTo (lastDue (j .programme)) (λ u. leb (heldBy (j .programme) F u) (j .programme .limit / j .programme .span)) ≡ rule6 j rows
   rule6-is = allTo-cong (lastDue (j .programme)) _ _ (λ u a b. ap (λ (n : ℕ). leb n (j .programme .limit / j .programme .span)) (held-is u (omega (arith, ok .last-in))))
 
-  rule7-is : (marks : List ℕ) → length marks ≡ chunks j → allTo (chunks j) (λ i. eqb (getD marks (i - 1) 0) (markByte (carriedBy (j .sizes) L i) (layers j))) ≡ rule7 j marks rows
+  rule7-is : (marks : List ℕ) → length marks ≡ chunks j → allTo (chunks j) (λ i. eqb (getD marks (i - 1) 0) (markByte (carriedBy (size j) L i) (layers j))) ≡ rule7 j marks rows
   rule7-is marks e =
       allTo-cong (chunks j) _ _ (λ i u v. ap (λ (m : ℕ). eqb (getD marks (i - 1) 0) m) (mark-at i u v))
       ∙ same-is marks (chunks j) (λ k. markByte (carried j rows (k + 1)) (layers j)) e
     where
-      mark-at : (i : ℕ) → 1 ≤ i → i ≤ chunks j → markByte (carriedBy (j .sizes) L i) (layers j) ≡ markByte (carried j rows (i - 1 + 1)) (layers j)
+      mark-at : (i : ℕ) → 1 ≤ i → i ≤ chunks j → markByte (carriedBy (size j) L i) (layers j) ≡ markByte (carried j rows (i - 1 + 1)) (layers j)
       mark-at i u v =
           let back : i - 1 + 1 ≡ i = omega arith in
-          rw back (mark-cong (carriedBy (j .sizes) L i) (carried j rows i) (layers j) (λ n w. carried-is i n u v w))
+          rw back (mark-cong (carriedBy (size j) L i) (carried j rows i) (layers j) (λ n w. carried-is i n u v w))
 
 -- ---- the verdict, with the last slot and the number of layers as numbers of their own
 
@@ -124,31 +122,34 @@ module _ (j : Job) (rows : List Row) (S L F : List ℕ) (ok : Accepted j) (t : T
 pub due-most : (p : Programme) (i n : ℕ) → lastDue p ≤ n → i ≤ p .chunks → dueSlot p i ≤ n
 due-most p i n h l = omega (arith, mul-le-mul-right {m = i - 1} {n = p .chunks - 1} (p .span) (omega arith))
 
-module _ (j : Job) (marks : List ℕ) (rows : List Row) (last depth : ℕ) (d : last ≡ lastDue (j .programme)) (k : depth ≡ layers j) (r : Pass) (S L F : List ℕ) (a : Passed (j .programme) last depth rows r S L F) where
-  one-is : r .ranged ≡ rule1 j rows
-  one-is = rw (d, k) at (a .ranged)
+module _ (p : Programme) (table : List ℕ) (depth : ℕ) (forecast marks : List ℕ) (rows : List Row) (last : ℕ) (d : last ≡ lastDue p) (r : Pass) (S L F : List ℕ) (a : Passed p last depth rows r S L F) where
+  one-is : (j : Job) → j .programme ≡ p → depth ≡ layers j → r .ranged ≡ rule1 j rows
+  one-is j e k = rw (d, k, ← e) at (a .ranged)
 
   -- A row out of range: rule 1.
-  pub verdict-one : r .ranged ≡ false → 1 ≡ verdict j marks rows
+  pub judged-one : r .ranged ≡ false → Judged p table depth forecast marks rows 1
   unfolding verdict
-  verdict-one e = rw (sym one-is ∙ e)
+  judged-one e sizes os w = rw (sym (one-is (jobOf p sizes os forecast) refl (w .depth-is)) ∙ e)
 
   -- Every row in range: the lowest broken rule of 2 to 7, by the tables.
-  pub verdict-is : r .ranged ≡ true → Accepted j → length marks ≡ chunks j → (m : Layers) (room few : Bool)
-      → SeenAll (j .sizes) L marks depth (chunks j) m
-      → room ≡ allTo (length (j .forecast)) (λ u. leb (getD S u 0) (getD (j .forecast) (u - 1) 0))
-      → few ≡ allTo last (λ u. leb (heldBy (j .programme) F u) (j .programme .limit / j .programme .span))
-      → lowest 2 (m .whole ∷ m .lower ∷ room ∷ r .timely ∷ few ∷ m .said ∷ []) ≡ verdict j marks rows
+  pub judged : r .ranged ≡ true → length marks ≡ p .chunks → (m : Layers) (room few : Bool)
+      → SeenAll (tableAt table) L marks depth (p .chunks) m
+      → room ≡ allTo (length forecast) (λ u. leb (getD S u 0) (getD forecast (u - 1) 0))
+      → few ≡ allTo last (λ u. leb (heldBy p F u) (p .limit / p .span))
+      → (v : ℕ) → v ≡ lowest 2 (m .whole ∷ m .lower ∷ room ∷ r .timely ∷ few ∷ m .said ∷ [])
+      → Judged p table depth forecast marks rows v
   unfolding verdict
-  verdict-is g ok e m room few s w f =
+  judged g e m room few s q f v x sizes os w =
+      let j = jobOf p sizes os forecast in
       let t = a .tables g in
-      let s′ = rw k at s in
-      rw (
-        sym one-is ∙ g,
-        s′ .whole ∙ rule2-is j rows S L F ok t,
-        s′ .lower ∙ rule3-is j rows S L F ok t,
-        w ∙ rule4-is j rows S L F ok t,
+      let s′ = rw (w .sizes-are, w .depth-is) at s in
+      x
+      ∙ rw (
+        sym (one-is j refl (w .depth-is)) ∙ g,
+        s′ .whole ∙ rule2-is j rows S L F (w .accepted) t,
+        s′ .lower ∙ rule3-is j rows S L F (w .accepted) t,
+        q ∙ rule4-is j rows S L F (w .accepted) t,
         a .timely g,
-        (rw d at f) ∙ rule6-is j rows S L F ok t,
-        s′ .said ∙ rule7-is j rows S L F ok t marks e,
+        (rw d at f) ∙ rule6-is j rows S L F (w .accepted) t,
+        s′ .said ∙ rule7-is j rows S L F (w .accepted) t marks e,
       )

@@ -1,11 +1,12 @@
--- Meaning. What the checker answers: document 01, "Direct calls without files check 5, 6, 7, then 8", else the verdict.
+-- Meaning. What the checker answers: document 01, "Direct calls without files check 5, 6, 7, then 8", with 18 "after 6 and before 7", else
+-- the verdict.
 use Prim.Native.Nat.{ℕ}
 use mathlib.Core.Bool.{cond}
 use mathlib.Core.List.{List}
 use lib.Dec.{eqb}
 use Rattle.basics.specs.Refusals.{_orElse_}
-use Rattle.job.specs.Job.{Job, chunks}
-use Rattle.job.specs.Refusal.{refusal}
+use Rattle.job.specs.Job.{chunks}
+use Rattle.job.specs.Handed.{HandedJob, jobIn, jobRefusal}
 use Rattle.fetch.specs.Rows.{rowsOf}
 use Rattle.fetch.specs.Handed.{handedRefusal}
 use Rattle.fetch.specs.Verdict.{verdict}
@@ -16,11 +17,11 @@ use Rattle.checker.specs.declared.Checked.the-variants.{Verdict, Refused
 abbrev pub answer : ℕ → ℕ → Checked
 answer refused verdict = cond (eqb refused 0) (Verdict verdict) (Refused refused)
 
--- The refusal of a job handed with marks and rows: 5, 6, 7, then 8.
-abbrev pub checkRefusal : Job → List ℕ → List ℕ → List ℕ → List ℕ → List ℕ → ℕ
-checkRefusal j marks slots chunks′ layers bytes = refusal j orElse handedRefusal (chunks j) marks slots chunks′ layers bytes
+-- The refusal of a job handed with marks and rows: 5, 6, 18, 7, then 8.
+abbrev pub checkRefusal : HandedJob → List ℕ → List ℕ → List ℕ → List ℕ → List ℕ → ℕ
+checkRefusal h marks slots chunks′ layers bytes = jobRefusal h orElse handedRefusal (chunks (jobIn h)) marks slots chunks′ layers bytes
 
 -- The answer for a job, marks and rows as handed.
-abbrev pub checked : Job → List ℕ → List ℕ → List ℕ → List ℕ → List ℕ → Checked
-checked j marks slots chunks′ layers bytes =
-    answer (checkRefusal j marks slots chunks′ layers bytes) (verdict j marks (rowsOf slots chunks′ layers bytes))
+abbrev pub checked : HandedJob → List ℕ → List ℕ → List ℕ → List ℕ → List ℕ → Checked
+checked h marks slots chunks′ layers bytes =
+    answer (checkRefusal h marks slots chunks′ layers bytes) (verdict (jobIn h) marks (rowsOf slots chunks′ layers bytes))

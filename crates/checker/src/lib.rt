@@ -2,19 +2,20 @@
 // first slots; one pass over the chunks and two over the slots read them.
 use job::Programme;
 ghost use mathlib.Core.Path.{_≡_};
-ghost use mathlib.Core.Bool.{true, not, cond, _&&_, _||_};
+ghost use mathlib.Core.Bool.{_&&_};
 ghost use mathlib.Core.List.{[], _∷_};
 ghost use Prim.Native.Nat.{ℕ, _+_, _*_, _-_, _/_, _<_, _≤_, min};
 ghost use lib.ListN.{length, getD, set, replicate};
-ghost use lib.Dec.{leb, eqb};
+ghost use lib.Dec.{leb};
 ghost use Rattle.basics.specs.Tests.{allTo};
-ghost use Rattle.job.specs.Job.{jobOf, dueSlot, Accepted};
+ghost use Rattle.job.specs.Job.{dueSlot, lastDue};
+ghost use Rattle.job.specs.Handed.{handed};
+ghost use Rattle.job.specs.Table.{tableAt};
 ghost use Rattle.fetch.specs.Rows.{rowsOf};
 ghost use Rattle.fetch.specs.Handed.{Whole};
-ghost use Rattle.fetch.specs.Verdict.{lowest, verdict};
-ghost use Rattle.fetch.specs.Marks.{withLayer};
+ghost use Rattle.fetch.specs.Verdict.{lowest};
 ghost use Rattle.checker.specs.Checked.{checked};
-ghost use Rattle.checker.specs.lemmas.Tables.{cap, inRange, Passed, SeenChunk, SeenAll, heldBy, Marked};
+ghost use Rattle.checker.specs.lemmas.Tables.{cap, inRange, Passed, SeenChunk, SeenAll, heldBy, Marked, Judged};
 
 // The verdict 0 to 7, or the number of a refusal.
 pub enum Checked {
@@ -51,16 +52,6 @@ fn both(a: bool, b: bool) -> bool
         return b;
     }
     false
-}
-
-// If a, then b.
-fn only_if(a: bool, b: bool) -> bool
-    ensures { λ r. ⌜ r ≡ not a || b ⌝ }
-{
-    if a {
-        return b;
-    }
-    true
 }
 
 // Saturates: a direct call may hand more rows than 64 bits can sum, and any sum above CAP breaks rule 2 or 4 alike.
@@ -112,13 +103,6 @@ fn in_range(last: usize, count: u16, depth: usize, s: u16, c: u16, l: u8, b: u32
     1 <= b
 }
 
-// Rule 5 of one row.
-fn on_time(p: Programme, s: u16, c: u16) -> bool
-    ensures { λ r. ⌜ r ≡ leb s (dueSlot p c) ⌝ }
-{
-    wide(s) <= job::due_slot(p, c)
-}
-
 // A row goes into the tables.
 fn add_row(
     slotsum: &mut [u64; 3601],
@@ -164,7 +148,7 @@ fn tally(
         let l = layers[i];
         let b = bytes[i];
         if in_range(last, p.chunks, depth, s, c, l, b) {
-            timely = both(timely, on_time(p, s, c));
+            timely = both(timely, wide(s) <= job::due_slot(p, c));
             add_row(slotsum, layersum, first, s, c, l, b);
             i = i + 1;
         } else {
@@ -180,37 +164,10 @@ fn tally(
     }
 }
 
-fn same(sum: u64, size: u32) -> bool
-    ensures { λ r. ⌜ r ≡ eqb sum size ⌝ }
-{
-    sum == (size as u64)
-}
-
-// Rule 2 of one layer: its sum is 0, or it is carried.
-fn none_or(sum: u64, carried: bool) -> bool
-    ensures { λ r. ⌜ r ≡ eqb sum 0 || carried ⌝ }
-{
-    if sum == 0 {
-        return true;
-    }
-    carried
-}
-
-// The mark byte with layer n set if it is carried.
-fn marked(mark: u8, n: usize, carried: bool) -> u8
-    requires { ⌜ n < 4 ⌝ }
-    ensures { λ r. ⌜ r ≡ cond carried (withLayer mark n) mark ⌝ }
-{
-    if carried {
-        return fetch::with(mark, n as u8);
-    }
-    mark
-}
-
 // The layers of chunk i, from the base up.
-fn see_chunk(sizes: &[u32], depth: usize, layersum: &[u64; 2000], i: u16) -> Seen
+fn see_chunk(table: &[u32; 2000], depth: usize, layersum: &[u64; 2000], i: u16) -> Seen
     requires { ⌜ (depth ≤ 4) × (1 ≤ i) × (i ≤ 500) ⌝ }
-    ensures { λ r. ⌜ SeenChunk (now (sizes .entry)) (now (layersum .entry)) depth i r ⌝ }
+    ensures { λ r. ⌜ SeenChunk (tableAt (now (table .entry))) (now (layersum .entry)) depth i r ⌝ }
 {
     let from = 4 * (wide(i) - 1);
     let mut mark: u8 = 0;
@@ -221,20 +178,31 @@ fn see_chunk(sizes: &[u32], depth: usize, layersum: &[u64; 2000], i: u16) -> See
     while n < depth {
         let at = from + n;
         let sum = layersum[at];
-        let carried = same(sum, job::size_of(sizes, i, n));
-        whole = both(none_or(sum, carried), whole);
-        lower = both(only_if(carried, below), lower);
-        mark = marked(mark, n, carried);
-        below = carried;
-        n = n + 1;
+        let size = job::size_at(table, i, n) as u64;
+        if sum == size {
+            mark = fetch::with(mark, n as u8);
+            lower = both(below, lower);
+            below = true;
+            n = n + 1;
+        } else {
+            whole = both(sum == 0, whole);
+            below = false;
+            n = n + 1;
+        }
     }
     Seen { mark, whole, lower }
 }
 
 // Rules 2, 3 and 7, chunk by chunk.
-fn see_all(sizes: &[u32], depth: usize, layersum: &[u64; 2000], marks: &[u8], count: u16) -> Layers
+fn see_all(
+    table: &[u32; 2000],
+    depth: usize,
+    layersum: &[u64; 2000],
+    marks: &[u8],
+    count: u16,
+) -> Layers
     requires { ⌜ (depth ≤ 4) × (count ≤ 500) × (length (now marks) ≡ count) ⌝ }
-    ensures { λ r. ⌜ SeenAll (now (sizes .entry)) (now (layersum .entry)) (now (marks .entry)) depth count r ⌝ }
+    ensures { λ r. ⌜ SeenAll (tableAt (now (table .entry))) (now (layersum .entry)) (now (marks .entry)) depth count r ⌝ }
 {
     let mut whole = true;
     let mut lower = true;
@@ -243,7 +211,7 @@ fn see_all(sizes: &[u32], depth: usize, layersum: &[u64; 2000], marks: &[u8], co
     while i < count {
         let at = i as usize;
         let next = i + 1;
-        let seen = see_chunk(sizes, depth, layersum, next);
+        let seen = see_chunk(table, depth, layersum, next);
         whole = both(seen.whole, whole);
         lower = both(seen.lower, lower);
         said = both(marks[at] == seen.mark, said);
@@ -295,16 +263,16 @@ fn sweep(p: Programme, last: usize, first: &[u16; 501]) -> bool
     requires { ⌜ (p .chunks ≤ 500) × (last ≤ 3600) × ((i : ℕ) → i ≤ p .chunks → dueSlot p i ≤ 3600) × ((i : ℕ) → 1 ≤ i → i ≤ 500 → 1 ≤ getD (now first) i 0) ⌝ }
     ensures { λ r. ⌜ r ≡ allTo last (λ t. leb (heldBy p (now (first .entry)) t) (p .limit / p .span)) ⌝ }
 {
-    let most = wide(job::held_most(p));
+    let most = job::held_most(p);
     let mut begins = [0u16; 3601];
     let mut ends = [0u16; 3601];
     mark_times(p, first, &mut begins, &mut ends);
-    let mut held: usize = 0;
+    let mut held: u16 = 0;
     let mut t: usize = 0;
     while t < last {
         let u = t + 1;
-        let more = held + wide(begins[u]);
-        held = more - wide(ends[u]);
+        let more = held + begins[u];
+        held = more - ends[u];
         if most < held {
             return false;
         }
@@ -338,10 +306,11 @@ fn lowest_broken(whole: bool, lower: bool, within: bool, timely: bool, few: bool
     0
 }
 
-// The verdict of an accepted job's list, its rows whole and its marks one byte a chunk. `depth` is the number of layers.
+// The verdict of an accepted job's list, its rows whole and its marks one byte a chunk. The job's sizes are seen by their table alone;
+// `depth` is the number of layers.
 fn verdict_of(
     p: Programme,
-    sizes: &[u32],
+    table: &[u32; 2000],
     depth: usize,
     forecast: &[u32],
     marks: &[u8],
@@ -350,8 +319,8 @@ fn verdict_of(
     layers: &[u8],
     bytes: &[u32],
 ) -> u8
-    requires { ⌜ Accepted (jobOf p (now sizes) (now forecast)) × (depth ≡ length (now sizes)) × Whole (p .chunks) (now marks) (now slots) (now chunks) (now layers) (now bytes) ⌝ }
-    ensures { λ r. ⌜ r ≡ verdict (jobOf p (now (sizes .entry)) (now (forecast .entry))) (now (marks .entry)) (rowsOf (now (slots .entry)) (now (chunks .entry)) (now (layers .entry)) (now (bytes .entry))) ⌝ }
+    requires { ⌜ (p .chunks ≤ 500) × (lastDue p ≤ 3600) × (depth ≤ 4) × (length (now forecast) ≤ 3600) × Whole (p .chunks) (now marks) (now slots) (now chunks) (now layers) (now bytes) ⌝ }
+    ensures { λ r. ⌜ Judged p (now (table .entry)) depth (now (forecast .entry)) (now (marks .entry)) (rowsOf (now (slots .entry)) (now (chunks .entry)) (now (layers .entry)) (now (bytes .entry))) r ⌝ }
 {
     let last = job::last_due(p);
     let mut slotsum = [0u64; 3601];
@@ -370,7 +339,7 @@ fn verdict_of(
         &mut first,
     );
     if pass.ranged {
-        let seen = see_all(sizes, depth, &layersum, marks, p.chunks);
+        let seen = see_all(table, depth, &layersum, marks, p.chunks);
         let room = within(forecast, &slotsum);
         let few = sweep(p, last, &first);
         return lowest_broken(seen.whole, seen.lower, room, pass.timely, few, seen.said);
@@ -379,10 +348,13 @@ fn verdict_of(
 }
 
 // The verdict for a job, marks and rows: any number of rows in any order, of equal rows each counts.
-// Refused: 5, 6, 7 by the job, then 8 by the marks and rows.
+// Refused: 5, 6, 18, 7 by the job, then 8 by the marks and rows.
 pub fn check(
     p: Programme,
     sizes: &[u32],
+    size_chunks: &[u16],
+    size_layers: &[u8],
+    size_bytes: &[u32],
     forecast: &[u32],
     marks: &[u8],
     slots: &[u16],
@@ -390,9 +362,9 @@ pub fn check(
     layers: &[u8],
     bytes: &[u32],
 ) -> Checked
-    ensures { λ r. ⌜ r ≡ checked (jobOf p (now (sizes .entry)) (now (forecast .entry))) (now (marks .entry)) (now (slots .entry)) (now (chunks .entry)) (now (layers .entry)) (now (bytes .entry)) ⌝ }
+    ensures { λ r. ⌜ r ≡ checked (handed p (now (sizes .entry)) (now («size_chunks» .entry)) (now («size_layers» .entry)) (now («size_bytes» .entry)) (now (forecast .entry))) (now (marks .entry)) (now (slots .entry)) (now (chunks .entry)) (now (layers .entry)) (now (bytes .entry)) ⌝ }
 {
-    let job = job::refusal(p, sizes, forecast);
+    let job = job::refusal(p, sizes, size_chunks, size_layers, size_bytes, forecast);
     if job != 0 {
         return Checked::Refused(job);
     }
@@ -401,9 +373,12 @@ pub fn check(
         return Checked::Refused(list);
     }
     let depth = sizes.len();
+    let unset = p.chunks as u32;
+    let mut table = [unset; 2000];
+    job::fill_sizes(sizes, size_chunks, size_layers, size_bytes, &mut table);
     Checked::Verdict(verdict_of(
         p,
-        sizes,
+        &table,
         depth,
         forecast,
         marks,

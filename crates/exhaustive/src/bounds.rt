@@ -1,5 +1,4 @@
 // Demand 3's bounds, asked of one list: the marks that it gives against the plan's. A bound that applies to the list is a flag of the tally.
-use crate::bits;
 use crate::film;
 use crate::film::Film;
 use crate::lists;
@@ -17,7 +16,7 @@ fn at_most(plan: u32, given: u32, n: u16, bound: u16) -> u32 {
 // "For every layer n, every passing list in playing order that carries all the plan's own layers below n carries layer n for at most as
 // many chunks as the plan."
 fn of_layer(f: Film, ordered: bool, plan: u32, given: u32, n: u16) -> u32 {
-    if ordered && 0 < bits::digit(f.sizes, n) && marks::covers_below(given, plan, n) {
+    if ordered && 0 < film::size(f, n) && marks::covers_below(given, plan, n) {
         return at_most(plan, given, n, tally::BY_LAYER + n % 4);
     }
     0
@@ -39,8 +38,20 @@ fn of_whole(f: Film, plan: u32, given: u32) -> u32 {
     0
 }
 
+// "That no list carries more is claimed only for jobs whose sizes don't vary by chunk": of the others, the lists that carry more bases.
+fn of_uneven(plan: u32, given: u32) -> u32 {
+    tally::flag(tally::LISTS)
+        | tally::flag_if(
+            tally::BEATEN,
+            marks::count(plan, 0) < marks::count(given, 0),
+        )
+}
+
 // The first is "Every fetch list that passes, in whatever order it fetches, carries the base layer of at most as many chunks as the plan".
 pub(crate) fn weigh(f: Film, plan: u32, given: u32, list: u32) -> u32 {
+    if !film::is_equal(f) {
+        return of_uneven(plan, given);
+    }
     let ordered = lists::in_order(given, list);
     tally::flag(tally::LISTS)
         | at_most(plan, given, 0, tally::ANY_ORDER)

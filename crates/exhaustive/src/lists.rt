@@ -37,7 +37,7 @@ pub(crate) fn in_slot(list: u32, t: u16, part: u16) -> u32 {
 
 // Whether a part has all its bytes.
 pub(crate) fn is_whole(f: Film, list: u32, part: u16) -> bool {
-    bits::digit(f.sizes, part % 4) <= in_all(list, part)
+    film::size(f, part) <= in_all(list, part)
 }
 
 // How many rows the list has, one for each slot, chunk and layer: byte 2t counts for none if byte 2t + 1 is of the same part.
@@ -98,7 +98,7 @@ fn with_part(f: Film, list: u32, part: u16, marks: u32) -> u32 {
     if bytes == 0 {
         return marks;
     }
-    if bytes == bits::digit(f.sizes, part % 4) {
+    if bytes == film::size(f, part) {
         return marks::with(marks, part);
     }
     BROKEN

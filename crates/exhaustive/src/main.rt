@@ -1,6 +1,7 @@
 // The planner against another one, which decides each layer by an exhaustive search over fetch lists, its rows against the own list listed
 // anew, and demand 3's bounds against every passing list, on all jobs of a small family: C 1 to 3, L and s 1 or 2, last due slot at most 4,
-// limit 0 to 3, one to four layers of 1 byte each, or the base or the layer above it of 2, and each forecast of 0, 1 or 2 bytes a slot.
+// limit 0 to 3, one to four layers of 1 byte each, or the base or the layer above it of 2, and each forecast of 0, 1 or 2 bytes a slot. Of
+// uneven film all bases of 1 and 2 bytes, and some of two and three layers.
 mod bits;
 mod bounds;
 mod film;
@@ -15,23 +16,36 @@ use crate::film::Film;
 use libc::STDOUT_FILENO;
 ghost use Prim.Native.Nat.{_≤_};
 
-// Numbers of jobs: 48 programmes, 11 kinds of sizes, 81 forecasts of four slots.
-const NUMBERS: u16 = 42768;
+// 48 programmes, 81 forecasts of four slots, and 22 kinds of sizes, the last 11 of them uneven.
+const NUMBERS: u16 = 3888;
 
-// Four bits a layer, the base lowest.
+const KINDS: u16 = 22;
+
+// Two bits a layer, the base lowest, and a byte a chunk, the first lowest.
 fn sizes(kind: u16) -> u32 {
     match kind {
-        0 => 0x1,
-        1 => 0x2,
-        2 => 0x11,
-        3 => 0x12,
-        4 => 0x21,
-        5 => 0x111,
-        6 => 0x112,
-        7 => 0x121,
-        8 => 0x1111,
-        9 => 0x1112,
-        _ => 0x1121,
+        0 => 0x10101,
+        1 => 0x20202,
+        2 => 0x50505,
+        3 => 0x60606,
+        4 => 0x90909,
+        5 => 0x151515,
+        6 => 0x161616,
+        7 => 0x191919,
+        8 => 0x555555,
+        9 => 0x565656,
+        10 => 0x595959,
+        11 => 0x20101,
+        12 => 0x10201,
+        13 => 0x20201,
+        14 => 0x10102,
+        15 => 0x20102,
+        16 => 0x10202,
+        17 => 0x90605,
+        18 => 0x90506,
+        19 => 0x50905,
+        20 => 0x60509,
+        _ => 0x151615,
     }
 }
 
@@ -45,25 +59,25 @@ fn forecast(k: u16) -> u32 {
     third(k) + 16 * third(k / 3) + 256 * third(k / 9) + 4096 * third(k / 27)
 }
 
-// The job numbered k.
-fn film_of(k: u16) -> Film {
+// The job numbered k of a kind.
+fn film_of(k: u16, kind: u16) -> Film {
     Film {
         chunks: 1 + k % 3,
         span: 1 + k / 3 % 2,
         delay: 1 + k / 6 % 2,
         limit: k / 12 % 4,
-        sizes: sizes(k / 48 % 11),
-        forecast: forecast(k / 528),
+        sizes: sizes(kind),
+        forecast: forecast(k / 48),
     }
 }
 
-// Whether the last due slot is at most 4, with nothing in the forecast after it. The remainder tells the prover that the shift is small.
+// Whether the last due slot is at most 4, with nothing in the forecast after it, and no SZ for a chunk past the last. The remainder tells the prover that the shift is small.
 fn is_job(f: Film) -> bool {
     let slots = film::last_due(f);
-    slots <= 4 && f.forecast >> (4 * (slots % 5)) == 0
+    slots <= 4 && f.forecast >> (4 * (slots % 5)) == 0 && film::ends_equal(f)
 }
 
-fn is_uneven(f: Film) -> bool {
+fn leaves_rest(f: Film) -> bool {
     let span = f.span;
     0 < span && 0 < f.limit % span
 }
@@ -76,12 +90,13 @@ fn unlimited_plan(f: Film) -> u32 {
 }
 
 fn flags_of(f: Film, marks: u32) -> u32 {
-    let layers = bits::nonzero(f.sizes);
+    let layers = film::layers(f);
     tally::flag(tally::JOBS)
         | tally::flag_if(tally::THREE_LAYERS, layers == 3)
         | tally::flag_if(tally::FOUR_LAYERS, layers == 4)
+        | tally::flag_if(tally::UNEVEN, !film::is_equal(f))
         | tally::flag_if(tally::NONE_HELD, film::held_most(f) == 0)
-        | tally::flag_if(tally::UNEVEN, is_uneven(f))
+        | tally::flag_if(tally::LIMIT_REST, leaves_rest(f))
         | tally::flag_if(
             tally::EMPTY,
             (bits::nonzero(f.forecast) as usize) < film::last_due(f),
@@ -102,10 +117,18 @@ fn trial(f: Film, tally: &mut [u64]) {
     search::search(f, true, marks, lists::BYTES, 0, tally);
 }
 
+fn every_kind(k: u16, tally: &mut [u64]) {
+    let mut kind: u16 = 0;
+    while kind < KINDS {
+        trial(film_of(k, kind), tally);
+        kind = kind + 1;
+    }
+}
+
 fn every_job(tally: &mut [u64]) {
     let mut k: u16 = 0;
     while k < NUMBERS {
-        trial(film_of(k), tally);
+        every_kind(k, tally);
         k = k + 1;
     }
 }
@@ -124,14 +147,14 @@ fn say(words: &[u8], tally: &[u64], from: u16, to: u16) {
 
 fn say_all(tally: &[u64]) {
     say(
-        b"jobs; with three layers, four layers, H 0, a limit no multiple of L, an empty slot, a limit that binds:",
+        b"jobs; with three layers, four layers, uneven chunks, H 0, a limit no multiple of L, an empty slot, a limit that binds:",
         tally,
         tally::JOBS,
         tally::LISTS,
     );
-    say(b"bases, layers above, rows:", tally, tally::BASES, 23);
+    say(b"bases, layers above, rows:", tally, tally::BASES, 25);
     say(
-        b"lists that pass; bounds on bases, on layers 0 to 3 in playing order, with the whole held; lists that break one:",
+        b"lists that pass; bounds on bases, on layers 0 to 3 in playing order, with the whole held, for equal chunks; lists that break one; of uneven film, that carry more bases than the plan:",
         tally,
         tally::LISTS,
         tally::SAME_MARKS,
@@ -145,7 +168,7 @@ fn say_all(tally: &[u64]) {
 }
 
 fn main() {
-    let mut tally = [0u64; 23];
+    let mut tally = [0u64; 25];
     every_job(&mut tally);
     say_all(&tally);
 }

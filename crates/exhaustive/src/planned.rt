@@ -11,33 +11,94 @@ use planner::Answer;
 use planner::Order;
 ghost use Prim.Native.Nat.{_≤_};
 
-// The sizes and the forecast as the calls take them.
-fn four(word: u32) -> [u32; 4] {
+// The sizes of chunk 0 and the forecast as the calls take them.
+fn own_sizes(f: Film) -> [u32; 4] {
     [
-        bits::digit(word, 0),
-        bits::digit(word, 1),
-        bits::digit(word, 2),
-        bits::digit(word, 3),
+        film::size(f, 0),
+        film::size(f, 1),
+        film::size(f, 2),
+        film::size(f, 3),
     ]
+}
+
+fn forecast_of(f: Film) -> [u32; 4] {
+    [
+        bits::digit(f.forecast, 0),
+        bits::digit(f.forecast, 1),
+        bits::digit(f.forecast, 2),
+        bits::digit(f.forecast, 3),
+    ]
+}
+
+// Whether a part of a later chunk has an SZ: its size is not chunk 0's.
+fn is_uneven(f: Film, part: u16) -> bool {
+    part / 4 < f.chunks && film::size(f, part) != film::size(f, part % 4)
+}
+
+// The SZs as the calls take them, and how many there are.
+fn uneven_sizes(
+    f: Film,
+    chunks: &mut [u16; 8],
+    layers: &mut [u8; 8],
+    bytes: &mut [u32; 8],
+) -> usize {
+    let mut n: usize = 0;
+    let mut part: u16 = 4;
+    while part < 12 {
+        if is_uneven(f, part) {
+            if n < 8 {
+                chunks[n] = 1 + part / 4;
+                layers[n] = (part % 4) as u8;
+                bytes[n] = film::size(f, part);
+                n = n + 1;
+            }
+        }
+        part = part + 1;
+    }
+    n
 }
 
 // What of the planner's answer is as it should be, as flags of the tally. Playing order is asked of the own list, whose rows the planner's
 // are to be.
 pub(crate) fn compare(f: Film, found: u32, own: u32) -> u32 {
-    let sizes = four(f.sizes);
-    let forecast = four(f.forecast);
+    let mut chunks = [0u16; 8];
+    let mut layers = [0u8; 8];
+    let mut bytes = [0u32; 8];
+    let n = uneven_sizes(f, &mut chunks, &mut layers, &mut bytes);
     tally::flag_if(tally::ORDERED, lists::in_order(found, own))
-        | plan(
-            f,
-            found,
-            own,
-            parts::words(&sizes, bits::nonzero(f.sizes) as usize),
-            parts::words(&forecast, film::last_due(f)),
-        )
+        | plan_first(f, found, own, &chunks, &layers, &bytes, n)
+}
+
+fn plan_first(
+    f: Film,
+    found: u32,
+    own: u32,
+    chunks: &[u16; 8],
+    layers: &[u8; 8],
+    bytes: &[u32; 8],
+    n: usize,
+) -> u32 {
+    plan(
+        f,
+        found,
+        own,
+        parts::halves(chunks, n),
+        parts::bytes(layers, n),
+        parts::words(bytes, n),
+    )
 }
 
 // A plan has at most a row for each layer of each chunk and for each slot but the last.
-fn plan(f: Film, found: u32, own: u32, sizes: &[u32], forecast: &[u32]) -> u32 {
+fn plan(
+    f: Film,
+    found: u32,
+    own: u32,
+    size_chunks: &[u16],
+    size_layers: &[u8],
+    size_bytes: &[u32],
+) -> u32 {
+    let sizes = own_sizes(f);
+    let forecast = forecast_of(f);
     let mut marks = [0u8; 3];
     let mut slots = [0u16; 15];
     let mut chunks = [0u16; 15];
@@ -45,8 +106,11 @@ fn plan(f: Film, found: u32, own: u32, sizes: &[u32], forecast: &[u32]) -> u32 {
     let mut bytes = [0u32; 15];
     let plan = planner::plan(
         film::programme(f),
-        sizes,
-        forecast,
+        parts::words(&sizes, film::layers(f)),
+        size_chunks,
+        size_layers,
+        size_bytes,
+        parts::words(&forecast, film::last_due(f)),
         &mut marks,
         &mut slots,
         &mut chunks,
@@ -66,8 +130,9 @@ fn plan(f: Film, found: u32, own: u32, sizes: &[u32], forecast: &[u32]) -> u32 {
             tally::PASSED,
             pass(
                 f,
-                sizes,
-                forecast,
+                size_chunks,
+                size_layers,
+                size_bytes,
                 &marks,
                 &slots,
                 &chunks,
@@ -120,8 +185,9 @@ fn counts_as(counts: [u16; 4], marks: u32) -> bool {
 // Whether the checker's verdict on the first n rows is 0.
 fn pass(
     f: Film,
-    sizes: &[u32],
-    forecast: &[u32],
+    size_chunks: &[u16],
+    size_layers: &[u8],
+    size_bytes: &[u32],
     marks: &[u8],
     slots: &[u16],
     chunks: &[u16],
@@ -129,10 +195,15 @@ fn pass(
     bytes: &[u32],
     n: usize,
 ) -> bool {
+    let sizes = own_sizes(f);
+    let forecast = forecast_of(f);
     let verdict = checker::check(
         film::programme(f),
-        sizes,
-        forecast,
+        parts::words(&sizes, film::layers(f)),
+        size_chunks,
+        size_layers,
+        size_bytes,
+        parts::words(&forecast, film::last_due(f)),
         parts::bytes(marks, f.chunks as usize),
         parts::halves(slots, n),
         parts::halves(chunks, n),

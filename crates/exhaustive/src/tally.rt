@@ -1,44 +1,48 @@
-// What the trials count. The first 20 numbers are flags: so many jobs, lists or plans had them.
+// What the trials count. The first 22 numbers are flags: so many jobs, lists or plans had them.
 pub(crate) const JOBS: u16 = 0;
 
 pub(crate) const THREE_LAYERS: u16 = 1;
 
 pub(crate) const FOUR_LAYERS: u16 = 2;
 
-pub(crate) const NONE_HELD: u16 = 3;
+pub(crate) const UNEVEN: u16 = 3;
 
-pub(crate) const UNEVEN: u16 = 4;
+pub(crate) const NONE_HELD: u16 = 4;
 
-pub(crate) const EMPTY: u16 = 5;
+pub(crate) const LIMIT_REST: u16 = 5;
 
-pub(crate) const BINDING: u16 = 6;
+pub(crate) const EMPTY: u16 = 6;
 
-pub(crate) const LISTS: u16 = 7;
+pub(crate) const BINDING: u16 = 7;
 
-pub(crate) const ANY_ORDER: u16 = 8;
+pub(crate) const LISTS: u16 = 8;
+
+pub(crate) const ANY_ORDER: u16 = 9;
 
 // Of layer 0; those of the layers above stand after it.
-pub(crate) const BY_LAYER: u16 = 9;
+pub(crate) const BY_LAYER: u16 = 10;
 
-pub(crate) const WHOLE: u16 = 13;
+pub(crate) const WHOLE: u16 = 14;
 
-pub(crate) const BROKEN: u16 = 14;
+pub(crate) const BROKEN: u16 = 15;
 
-pub(crate) const SAME_MARKS: u16 = 15;
+pub(crate) const BEATEN: u16 = 16;
 
-pub(crate) const SAME_COUNTS: u16 = 16;
+pub(crate) const SAME_MARKS: u16 = 17;
 
-pub(crate) const SAME_ROWS: u16 = 17;
+pub(crate) const SAME_COUNTS: u16 = 18;
 
-pub(crate) const PASSED: u16 = 18;
+pub(crate) const SAME_ROWS: u16 = 19;
 
-pub(crate) const ORDERED: u16 = 19;
+pub(crate) const PASSED: u16 = 20;
 
-pub(crate) const BASES: u16 = 20;
+pub(crate) const ORDERED: u16 = 21;
 
-pub(crate) const UPPERS: u16 = 21;
+pub(crate) const BASES: u16 = 22;
 
-pub(crate) const ROWS: u16 = 22;
+pub(crate) const UPPERS: u16 = 23;
+
+pub(crate) const ROWS: u16 = 24;
 
 pub(crate) fn flag(k: u16) -> u32 {
     1 << (k % 32)

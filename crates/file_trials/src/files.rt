@@ -22,56 +22,94 @@ pub(crate) fn read_case(kind: u8, i: u8, file: &mut [u8; 65537]) -> usize {
     n
 }
 
-fn layers_and_slots(layers: usize, slots: usize) {
+fn lengths_said(layers: usize, overrides: usize, slots: usize) {
     pair(b" layers ", layers);
+    pair(b" SZs ", overrides);
     pair(b" slots ", slots);
 }
 
 // What a written job reads back as.
 fn again(file: &[u8]) {
     let mut sizes = [0u32; 4];
+    let mut size_chunks = [0u16; 1996];
+    let mut size_layers = [0u8; 1996];
+    let mut size_bytes = [0u32; 1996];
     let mut forecast = [0u32; 3600];
-    match jobfile::read_job(file, &mut sizes, &mut forecast) {
+    match jobfile::read_job(
+        file,
+        &mut sizes,
+        &mut size_chunks,
+        &mut size_layers,
+        &mut size_bytes,
+        &mut forecast,
+    ) {
         JobRead::Refused(n) => refused(n),
         JobRead::Job {
             programme: _,
             layers,
+            overrides,
             slots,
         } => {
-            layers_and_slots(layers, slots);
+            lengths_said(layers, overrides, slots);
             word(b"\n");
         }
     }
 }
 
-fn written_bytes(out: &[u8; 28836], n: usize) {
+fn written_bytes(out: &[u8; 46800], n: usize) {
     pair(b" written ", n);
     word(b" again");
     again(parts::bytes(out, n));
 }
 
 // How many bytes the job has when it is written, and what they read back as.
-fn written(p: Programme, sizes: &[u32], forecast: &[u32]) {
-    let mut out = [0u8; 28836];
-    match jobfile::write_job(p, sizes, forecast, &mut out) {
+fn written(
+    p: Programme,
+    sizes: &[u32],
+    size_chunks: &[u16],
+    size_layers: &[u8],
+    size_bytes: &[u32],
+    forecast: &[u32],
+) {
+    let mut out = [0u8; 46800];
+    match jobfile::write_job(
+        p,
+        sizes,
+        size_chunks,
+        size_layers,
+        size_bytes,
+        forecast,
+        &mut out,
+    ) {
         jobfile::Written::Bytes(n) => written_bytes(&out, n),
         jobfile::Written::Refused(n) => refused(n),
     }
 }
 
-fn job_said(read: JobRead, sizes: &[u32; 4], forecast: &[u32; 3600]) {
+fn job_said(
+    read: JobRead,
+    sizes: &[u32; 4],
+    size_chunks: &[u16],
+    size_layers: &[u8],
+    size_bytes: &[u32],
+    forecast: &[u32; 3600],
+) {
     match read {
         JobRead::Refused(n) => refused(n),
         JobRead::Job {
             programme,
             layers,
+            overrides,
             slots,
         } => {
             pair(b"chunks ", programme.chunks as usize);
-            layers_and_slots(layers, slots);
+            lengths_said(layers, overrides, slots);
             written(
                 programme,
                 parts::words(sizes, layers),
+                parts::halves(size_chunks, overrides),
+                parts::bytes(size_layers, overrides),
+                parts::words(size_bytes, overrides),
                 parts::words(forecast, slots),
             );
         }
@@ -80,16 +118,33 @@ fn job_said(read: JobRead, sizes: &[u32; 4], forecast: &[u32; 3600]) {
 
 fn job_file(file: &[u8]) {
     let mut sizes = [0u32; 4];
+    let mut size_chunks = [0u16; 1996];
+    let mut size_layers = [0u8; 1996];
+    let mut size_bytes = [0u32; 1996];
     let mut forecast = [0u32; 3600];
-    let read = jobfile::read_job(file, &mut sizes, &mut forecast);
-    job_said(read, &sizes, &forecast);
+    let read = jobfile::read_job(
+        file,
+        &mut sizes,
+        &mut size_chunks,
+        &mut size_layers,
+        &mut size_bytes,
+        &mut forecast,
+    );
+    job_said(
+        read,
+        &sizes,
+        &size_chunks,
+        &size_layers,
+        &size_bytes,
+        &forecast,
+    );
 }
 
 fn mixed_file(file: &[u8]) {
     let mut sizes = [0u32; 4];
     let mut forecast = [0u32; 3600];
     let read = mixed::read_job(file, &mut sizes, &mut forecast);
-    job_said(read, &sizes, &forecast);
+    job_said(read, &sizes, &[], &[], &[], &forecast);
 }
 
 fn job_a() -> Programme {
@@ -115,6 +170,9 @@ fn judged(marks: &[u8], slots: &[u16], chunks: &[u16], layers: &[u8], bytes: &[u
     verdict_said(checker::check(
         job_a(),
         &sizes,
+        &[],
+        &[],
+        &[],
         &forecast,
         marks,
         slots,
@@ -158,6 +216,9 @@ fn plan_file(file: &[u8]) {
     let read = planfile::read_plan(
         job_a(),
         &sizes,
+        &[],
+        &[],
+        &[],
         &forecast,
         file,
         &mut marks,
@@ -192,7 +253,7 @@ fn plan_file_of(file: &[u8; 65537], n: usize) {
 }
 
 pub(crate) fn job_files() {
-    for i in 0u8..71 {
+    for i in 0u8..100 {
         job_case(i);
     }
 }

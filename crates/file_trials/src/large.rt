@@ -49,6 +49,9 @@ fn write(chunks: u16, rows: usize, out: &mut [u8; 65537]) -> usize {
     let wrote = planfile::write_plan(
         job_of(chunks),
         &sizes,
+        &[],
+        &[],
+        &[],
         parts::words(&forecast, chunks as usize),
         parts::bytes(&marks, chunks as usize),
         parts::halves(&slots, rows),
@@ -71,6 +74,9 @@ fn read(chunks: u16, file: &[u8]) {
     let read = planfile::read_plan(
         job_of(chunks),
         &sizes,
+        &[],
+        &[],
+        &[],
         parts::words(&forecast, chunks as usize),
         file,
         &mut marks,

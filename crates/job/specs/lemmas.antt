@@ -1,2 +1,5 @@
 pub mod Greatest
 pub mod Within
+pub mod Run
+pub mod Spots
+pub mod Table

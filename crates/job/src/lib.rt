@@ -1,14 +1,16 @@
-// What a job is, and the checks of a job handed in a direct call: refusals 5, 6 and 7, a function a number.
-// A refusal is its number, and 0 is none.
+// What a job is, and the checks of a job handed in a direct call: refusals 5, 6, 18 and 7, a function a number. The table of its sizes.
+// A refusal is its number, and 0 is none. An SZ is an element of each of three slices: its chunk, its layer, its size.
 ghost use mathlib.Core.Path.{_≡_};
 ghost use mathlib.Core.Bool.{_&&_};
-ghost use Prim.Native.Nat.{_/_, max};
-ghost use lib.ListN.{length};
-ghost use Rattle.job.specs.Job.{jobOf, dueSlot, lastDue, sizeIn};
-ghost use Rattle.job.specs.Refusal.{within, filmRefusal, delayRefusal, fieldsRefusal, lastDueRefusal, sizesRefusal, bytesRefusal, slotsRefusal, forecastRefusal, refusal};
+ghost use Prim.Native.Nat.{_/_, _≤_, max, min};
+ghost use lib.ListN.{length, getD};
 ghost use Rattle.basics.specs.Tests.{all};
-ghost use Rattle.job.specs.lemmas.Greatest.{greatest};
 ghost use Rattle.basics.specs.Refusals.{unless, _orElse_};
+ghost use Rattle.job.specs.Job.{dueSlot, lastDue};
+ghost use Rattle.job.specs.Refusal.{within, filmRefusal, delayRefusal, fieldsRefusal, lastDueRefusal, sizesRefusal, named, sized, comes, overridesRefusal, bytesRefusal, slotsRefusal, forecastRefusal};
+ghost use Rattle.job.specs.Handed.{overridesOf, wholeRefusal, handed, jobRefusal};
+ghost use Rattle.job.specs.lemmas.Greatest.{greatest};
+ghost use Rattle.job.specs.Table.{spot, ownSizes, overriddenBy, sizesTable, tableAt};
 
 // Document 01's C, L, s and buffer limit.
 pub struct Programme {
@@ -46,9 +48,9 @@ pub fn held_most(p: Programme) -> u16
     p.limit / span
 }
 
-// The bytes of a layer of a chunk; 0 for a layer that the job doesn't have. The one place that knows how sizes are stored.
-pub fn size_of(sizes: &[u32], chunk: u16, layer: usize) -> u32
-    ensures { λ r. ⌜ r ≡ sizeIn (now (sizes .entry)) chunk layer ⌝ }
+// The layer's own size; 0 for a layer that the job doesn't have.
+fn own_size(sizes: &[u32], layer: usize) -> u32
+    ensures { λ r. ⌜ r ≡ getD (now (sizes .entry)) layer 0 ⌝ }
 {
     if layer < sizes.len() {
         return sizes[layer];
@@ -193,12 +195,168 @@ pub fn forecast_refusal(p: Programme, forecast: &[u32]) -> u8
     or_else(bytes_refusal(forecast), slots_refusal(p, forecast))
 }
 
-// Refusals 5, 6 and 7 of a direct call, in that order; 0 exactly for an accepted job.
-pub fn refusal(p: Programme, sizes: &[u32], forecast: &[u32]) -> u8
-    ensures { λ r. ⌜ r ≡ refusal (jobOf p (now (sizes .entry)) (now (forecast .entry))) ⌝ }
+// The length of the shortest of three slices.
+fn fewest(a: usize, b: usize, c: usize) -> usize
+    ensures { λ r. ⌜ r ≡ min a (min b c) ⌝ }
+{
+    fewer(a, fewer(b, c))
+}
+
+fn fewer(a: usize, b: usize) -> usize
+    ensures { λ r. ⌜ r ≡ min a b ⌝ }
+{
+    if a < b {
+        return a;
+    }
+    b
+}
+
+// 18: an SZ not handed whole.
+pub fn whole_refusal(cs: &[u16], ls: &[u8], bs: &[u32]) -> u8
+    ensures { λ r. ⌜ r ≡ wholeRefusal (now (cs .entry)) (now (ls .entry)) (now (bs .entry)) ⌝ }
+{
+    refuse_unless(18, both(ls.len() == cs.len(), bs.len() == cs.len()))
+}
+
+// By chunk and then layer.
+fn comes_before(c: u16, l: u8, chunk: u16, layer: u8) -> bool
+    ensures { λ r. ⌜ r ≡ comes c l chunk layer ⌝ }
+{
+    if c < chunk {
+        return true;
+    }
+    if c == chunk {
+        return l < layer;
+    }
+    false
+}
+
+// An SZ that is in order: its chunk after the first and its layer, both in the job, its size in range and not the layer's own, and it
+// comes after layer l of chunk c, the one before it.
+fn in_order(p: Programme, sizes: &[u32], c: u16, l: u8, chunk: u16, layer: u8, size: u32) -> bool
+    ensures { λ r. ⌜ r ≡ (named p (now (sizes .entry)) (record { chunk = chunk; layer = layer; bytes = size }) && sized (record { chunk = chunk; layer = layer; bytes = size })) && comes c l chunk layer ⌝ }
+{
+    let n = layer as usize;
+    let own = own_size(sizes, n);
+    let film = is_within(2, p.chunks as u32, chunk as u32);
+    let named = both(film, both(n < sizes.len(), size != own));
+    both(
+        both(named, is_within(1, 16777216, size)),
+        comes_before(c, l, chunk, layer),
+    )
+}
+
+// 18: an SZ's numbers, in one pass over the three slices.
+pub fn overrides_refusal(p: Programme, sizes: &[u32], cs: &[u16], ls: &[u8], bs: &[u32]) -> u8
+    ensures { λ r. ⌜ r ≡ overridesRefusal p (now (sizes .entry)) (overridesOf (now (cs .entry)) (now (ls .entry)) (now (bs .entry))) ⌝ }
+{
+    let n = fewest(cs.len(), ls.len(), bs.len());
+    let mut chunk: u16 = 0;
+    let mut layer: u8 = 0;
+    let mut i: usize = 0;
+    while i < n {
+        let c = cs[i];
+        let l = ls[i];
+        if in_order(p, sizes, chunk, layer, c, l, bs[i]) {
+            chunk = c;
+            layer = l;
+            i = i + 1;
+        } else {
+            return 18;
+        }
+    }
+    0
+}
+
+// Refusals 5, 6, 18 and 7 of a direct call, in that order; 0 exactly for an accepted job whose SZs are handed whole.
+pub fn refusal(
+    p: Programme,
+    sizes: &[u32],
+    size_chunks: &[u16],
+    size_layers: &[u8],
+    size_bytes: &[u32],
+    forecast: &[u32],
+) -> u8
+    ensures { λ r. ⌜ r ≡ jobRefusal (handed p (now (sizes .entry)) (now («size_chunks» .entry)) (now («size_layers» .entry)) (now («size_bytes» .entry)) (now (forecast .entry))) ⌝ }
 {
     let seven = forecast_refusal(p, forecast);
+    let named = overrides_refusal(p, sizes, size_chunks, size_layers, size_bytes);
+    let whole = whole_refusal(size_chunks, size_layers, size_bytes);
     let six = sizes_refusal(sizes);
     let due = last_due_refusal(p);
-    or_else(fields_refusal(p), or_else(due, or_else(six, seven)))
+    or_else(
+        fields_refusal(p),
+        or_else(due, or_else(six, or_else(whole, or_else(named, seven)))),
+    )
+}
+
+// Where layer n of chunk i stands in the table of sizes.
+fn spot_of(i: u16, n: usize) -> usize
+    requires { ⌜ n ≤ 255 ⌝ }
+    ensures { λ r. ⌜ r ≡ spot i n ⌝ }
+{
+    if i == 0 {
+        return n;
+    }
+    (i as usize - 1) * 4 + n
+}
+
+// The layers' own sizes, for 500 chunks.
+fn fill_own(sizes: &[u32], table: &mut [u32; 2000])
+    ensures { λ _. ⌜ (length (now (table .entry)) ≡ 2000 → now (table .exit) ≡ ownSizes (now (sizes .entry))) ⌝ }
+{
+    let a = own_size(sizes, 0);
+    let b = own_size(sizes, 1);
+    let c = own_size(sizes, 2);
+    let d = own_size(sizes, 3);
+    let mut k: usize = 0;
+    while k < 2000 {
+        let k1 = k + 1;
+        let k2 = k + 2;
+        let k3 = k + 3;
+        table[k] = a;
+        table[k1] = b;
+        table[k2] = c;
+        table[k3] = d;
+        k = k + 4;
+    }
+}
+
+// The SZs, from the last to the first. One that has no place is not written.
+fn write_over(cs: &[u16], ls: &[u8], bs: &[u32], table: &mut [u32; 2000])
+    ensures { λ _. ⌜ (length (now (table .entry)) ≡ 2000 → now (table .exit) ≡ overriddenBy (overridesOf (now (cs .entry)) (now (ls .entry)) (now (bs .entry))) (now (table .entry))) ⌝ }
+{
+    let mut i = fewest(cs.len(), ls.len(), bs.len());
+    while 0 < i {
+        let k = i - 1;
+        let at = spot_of(cs[k], ls[k] as usize);
+        if at < 2000 {
+            table[at] = bs[k];
+            i = k;
+        } else {
+            i = k;
+        }
+    }
+}
+
+// The table of all sizes, which a call fills once: read it by size_at.
+pub fn fill_sizes(sizes: &[u32], cs: &[u16], ls: &[u8], bs: &[u32], table: &mut [u32; 2000])
+    ensures { λ _. ⌜ (length (now (table .entry)) ≡ 2000 → now (table .exit) ≡ sizesTable (now (sizes .entry)) (overridesOf (now (cs .entry)) (now (ls .entry)) (now (bs .entry)))) ⌝ }
+{
+    fill_own(sizes, table);
+    write_over(cs, ls, bs, table);
+}
+
+// The bytes of layer n of chunk i, out of the table of all sizes. For an accepted job this is its size, for every chunk and layer.
+pub fn size_at(table: &[u32; 2000], i: u16, n: usize) -> u32
+    ensures { λ r. ⌜ r ≡ tableAt (now (table .entry)) i n ⌝ }
+{
+    if n < 4 {
+        let at = spot_of(i, n);
+        if at < 2000 {
+            return table[at];
+        }
+        return table[n];
+    }
+    0
 }

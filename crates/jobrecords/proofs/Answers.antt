@@ -1,85 +1,125 @@
 -- Lemmas. The answer of the reader and the lent buffers afterwards, by what the loop found. Assumes nothing.
-use Prim.Native.Nat.{ℕ, _+_, _-_, _≤_, _<_}
-use mathlib.Core.Path.{_≡_, sym, _∙_}
+use Prim.Native.Nat.{ℕ, _+_, _*_, _-_, _≤_, _<_}
+use mathlib.Core.Path.{_≡_, sym, ap, _∙_}
 use mathlib.Core.Bool.{Bool, _&&_}
-use mathlib.Core.List.{List, _++_}
+use mathlib.Core.List.{List}
 use native.Mathlib.Omega.{arith}
-use lib.ListN.{length, take, drop}
+use lib.ListN.{length, take}
+use lib.Seq.{length-take-le}
 use lib.Dec.{leb}
 use borrow.Author.Tests.{ne-eqb, le-leb, lt-leb}
+use Rattle.basics.specs.Lent.{over}
 use Rattle.basics.specs.Refusals.{unless}
-use Rattle.basics.specs.lemmas.Refusals.{orElse-none, orElse-some}
-use Rattle.records.specs.File.{split, recordsRefusal, fileRefusal}
-use Rattle.job.specs.Job.{layers}
+use Rattle.basics.specs.lemmas.Tests.{and-T, leb-iff}
+use Rattle.basics.specs.lemmas.Refusals.{unless-iff, orElse-none, orElse-some}
+use Rattle.records.specs.File.{recordsRefusal, fileRefusal}
+use Rattle.job.specs.Job.{Job}
+use Rattle.job.specs.Handed.{chunksOf, layersOf, bytesOf}
 use Rattle.jobrecords.specs.declared.JobRead.{JobRead}
-use Rattle.jobrecords.specs.declared.JobRead.the-variants.{Job, Refused}
+use Rattle.jobrecords.specs.declared.JobRead.the-variants as jobRead
 use Rattle.jobrecords.specs.declared.Sofar.{Sofar}
 use Rattle.jobrecords.specs.declared.Ending.{Ending}
 use Rattle.jobrecords.specs.declared.Ending.the-variants.{Whole, Broken}
 use Rattle.jobrecords.specs.Refusal.{format, refusalOf, jobOfFile}
-use Rattle.jobrecords.specs.Reader.{roomRefusal, readRefusal, jobAnswer, readAnswer, sizesRead, forecastRead}
-use Rattle.jobrecords.specs.lemmas.Reading.{Complete, Refuses, Ended}
-use Rattle.jobrecords.proofs.Turned.{layers-are, slots-are}
+use Rattle.jobrecords.specs.Reader.{Buffers, buffers, roomRefusal, jobAnswer, lentBy, readRefusal, readAnswer, lentRead}
+use Rattle.jobrecords.specs.lemmas.Reading.{counted, jobFrom, Inside, Complete, Refuses, Ended, roomBy}
+use Rattle.jobrecords.proofs.Uneven.{how-many}
 
-module _ (q : Bool) (s z f : List ℕ) where
-  -- What the reader hands over.
-  pub record Handed (r : JobRead) (z′ f′ : List ℕ) : Type 0 where
-    pub answer : r ≡ readAnswer q s (length z) (length f)
-    pub sizes : z′ ≡ sizesRead q s z f
-    pub forecast : f′ ≡ forecastRead q s z f
+-- The lengths of lent buffers hold a job.
+pub record Holds (layers overrides slots sizes cs ls bs forecast : ℕ) : Type 0 where
+  pub for-sizes : layers ≤ sizes
+  pub for-chunks : overrides ≤ cs
+  pub for-layers : overrides ≤ ls
+  pub for-bytes : overrides ≤ bs
+  pub for-forecast : slots ≤ forecast
 
-  refused : (n : ℕ) → readRefusal q s (length z) (length f) ≡ n → (n ≡ 0 → ⊥) → Handed (Refused n) z f
-  unfolding readAnswer sizesRead forecastRead
-  refused n e some = record { answer = rw (e, ne-eqb n 0 some); sizes = rw (e, ne-eqb n 0 some); forecast = rw (e, ne-eqb n 0 some) }
+holds : (layers overrides slots sizes cs ls bs forecast : ℕ) → roomBy layers overrides slots sizes cs ls bs forecast ≡ 0 → Holds layers overrides slots sizes cs ls bs forecast
+holds n k m a b c d e none =
+    let rest : Bool = leb k d && leb m e in
+    let t = and-T (leb n a) (leb k b && (leb k c && rest)) (unless-iff 11 (leb n a && (leb k b && (leb k c && rest))) (omega arith) .0 none) in
+    let u = and-T (leb k b) (leb k c && rest) (t .1) in
+    let v = and-T (leb k c) rest (u .1) in
+    let w = and-T (leb k d) (leb m e) (v .1) in
+    record { for-sizes = leb-iff n a .0 (t .0); for-chunks = leb-iff k b .0 (u .0); for-layers = leb-iff k c .0 (v .0); for-bytes = leb-iff k d .0 (w .0); for-forecast = leb-iff m e .0 (w .1) }
 
-  accepted : readRefusal q s (length z) (length f) ≡ 0 → Handed (jobAnswer (jobOfFile q s)) (jobOfFile q s .sizes ++ drop (layers (jobOfFile q s)) z) (jobOfFile q s .forecast ++ drop (length (jobOfFile q s .forecast)) f)
-  unfolding readAnswer sizesRead forecastRead
-  accepted e = record { answer = rw e; sizes = rw e; forecast = rw e }
+module _ (q : Bool) (s : List ℕ) (lent : Buffers) where
+  -- What the reader answers and leaves.
+  pub record ReadInto (r : JobRead) (lent′ : Buffers) : Type 0 where
+    pub answer : r ≡ readAnswer q s lent
+    pub sizes : lent′ .sizes ≡ lentRead q s lent .sizes
+    pub size-chunks : lent′ .size-chunks ≡ lentRead q s lent .size-chunks
+    pub size-layers : lent′ .size-layers ≡ lentRead q s lent .size-layers
+    pub size-bytes : lent′ .size-bytes ≡ lentRead q s lent .size-bytes
+    pub forecast : lent′ .forecast ≡ lentRead q s lent .forecast
+
+  read-into : (r : JobRead) (lent′ : Buffers) → r ≡ readAnswer q s lent → lent′ ≡ lentRead q s lent → ReadInto r lent′
+  read-into r lent′ a e =
+      record {
+        answer = a;
+        sizes = ap (λ (b : Buffers). b .sizes) e;
+        size-chunks = ap (λ (b : Buffers). b .size-chunks) e;
+        size-layers = ap (λ (b : Buffers). b .size-layers) e;
+        size-bytes = ap (λ (b : Buffers). b .size-bytes) e;
+        forecast = ap (λ (b : Buffers). b .forecast) e;
+      }
+
+  refused : (n : ℕ) → readRefusal q s lent ≡ n → (n ≡ 0 → ⊥) → ReadInto (jobRead.Refused n) lent
+  unfolding readAnswer lentRead
+  refused n e some = read-into (jobRead.Refused n) lent (rw (e, ne-eqb n 0 some)) (rw (e, ne-eqb n 0 some))
 
   -- Input refusals come first.
-  by-file : (n : ℕ) → refusalOf q s ≡ n → (n ≡ 0 → ⊥) → Handed (Refused n) z f
-  by-file n e some = refused n (orElse-some (refusalOf q s) (roomRefusal (jobOfFile q s) (length z) (length f)) (λ y. some (sym e ∙ y)) ∙ e) some
+  by-file : (n : ℕ) → refusalOf q s ≡ n → (n ≡ 0 → ⊥) → ReadInto (jobRead.Refused n) lent
+  by-file n e some = refused n (orElse-some (refusalOf q s) (roomRefusal (jobOfFile q s) lent) (λ y. some (sym e ∙ y)) ∙ e) some
 
-  pub handed-long : 65536 < length s → Handed (Refused 9) z f
+  pub read-long : 65536 < length s → ReadInto (jobRead.Refused 9) lent
   unfolding fileRefusal
-  handed-long l = by-file 9 (rw (lt-leb (length s) 65536 l)) (λ e. omega arith)
+  read-long l = by-file 9 (rw (lt-leb (length s) 65536 l)) (λ e. omega arith)
 
-  module _ (short : length s ≤ 65536) where
+  module _ (short : length s ≤ 65536) (x : Ending) (z f : List ℕ) (h : Ended q s z f x) where
     by-records : refusalOf q s ≡ recordsRefusal (format q) s
     unfolding fileRefusal
     by-records = rw (le-leb (length s) 65536 short)
 
-    pub handed-broken : (x : Ending) (zt ft : List ℕ) (n : ℕ) → Ended q s zt ft x → x ≡ Broken n → Handed (Refused n) z f
-    handed-broken x zt ft n h e = let u : Refuses q s n = rw e at h in by-file n (by-records ∙ u .is) (u .some)
+    pub read-broken : (n : ℕ) → x ≡ Broken n → ReadInto (jobRead.Refused n) lent
+    read-broken n e = let u : Refuses q s n = rw e at h in by-file n (by-records ∙ u .is) (u .some)
 
-    module _ (x : Ending) (zt ft : List ℕ) (j : Sofar) (h : Ended q s zt ft x) (e : x ≡ Whole j) where
-      complete : Complete q s j zt ft
+    -- A whole job, with sizes and slots in the tables and the SZs in the file.
+    module _ (j : Sofar) (e : x ≡ Whole j) where
+      complete : Complete q s j z f
       complete = rw e at h
 
-      -- The job's sizes and slots lie in the tables.
-      pub layers-inside : j .layers ≤ length zt
-      layers-inside = let room = complete .stands .room in omega (arith, room .layers-in, room .sizes-room)
+      pub layers-inside : j .layers ≤ length z
+      layers-inside = omega (arith, complete .room .sized .layers-in, complete .room .sized .sizes-room)
 
-      pub slots-inside : j .slots ≤ length ft
-      slots-inside = let room = complete .stands .room in omega (arith, room .slots-in, room .slots-room)
+      pub slots-inside : j .slots ≤ length f
+      slots-inside = omega (arith, complete .room .slots-in, complete .room .slots-room)
 
-      many-layers : j .layers ≡ layers (jobOfFile q s)
-      many-layers = layers-are j zt ft (split (format q) s .records) (complete .stands)
+      pub overrides-inside : Inside s j
+      overrides-inside = complete .inside
 
-      many-slots : j .slots ≡ length (jobOfFile q s .forecast)
-      many-slots = slots-are j zt ft (split (format q) s .records) (complete .stands)
+      -- By how much there is, 11 or none.
+      module _ (n : ℕ) (is : n ≡ roomBy (j .layers) (j .overrides) (j .slots) (length (lent .sizes)) (length (lent .size-chunks)) (length (lent .size-layers)) (length (lent .size-bytes)) (length (lent .forecast))) where
+        room-is : readRefusal q s lent ≡ n
+        room-is =
+            orElse-none (refusalOf q s) (roomRefusal (jobOfFile q s) lent) (by-records ∙ complete .none)
+            ∙ ap (λ (k : Job). roomRefusal k lent) (sym (complete .job-is))
+            ∙ rw (length-take-le (j .layers) z layers-inside, how-many s (j .ends - 9 * j .overrides) (j .overrides), length-take-le (j .slots) f slots-inside) (sym is)
 
-      by-room : readRefusal q s (length z) (length f) ≡ unless 11 (leb (j .layers) (length z) && leb (j .slots) (length f))
-      by-room = orElse-none (refusalOf q s) (roomRefusal (jobOfFile q s) (length z) (length f)) (by-records ∙ complete .none) ∙ rw (← many-layers, ← many-slots)
+        pub read-short : (n ≡ 0 → ⊥) → ReadInto (jobRead.Refused n) lent
+        read-short some = refused n room-is some
 
-      pub handed-few-sizes : length z < j .layers → Handed (Refused 11) z f
-      handed-few-sizes l = refused 11 (by-room ∙ rw (lt-leb (j .layers) (length z) l)) (λ y. omega arith)
+        module _ (none : n ≡ 0) where
+          pub read-holds : Holds (j .layers) (j .overrides) (j .slots) (length (lent .sizes)) (length (lent .size-chunks)) (length (lent .size-layers)) (length (lent .size-bytes)) (length (lent .forecast))
+          read-holds = holds (j .layers) (j .overrides) (j .slots) (length (lent .sizes)) (length (lent .size-chunks)) (length (lent .size-layers)) (length (lent .size-bytes)) (length (lent .forecast)) (sym is ∙ none)
 
-      pub handed-few-slots : j .layers ≤ length z → length f < j .slots → Handed (Refused 11) z f
-      handed-few-slots k l = refused 11 (by-room ∙ rw (le-leb (j .layers) (length z) k, lt-leb (j .slots) (length f) l)) (λ y. omega arith)
-
-      pub handed-job : j .layers ≤ length z → j .slots ≤ length f → Handed (Job (j .programme) (j .layers) (j .slots)) (take (j .layers) zt ++ drop (j .layers) z) (take (j .slots) ft ++ drop (j .slots) f)
-      handed-job k l =
-          let i = complete .stands in
-          rw (i .programme-is, i .sizes-are, i .forecast-is, many-layers, many-slots)
-          (accepted (by-room ∙ rw (le-leb (j .layers) (length z) k, le-leb (j .slots) (length f) l)))
+          pub read-job :
+              (a b c d e : List ℕ) → a ≡ over (take (j .layers) z) (lent .sizes) → b ≡ over (chunksOf (counted s j)) (lent .size-chunks) → c ≡ over (layersOf (counted s j)) (lent .size-layers) →
+              d ≡ over (bytesOf (counted s j)) (lent .size-bytes) → e ≡ over (take (j .slots) f) (lent .forecast) →
+              ReadInto (jobRead.Job (j .programme) (j .layers) (j .overrides) (j .slots)) (buffers a b c d e)
+          unfolding readAnswer lentRead
+          read-job a b c d e ea eb ec ed ee =
+              let zero = room-is ∙ none in
+              let r : JobRead = jobRead.Job (j .programme) (j .layers) (j .overrides) (j .slots) in
+              let answer : r ≡ jobAnswer (jobFrom s j z f) = rw (length-take-le (j .layers) z layers-inside, how-many s (j .ends - 9 * j .overrides) (j .overrides), length-take-le (j .slots) f slots-inside) in
+              let left : buffers a b c d e ≡ lentBy 0 (jobFrom s j z f) lent = rw (ea, eb, ec, ed, ee) in
+              read-into r (buffers a b c d e) (rw zero (answer ∙ ap jobAnswer (complete .job-is))) (rw zero (left ∙ ap (λ (k : Job). lentBy 0 k lent) (complete .job-is)))

@@ -10,7 +10,7 @@ use lib.ListN.{getD, drop, drop-of-length-le}
 use lib.Dec.{ltb, ltb→lt, nltb→le}
 use borrow.Author.Tests.{lt-ltb, le-ltb, ltb-true, ltb-false}
 use Rattle.basics.specs.lemmas.Tests.{test}
-use Rattle.job.specs.Job.{sizeIn}
+use Rattle.job.specs.Job.{Within}
 use Rattle.fetch.specs.Marks.{bit}
 use Rattle.schedule.specs.lemmas.Fill.{Piece}
 use Rattle.schedule.specs.lemmas.Linear.{level-bit}
@@ -152,33 +152,33 @@ pieces-split size k r m (suc n) d =
     let e′ : suc n + m ≡ n + suc m = omega arith in
     rw (e, e′) (ap (λ (l : List Piece). piece k m (size k m) r ∷ l) (pieces-split size k r (suc m) n d))
 
-pub record Layering (start : ℕ) (part sizes : List ℕ) (k r m : ℕ) (b : At) (ss cs ls bs ss' cs' ls' bs' : List ℕ) (at : At) (n : ℕ) : Type 0 where
+pub record Layering (start : ℕ) (part : List ℕ) (size : ℕ → ℕ → ℕ) (k r m : ℕ) (b : At) (ss cs ls bs ss' cs' ls' bs' : List ℕ) (at : At) (n : ℕ) : Type 0 where
   pub within : n ≤ levelOf m
-  pub puts : Puts start part (pieces (sizeIn sizes) k r 0 n) n b ss cs ls bs at ss' cs' ls' bs'
+  pub puts : Puts start part (pieces size k r 0 n) n b ss cs ls bs at ss' cs' ls' bs'
 
-module _ (start : ℕ) (part sizes : List ℕ) (k r m : ℕ) (a : At) (ss cs ls bs : List ℕ) (o : ChunkFrom start part sizes a r k m ss cs ls bs) (b : At) (begins : b ≡ begun start part a r) where
+module _ (start : ℕ) (part : List ℕ) (size : ℕ → ℕ → ℕ) (k r m : ℕ) (a : At) (ss cs ls bs : List ℕ) (o : ChunkFrom start part size a r k m ss cs ls bs) (b : At) (begins : b ≡ begun start part a r) where
   here : Room start part 4 b ss cs ls bs
   here = subst (λ (x : At). Room start part 4 x ss cs ls bs) (sym begins) (begun-room start part a r ss cs ls bs (o .by) 4 (o .room))
 
-  pub layering-start : Layering start part sizes k r m b ss cs ls bs ss cs ls bs b 0
+  pub layering-start : Layering start part size k r m b ss cs ls bs ss cs ls bs b 0
   layering-start = record { within = omega arith; puts = puts-none start part b ss cs ls bs (here .low) (here .high) }
 
   -- The bits of a mark of levels.
   pub level-bits : (n : ℕ) → bit m n ≡ ltb n (levelOf m)
   level-bits n = ap (λ (x : ℕ). bit x n) (o .levels .closed) ∙ level-bit (levelOf m) n
 
-  first-piece : layersOf sizes k r m ≡ piece k 0 (sizeIn sizes k 0) r ∷ pieces (sizeIn sizes) k r 1 (levelOf m - 1)
-  first-piece = let e : levelOf m ≡ suc (levelOf m - 1) = omega (arith, o .levels .low) in ap (pieces (sizeIn sizes) k r 0) e
+  first-piece : layersOf size k r m ≡ piece k 0 (size k 0) r ∷ pieces size k r 1 (levelOf m - 1)
+  first-piece = let e : levelOf m ≡ suc (levelOf m - 1) = omega (arith, o .levels .low) in ap (pieces size k r 0) e
 
-  module _ (ss' cs' ls' bs' : List ℕ) (at : At) (n : ℕ) (y : Layering start part sizes k r m b ss cs ls bs ss' cs' ls' bs' at n) where
-    pub layering-end : bit m n ≡ false → Puts start part (layersOf sizes k r m) 4 a ss cs ls bs at ss' cs' ls' bs'
+  module _ (ss' cs' ls' bs' : List ℕ) (at : At) (n : ℕ) (y : Layering start part size k r m b ss cs ls bs ss' cs' ls' bs' at n) where
+    pub layering-end : bit m n ≡ false → Puts start part (layersOf size k r m) 4 a ss cs ls bs at ss' cs' ls' bs'
     layering-end e =
         let u = ltb-false n (levelOf m) (sym (level-bits n) ∙ e) in
         let d : n ≡ levelOf m = omega (arith, y .within) in
-        let q : Puts start part (layersOf sizes k r m) 4 b ss cs ls bs at ss' cs' ls' bs' = puts-more start part (omega (arith, y .within, o .levels .high)) (puts-as start part (ap (pieces (sizeIn sizes) k r 0) d) (y .puts)) in
+        let q : Puts start part (layersOf size k r m) 4 b ss cs ls bs at ss' cs' ls' bs' = puts-more start part (omega (arith, y .within, o .levels .high)) (puts-as start part (ap (pieces size k r 0) d) (y .puts)) in
         puts-as start part (sym first-piece)
-        (puts-begun start part a r ss cs ls bs (o .by) (piece k 0 (sizeIn sizes k 0) r) (pieces (sizeIn sizes) k r 1 (levelOf m - 1)) 4 refl at ss' cs' ls' bs'
-        (subst (λ (x : At). Puts start part (piece k 0 (sizeIn sizes k 0) r ∷ pieces (sizeIn sizes) k r 1 (levelOf m - 1)) 4 x ss cs ls bs at ss' cs' ls' bs') begins (puts-as start part first-piece q)))
+        (puts-begun start part a r ss cs ls bs (o .by) (piece k 0 (size k 0) r) (pieces size k r 1 (levelOf m - 1)) 4 refl at ss' cs' ls' bs'
+        (subst (λ (x : At). Puts start part (piece k 0 (size k 0) r ∷ pieces size k r 1 (levelOf m - 1)) 4 x ss cs ls bs at ss' cs' ls' bs') begins (puts-as start part first-piece q)))
 
     module _ (e : bit m n ≡ true) where
       pub below-level : n < levelOf m
@@ -188,30 +188,30 @@ module _ (start : ℕ) (part sizes : List ℕ) (k r m : ℕ) (a : At) (ss cs ls 
       layer-room = room-left start part 1 4 (omega (arith, below-level, o .levels .high)) here (y .puts)
 
       -- What is still to place of the chunk, layer n first.
-      rest-is : layersOf sizes k r m ≡ pieces (sizeIn sizes) k r 0 n ++ (piece k n (sizeIn sizes k n) r ∷ pieces (sizeIn sizes) k r (suc n) (levelOf m - n - 1))
+      rest-is : layersOf size k r m ≡ pieces size k r 0 n ++ (piece k n (size k n) r ∷ pieces size k r (suc n) (levelOf m - n - 1))
       rest-is =
           let d : levelOf m ≡ n + suc (levelOf m - n - 1) = omega (arith, below-level) in
           let z : n + 0 ≡ n = omega arith in
-          ap (pieces (sizeIn sizes) k r 0) d ∙ pieces-split (sizeIn sizes) k r 0 n (suc (levelOf m - n - 1)) ∙ rw z
+          ap (pieces size k r 0) d ∙ pieces-split size k r 0 n (suc (levelOf m - n - 1)) ∙ rw z
 
-      rest-fed : Fed (leftAt start part) (pieces (sizeIn sizes) k r 0 n ++ (piece k n (sizeIn sizes k n) r ∷ pieces (sizeIn sizes) k r (suc n) (levelOf m - n - 1)))
+      rest-fed : Fed (leftAt start part) (pieces size k r 0 n ++ (piece k n (size k n) r ∷ pieces size k r (suc n) (levelOf m - n - 1)))
       rest-fed = subst (Fed (leftAt start part)) rest-is (o .fed)
 
-      pub layer-some : 1 ≤ sizeIn sizes k n
-      layer-some = fed-append (leftAt start part) (pieces (sizeIn sizes) k r 0 n) (piece k n (sizeIn sizes k n) r ∷ pieces (sizeIn sizes) k r (suc n) (levelOf m - n - 1)) rest-fed .1
+      pub layer-some : 1 ≤ size k n
+      layer-some = fed-append (leftAt start part) (pieces size k r 0 n) (piece k n (size k n) r ∷ pieces size k r (suc n) (levelOf m - n - 1)) rest-fed .1
 
-      pub layer-fits : sizeIn sizes k n ≤ at .c + leftAt start part (at .t)
+      pub layer-fits : size k n ≤ at .c + leftAt start part (at .t)
       layer-fits =
-          let whole = begun-fits start part a r ss cs ls bs (o .by) (piece k 0 (sizeIn sizes k 0) r) (pieces (sizeIn sizes) k r 1 (levelOf m - 1)) refl
+          let whole = begun-fits start part a r ss cs ls bs (o .by) (piece k 0 (size k 0) r) (pieces size k r 1 (levelOf m - 1)) refl
           (subst (Fed (leftAt start part)) first-piece (o .fed)) (subst (λ (l : List Piece). load l ≤ a .c + leftAt start part (a .t)) first-piece (o .fits)) in
-          let whole′ : load (piece k 0 (sizeIn sizes k 0) r ∷ pieces (sizeIn sizes) k r 1 (levelOf m - 1)) ≤ b .c + leftAt start part (b .t) = subst (λ (x : At). load (piece k 0 (sizeIn sizes k 0) r ∷ pieces (sizeIn sizes) k r 1 (levelOf m - 1)) ≤ x .c + leftAt start part (x .t)) (sym begins) whole in
+          let whole′ : load (piece k 0 (size k 0) r ∷ pieces size k r 1 (levelOf m - 1)) ≤ b .c + leftAt start part (b .t) = subst (λ (x : At). load (piece k 0 (size k 0) r ∷ pieces size k r 1 (levelOf m - 1)) ≤ x .c + leftAt start part (x .t)) (sym begins) whole in
           let all = subst (λ (l : List Piece). load l ≤ b .c + leftAt start part (b .t)) (sym first-piece ∙ rest-is) whole′ in
-          omega (arith, y .puts .enough (piece k n (sizeIn sizes k n) r ∷ pieces (sizeIn sizes) k r (suc n) (levelOf m - n - 1)) rest-fed all)
+          omega (arith, y .puts .enough (piece k n (size k n) r ∷ pieces size k r (suc n) (levelOf m - n - 1)) rest-fed all)
 
-      pub layering-more : (at' : At) (s₂ c₂ l₂ b₂ : List ℕ) → PutsOne start part k n (sizeIn sizes k n) at ss' cs' ls' bs' at' s₂ c₂ l₂ b₂ → Layering start part sizes k r m b ss cs ls bs s₂ c₂ l₂ b₂ at' (n + 1)
+      pub layering-more : (at' : At) (s₂ c₂ l₂ b₂ : List ℕ) → PutsOne start part k n (size k n) at ss' cs' ls' bs' at' s₂ c₂ l₂ b₂ → Layering start part size k r m b ss cs ls bs s₂ c₂ l₂ b₂ at' (n + 1)
       layering-more at' s₂ c₂ l₂ b₂ p =
           let z : n + 0 ≡ n = omega arith in
-          let snoc : pieces (sizeIn sizes) k r 0 n ++ (piece k n (sizeIn sizes k n) r ∷ []) ≡ pieces (sizeIn sizes) k r 0 (n + 1) = rw add-one (rw z at (pieces-next (sizeIn sizes) k r 0 n)) in
+          let snoc : pieces size k r 0 n ++ (piece k n (size k n) r ∷ []) ≡ pieces size k r 0 (n + 1) = rw add-one (rw z at (pieces-next size k r 0 n)) in
           let by : r ≤ b .t = subst (λ (x : At). r ≤ x .t) (sym begins) (begun-by start part a r ss cs ls bs (o .by)) in
           record {
             within = omega (arith, below-level);
@@ -220,15 +220,15 @@ module _ (start : ℕ) (part sizes : List ℕ) (k r m : ℕ) (a : At) (ss cs ls 
 
 -- ---- all chunks
 
-pub record Placing (start : ℕ) (part sizes ids ready mark : List ℕ) (first : ℕ) (a : At) (ss cs ls bs ss' cs' ls' bs' : List ℕ) (at : At) (q : ℕ) : Type 0 where
+pub record Placing (start : ℕ) (part : List ℕ) (size : ℕ → ℕ → ℕ) (ids ready mark : List ℕ) (first : ℕ) (a : At) (ss cs ls bs ss' cs' ls' bs' : List ℕ) (at : At) (q : ℕ) : Type 0 where
   pub done : List Piece
-  pub says : queueOf sizes (drop first ids) (drop first ready) (drop first mark) ≡ done ++ queueOf sizes (drop q ids) (drop q ready) (drop q mark)
+  pub says : queueOf size (drop first ids) (drop first ready) (drop first mark) ≡ done ++ queueOf size (drop q ids) (drop q ready) (drop q mark)
   pub from : first ≤ q
   pub to : q ≤ 500
   pub puts : Puts start part done (4 * (q - first)) a ss cs ls bs at ss' cs' ls' bs'
 
-module _ (start : ℕ) (part sizes ids ready mark : List ℕ) (first : ℕ) (a : At) (ss cs ls bs : List ℕ) (o : AllFrom start part sizes ids ready mark first a ss cs ls bs) where
-  pub placing-start : Placing start part sizes ids ready mark first a ss cs ls bs ss cs ls bs a first
+module _ (start : ℕ) (part : List ℕ) (size : ℕ → ℕ → ℕ) (ids ready mark : List ℕ) (first : ℕ) (a : At) (ss cs ls bs : List ℕ) (o : AllFrom start part size ids ready mark first a ss cs ls bs) where
+  pub placing-start : Placing start part size ids ready mark first a ss cs ls bs ss cs ls bs a first
   placing-start =
       record {
         done = [];
@@ -238,39 +238,40 @@ module _ (start : ℕ) (part sizes ids ready mark : List ℕ) (first : ℕ) (a :
         puts = puts-more start part (omega arith) (puts-none start part a ss cs ls bs (o .room .low) (o .room .high));
       }
 
-  module _ (ss' cs' ls' bs' : List ℕ) (at : At) (q : ℕ) (y : Placing start part sizes ids ready mark first a ss cs ls bs ss' cs' ls' bs' at q) where
-    pub placing-end : 500 ≤ q → Puts start part (queueOf sizes (drop first ids) (drop first ready) (drop first mark)) (4 * (500 - first)) a ss cs ls bs at ss' cs' ls' bs'
+  module _ (ss' cs' ls' bs' : List ℕ) (at : At) (q : ℕ) (y : Placing start part size ids ready mark first a ss cs ls bs ss' cs' ls' bs' at q) where
+    pub placing-end : 500 ≤ q → Puts start part (queueOf size (drop first ids) (drop first ready) (drop first mark)) (4 * (500 - first)) a ss cs ls bs at ss' cs' ls' bs'
     placing-end h =
         let e : drop q ids ≡ [] = drop-of-length-le ids {i = q} (omega (arith, o .long .0)) in
         puts-as start part (sym (append-nil (y .done)) ∙ sym (rw e at (y .says))) (puts-more start part (omega (arith, y .to)) (y .puts))
 
     module _ (h : q < 500) where
       abbrev here′ : List Piece
-      here′ = layersOf sizes (getD ids q 0) (getD ready q 0) (getD mark q 0)
+      here′ = layersOf size (getD ids q 0) (getD ready q 0) (getD mark q 0)
 
       abbrev later : List Piece
-      later = queueOf sizes (drop (q + 1) ids) (drop (q + 1) ready) (drop (q + 1) mark)
+      later = queueOf size (drop (q + 1) ids) (drop (q + 1) ready) (drop (q + 1) mark)
 
-      next : queueOf sizes (drop q ids) (drop q ready) (drop q mark) ≡ here′ ++ later
+      next : queueOf size (drop q ids) (drop q ready) (drop q mark) ≡ here′ ++ later
       next = rw (drop-next ids q (omega (arith, o .long .0)), drop-next ready q (omega (arith, o .long .1)), drop-next mark q (omega (arith, o .long .2)))
 
-      split : queueOf sizes (drop first ids) (drop first ready) (drop first mark) ≡ y .done ++ (here′ ++ later)
+      split : queueOf size (drop first ids) (drop first ready) (drop first mark) ≡ y .done ++ (here′ ++ later)
       split = y .says ∙ ap (λ (l : List Piece). y .done ++ l) next
 
       split-fed : Fed (leftAt start part) (y .done ++ (here′ ++ later))
       split-fed = subst (Fed (leftAt start part)) split (o .fed)
 
-      pub chunk-from : ChunkFrom start part sizes at (getD ready q 0) (getD ids q 0) (getD mark q 0) ss' cs' ls' bs'
+      pub chunk-from : ChunkFrom start part size at (getD ready q 0) (getD ids q 0) (getD mark q 0) ss' cs' ls' bs'
       chunk-from =
           record {
             room = room-left start part 4 (4 * (500 - first)) (omega (arith, y .from)) (o .room) (y .puts);
             by = all-from (λ r. r ≤ lastOf start part) ready first q (o .by) (y .from) (omega (arith, o .long .1));
+            chunk-in = all-from (Within 1 500) ids first q (o .chunks-in) (y .from) (omega (arith, o .long .0));
             levels = all-from Levels mark first q (o .levels) (y .from) (omega (arith, o .long .2));
             fed = fed-front (leftAt start part) here′ later (fed-append (leftAt start part) (y .done) (here′ ++ later) split-fed);
             fits = omega (arith, load-append here′ later, y .puts .enough (here′ ++ later) split-fed (subst (λ (l : List Piece). load l ≤ a .c + leftAt start part (a .t)) split (o .fits)));
           }
 
-      pub placing-more : (at' : At) (s₂ c₂ l₂ b₂ : List ℕ) → Puts start part here′ 4 at ss' cs' ls' bs' at' s₂ c₂ l₂ b₂ → Placing start part sizes ids ready mark first a ss cs ls bs s₂ c₂ l₂ b₂ at' (q + 1)
+      pub placing-more : (at' : At) (s₂ c₂ l₂ b₂ : List ℕ) → Puts start part here′ 4 at ss' cs' ls' bs' at' s₂ c₂ l₂ b₂ → Placing start part size ids ready mark first a ss cs ls bs s₂ c₂ l₂ b₂ at' (q + 1)
       placing-more at' s₂ c₂ l₂ b₂ p =
           record {
             done = y .done ++ here′;

@@ -1,9 +1,10 @@
 // Internal. The plan's own list, piece by piece: each piece, with so many bytes left, goes into slot after slot, from its release on,
 // until nothing is left of it. The part of the forecast may start at any slot, and the list may be under way already: the contracts
-// speak of every list that goes on with these pieces.
+// speak of every list that goes on with these pieces. Sizes are those of the table that job's fill_sizes fills.
 ghost use mathlib.Core.Path.{_≡_};
 ghost use Prim.Native.Nat.{ℕ, _+_, _*_, _-_, _<_, _≤_};
 ghost use lib.ListN.{length, drop, set};
+ghost use Rattle.job.specs.Table.{tableAt};
 ghost use Rattle.listing.specs.lemmas.Listing.{Room, PutsOne, Puts, begun, lastOf, leftAt, layersOf, queueOf, ChunkFrom, AllFrom};
 ghost use Rattle.schedule.specs.lemmas.Parts.{Part};
 
@@ -92,7 +93,7 @@ pub fn put_piece(
 pub fn put_chunk(
     part: &[u32],
     start: usize,
-    sizes: &[u32],
+    table: &[u32; 2000],
     from: At,
     ready: u16,
     chunk: u16,
@@ -102,13 +103,13 @@ pub fn put_chunk(
     layers: &mut [u8],
     bytes: &mut [u32],
 ) -> At
-    requires { ⌜ ChunkFrom start (now part) (now sizes) from ready chunk mark (now slots) (now chunks) (now layers) (now bytes) ⌝ }
-    ensures { λ r. ⌜ Puts start (now (part .entry)) (layersOf (now (sizes .entry)) chunk ready mark) 4 from (now (slots .entry)) (now (chunks .entry)) (now (layers .entry)) (now (bytes .entry)) r (now (slots .exit)) (now (chunks .exit)) (now (layers .exit)) (now (bytes .exit)) ⌝ }
+    requires { ⌜ ChunkFrom start (now part) (tableAt (now table)) from ready chunk mark (now slots) (now chunks) (now layers) (now bytes) ⌝ }
+    ensures { λ r. ⌜ Puts start (now (part .entry)) (layersOf (tableAt (now (table .entry))) chunk ready mark) 4 from (now (slots .entry)) (now (chunks .entry)) (now (layers .entry)) (now (bytes .entry)) r (now (slots .exit)) (now (chunks .exit)) (now (layers .exit)) (now (bytes .exit)) ⌝ }
 {
     let mut at = begin(part, start, from, ready);
     let mut n: u8 = 0;
     while fetch::has(mark, n) {
-        let z = job::size_of(sizes, chunk, n as usize);
+        let z = sizes::size_in(table, chunk, n as usize);
         at = put_piece(part, start, at, chunk, n, z, slots, chunks, layers, bytes);
         n = n + 1;
     }
@@ -119,7 +120,7 @@ pub fn put_chunk(
 pub fn put_all(
     part: &[u32],
     start: usize,
-    sizes: &[u32],
+    table: &[u32; 2000],
     ids: &[u16; 500],
     ready: &[u16; 500],
     mark: &[u8; 500],
@@ -130,8 +131,8 @@ pub fn put_all(
     layers: &mut [u8],
     bytes: &mut [u32],
 ) -> At
-    requires { ⌜ AllFrom start (now part) (now sizes) (now ids) (now ready) (now mark) first from (now slots) (now chunks) (now layers) (now bytes) ⌝ }
-    ensures { λ r. ⌜ Puts start (now (part .entry)) (queueOf (now (sizes .entry)) (drop first (now (ids .entry))) (drop first (now (ready .entry))) (drop first (now (mark .entry)))) (4 * (500 - first)) from (now (slots .entry)) (now (chunks .entry)) (now (layers .entry)) (now (bytes .entry)) r (now (slots .exit)) (now (chunks .exit)) (now (layers .exit)) (now (bytes .exit)) ⌝ }
+    requires { ⌜ AllFrom start (now part) (tableAt (now table)) (now ids) (now ready) (now mark) first from (now slots) (now chunks) (now layers) (now bytes) ⌝ }
+    ensures { λ r. ⌜ Puts start (now (part .entry)) (queueOf (tableAt (now (table .entry))) (drop first (now (ids .entry))) (drop first (now (ready .entry))) (drop first (now (mark .entry)))) (4 * (500 - first)) from (now (slots .entry)) (now (chunks .entry)) (now (layers .entry)) (now (bytes .entry)) r (now (slots .exit)) (now (chunks .exit)) (now (layers .exit)) (now (bytes .exit)) ⌝ }
 {
     let mut at = from;
     let mut q = first;
@@ -139,7 +140,7 @@ pub fn put_all(
         at = put_chunk(
             part,
             start,
-            sizes,
+            table,
             at,
             ready[q],
             ids[q],

@@ -19,6 +19,9 @@ fn write_first(out: &[u8; 65537], n: usize) {
 fn write_plan(
     p: Programme,
     sizes: &[u32],
+    size_chunks: &[u16],
+    size_layers: &[u8],
+    size_bytes: &[u32],
     forecast: &[u32],
     marks: &[u8],
     slots: &[u16],
@@ -27,14 +30,35 @@ fn write_plan(
     bytes: &[u32],
     out: &mut [u8; 65537],
 ) {
-    match planfile::write_plan(p, sizes, forecast, marks, slots, chunks, layers, bytes, out) {
+    match planfile::write_plan(
+        p,
+        sizes,
+        size_chunks,
+        size_layers,
+        size_bytes,
+        forecast,
+        marks,
+        slots,
+        chunks,
+        layers,
+        bytes,
+        out,
+    ) {
         Written::Refused(n) => refused(n),
         Written::Bytes(n) => write_first(out, n),
     }
 }
 
 // Room for any plan: a mark a chunk, 5,599 rows.
-fn plan_job(p: Programme, sizes: &[u32], forecast: &[u32], out: &mut [u8; 65537]) {
+fn plan_job(
+    p: Programme,
+    sizes: &[u32],
+    size_chunks: &[u16],
+    size_layers: &[u8],
+    size_bytes: &[u32],
+    forecast: &[u32],
+    out: &mut [u8; 65537],
+) {
     let mut marks = [0u8; 500];
     let mut slots = [0u16; 5599];
     let mut chunks = [0u16; 5599];
@@ -43,6 +67,9 @@ fn plan_job(p: Programme, sizes: &[u32], forecast: &[u32], out: &mut [u8; 65537]
     let plan = planner::plan(
         p,
         sizes,
+        size_chunks,
+        size_layers,
+        size_bytes,
         forecast,
         &mut marks,
         &mut slots,
@@ -56,6 +83,9 @@ fn plan_job(p: Programme, sizes: &[u32], forecast: &[u32], out: &mut [u8; 65537]
         Answer::Rows(n) => write_plan(
             p,
             sizes,
+            size_chunks,
+            size_layers,
+            size_bytes,
             forecast,
             parts::bytes(&marks, p.chunks as usize),
             parts::halves(&slots, n),
@@ -70,16 +100,30 @@ fn plan_job(p: Programme, sizes: &[u32], forecast: &[u32], out: &mut [u8; 65537]
 // The plan file goes where the job file was.
 fn job_file(file: &mut [u8; 65537], n: usize) {
     let mut sizes = [0u32; 4];
+    let mut size_chunks = [0u16; 1996];
+    let mut size_layers = [0u8; 1996];
+    let mut size_bytes = [0u32; 1996];
     let mut forecast = [0u32; 3600];
-    match jobfile::read_job(parts::bytes(file, n), &mut sizes, &mut forecast) {
+    match jobfile::read_job(
+        parts::bytes(file, n),
+        &mut sizes,
+        &mut size_chunks,
+        &mut size_layers,
+        &mut size_bytes,
+        &mut forecast,
+    ) {
         JobRead::Refused(r) => refused(r),
         JobRead::Job {
             programme,
             layers,
+            overrides,
             slots,
         } => plan_job(
             programme,
             parts::words(&sizes, layers),
+            parts::halves(&size_chunks, overrides),
+            parts::bytes(&size_layers, overrides),
+            parts::words(&size_bytes, overrides),
             parts::words(&forecast, slots),
             file,
         ),

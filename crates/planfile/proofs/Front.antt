@@ -1,14 +1,14 @@
--- What the record reader answers at a place of a file, case by case. Assumes nothing.
-use Prim.Native.Nat.{ℕ, _+_, _≤_, _<_}
-use mathlib.Core.Path.{_≡_, refl, sym, _∙_}
+-- Lemmas. What the record reader answers at a place of a file, by the mark that stands there. Assumes nothing.
+use Prim.Native.Nat.{ℕ, _+_, _-_, _≤_, _<_}
+use mathlib.Core.Path.{_≡_, sym, ap, _∙_}
 use mathlib.Core.Bool.{Bool, true, false}
 use mathlib.Core.List.{List}
 use native.Mathlib.Omega.{arith}
-use lib.ListN.{length, getD, drop, length-drop}
+use lib.ListN.{length, getD, take, drop, length-drop}
+use lib.Seq.{take-all}
 use lib.Dec.{leb}
 use borrow.Author.Tests.{le-leb, lt-leb}
 use Rattle.records.specs.Fields.{hAt, wAt, marked}
-use Rattle.planfile.specs.lemmas.Scan.{byte-on, h-on, w-on}
 use Rattle.planfile.specs.Records.{kp, ft, en, front, readAt}
 use Rattle.planfile.specs.declared.Record.the-variants.{Kp, Ft, En}
 use Rattle.planfile.specs.declared.Read.the-variants.{Got, Refused}
@@ -17,48 +17,54 @@ use Rattle.planfile.specs.declared.Read.the-variants.{Got, Refused}
 pub known : {r x b : Bool} → r ≡ x → r ≡ b → x ≡ b
 known e t = sym e ∙ t
 
-module _ (s : List ℕ) (at : ℕ) where
-  long : (n : ℕ) → at + n ≤ length s → leb n (length (drop at s)) ≡ true
-  long n l = le-leb n (length (drop at s)) (omega (arith, length-drop at s))
+module _ (file : List ℕ) (at : ℕ) where
+  -- The bytes from a place on, and how many.
+  abbrev rest : List ℕ
+  rest = take (length file - at) (drop at file)
 
-  cut : (n : ℕ) → 0 < n → length s < at + n → leb n (length (drop at s)) ≡ false
-  cut n p l = lt-leb n (length (drop at s)) (omega (arith, length-drop at s))
+  abbrev left : ℕ
+  left = length rest
 
-  pub no-mark : length s < at + 2 → Refused 1 ≡ readAt s at
+  rest-is : rest ≡ drop at file
+  rest-is = take-all (length file - at) (drop at file) (omega (arith, length-drop at file))
+
+  there : (n : ℕ) → n ≤ left → leb n (length (drop at file)) ≡ true
+  there n l = rw rest-is at (le-leb n left l)
+
+  cut : (n : ℕ) → left < n → leb n (length (drop at file)) ≡ false
+  cut n l = rw rest-is at (lt-leb n left l)
+
+  pub no-mark : left < 2 → Refused 1 ≡ readAt file at
   unfolding front
-  no-mark l = rw (cut 2 (omega arith) l)
+  no-mark l = rw (cut 2 l)
 
-  module _ (l : at + 2 ≤ length s) where
-    pub kp-cut : marked kp (drop at s) ≡ true → length s < at + 5 → Refused 1 ≡ readAt s at
+  -- Past the end.
+  pub past-end : length file < at → Refused 1 ≡ readAt file at
+  past-end l = no-mark (omega (arith, ap length rest-is, length-drop at file))
+
+  module _ (l : 2 ≤ left) where
+    pub kp-cut : marked kp rest ≡ true → left < 5 → Refused 1 ≡ readAt file at
     unfolding front
-    kp-cut k c = rw (long 2 l, k, cut 5 (omega arith) c)
+    kp-cut k c = rw (there 2 l, rw rest-is at k, cut 5 c)
 
-    pub kp-got : marked kp (drop at s) ≡ true → at + 5 ≤ length s → (chunk marks : ℕ) → chunk ≡ hAt s (at + 2) → marks ≡ getD s (at + 2 + 2) 0 → Got (Kp chunk marks) (at + 5) ≡ readAt s at
+    pub kp-got : marked kp rest ≡ true → 5 ≤ left → (chunk marks : ℕ) → chunk ≡ hAt rest 2 → marks ≡ getD rest 4 0 → Got (Kp chunk marks) (at + 5) ≡ readAt file at
     unfolding front
-    kp-got k e chunk marks c m =
-        let c′ = c ∙ h-on s at 2 (at + 2) refl in
-        let m′ = m ∙ byte-on s at 4 (at + 2 + 2) (omega arith) in
-        rw (long 2 l, k, long 5 e) (cc)
+    kp-got k e chunk marks a b = rw (there 2 l, rw rest-is at k, there 5 e, rw rest-is at a, rw rest-is at b)
 
-    module _ (k : marked kp (drop at s) ≡ false) where
-      pub ft-cut : marked ft (drop at s) ≡ true → length s < at + 11 → Refused 1 ≡ readAt s at
+    module _ (k : marked kp rest ≡ false) where
+      pub ft-cut : marked ft rest ≡ true → left < 11 → Refused 1 ≡ readAt file at
       unfolding front
-      ft-cut f c = rw (long 2 l, k, f, cut 11 (omega arith) c)
+      ft-cut f c = rw (there 2 l, rw rest-is at k, rw rest-is at f, cut 11 c)
 
-      pub ft-got : marked ft (drop at s) ≡ true → at + 11 ≤ length s → (slot chunk layer bytes : ℕ) → slot ≡ hAt s (at + 2) → chunk ≡ hAt s (at + 2 + 2) → layer ≡ getD s (at + 2 + 4) 0 → bytes ≡ wAt s (at + 2 + 5) → Got (Ft slot chunk layer bytes) (at + 11) ≡ readAt s at
+      pub ft-got : marked ft rest ≡ true → 11 ≤ left → (slot chunk layer bytes : ℕ) → slot ≡ hAt rest 2 → chunk ≡ hAt rest 4 → layer ≡ getD rest 6 0 → bytes ≡ wAt rest 7 → Got (Ft slot chunk layer bytes) (at + 11) ≡ readAt file at
       unfolding front
-      ft-got f e slot chunk layer bytes a b c d =
-          let a′ = a ∙ h-on s at 2 (at + 2) refl in
-          let b′ = b ∙ h-on s at 4 (at + 2 + 2) (omega arith) in
-          let c′ = c ∙ byte-on s at 6 (at + 2 + 4) (omega arith) in
-          let d′ = d ∙ w-on s at 7 (at + 2 + 5) (omega arith) in
-          rw (long 2 l, k, f, long 11 e) (cc)
+      ft-got f e slot chunk layer bytes a b c d = rw (there 2 l, rw rest-is at k, rw rest-is at f, there 11 e, rw rest-is at a, rw rest-is at b, rw rest-is at c, rw rest-is at d)
 
-      module _ (f : marked ft (drop at s) ≡ false) where
-        pub en-got : marked en (drop at s) ≡ true → Got En (at + 2) ≡ readAt s at
+      module _ (f : marked ft rest ≡ false) where
+        pub en-got : marked en rest ≡ true → Got En (at + 2) ≡ readAt file at
         unfolding front
-        en-got e = rw (long 2 l, k, f, e)
+        en-got e = rw (there 2 l, rw rest-is at k, rw rest-is at f, rw rest-is at e)
 
-        pub unknown : marked en (drop at s) ≡ false → Refused 2 ≡ readAt s at
+        pub unknown : marked en rest ≡ false → Refused 2 ≡ readAt file at
         unfolding front
-        unknown e = rw (long 2 l, k, f, e)
+        unknown e = rw (there 2 l, rw rest-is at k, rw rest-is at f, rw rest-is at e)

@@ -1,7 +1,7 @@
 -- What the plan reader hands over, by where it stops: the job's refusal, the file's, 11, or the plan. Assumes nothing.
 use Prim.Native.Nat.{ℕ, _+_, _*_, _≤_}
 use mathlib.Core.Path.{_≡_, sym, ap, _∙_}
-use mathlib.Core.Bool.{true, false}
+use mathlib.Core.Bool.{Bool, true, false}
 use mathlib.Core.List.{List, _++_, map}
 use mathlib.Core.Logic.{⊎-elim}
 use native.Mathlib.Omega.{arith}
@@ -14,8 +14,8 @@ use Rattle.basics.specs.lemmas.Lists.{length-upTo}
 use Rattle.basics.specs.Refusals.{unless, _orElse_}
 use Rattle.basics.specs.lemmas.Refusals.{orElse-some}
 use Rattle.records.specs.File.{fileRefusal}
-use Rattle.job.specs.Job.{Job, chunks}
-use Rattle.job.specs.Refusal.{refusal}
+use Rattle.job.specs.Job.{chunks}
+use Rattle.job.specs.Handed.{HandedJob, jobIn, jobRefusal}
 use Rattle.fetch.specs.Rows.{Row}
 use Rattle.planfile.specs.PlanFile.{format, planIn}
 use Rattle.planfile.specs.Calls.{Slices, slicesOf, room, readRefusal, readAnswer, readLent}
@@ -67,63 +67,69 @@ pub record MayCopy (count rows : ℕ) (file : List ℕ) (lent : Slices) : Type 0
   pub for-bytes : rows ≤ length (lent .bytes)
   pub inside : 5 * count + 11 * rows ≤ length file
 
-abbrev pub HandsOver : Job → List ℕ → Slices → PlanRead → Slices → Type 0
-HandsOver j file lent a after = (a ≡ readAnswer j file lent) × (after ≡ readLent j file lent)
+abbrev pub HandsOver : HandedJob → List ℕ → Slices → PlanRead → Slices → Type 0
+HandsOver h file lent a after = (a ≡ readAnswer h file lent) × (after ≡ readLent h file lent)
 
-module _ (j : Job) (file : List ℕ) (lent : Slices) where
-  refuses : (r : ℕ) → (r ≡ 0 → ⊥) → readRefusal j file lent ≡ r → HandsOver j file lent (Refused r) lent
-  refuses r n e = (rw (e, ne-eqb r 0 n), rw (e, ne-eqb r 0 n))
+module _ (h : HandedJob) (file : List ℕ) (lent : Slices) (r : ℕ) (e : r ≡ jobRefusal h) where
+  abbrev count : ℕ
+  count = chunks (jobIn h)
 
-  pub job-refused : (r : ℕ) → r ≡ refusal j → (r ≡ 0 → ⊥) → HandsOver j file lent (Refused r) lent
+  refuses : (n : ℕ) → (n ≡ 0 → ⊥) → readRefusal h file lent ≡ n → HandsOver h file lent (Refused n) lent
+  refuses n p q = (rw (q, ne-eqb n 0 p), rw (q, ne-eqb n 0 p))
+
+  pub job-refused : (r ≡ 0 → ⊥) → HandsOver h file lent (Refused r) lent
   unfolding readRefusal
-  job-refused r e n = refuses r n (rw (← e, orElse-some r (fileRefusal (format (chunks j)) file orElse unless 11 (room lent (chunks j) (length (planIn (chunks j) file .rows)))) n))
+  job-refused n = refuses r n (rw (← e) (orElse-some r (fileRefusal (format count) file orElse unless 11 (room lent count (length (planIn count file .rows)))) n))
 
-  module _ (r : ℕ) (e : r ≡ refusal j) (z : r ≡ 0) (a : PlanRead) (d : Done (chunks j) file (fileRefusal (format (chunks j)) file) a) where
-    from-file : readRefusal j file lent ≡ fileRefusal (format (chunks j)) file orElse unless 11 (room lent (chunks j) (length (planIn (chunks j) file .rows)))
+  module _ (z : r ≡ 0) (a : PlanRead) (d : Done count file (fileRefusal (format count) file) a) where
+    from-file : readRefusal h file lent ≡ fileRefusal (format count) file orElse unless 11 (room lent count (length (planIn count file .rows)))
     unfolding readRefusal
     from-file = rw (← e, z)
 
-    pub file-refused : (n : ℕ) → a ≡ Refused n → HandsOver j file lent a lent
-    file-refused n h =
-        let f = fileRefusal (format (chunks j)) file in
-        let u = answer-refused f (length (planIn (chunks j) file .rows)) n (sym h ∙ d .answer) in
-        rw h (refuses n (λ w. u .1 (u .0 ∙ w)) (from-file ∙ orElse-some f (unless 11 (room lent (chunks j) (length (planIn (chunks j) file .rows)))) (u .1) ∙ u .0))
+    pub file-refused : (n : ℕ) → a ≡ Refused n → HandsOver h file lent a lent
+    file-refused n q =
+        let f = fileRefusal (format count) file in
+        let u = answer-refused f (length (planIn count file .rows)) n (sym q ∙ d .answer) in
+        rw q (refuses n (λ w. u .1 (u .0 ∙ w)) (from-file ∙ orElse-some f (unless 11 (room lent count (length (planIn count file .rows)))) (u .1) ∙ u .0))
 
-    module _ (n : ℕ) (h : a ≡ Rows n) where
-      accepted : (fileRefusal (format (chunks j)) file ≡ 0) × (n ≡ length (planIn (chunks j) file .rows))
-      accepted = answer-rows (fileRefusal (format (chunks j)) file) (length (planIn (chunks j) file .rows)) n (sym h ∙ d .answer)
+    module _ (n : ℕ) (q : a ≡ Rows n) where
+      accepted : (fileRefusal (format count) file ≡ 0) × (n ≡ length (planIn count file .rows))
+      accepted = answer-rows (fileRefusal (format count) file) (length (planIn count file .rows)) n (sym q ∙ d .answer)
 
-      only-room : readRefusal j file lent ≡ unless 11 (room lent (chunks j) n)
+      only-room : readRefusal h file lent ≡ unless 11 (room lent count n)
       only-room = from-file ∙ rw (accepted .0, ← accepted .1)
 
-      laid : Laid (chunks j) file
+      laid : Laid count file
       laid = d .laid (accepted .0)
 
-      pub may-copy : room lent (chunks j) n ≡ true → MayCopy (chunks j) n file lent
-      may-copy e =
-          let t = simp tests at (true-T (room lent (chunks j) n) e) in
-          record {
-            for-marks = t .0;
-            for-slots = t .1 .0;
-            for-chunks = t .1 .1 .0;
-            for-layers = t .1 .1 .1 .0;
-            for-bytes = t .1 .1 .1 .1;
-            inside = rw (accepted .1) (laid .inside);
-          }
+      -- by the test for room
+      module _ (b : Bool) (s : b ≡ room lent count n) where
+        pub may-copy : b ≡ true → MayCopy count n file lent
+        may-copy t =
+            let u = simp tests at (true-T (room lent count n) (sym s ∙ t)) in
+            record {
+              for-marks = u .0;
+              for-slots = u .1 .0;
+              for-chunks = u .1 .1 .0;
+              for-layers = u .1 .1 .1 .0;
+              for-bytes = u .1 .1 .1 .1;
+              inside = rw (accepted .1) (laid .inside);
+            }
 
-      pub short : room lent (chunks j) n ≡ false → HandsOver j file lent (Refused 11) lent
-      short t = refuses 11 (λ w. omega arith) (only-room ∙ rw t)
+        pub short : b ≡ false → HandsOver h file lent (Refused 11) lent
+        short t = refuses 11 (λ w. omega arith) (only-room ∙ rw (sym s ∙ t))
 
-      pub whole : room lent (chunks j) n ≡ true → HandsOver j file lent (Rows n) (filledAll (chunks j) file n lent)
-      whole t =
-          let e : readRefusal j file lent ≡ 0 = only-room ∙ rw t in
-          let plan = planIn (chunks j) file in
-          let rows : plan .rows ≡ upTo (rowOn file (chunks j)) n = rw (accepted .1) (laid .rows-are) in (
-            rw (e, ← accepted .1),
-            rw e (same-slices
-                (over (markOn file) (chunks j) (plan .marks) (lent .marks) (laid .marks-are))
-                (over (λ i. rowOn file (chunks j) i .slot) n (map (λ x. x .slot) (plan .rows)) (lent .slots) (ap (map (λ (x : Row). x .slot)) rows ∙ map-upTo (λ x. x .slot) (rowOn file (chunks j)) n))
-                (over (λ i. rowOn file (chunks j) i .chunk) n (map (λ x. x .chunk) (plan .rows)) (lent .chunks) (ap (map (λ (x : Row). x .chunk)) rows ∙ map-upTo (λ x. x .chunk) (rowOn file (chunks j)) n))
-                (over (λ i. rowOn file (chunks j) i .layer) n (map (λ x. x .layer) (plan .rows)) (lent .layers) (ap (map (λ (x : Row). x .layer)) rows ∙ map-upTo (λ x. x .layer) (rowOn file (chunks j)) n))
-                (over (λ i. rowOn file (chunks j) i .bytes) n (map (λ x. x .bytes) (plan .rows)) (lent .bytes) (ap (map (λ (x : Row). x .bytes)) rows ∙ map-upTo (λ x. x .bytes) (rowOn file (chunks j)) n))),
-          )
+        pub whole : b ≡ true → (after : Slices) → after ≡ filledAll count file n lent → HandsOver h file lent (Rows n) after
+        whole t after filled-is =
+            let none : readRefusal h file lent ≡ 0 = only-room ∙ rw (sym s ∙ t) in
+            let plan = planIn count file in
+            let rows : plan .rows ≡ upTo (rowOn file count) n = rw (accepted .1) (laid .rows-are) in (
+              rw (none, ← accepted .1),
+              filled-is
+                  ∙ rw none (same-slices
+                  (over (markOn file) count (plan .marks) (lent .marks) (laid .marks-are))
+                  (over (λ i. rowOn file count i .slot) n (map (λ x. x .slot) (plan .rows)) (lent .slots) (ap (map (λ (x : Row). x .slot)) rows ∙ map-upTo (λ x. x .slot) (rowOn file count) n))
+                  (over (λ i. rowOn file count i .chunk) n (map (λ x. x .chunk) (plan .rows)) (lent .chunks) (ap (map (λ (x : Row). x .chunk)) rows ∙ map-upTo (λ x. x .chunk) (rowOn file count) n))
+                  (over (λ i. rowOn file count i .layer) n (map (λ x. x .layer) (plan .rows)) (lent .layers) (ap (map (λ (x : Row). x .layer)) rows ∙ map-upTo (λ x. x .layer) (rowOn file count) n))
+                  (over (λ i. rowOn file count i .bytes) n (map (λ x. x .bytes) (plan .rows)) (lent .bytes) (ap (map (λ (x : Row). x .bytes)) rows ∙ map-upTo (λ x. x .bytes) (rowOn file count) n))),
+            )

@@ -1,6 +1,6 @@
 -- Meaning. The two calls: the refusal of each in document 01's order, its answer, and the lent slices afterwards.
 -- "A plan reader checks the job it is handed by 5, 6, 7 before its file"; "Direct calls without files check 5, 6, 7, then 8 .. and a
--- writer then 9"; "11. A lent buffer is shorter than the whole result, after all input refusals".
+-- writer then 9"; 18 "after 6 and before 7"; "11. A lent buffer is shorter than the whole result, after all input refusals".
 use Prim.Native.Nat.{ℕ}
 use mathlib.Core.Bool.{Bool, cond, _&&_}
 use mathlib.Core.List.{List, map}
@@ -9,8 +9,8 @@ use lib.Dec.{leb, eqb}
 use Rattle.basics.specs.Lent.{lentAfter}
 use Rattle.basics.specs.Refusals.{unless, _orElse_}
 use Rattle.records.specs.File.{fileRefusal}
-use Rattle.job.specs.Job.{Job, chunks}
-use Rattle.job.specs.Refusal.{refusal}
+use Rattle.job.specs.Job.{chunks}
+use Rattle.job.specs.Handed.{HandedJob, jobIn, jobRefusal}
 use Rattle.fetch.specs.Rows.{rowsOf}
 use Rattle.fetch.specs.Handed.{handedRefusal}
 use Rattle.planfile.specs.PlanFile.{format, Plan, planIn, fileOf}
@@ -37,23 +37,23 @@ abbrev pub room : Slices → ℕ → ℕ → Bool
 room lent marks rows =
     leb marks (length (lent .marks)) && (leb rows (length (lent .slots)) && (leb rows (length (lent .chunks)) && (leb rows (length (lent .layers)) && leb rows (length (lent .bytes)))))
 
--- The handed job's 5, 6, 7, then the file's refusal, then 11.
-unfoldable pub readRefusal : Job → List ℕ → Slices → ℕ
-readRefusal j file lent =
-    refusal j
-    orElse fileRefusal (format (chunks j)) file
-    orElse unless 11 (room lent (chunks j) (length (planIn (chunks j) file .rows)))
+-- The handed job's 5, 6, 18, 7, then the file's refusal, then 11.
+unfoldable pub readRefusal : HandedJob → List ℕ → Slices → ℕ
+readRefusal h file lent =
+    jobRefusal h
+    orElse fileRefusal (format (chunks (jobIn h))) file
+    orElse unless 11 (room lent (chunks (jobIn h)) (length (planIn (chunks (jobIn h)) file .rows)))
 
 -- The number of rows, or the refusal.
-abbrev pub readAnswer : Job → List ℕ → Slices → PlanRead
-readAnswer j file lent =
-    cond (eqb (readRefusal j file lent) 0) (planRead.Rows (length (planIn (chunks j) file .rows))) (planRead.Refused (readRefusal j file lent))
+abbrev pub readAnswer : HandedJob → List ℕ → Slices → PlanRead
+readAnswer h file lent =
+    cond (eqb (readRefusal h file lent) 0) (planRead.Rows (length (planIn (chunks (jobIn h)) file .rows))) (planRead.Refused (readRefusal h file lent))
 
 -- The plan's marks and rows at the front of the lent slices.
-abbrev pub readLent : Job → List ℕ → Slices → Slices
-readLent j file lent =
-    let plan = planIn (chunks j) file in
-    let refused = readRefusal j file lent in
+abbrev pub readLent : HandedJob → List ℕ → Slices → Slices
+readLent h file lent =
+    let plan = planIn (chunks (jobIn h)) file in
+    let refused = readRefusal h file lent in
     record {
       marks = lentAfter refused (plan .marks) (lent .marks);
       slots = lentAfter refused (map (λ x. x .slot) (plan .rows)) (lent .slots);
@@ -68,22 +68,24 @@ readLent j file lent =
 abbrev pub planOf : Slices → Plan
 planOf s = record { marks = s .marks; rows = rowsOf (s .slots) (s .chunks) (s .layers) (s .bytes) }
 
--- The handed job's 5, 6, 7, then 8, then 9 for a file above 65,536 bytes.
-unfoldable pub writeInput : Job → Slices → ℕ
-writeInput j handed =
-    refusal j
-    orElse handedRefusal (chunks j) (handed .marks) (handed .slots) (handed .chunks) (handed .layers) (handed .bytes)
-    orElse unless 9 (leb (length (fileOf (planOf handed))) 65536)
+-- After the job's: 8, then 9 for a file above 65,536 bytes, then 11.
+unfoldable pub writeRest : ℕ → Slices → List ℕ → ℕ
+writeRest count s out =
+    handedRefusal count (s .marks) (s .slots) (s .chunks) (s .layers) (s .bytes)
+    orElse unless 9 (leb (length (fileOf (planOf s))) 65536)
+    orElse unless 11 (leb (length (fileOf (planOf s))) (length out))
 
--- The refusals that come from the input, then 11.
-unfoldable pub writeRefusal : Job → Slices → List ℕ → ℕ
-writeRefusal j handed out = writeInput j handed orElse unless 11 (leb (length (fileOf (planOf handed))) (length out))
+-- The handed job's 5, 6, 18, 7 before them.
+unfoldable pub writeRefusal : HandedJob → Slices → List ℕ → ℕ
+writeRefusal h s out = jobRefusal h orElse writeRest (chunks (jobIn h)) s out
 
 -- The number of bytes, or the refusal.
-abbrev pub writeAnswer : Job → Slices → List ℕ → Written
-writeAnswer j handed out =
-    cond (eqb (writeRefusal j handed out) 0) (written.Bytes (length (fileOf (planOf handed)))) (written.Refused (writeRefusal j handed out))
+abbrev pub writtenBy : ℕ → Slices → Written
+writtenBy refused s = cond (eqb refused 0) (written.Bytes (length (fileOf (planOf s)))) (written.Refused refused)
+
+abbrev pub writeAnswer : HandedJob → Slices → List ℕ → Written
+writeAnswer h s out = writtenBy (writeRefusal h s out) s
 
 -- The plan's file at the front of the lent buffer.
-abbrev pub writeLent : Job → Slices → List ℕ → List ℕ
-writeLent j handed out = lentAfter (writeRefusal j handed out) (fileOf (planOf handed)) out
+abbrev pub writeLent : HandedJob → Slices → List ℕ → List ℕ
+writeLent h s out = lentAfter (writeRefusal h s out) (fileOf (planOf s)) out

@@ -5,16 +5,16 @@ ghost use mathlib.Core.List.{map};
 ghost use Prim.Native.Nat.{_+_, _*_, _≤_, _<_};
 ghost use lib.ListN.{length};
 ghost use lib.Dec.{leb};
-ghost use Rattle.job.specs.Job.{jobOf};
-ghost use Rattle.records.specs.File.{recordsRefusal, fileRefusal};
-ghost use Rattle.basics.specs.Refusals.{unless};
+ghost use Rattle.job.specs.Handed.{handed};
+ghost use Rattle.records.specs.File.{fileRefusal};
+ghost use Rattle.basics.specs.Lent.{lentAfter};
 ghost use Rattle.records.specs.Fields.{written};
 ghost use Rattle.fetch.specs.Rows.{rowsOf};
 ghost use Rattle.planfile.specs.Records.{encode, readAt};
-ghost use Rattle.planfile.specs.PlanFile.{format, kps, ftOf};
-ghost use Rattle.planfile.specs.Calls.{slicesOf, readAnswer, readLent, writeInput, writeAnswer, writeLent};
+ghost use Rattle.planfile.specs.PlanFile.{format, kps, ftOf, fileOf};
+ghost use Rattle.planfile.specs.Calls.{slicesOf, readAnswer, readLent, planOf, writeRest, writtenBy, writeAnswer, writeLent};
 ghost use Rattle.planfile.specs.lemmas.Writing.{bytesOf};
-ghost use Rattle.planfile.specs.lemmas.Scan.{refusalOf, endOf, inTurn, answerOf, turnOf, Done, markOn, rowOn, filled};
+ghost use Rattle.planfile.specs.lemmas.Scan.{refusalOf, inTurn, Done, markOn, rowOn, filled};
 use job::Programme;
 
 // A record without its mark.
@@ -50,50 +50,46 @@ pub enum Written {
     Refused(u8),
 }
 
-// What a turn makes of a record: the next place with the KPs and FTs taken so far, or the end.
-enum Turn {
-    More(usize, u16, usize),
-    End(PlanRead),
-}
-
 // The record at a place: 1 where the file ends before its mark or within it, 2 for an unknown mark.
-fn record_at(s: &[u8], at: usize) -> Read
-    ensures { λ r. ⌜ r ≡ readAt (now (s .entry)) at ⌝ }
+fn record_at(file: &[u8], at: usize) -> Read
+    ensures { λ r. ⌜ r ≡ readAt (now (file .entry)) at ⌝ }
 {
-    if s.len() < at {
+    if file.len() < at {
         return Read::Refused(1);
     }
-    let left = s.len() - at;
+    let rest = &file[at..];
+    let left = rest.len();
     if left < 2 {
         return Read::Refused(1);
     }
-    let body = at + 2;
-    if records::is_mark(s, at, b"KP") {
+    if records::is_mark(rest, 0, b"KP") {
         if left < 5 {
             return Read::Refused(1);
         }
-        let next = at + 5;
-        let kp = Record::Kp {
-            chunk: records::h_at(s, body),
-            marks: records::byte_at(s, body + 2),
-        };
-        return Read::Got(kp, next);
+        let chunk = records::h_at(rest, 2);
+        let marks = records::byte_at(rest, 4);
+        return Read::Got(Record::Kp { chunk, marks }, at + 5);
     }
-    if records::is_mark(s, at, b"FT") {
+    if records::is_mark(rest, 0, b"FT") {
         if left < 11 {
             return Read::Refused(1);
         }
-        let next = at + 11;
-        let ft = Record::Ft {
-            slot: records::h_at(s, body),
-            chunk: records::h_at(s, body + 2),
-            layer: records::byte_at(s, body + 4),
-            bytes: records::w_at(s, body + 5),
-        };
-        return Read::Got(ft, next);
+        let slot = records::h_at(rest, 2);
+        let chunk = records::h_at(rest, 4);
+        let layer = records::byte_at(rest, 6);
+        let bytes = records::w_at(rest, 7);
+        return Read::Got(
+            Record::Ft {
+                slot,
+                chunk,
+                layer,
+                bytes,
+            },
+            at + 11,
+        );
     }
-    if records::is_mark(s, at, b"EN") {
-        return Read::Got(Record::En, body);
+    if records::is_mark(rest, 0, b"EN") {
+        return Read::Got(Record::En, at + 2);
     }
     Read::Refused(2)
 }
@@ -123,83 +119,50 @@ fn in_turn(count: u16, kept: u16, rows: usize, chunk: u16) -> bool
     rows == 0
 }
 
-fn answer(refused: u8, rows: usize) -> PlanRead
-    ensures { λ r. ⌜ r ≡ answerOf refused rows ⌝ }
-{
-    if refused == 0 {
-        return PlanRead::Rows(rows);
-    }
-    PlanRead::Refused(refused)
-}
-
-// One record taken, after so many KPs and FTs.
-fn one_turn(count: u16, file: &[u8], at: usize, kept: u16, rows: usize) -> Turn
-    requires { ⌜ 11 * rows ≤ length (now file) ⌝ }
-    ensures { λ r. ⌜ r ≡ turnOf count (now (file .entry)) at kept rows ⌝ }
-{
-    let read = record_at(file, at);
-    let Read::Got(record, next) = read else {
-        return Turn::End(PlanRead::Refused(refusal_of(read)));
-    };
-    match record {
-        Record::Kp { chunk, marks: _ } => {
-            if in_turn(count, kept, rows, chunk) {
-                return Turn::More(next, chunk, rows);
-            }
-            return Turn::End(PlanRead::Refused(8));
-        }
-        Record::Ft {
-            slot: _,
-            chunk: _,
-            layer: _,
-            bytes: _,
-        } => {
-            let more = rows + 1;
-            return Turn::More(next, kept, more);
-        }
-        Record::En => {
-            let after = job::refuse_unless(3, file.len() == next);
-            let lacking = job::refuse_unless(8, kept == count);
-            return Turn::End(answer(job::or_else(after, lacking), rows));
-        }
-    }
-}
-
-fn end_of(turn: Turn) -> PlanRead
-    ensures { λ r. ⌜ r ≡ endOf turn ⌝ }
-{
-    match turn {
-        Turn::End(a) => a,
-        Turn::More(_, _, _) => PlanRead::Refused(0),
-    }
-}
-
-// The records of a file, one a turn.
-fn all_turns(count: u16, file: &[u8]) -> PlanRead
-    ensures { λ r. ⌜ Done count (now (file .entry)) (recordsRefusal (format count) (now (file .entry))) r ⌝ }
-{
-    let mut at: usize = 0;
-    let mut kept: u16 = 0;
-    let mut rows: usize = 0;
-    loop {
-        let turn = one_turn(count, file, at, kept, rows);
-        let Turn::More(next, chunk, more) = turn else {
-            return end_of(turn);
-        };
-        at = next;
-        kept = chunk;
-        rows = more;
-    }
-}
-
-// The rows of a file, or its refusal.
+// The rows of a file, or its refusal: 9 first, then record by record.
 fn file_rows(count: u16, file: &[u8]) -> PlanRead
     ensures { λ r. ⌜ Done count (now (file .entry)) (fileRefusal (format count) (now (file .entry))) r ⌝ }
 {
     if 65536 < file.len() {
         return PlanRead::Refused(9);
     }
-    all_turns(count, file)
+    let mut at: usize = 0;
+    let mut kept: u16 = 0;
+    let mut rows: usize = 0;
+    loop {
+        let read = record_at(file, at);
+        let Read::Got(record, next) = read else {
+            return PlanRead::Refused(refusal_of(read));
+        };
+        match record {
+            Record::Kp { chunk, marks: _ } => {
+                if in_turn(count, kept, rows, chunk) {
+                    kept = chunk;
+                    at = next;
+                } else {
+                    return PlanRead::Refused(8);
+                }
+            }
+            Record::Ft {
+                slot: _,
+                chunk: _,
+                layer: _,
+                bytes: _,
+            } => {
+                rows = rows + 1;
+                at = next;
+            }
+            Record::En => {
+                if file.len() != next {
+                    return PlanRead::Refused(3);
+                }
+                if kept != count {
+                    return PlanRead::Refused(8);
+                }
+                return PlanRead::Rows(rows);
+            }
+        }
+    }
 }
 
 // Whether the lent slices hold the marks of count chunks and so many rows.
@@ -277,6 +240,9 @@ fn copy_rows(
 pub fn read_plan(
     p: Programme,
     sizes: &[u32],
+    size_chunks: &[u16],
+    size_layers: &[u8],
+    size_bytes: &[u32],
     forecast: &[u32],
     file: &[u8],
     marks: &mut [u8],
@@ -285,10 +251,10 @@ pub fn read_plan(
     layers: &mut [u8],
     bytes: &mut [u32],
 ) -> PlanRead
-    ensures answer { λ r. ⌜ r ≡ readAnswer (jobOf p (now (sizes .entry)) (now (forecast .entry))) (now (file .entry)) (slicesOf (now (marks .entry)) (now (slots .entry)) (now (chunks .entry)) (now (layers .entry)) (now (bytes .entry))) ⌝ }
-    ensures lent { λ _. ⌜ slicesOf (now (marks .exit)) (now (slots .exit)) (now (chunks .exit)) (now (layers .exit)) (now (bytes .exit)) ≡ readLent (jobOf p (now (sizes .entry)) (now (forecast .entry))) (now (file .entry)) (slicesOf (now (marks .entry)) (now (slots .entry)) (now (chunks .entry)) (now (layers .entry)) (now (bytes .entry))) ⌝ }
+    ensures answer { λ r. ⌜ r ≡ readAnswer (handed p (now (sizes .entry)) (now («size_chunks» .entry)) (now («size_layers» .entry)) (now («size_bytes» .entry)) (now (forecast .entry))) (now (file .entry)) (slicesOf (now (marks .entry)) (now (slots .entry)) (now (chunks .entry)) (now (layers .entry)) (now (bytes .entry))) ⌝ }
+    ensures lent { λ _. ⌜ slicesOf (now (marks .exit)) (now (slots .exit)) (now (chunks .exit)) (now (layers .exit)) (now (bytes .exit)) ≡ readLent (handed p (now (sizes .entry)) (now («size_chunks» .entry)) (now («size_layers» .entry)) (now («size_bytes» .entry)) (now (forecast .entry))) (now (file .entry)) (slicesOf (now (marks .entry)) (now (slots .entry)) (now (chunks .entry)) (now (layers .entry)) (now (bytes .entry))) ⌝ }
 {
-    let refused = job::refusal(p, sizes, forecast);
+    let refused = job::refusal(p, sizes, size_chunks, size_layers, size_bytes, forecast);
     if refused != 0 {
         return PlanRead::Refused(refused);
     }
@@ -308,23 +274,9 @@ pub fn read_plan(
     ) {
         copy_marks(file, count, marks);
         copy_rows(file, count, rows, slots, chunks, layers, bytes);
-        return PlanRead::Rows(rows);
+        return read;
     }
     PlanRead::Refused(11)
-}
-
-// 9: a file above 65,536 bytes. So many marks or rows are too many for any file, so the sum doesn't wrap.
-fn size_refusal(marks: usize, rows: usize) -> u8
-    ensures { λ r. ⌜ r ≡ unless 9 (leb (5 * marks + 11 * rows + 2) 65536) ⌝ }
-{
-    if 65535 < marks {
-        return 9;
-    }
-    if 65535 < rows {
-        return 9;
-    }
-    let size = 5 * marks + 11 * rows + 2;
-    job::refuse_unless(9, size <= 65536)
 }
 
 fn put_kp(out: &mut [u8], at: usize, chunk: u16, marks: u8)
@@ -384,29 +336,50 @@ fn put_fts(out: &mut [u8], from: usize, slots: &[u16], chunks: &[u16], layers: &
     }
 }
 
-// The refusals of a plan to be written that come from the input.
-fn write_input(
-    p: Programme,
-    sizes: &[u32],
-    forecast: &[u32],
+// The file of a plan for a job with count chunks, into the lent buffer: 8, 9, then 11. So many rows are too many for any file, so that
+// its size doesn't wrap.
+fn write_file(
+    count: u16,
     marks: &[u8],
     slots: &[u16],
     chunks: &[u16],
     layers: &[u8],
     bytes: &[u32],
-) -> u8
-    ensures { λ r. ⌜ r ≡ writeInput (jobOf p (now (sizes .entry)) (now (forecast .entry))) (slicesOf (now (marks .entry)) (now (slots .entry)) (now (chunks .entry)) (now (layers .entry)) (now (bytes .entry))) ⌝ }
+    out: &mut [u8],
+) -> Written
+    ensures answer { λ r. ⌜ r ≡ writtenBy (writeRest count (slicesOf (now (marks .entry)) (now (slots .entry)) (now (chunks .entry)) (now (layers .entry)) (now (bytes .entry))) (now (out .entry))) (slicesOf (now (marks .entry)) (now (slots .entry)) (now (chunks .entry)) (now (layers .entry)) (now (bytes .entry))) ⌝ }
+    ensures lent { λ _. ⌜ now (out .exit) ≡ lentAfter (writeRest count (slicesOf (now (marks .entry)) (now (slots .entry)) (now (chunks .entry)) (now (layers .entry)) (now (bytes .entry))) (now (out .entry))) (fileOf (planOf (slicesOf (now (marks .entry)) (now (slots .entry)) (now (chunks .entry)) (now (layers .entry)) (now (bytes .entry))))) (now (out .entry)) ⌝ }
 {
-    let nine = size_refusal(marks.len(), slots.len());
-    let eight = fetch::handed_refusal(p.chunks, marks, slots, chunks, layers, bytes);
-    let job = job::refusal(p, sizes, forecast);
-    job::or_else(job, job::or_else(eight, nine))
+    let refused = fetch::handed_refusal(count, marks, slots, chunks, layers, bytes);
+    if refused != 0 {
+        return Written::Refused(refused);
+    }
+    let rows = slots.len();
+    if 65535 < rows {
+        return Written::Refused(9);
+    }
+    let from = 5 * marks.len();
+    let last = from + 11 * rows;
+    let end = last + 2;
+    if 65536 < end {
+        return Written::Refused(9);
+    }
+    if out.len() < end {
+        return Written::Refused(11);
+    }
+    put_kps(out, marks);
+    put_fts(out, from, slots, chunks, layers, bytes);
+    records::put(out, last, b"EN");
+    Written::Bytes(end)
 }
 
 // A plan's file into the lent buffer: how many bytes, or the refusal.
 pub fn write_plan(
     p: Programme,
     sizes: &[u32],
+    size_chunks: &[u16],
+    size_layers: &[u8],
+    size_bytes: &[u32],
     forecast: &[u32],
     marks: &[u8],
     slots: &[u16],
@@ -415,21 +388,12 @@ pub fn write_plan(
     bytes: &[u32],
     out: &mut [u8],
 ) -> Written
-    ensures answer { λ r. ⌜ r ≡ writeAnswer (jobOf p (now (sizes .entry)) (now (forecast .entry))) (slicesOf (now (marks .entry)) (now (slots .entry)) (now (chunks .entry)) (now (layers .entry)) (now (bytes .entry))) (now (out .entry)) ⌝ }
-    ensures lent { λ _. ⌜ now (out .exit) ≡ writeLent (jobOf p (now (sizes .entry)) (now (forecast .entry))) (slicesOf (now (marks .entry)) (now (slots .entry)) (now (chunks .entry)) (now (layers .entry)) (now (bytes .entry))) (now (out .entry)) ⌝ }
+    ensures answer { λ r. ⌜ r ≡ writeAnswer (handed p (now (sizes .entry)) (now («size_chunks» .entry)) (now («size_layers» .entry)) (now («size_bytes» .entry)) (now (forecast .entry))) (slicesOf (now (marks .entry)) (now (slots .entry)) (now (chunks .entry)) (now (layers .entry)) (now (bytes .entry))) (now (out .entry)) ⌝ }
+    ensures lent { λ _. ⌜ now (out .exit) ≡ writeLent (handed p (now (sizes .entry)) (now («size_chunks» .entry)) (now («size_layers» .entry)) (now («size_bytes» .entry)) (now (forecast .entry))) (slicesOf (now (marks .entry)) (now (slots .entry)) (now (chunks .entry)) (now (layers .entry)) (now (bytes .entry))) (now (out .entry)) ⌝ }
 {
-    let refused = write_input(p, sizes, forecast, marks, slots, chunks, layers, bytes);
-    if refused != 0 {
-        return Written::Refused(refused);
+    let job = job::refusal(p, sizes, size_chunks, size_layers, size_bytes, forecast);
+    if job != 0 {
+        return Written::Refused(job);
     }
-    let from = 5 * marks.len();
-    let last = from + 11 * slots.len();
-    let end = last + 2;
-    if out.len() < end {
-        return Written::Refused(11);
-    }
-    put_kps(out, marks);
-    put_fts(out, from, slots, chunks, layers, bytes);
-    records::put(out, last, b"EN");
-    Written::Bytes(end)
+    write_file(p.chunks, marks, slots, chunks, layers, bytes, out)
 }

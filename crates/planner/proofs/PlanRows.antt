@@ -14,15 +14,16 @@ use Rattle.basics.specs.lemmas.Lists.{upTo-cong, length-upTo}
 use Rattle.basics.specs.Sums.{pre, sum, count}
 use Rattle.basics.specs.Tests.{All}
 use Rattle.basics.specs.lemmas.Tests.{test, by-cond}
-use Rattle.job.specs.declared.Programme.{Programme}
-use Rattle.job.specs.Job.{Job, Accepted, jobOf, sizeIn, size, chunks, layers, due, forecast, heldMost, lastSlot}
-use Rattle.job.specs.lemmas.Within.{all-most}
+use Rattle.job.specs.Job.{Job, Accepted, Within, size, chunks, layers, due, forecast, heldMost, lastSlot}
+use Rattle.job.specs.Table.{sizesTable, tableAt}
+use Rattle.job.specs.Uneven.{table-is}
+use Rattle.job.specs.lemmas.Within.{all-most, size-most}
 use Rattle.fetch.specs.Marks.{bit}
 use Rattle.fetch.specs.Counts.{markCount}
 use Rattle.fetch.specs.lemmas.Counts.{count-up-to}
 use Rattle.fetch.specs.lemmas.Marks.{mark-cong}
 use Rattle.fetch.specs.Rows.{Row, markByte, rowSlot, rowChunk, rowLayer, rowBytes}
-use Rattle.schedule.specs.lemmas.Ascending.{Asc}
+use Rattle.schedule.specs.lemmas.Ascending.{Asc, asc-within}
 use Rattle.schedule.specs.lemmas.Choice.{fits-weight, kept-asc}
 use Rattle.schedule.specs.Plan.{kept, picked, plan, after}
 use Rattle.schedule.specs.lemmas.Fill.{Piece, Ready, fill, needs}
@@ -76,12 +77,12 @@ mark-level c (suc k) h =
 
 -- ---- the queue of the tables
 
-queue-is : (sizes : List ℕ) (lv : ℕ → ℕ) (ks rs : List ℕ) → Each (λ k. lv k ≤ 8) ks → queueOf sizes ks (take (length ks) rs) (map (λ k. levelMark (lv k)) ks) ≡ queue (sizeIn sizes) lv ks rs
-queue-is sizes lv [] rs a = refl
-queue-is sizes lv (k ∷ ks) [] a = refl
-queue-is sizes lv (k ∷ ks) (r ∷ rs) a =
-    ap (λ (n : ℕ). pieces (sizeIn sizes) k r 0 n ++ queueOf sizes ks (take (length ks) rs) (map (λ k. levelMark (lv k)) ks)) (level-of (lv k) (a .0))
-    ∙ ap (λ (q : List Piece). pieces (sizeIn sizes) k r 0 (lv k) ++ q) (queue-is sizes lv ks rs (a .1))
+queue-is : (size : ℕ → ℕ → ℕ) (lv : ℕ → ℕ) (ks rs : List ℕ) → Each (λ k. lv k ≤ 8) ks → queueOf size ks (take (length ks) rs) (map (λ k. levelMark (lv k)) ks) ≡ queue size lv ks rs
+queue-is size lv [] rs a = refl
+queue-is size lv (k ∷ ks) [] a = refl
+queue-is size lv (k ∷ ks) (r ∷ rs) a =
+    ap (λ (n : ℕ). pieces size k r 0 n ++ queueOf size ks (take (length ks) rs) (map (λ k. levelMark (lv k)) ks)) (level-of (lv k) (a .0))
+    ∙ ap (λ (q : List Piece). pieces size k r 0 (lv k) ++ q) (queue-is size lv ks rs (a .1))
 
 load-needs : (d A : ℕ → ℕ) (q : List Piece) → load q ≤ needs d A q
 load-needs d A [] = omega arith
@@ -101,25 +102,37 @@ all-each : (P : ℕ → Type 0) (g : ℕ → ℕ) (ks : List ℕ) → Each (λ k
 all-each P g [] a = tt
 all-each P g (k ∷ ks) a = (a .0, all-each P g ks (a .1))
 
+-- ---- the counts
+
+counts-are : (j : Job) → upTo (λ n. markCount n (marksOf j (plan j))) 4 ≡ countsOf j (plan j)
+counts-are j =
+    upTo-cong _ _ 4 (λ n h.
+    count-up-to n (λ k. markByte (λ i. ltb i (plan j (k + 1))) (layers j)) (λ i. ltb n (plan j i)) (chunks j) (λ k u.
+    let e : k + 1 ≡ suc k = omega arith in
+    ap (λ (m : ℕ). bit m n) (mark-level (plan j (k + 1)) (layers j) (plan-choice j (k + 1) (omega arith) (omega arith))) ∙ level-bit (plan j (k + 1)) n ∙ rw e))
+
 -- ---- from an accepted job
 
-module _ (p : Programme) (sizes f : List ℕ) (ok : Accepted (jobOf p sizes f)) where
-  abbrev j : Job
-  j = jobOf p sizes f
+module _ (j : Job) (ok : Accepted j) where
+  abbrev f : List ℕ
+  f = j .forecast
+
+  -- The table that the call fills says the job's sizes.
+  pub filled : (table : List ℕ) → table ≡ sizesTable (j .sizes) (j .overrides) → tableAt table ≡ size j
+  filled table e = ap tableAt e ∙ table-is j ok
 
   part-in : Part 1 f
   part-in = record { low = omega arith; high = omega (arith, ok .slots-in, ok .last-in); small = all-most 0 16777216 f (ok .forecast-in) }
 
-  pub decide-from : (ids ready : List ℕ) → length ids ≡ 500 → length ready ≡ 500 → DecideFrom p (length sizes) sizes 1 f ids ready (replicate 500 1)
-  decide-from ids ready a b =
+  pub decide-from : (own : ℕ → ℕ → ℕ) → own ≡ size j → (ids ready : List ℕ) → length ids ≡ 500 → length ready ≡ 500 → DecideFrom (j .programme) (layers j) own 1 f ids ready (replicate 500 1)
+  decide-from own says ids ready a b =
       record {
         few = ok .chunks-in .high;
         late = ok .delay-in .low;
         ends = ok .last-in;
         some = ok .layers-in .low;
         few-layers = ok .layers-in .high;
-        all-layers = refl;
-        small = λ i n. all-most 1 16777216 sizes (ok .sizes-in) n;
+        small = λ i n. subst (λ (z : ℕ → ℕ → ℕ). z i n ≤ 16777216) (sym says) (size-most j ok i n);
         part-in = part-in;
         slots = omega (arith, ok .slots-in);
         long = (a, b);
@@ -144,15 +157,17 @@ module _ (p : Programme) (sizes f : List ℕ) (ok : Accepted (jobOf p sizes f)) 
     many : length (kept j (plan j)) ≡ 500 - first
     many = sym (ap length (d .chunks)) ∙ length-drop first ids ∙ ap (λ (n : ℕ). n - first) (d .long .0)
 
-    queued : queueOf sizes (drop first ids) (drop first ready) (drop first mark) ≡ plan-queue
+    -- For sizes read from any store that says the job's.
+    queued : (own : ℕ → ℕ → ℕ) → own ≡ size j → queueOf own (drop first ids) (drop first ready) (drop first mark) ≡ plan-queue
     unfolding plan-queue
-    queued =
+    queued own says =
         let ks = kept j (plan j) in
         let rs = releases (due j) (heldMost j) ks in
-        ap (λ (l : List ℕ). queueOf sizes l (drop first ready) (drop first mark)) (d .chunks)
-        ∙ ap (λ (l : List ℕ). queueOf sizes ks l (drop first mark)) (d .releases-are ∙ ap (λ (n : ℕ). take n rs) (sym many))
-        ∙ ap (λ (l : List ℕ). queueOf sizes ks (take (length ks) rs) l) (d .marks)
-        ∙ queue-is sizes (plan j) ks rs (each-imp (λ k. (1 ≤ plan j k) × (plan j k ≤ 4)) (λ k. plan j k ≤ 8) ks (λ k h. omega arith) levels-in)
+        ap (λ (z : ℕ → ℕ → ℕ). queueOf z (drop first ids) (drop first ready) (drop first mark)) says
+        ∙ ap (λ (l : List ℕ). queueOf (size j) l (drop first ready) (drop first mark)) (d .chunks)
+        ∙ ap (λ (l : List ℕ). queueOf (size j) ks l (drop first mark)) (d .releases-are ∙ ap (λ (n : ℕ). take n rs) (sym many))
+        ∙ ap (λ (l : List ℕ). queueOf (size j) ks (take (length ks) rs) l) (d .marks)
+        ∙ queue-is (size j) (plan j) ks rs (each-imp (λ k. (1 ≤ plan j k) × (plan j k ≤ 4)) (λ k. plan j k ≤ 8) ks (λ k h. omega arith) levels-in)
 
     plan-ready : (needs (due j) (after j) plan-queue ≤ after j 0) × Ready (due j) (after j) plan-queue
     unfolding plan-queue
@@ -169,8 +184,8 @@ module _ (p : Programme) (sizes f : List ℕ) (ok : Accepted (jobOf p sizes f)) 
     abbrev start : At
     start = record { t = 1; c = getD f 0 0; n = 0 }
 
-    pub all-from : (ss cs ls bs : List ℕ) → 5599 ≤ length ss → 5599 ≤ length cs → 5599 ≤ length ls → 5599 ≤ length bs → AllFrom 1 f sizes ids ready mark first start ss cs ls bs
-    all-from ss cs ls bs a b c e =
+    pub all-from : (own : ℕ → ℕ → ℕ) → own ≡ size j → (ss cs ls bs : List ℕ) → 5599 ≤ length ss → 5599 ≤ length cs → 5599 ≤ length ls → 5599 ≤ length bs → AllFrom 1 f own ids ready mark first start ss cs ls bs
+    all-from own says ss cs ls bs a b c e =
         let fs = first-slot in
         let slots = ok .slots-in in
         let last = ok .last-in in
@@ -179,9 +194,10 @@ module _ (p : Programme) (sizes f : List ℕ) (ok : Accepted (jobOf p sizes f)) 
           within = d .within;
           room = record { part-in = part-in; low = omega arith; high = omega arith; count = omega arith; s = omega arith; c = omega arith; l = omega arith; b = omega arith };
           by = subst (All (λ r. r ≤ lastOf 1 f)) (sym (d .releases-are)) released;
+          chunks-in = subst (All (Within 1 500)) (sym (d .chunks)) (asc-within 1 (chunks j) 1 500 (kept j (plan j)) (omega arith) (ok .chunks-in .high) (kept-asc j (plan j)));
           levels = subst (All Levels) (sym (d .marks)) (all-each Levels (λ k. levelMark (plan j k)) (kept j (plan j)) (each-imp (λ k. (1 ≤ plan j k) × (plan j k ≤ 4)) (λ k. Levels (levelMark (plan j k))) (kept j (plan j)) level levels-in));
-          fed = subst (Fed (leftAt 1 f)) (sym queued) (subst (λ (A : ℕ → ℕ). Fed A plan-queue) (sym left-is) (fed-ready (due j) (after j) plan-queue (plan-ready .1)));
-          fits = subst (λ (q : List Piece). load q ≤ getD f 0 0 + leftAt 1 f 1) (sym queued) (omega (arith, load-needs (due j) (after j) plan-queue, plan-ready .0, ap (λ (A : ℕ → ℕ). A 0) left-is, left-next 1 f 0 (omega arith)));
+          fed = subst (Fed (leftAt 1 f)) (sym (queued own says)) (subst (λ (A : ℕ → ℕ). Fed A plan-queue) (sym left-is) (fed-ready (due j) (after j) plan-queue (plan-ready .1)));
+          fits = subst (λ (q : List Piece). load q ≤ getD f 0 0 + leftAt 1 f 1) (sym (queued own says)) (omega (arith, load-needs (due j) (after j) plan-queue, plan-ready .0, ap (λ (A : ℕ → ℕ). A 0) left-is, left-next 1 f 0 (omega arith)));
           long = d .long;
         }
       where
@@ -189,7 +205,7 @@ module _ (p : Programme) (sizes f : List ℕ) (ok : Accepted (jobOf p sizes f)) 
         released =
             all-take (λ r. r ≤ lastOf 1 f) (500 - first) (releases (due j) (heldMost j) (kept j (plan j)))
             (all-ones (λ r. r ≤ lastOf 1 f) (omega (arith, first-slot)) (heldMost j) (each (due j) (kept j (plan j)))
-            (subst (All (λ r. r ≤ lastOf 1 f)) (sym (each-is (due j) (kept j (plan j)))) (all-each (λ r. r ≤ lastOf 1 f) (due j) (kept j (plan j)) (each-kept (λ k. due j k ≤ lastOf 1 f) (chunks j) 1 (kept j (plan j)) (kept-asc j (plan j)) (omega arith) (λ k u v. omega (arith, due-by p k v, ok .slots-in))))))
+            (subst (All (λ r. r ≤ lastOf 1 f)) (sym (each-is (due j) (kept j (plan j)))) (all-each (λ r. r ≤ lastOf 1 f) (due j) (kept j (plan j)) (each-kept (λ k. due j k ≤ lastOf 1 f) (chunks j) 1 (kept j (plan j)) (kept-asc j (plan j)) (omega arith) (λ k u v. omega (arith, due-by (j .programme) k v, ok .slots-in))))))
 
         level : (k : ℕ) → (1 ≤ plan j k) × (plan j k ≤ 4) → Levels (levelMark (plan j k))
         level k h =
@@ -202,14 +218,14 @@ module _ (p : Programme) (sizes f : List ℕ) (ok : Accepted (jobOf p sizes f)) 
     fill-none B zero t = refl
     fill-none B (suc n) t = fill-none B n (suc t)
 
-    rows-are : planRows j ≡ onward 1 f 1 (getD f 0 0) (queueOf sizes (drop first ids) (drop first ready) (drop first mark))
+    rows-are : (own : ℕ → ℕ → ℕ) → own ≡ size j → planRows j ≡ onward 1 f 1 (getD f 0 0) (queueOf own (drop first ids) (drop first ready) (drop first mark))
     unfolding fetch plan-queue
-    rows-are =
+    rows-are own says =
         let z : 1 - 1 + length f - 0 ≡ lastSlot j = omega (arith, ok .slots-in) in
         own-list-is j (plan j)
         ∙ ap (λ (n : ℕ). fill (forecast j) n 0 plan-queue) (sym z)
         ∙ onward-next 1 f 0 plan-queue (omega (arith, first-slot))
-        ∙ ap (onward 1 f 1 (getD f 0 0)) (sym queued)
+        ∙ ap (onward 1 f 1 (getD f 0 0)) (sym (queued own says))
 
     nothing-left : (t c : ℕ) → onward 1 f t c [] ≡ []
     unfolding onward
@@ -222,11 +238,11 @@ module _ (p : Programme) (sizes f : List ℕ) (ok : Accepted (jobOf p sizes f)) 
       pub layers-are : ls' ≡ over (map rowLayer (planRows j)) ls
       pub bytes : bs' ≡ over (map rowBytes (planRows j)) bs
 
-    pub listed : (k : ℕ) (ss cs ls bs : List ℕ) (r : At) (ss' cs' ls' bs' : List ℕ) → Puts 1 f (queueOf sizes (drop first ids) (drop first ready) (drop first mark)) k start ss cs ls bs r ss' cs' ls' bs' → Listed ss cs ls bs (r .n) ss' cs' ls' bs'
-    listed k ss cs ls bs r ss' cs' ls' bs' y =
-        let q = queueOf sizes (drop first ids) (drop first ready) (drop first mark) in
+    pub listed : (own : ℕ → ℕ → ℕ) → own ≡ size j → (k : ℕ) (ss cs ls bs : List ℕ) (r : At) (ss' cs' ls' bs' : List ℕ) → Puts 1 f (queueOf own (drop first ids) (drop first ready) (drop first mark)) k start ss cs ls bs r ss' cs' ls' bs' → Listed ss cs ls bs (r .n) ss' cs' ls' bs'
+    listed own says k ss cs ls bs r ss' cs' ls' bs' y =
+        let q = queueOf own (drop first ids) (drop first ready) (drop first mark) in
         let begin : Made (planRows j) 1 f ss cs ls bs (q ++ []) ss cs ls bs start =
-        record { made = []; says = rows-are ∙ ap (onward 1 f 1 (getD f 0 0)) (sym (append-nil q)); slots = refl; chunks = refl; layers = refl; bytes = refl; counted = refl; long = same-refl ss cs ls bs } in
+        record { made = []; says = rows-are own says ∙ ap (onward 1 f 1 (getD f 0 0)) (sym (append-nil q)); slots = refl; chunks = refl; layers = refl; bytes = refl; counted = refl; long = same-refl ss cs ls bs } in
         let m = y .makes (planRows j) ss cs ls bs [] begin in
         let e : m .made ≡ planRows j = sym (m .says ∙ ap (λ (l : List Row). m .made ++ l) (nothing-left (r .t) (r .c)) ∙ append-nil (m .made)) in
         record {
@@ -279,20 +295,14 @@ module _ (p : Programme) (sizes f : List ℕ) (ok : Accepted (jobOf p sizes f)) 
       pub laid-long : length marks' ≡ length marks
       laid-long = ap length laid-marks ∙ over-long (marksOf j (plan j)) marks (omega (arith, marks-long))
 
-      pub laid-front : take (chunks j) marks' ≡ marksOf j (plan j)
+      laid-front : take (chunks j) marks' ≡ marksOf j (plan j)
       laid-front = ap (take (chunks j)) laid-marks ∙ take-at (marksOf j (plan j)) (drop (length (marksOf j (plan j))) marks) (chunks j) marks-long
 
       pub laid-front-long : length (take (chunks j) marks') ≡ chunks j
       laid-front-long = ap length laid-front ∙ marks-long
 
+      pub laid-counts : (counts : List ℕ) → counts ≡ upTo (λ n. markCount n (take (chunks j) marks')) 4 → counts ≡ countsOf j (plan j)
+      laid-counts counts e′ = e′ ∙ ap (λ (m : List ℕ). upTo (λ n. markCount n m) 4) laid-front ∙ counts-are j
+
     pub ascending : Asc 1 (chunks j) (drop first ids)
     ascending = subst (Asc 1 (chunks j)) (sym (d .chunks)) (kept-asc j (plan j))
-
--- ---- the counts
-
-pub counts-are : (j : Job) → upTo (λ n. markCount n (marksOf j (plan j))) 4 ≡ countsOf j (plan j)
-counts-are j =
-    upTo-cong _ _ 4 (λ n h.
-    count-up-to n (λ k. markByte (λ i. ltb i (plan j (k + 1))) (layers j)) (λ i. ltb n (plan j i)) (chunks j) (λ k u.
-    let e : k + 1 ≡ suc k = omega arith in
-    ap (λ (m : ℕ). bit m n) (mark-level (plan j (k + 1)) (layers j) (plan-choice j (k + 1) (omega arith) (omega arith))) ∙ level-bit (plan j (k + 1)) n ∙ rw e))

@@ -8,7 +8,7 @@ use lib.ListN.{length}
 use lib.Dec.{leb, ltb, eqb}
 use Rattle.basics.specs.Refusals.{unless, _orElse_}
 use Rattle.job.specs.Job.{Job, EqualChunks, chunks}
-use Rattle.job.specs.Refusal.{refusal}
+use Rattle.job.specs.Handed.{HandedJob, jobIn, jobRefusal}
 use Rattle.fetch.specs.Rows.{Row, rowSlot, rowChunk, rowLayer, rowBytes}
 use Rattle.schedule.specs.Own.{ownList}
 use Rattle.schedule.specs.Plan.{plan}
@@ -38,48 +38,48 @@ holds j l =
     let n = length (planRows j) in
     leb (chunks j) (l .marks) && (leb n (l .slots) && (leb n (l .chunks) && (leb n (l .layers) && leb n (l .bytes))))
 
--- 5, 6, 7, then 11; 0 for none.
-abbrev pub planRefusal : Job → Lent → ℕ
-planRefusal j l = refusal j orElse unless 11 (holds j l)
+-- 5, 6, 18, 7, then 11; 0 for none.
+abbrev pub planRefusal : HandedJob → Lent → ℕ
+planRefusal h l = jobRefusal h orElse unless 11 (holds (jobIn h) l)
 
 -- The plan is handed over.
-abbrev pub given : Job → Lent → Bool
-given j l = eqb (planRefusal j l) 0
+abbrev pub given : HandedJob → Lent → Bool
+given h l = eqb (planRefusal h l) 0
 
 -- How many rows, or the refusal's number.
-abbrev pub answerOf : Job → Lent → Answer
-answerOf j l = cond (given j l) (Rows (length (planRows j))) (Refused (planRefusal j l))
+abbrev pub answerOf : HandedJob → Lent → Answer
+answerOf h l = cond (given h l) (Rows (length (planRows (jobIn h)))) (Refused (planRefusal h l))
 
 -- The four counts; zeros beside a refusal.
-abbrev pub countsHanded : Job → Lent → List ℕ
-countsHanded j l = cond (given j l) (countsOf j (plan j)) (0 ∷ 0 ∷ 0 ∷ 0 ∷ [])
+abbrev pub countsHanded : HandedJob → Lent → List ℕ
+countsHanded h l = cond (given h l) (countsOf (jobIn h) (plan (jobIn h))) (0 ∷ 0 ∷ 0 ∷ 0 ∷ [])
 
 -- A lent slice at exit: the result, then the old contents; on a refusal the old contents alone.
-abbrev pub sliceAfter : Job → Lent → List ℕ → List ℕ → List ℕ
-sliceAfter j l result old = lentAfter (planRefusal j l) result old
+abbrev pub sliceAfter : HandedJob → Lent → List ℕ → List ℕ → List ℕ
+sliceAfter h l result old = lentAfter (planRefusal h l) result old
 
 abbrev pub lentOf : List ℕ → List ℕ → List ℕ → List ℕ → List ℕ → Lent
 lentOf marks slots chunks layers bytes =
     record { marks = length marks; slots = length slots; chunks = length chunks; layers = length layers; bytes = length bytes }
 
 -- What a call of the planner hands over, and what it leaves in the lent slices.
-pub record Handed (j : Job) (marks slots chunks layers bytes : List ℕ) (r : Planned) (marks' slots' chunks' layers' bytes' : List ℕ) : Type 0 where
-  pub answer : r .answer ≡ answerOf j (lentOf marks slots chunks layers bytes)
-  pub counts : r .counts ≡ countsHanded j (lentOf marks slots chunks layers bytes)
-  pub marks-are : marks' ≡ sliceAfter j (lentOf marks slots chunks layers bytes) (marksOf j (plan j)) marks
-  pub slots-are : slots' ≡ sliceAfter j (lentOf marks slots chunks layers bytes) (map rowSlot (planRows j)) slots
-  pub chunks-are : chunks' ≡ sliceAfter j (lentOf marks slots chunks layers bytes) (map rowChunk (planRows j)) chunks
-  pub layers-are : layers' ≡ sliceAfter j (lentOf marks slots chunks layers bytes) (map rowLayer (planRows j)) layers
-  pub bytes-are : bytes' ≡ sliceAfter j (lentOf marks slots chunks layers bytes) (map rowBytes (planRows j)) bytes
+pub record Handed (h : HandedJob) (marks slots chunks layers bytes : List ℕ) (r : Planned) (marks' slots' chunks' layers' bytes' : List ℕ) : Type 0 where
+  pub answer : r .answer ≡ answerOf h (lentOf marks slots chunks layers bytes)
+  pub counts : r .counts ≡ countsHanded h (lentOf marks slots chunks layers bytes)
+  pub marks-are : marks' ≡ sliceAfter h (lentOf marks slots chunks layers bytes) (marksOf (jobIn h) (plan (jobIn h))) marks
+  pub slots-are : slots' ≡ sliceAfter h (lentOf marks slots chunks layers bytes) (map rowSlot (planRows (jobIn h))) slots
+  pub chunks-are : chunks' ≡ sliceAfter h (lentOf marks slots chunks layers bytes) (map rowChunk (planRows (jobIn h))) chunks
+  pub layers-are : layers' ≡ sliceAfter h (lentOf marks slots chunks layers bytes) (map rowLayer (planRows (jobIn h))) layers
+  pub bytes-are : bytes' ≡ sliceAfter h (lentOf marks slots chunks layers bytes) (map rowBytes (planRows (jobIn h))) bytes
 
 -- "The plan carries a layer of a chunk if and only if, beside the layers already settled, some fetch list in playing order still
 -- keeps them all."
-abbrev pub DecidedByLists : Job → Type 0
-DecidedByLists j = refusal j ≡ 0 → IsPlan j (plan j)
+abbrev pub DecidedByLists : HandedJob → Type 0
+DecidedByLists h = jobRefusal h ≡ 0 → IsPlan (jobIn h) (plan (jobIn h))
 
 -- Demand 3: "Take any accepted job of equal chunks, whatever its layer sizes, forecast, deadlines and buffer limit."
-abbrev pub BestOfLists : Job → Type 0
-BestOfLists j = refusal j ≡ 0 → EqualChunks j → Best j (plan j) (planRows j)
+abbrev pub BestOfLists : HandedJob → Type 0
+BestOfLists h = jobRefusal h ≡ 0 → EqualChunks (jobIn h) → Best (jobIn h) (plan (jobIn h)) (planRows (jobIn h))
 
 -- Counts "compared entry by entry from the base": at the first entry where they differ.
 abbrev pub compared : List ℕ → List ℕ → Order

@@ -2,12 +2,12 @@
 use job::Programme;
 ghost use mathlib.Core.Path.{_≡_};
 ghost use mathlib.Core.List.{[], _∷_};
-ghost use Prim.Native.Nat.{ℕ, _+_, _≤_};
+ghost use Prim.Native.Nat.{_+_, _≤_};
 ghost use lib.ListN.{length, getD, take, drop};
 ghost use lib.Dec.{leb, eqb};
 ghost use mathlib.Core.Bool.{_&&_};
 ghost use Rattle.basics.specs.Lists.{upTo};
-ghost use Rattle.job.specs.Job.{Accepted, jobOf};
+ghost use Rattle.job.specs.Handed.{handed, jobIn, jobRefusal};
 ghost use Rattle.fetch.specs.Counts.{markCount};
 ghost use Rattle.schedule.specs.lemmas.Ascending.{Asc};
 ghost use Rattle.planner.specs.Answer.{Handed, DecidedByLists, BestOfLists, compared};
@@ -135,6 +135,9 @@ fn spread(ids: &[u16; 500], mark: &[u8; 500], first: usize, count: usize, marks:
 fn lay_out(
     p: Programme,
     sizes: &[u32],
+    size_chunks: &[u16],
+    size_layers: &[u8],
+    size_bytes: &[u32],
     forecast: &[u32],
     marks: &mut [u8],
     slots: &mut [u16],
@@ -142,9 +145,13 @@ fn lay_out(
     layers: &mut [u8],
     bytes: &mut [u32],
 ) -> Filled
-    requires { ⌜ LaidFrom (jobOf p (now sizes) (now forecast)) (now marks) (now slots) (now chunks) (now layers) (now bytes) ⌝ }
-    ensures { λ r. ⌜ Laid (jobOf p (now (sizes .entry)) (now (forecast .entry))) (now (marks .entry)) (now (slots .entry)) (now (chunks .entry)) (now (layers .entry)) (now (bytes .entry)) r (now (marks .exit)) (now (slots .exit)) (now (chunks .exit)) (now (layers .exit)) (now (bytes .exit)) ⌝ }
+    requires { ⌜ LaidFrom (jobIn (handed p (now sizes) (now «size_chunks») (now «size_layers») (now «size_bytes») (now forecast))) (now marks) (now slots) (now chunks) (now layers) (now bytes) ⌝ }
+    ensures { λ r. ⌜ Laid (jobIn (handed p (now (sizes .entry)) (now («size_chunks» .entry)) (now («size_layers» .entry)) (now («size_bytes» .entry)) (now (forecast .entry)))) (now (marks .entry)) (now (slots .entry)) (now (chunks .entry)) (now (layers .entry)) (now (bytes .entry)) r (now (marks .exit)) (now (slots .exit)) (now (chunks .exit)) (now (layers .exit)) (now (bytes .exit)) ⌝ }
 {
+    // Filled with no constant, as in decide.
+    let unset = p.chunks as u32;
+    let mut table = [unset; 2000];
+    job::fill_sizes(sizes, size_chunks, size_layers, size_bytes, &mut table);
     let mut ids = [0u16; 500];
     let mut ready = [0u16; 500];
     let mut mark = [1u8; 500];
@@ -152,7 +159,7 @@ fn lay_out(
     let first = settle::decide(
         p,
         sizes.len(),
-        sizes,
+        &table,
         forecast,
         1,
         &mut ids,
@@ -164,7 +171,7 @@ fn lay_out(
     let end = listing::put_all(
         forecast,
         1,
-        sizes,
+        &table,
         &ids,
         &ready,
         &mark,
@@ -236,6 +243,9 @@ fn all_hold(n: usize, a: usize, b: usize, c: usize, d: usize) -> bool
 fn lay_tight(
     p: Programme,
     sizes: &[u32],
+    size_chunks: &[u16],
+    size_layers: &[u8],
+    size_bytes: &[u32],
     forecast: &[u32],
     marks: &mut [u8],
     slots: &mut [u16],
@@ -243,8 +253,8 @@ fn lay_tight(
     layers: &mut [u8],
     bytes: &mut [u32],
 ) -> Planned
-    requires { ⌜ Accepted (jobOf p (now sizes) (now forecast)) × (p .chunks ≤ length (now marks)) ⌝ }
-    ensures { λ r. ⌜ Handed (jobOf p (now (sizes .entry)) (now (forecast .entry))) (now (marks .entry)) (now (slots .entry)) (now (chunks .entry)) (now (layers .entry)) (now (bytes .entry)) r (now (marks .exit)) (now (slots .exit)) (now (chunks .exit)) (now (layers .exit)) (now (bytes .exit)) ⌝ }
+    requires { ⌜ (jobRefusal (handed p (now sizes) (now «size_chunks») (now «size_layers») (now «size_bytes») (now forecast)) ≡ 0) × (p .chunks ≤ length (now marks)) ⌝ }
+    ensures { λ r. ⌜ Handed (handed p (now (sizes .entry)) (now («size_chunks» .entry)) (now («size_layers» .entry)) (now («size_bytes» .entry)) (now (forecast .entry))) (now (marks .entry)) (now (slots .entry)) (now (chunks .entry)) (now (layers .entry)) (now (bytes .entry)) r (now (marks .exit)) (now (slots .exit)) (now (chunks .exit)) (now (layers .exit)) (now (bytes .exit)) ⌝ }
 {
     let mut own_marks = [0u8; 500];
     let mut own_slots = [0u16; 5599];
@@ -254,6 +264,9 @@ fn lay_tight(
     let made = lay_out(
         p,
         sizes,
+        size_chunks,
+        size_layers,
+        size_bytes,
         forecast,
         &mut own_marks,
         &mut own_slots,
@@ -275,11 +288,14 @@ fn lay_tight(
     }
 }
 
-// The plan of a job into lent marks, one a chunk, and rows: by slot, chunk, layer. Refusals 5, 6, 7, then 11 where a slice is shorter than
+// The plan of a job into lent marks, one a chunk, and rows: by slot, chunk, layer. Refusals 5, 6, 18, 7, then 11 where a slice is shorter than
 // the plan; a refusal writes nothing.
 pub fn plan(
     p: Programme,
     sizes: &[u32],
+    size_chunks: &[u16],
+    size_layers: &[u8],
+    size_bytes: &[u32],
     forecast: &[u32],
     marks: &mut [u8],
     slots: &mut [u16],
@@ -287,11 +303,11 @@ pub fn plan(
     layers: &mut [u8],
     bytes: &mut [u32],
 ) -> Planned
-    ensures handed { λ r. ⌜ Handed (jobOf p (now (sizes .entry)) (now (forecast .entry))) (now (marks .entry)) (now (slots .entry)) (now (chunks .entry)) (now (layers .entry)) (now (bytes .entry)) r (now (marks .exit)) (now (slots .exit)) (now (chunks .exit)) (now (layers .exit)) (now (bytes .exit)) ⌝ }
-    ensures decided { λ _. ⌜ DecidedByLists (jobOf p (now (sizes .entry)) (now (forecast .entry))) ⌝ }
-    ensures best { λ _. ⌜ BestOfLists (jobOf p (now (sizes .entry)) (now (forecast .entry))) ⌝ }
+    ensures handed { λ r. ⌜ Handed (handed p (now (sizes .entry)) (now («size_chunks» .entry)) (now («size_layers» .entry)) (now («size_bytes» .entry)) (now (forecast .entry))) (now (marks .entry)) (now (slots .entry)) (now (chunks .entry)) (now (layers .entry)) (now (bytes .entry)) r (now (marks .exit)) (now (slots .exit)) (now (chunks .exit)) (now (layers .exit)) (now (bytes .exit)) ⌝ }
+    ensures decided { λ _. ⌜ DecidedByLists (handed p (now (sizes .entry)) (now («size_chunks» .entry)) (now («size_layers» .entry)) (now («size_bytes» .entry)) (now (forecast .entry))) ⌝ }
+    ensures best { λ _. ⌜ BestOfLists (handed p (now (sizes .entry)) (now («size_chunks» .entry)) (now («size_layers» .entry)) (now («size_bytes» .entry)) (now (forecast .entry))) ⌝ }
 {
-    let no = job::refusal(p, sizes, forecast);
+    let no = job::refusal(p, sizes, size_chunks, size_layers, size_bytes, forecast);
     if 0 < no {
         return refused(no);
     }
@@ -299,8 +315,32 @@ pub fn plan(
         return refused(11);
     }
     if all_hold(5599, slots.len(), chunks.len(), layers.len(), bytes.len()) {
-        handed(lay_out(p, sizes, forecast, marks, slots, chunks, layers, bytes))
+        handed(lay_out(
+            p,
+            sizes,
+            size_chunks,
+            size_layers,
+            size_bytes,
+            forecast,
+            marks,
+            slots,
+            chunks,
+            layers,
+            bytes,
+        ))
     } else {
-        lay_tight(p, sizes, forecast, marks, slots, chunks, layers, bytes)
+        lay_tight(
+            p,
+            sizes,
+            size_chunks,
+            size_layers,
+            size_bytes,
+            forecast,
+            marks,
+            slots,
+            chunks,
+            layers,
+            bytes,
+        )
     }
 }

@@ -26,7 +26,7 @@ fn answered(r: Written, first: u8, last: u8) {
 fn a_into(chunks: u16, out: &mut [u8]) -> Written {
     let sizes = [2u32, 1];
     let forecast = [3u32, 0, 1, 0, 2, 0];
-    report::report(programme(chunks), &sizes, &forecast, out)
+    report::report(programme(chunks), &sizes, &[], &[], &[], &forecast, out)
 }
 
 pub fn exact() {

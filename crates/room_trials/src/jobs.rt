@@ -26,6 +26,9 @@ fn write_job(text: &[u8], chunks: u16, layers: usize, slots: usize, room: usize)
     let written = jobfile::write_job(
         job_of(chunks),
         parts::words(&sizes, layers),
+        &[],
+        &[],
+        &[],
         parts::words(&forecast, slots),
         room8(&mut out, room),
     );
@@ -44,7 +47,7 @@ pub(crate) fn writes() {
 fn file_a(out: &mut [u8]) {
     let sizes = [2u32, 1];
     let forecast = [3u32, 0, 1, 0, 2, 0];
-    jobfile::write_job(job_of(3), &sizes, &forecast, out);
+    jobfile::write_job(job_of(3), &sizes, &[], &[], &[], &forecast, out);
 }
 
 fn read_said(read: JobRead) {
@@ -52,6 +55,7 @@ fn read_said(read: JobRead) {
         JobRead::Job {
             programme: _,
             layers: a,
+            overrides: _,
             slots: b,
         } => {
             pair(b"layers ", a);
@@ -69,6 +73,9 @@ fn read_job(text: &[u8], file: &[u8], n: usize, layers: usize, slots: usize) {
     let read = jobfile::read_job(
         parts::bytes(file, n),
         room32(&mut sizes, layers),
+        &mut [],
+        &mut [],
+        &mut [],
         room32(&mut forecast, slots),
     );
     read_said(read);

@@ -43,6 +43,9 @@ fn plan(text: &[u8], film: u16, room: usize, slot: usize, chunk: usize, layer: u
     let plan = planner::plan(
         job_of(film),
         &sizes,
+        &[],
+        &[],
+        &[],
         &forecast,
         room8(&mut marks, room),
         room16(&mut slots, slot),

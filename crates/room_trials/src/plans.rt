@@ -31,6 +31,9 @@ fn write_plan(text: &[u8], film: u16, rows: usize, room: usize, out: &mut [u8]) 
     let written = planfile::write_plan(
         job_of(film),
         &sizes,
+        &[],
+        &[],
+        &[],
         &forecast,
         &marks,
         parts::halves(&slots, rows),
@@ -71,6 +74,9 @@ fn read_plan(
     let read = planfile::read_plan(
         job_of(film),
         &sizes,
+        &[],
+        &[],
+        &[],
         &forecast,
         file,
         room8(&mut marks, room),

@@ -9,7 +9,7 @@ use lib.Seq.{drop-set-lt, getD-drop}
 use lib.Dec.{leb}
 use borrow.Author.Tests.{le-leb, lt-leb}
 use Rattle.job.specs.declared.Programme.{Programme}
-use Rattle.job.specs.Job.{sizeIn, dueSlot}
+use Rattle.job.specs.Job.{dueSlot}
 use Rattle.schedule.specs.lemmas.Ascending.{Asc, asc-lower}
 use Rattle.schedule.specs.lemmas.Trials.{Stack, candidate, keeps, push, bases}
 use Rattle.schedule.specs.lemmas.Parts.{at}
@@ -17,23 +17,23 @@ use Rattle.settle.specs.lemmas.Decision.{BasesFrom, Bases}
 use Rattle.basics.specs.lemmas.Tables.{set-before}
 
 -- The chunk i is due by the last slot.
-module _ (p : Programme) (sizes after : List ℕ) where
-  abbrev size : ℕ → ℕ
-  size k = sizeIn sizes k 0
+module _ (p : Programme) (size : ℕ → ℕ → ℕ) (after : List ℕ) where
+  abbrev base : ℕ → ℕ
+  base k = size k 0
 
   abbrev held : ℕ
   held = p .limit / p .span
 
   -- What is kept of the chunks behind i.
   abbrev behind : ℕ → Stack
-  behind i = bases size (dueSlot p) (at after) held i (p .chunks - i)
+  behind i = bases base (dueSlot p) (at after) held i (p .chunks - i)
 
   pub record Basing (ids dues bytes needs : List ℕ) (last first i : ℕ) : Type 0 where
     pub chunks : drop first ids ≡ behind i .chunks
     pub stack : drop first needs ≡ behind i .needs
     pub top : last ≡ getD (behind i .needs) 0 0
     pub due-slots : drop first dues ≡ map (dueSlot p) (drop first ids)
-    pub base-bytes : drop first bytes ≡ map size (drop first ids)
+    pub base-bytes : drop first bytes ≡ map base (drop first ids)
     pub ascending : Asc (suc i) (p .chunks) (drop first ids)
     pub small : last ≤ at after 0
     pub room : i + 500 ≤ first + p .chunks
@@ -41,7 +41,7 @@ module _ (p : Programme) (sizes after : List ℕ) where
     pub left : i ≤ p .chunks
     pub long : (length ids ≡ 500) × (length dues ≡ 500) × (length bytes ≡ 500) × (length needs ≡ 500)
 
-  pub basing-start : (ids dues bytes needs : List ℕ) → BasesFrom p sizes after ids dues bytes needs → Basing ids dues bytes needs 0 500 (p .chunks)
+  pub basing-start : (ids dues bytes needs : List ℕ) → BasesFrom p size after ids dues bytes needs → Basing ids dues bytes needs 0 500 (p .chunks)
   basing-start ids dues bytes needs o =
       let z : p .chunks - p .chunks ≡ 0 = omega arith in
       let e : drop 500 ids ≡ [] = drop-of-length-le ids {i = 500} (omega (arith, o .long .1)) in
@@ -64,20 +64,20 @@ module _ (p : Programme) (sizes after : List ℕ) where
 
   module _ (ids dues bytes needs : List ℕ) (last first i : ℕ) (b : Basing ids dues bytes needs last first i) (some : 0 < i) (few : p .chunks ≤ 500) where
     abbrev cand : ℕ
-    cand = size i + max (at after (dueSlot p i)) last
+    cand = base i + max (at after (dueSlot p i)) last
 
     some-place : 0 < first
     some-place = omega (arith, b .room)
 
     -- One chunk more is tried.
-    step : behind (i - 1) ≡ push size (dueSlot p) (at after) held (behind i) i
+    step : behind (i - 1) ≡ push base (dueSlot p) (at after) held (behind i) i
     step =
         let e : p .chunks - (i - 1) ≡ suc (p .chunks - i) = omega (arith, b .left) in
         let e′ : suc (i - 1) ≡ i = omega arith in
         rw (e, e′)
 
-    cand-is : candidate size (dueSlot p) (at after) (behind i .needs) i ≡ cand
-    cand-is = ap (λ (n : ℕ). size i + max (at after (dueSlot p i)) n) (sym (b .top))
+    cand-is : candidate base (dueSlot p) (at after) (behind i .needs) i ≡ cand
+    cand-is = ap (λ (n : ℕ). base i + max (at after (dueSlot p i)) n) (sym (b .top))
 
     front : (l : List ℕ) (v : ℕ) → length l ≡ 500 → drop (first - 1) (set l (first - 1) v) ≡ v ∷ drop first l
     front l v e = set-before l first v some-place (omega (arith, b .within))
@@ -94,7 +94,7 @@ module _ (p : Programme) (sizes after : List ℕ) where
     abbrev keep : Bool
     keep = leb cand (at after 0) && leb (getD (cand ∷ behind i .needs) held 0) (at after (dueSlot p i - 1))
 
-    tested : keeps size (dueSlot p) (at after) held (behind i .needs) i ≡ keep
+    tested : keeps base (dueSlot p) (at after) held (behind i .needs) i ≡ keep
     tested = rw cand-is
 
     pushed : (t : Bool) → keep ≡ t → behind (i - 1) ≡ cond t (record { needs = cand ∷ behind i .needs; chunks = i ∷ behind i .chunks }) (behind i)
@@ -118,7 +118,7 @@ module _ (p : Programme) (sizes after : List ℕ) where
           long = (b .long .0, b .long .1, b .long .2, simp length-set (b .long .3));
         }
 
-    pub basing-keep : keep ≡ true → cand ≤ at after 0 → Basing (set ids (first - 1) i) (set dues (first - 1) (dueSlot p i)) (set bytes (first - 1) (size i)) (set needs (first - 1) cand) cand (first - 1) (i - 1)
+    pub basing-keep : keep ≡ true → cand ≤ at after 0 → Basing (set ids (first - 1) i) (set dues (first - 1) (dueSlot p i)) (set bytes (first - 1) (base i)) (set needs (first - 1) cand) cand (first - 1) (i - 1)
     basing-keep e small =
         let q = pushed true e in
         let s : suc (i - 1) ≡ i = omega arith in
@@ -128,7 +128,7 @@ module _ (p : Programme) (sizes after : List ℕ) where
           stack = stored ∙ ap (λ (o : Stack). o .needs) (sym q);
           top = ap (λ (o : Stack). getD (o .needs) 0 0) (sym q);
           due-slots = rw f (front dues (dueSlot p i) (b .long .1) ∙ rw (b .due-slots));
-          base-bytes = rw f (front bytes (size i) (b .long .2) ∙ rw (b .base-bytes));
+          base-bytes = rw f (front bytes (base i) (b .long .2) ∙ rw (b .base-bytes));
           ascending = rw (f, s) (omega arith, b .left, b .ascending);
           small = small;
           room = omega (arith, b .room);
@@ -147,7 +147,7 @@ module _ (p : Programme) (sizes after : List ℕ) where
     pub keep-both : cand ≤ at after 0 → getD (cand ∷ behind i .needs) held 0 ≤ at after (dueSlot p i - 1) → keep ≡ true
     keep-both g k = rw (le-leb cand (at after 0) g, le-leb _ _ k)
 
-  pub basing-end : (ids dues bytes needs : List ℕ) (last first i : ℕ) → Basing ids dues bytes needs last first i → i ≤ 0 → Bases p sizes after first ids dues bytes
+  pub basing-end : (ids dues bytes needs : List ℕ) (last first i : ℕ) → Basing ids dues bytes needs last first i → i ≤ 0 → Bases p size after first ids dues bytes
   basing-end ids dues bytes needs last first i b h =
       let e : i ≡ 0 = omega arith in
       let s : p .chunks - i ≡ p .chunks = omega arith in

@@ -11,15 +11,15 @@ use Rattle.basics.specs.Tests.{All}
 use Rattle.basics.specs.lemmas.Tests.{by-cond}
 use Rattle.fetch.specs.Marks.{bit}
 use Rattle.job.specs.declared.Programme.{Programme}
-use Rattle.job.specs.Job.{Job, sizeIn, size, due, dueSlot, heldMost, lastDue, layers, chunks}
-use Rattle.schedule.specs.lemmas.Ascending.{Asc}
+use Rattle.job.specs.Job.{Job, Override, sizeIn, size, due, dueSlot, heldMost, lastDue, layers, chunks}
+use Rattle.schedule.specs.lemmas.Ascending.{Asc, asc-within}
 use Rattle.schedule.specs.Plan.{kept, plan}
 use Rattle.schedule.specs.lemmas.Linear.{bases-kept, decided-is, map-map}
 use Rattle.schedule.specs.lemmas.Necessity.{after}
 use Rattle.schedule.specs.lemmas.Sufficiency.{ones, releases}
 use Rattle.schedule.specs.lemmas.Trials.{Kept, Tried, bases, rooms, back, bytesOf, markOf, keptAt, onLayer, onLayers, based, keptBases}
 use Rattle.schedule.specs.lemmas.Parts.{at, padded, padded-long, part-small}
-use Rattle.settle.specs.lemmas.Decision.{keptOf, Sums, Slot, Bases, SumTable, LayersFrom, LayersDone, jobFrom, DecideFrom, Decides}
+use Rattle.settle.specs.lemmas.Decision.{keptOf, Sums, Slot, Bases, SumTable, LayersFrom, LayersDone, jobFrom, DecideFrom, Decides, DecidesEach}
 use Rattle.schedule.specs.lemmas.Words.{due-by}
 use Rattle.schedule.specs.lemmas.Queue.{each-is, all-ones}
 use Rattle.basics.specs.lemmas.Tables.{all-take}
@@ -87,23 +87,11 @@ all-small f b h (k ∷ ks) = (h k, all-small f b h ks)
 
 -- ---- the whole
 
-module _ (p : Programme) (layers : ℕ) (sizes : List ℕ) (start : ℕ) (part ids₀ ready₀ mark₀ : List ℕ) (o : DecideFrom p layers sizes start part ids₀ ready₀ mark₀) where
-  abbrev j : Job
-  j = jobFrom p sizes start part
+module _ (p : Programme) (layers : ℕ) (size : ℕ → ℕ → ℕ) (start : ℕ) (part ids₀ ready₀ mark₀ : List ℕ) (o : DecideFrom p layers size start part ids₀ ready₀ mark₀) where
+  pub sums-small : (left : List ℕ) → SumTable start part left → Sums left
+  sums-small left s k = rw (s .is k) (part-small start part (o .part-in) k)
 
-  -- The table of sums is what is forecast after each slot.
-  sums-are : (table : List ℕ) → SumTable start part table → at table ≡ after j
-  sums-are table s =
-      fun-ext (λ t.
-      s .is t ∙ ap (λ (n : ℕ). pre (λ u. at (padded start part) (u - 1)) n - pre (λ u. at (padded start part) (u - 1)) t) (padded-long start part ∙ o .slots))
-
-  pub sums-small : (table : List ℕ) → SumTable start part table → Sums table
-  sums-small table s k = rw (s .is k) (part-small start part (o .part-in) k)
-
-  module _ (table : List ℕ) (s : SumTable start part table) (first : ℕ) (ids dues bytes : List ℕ) (b : Bases p sizes table first ids dues bytes) where
-    kept-are : drop first ids ≡ keptBases j
-    kept-are = b .kept ∙ ap (λ (A : ℕ → ℕ). bases (λ k. sizeIn sizes k 0) (dueSlot p) A (p .limit / p .span) 0 (p .chunks) .chunks) (sums-are table s)
-
+  module _ (left : List ℕ) (s : SumTable start part left) (first : ℕ) (ids dues bytes : List ℕ) (b : Bases p size left first ids dues bytes) where
     module _ (ready : List ℕ) (lr : length ready ≡ 500) (r : drop first ready ≡ take (500 - first) (ones (p .limit / p .span) ++ drop first dues)) where
       abbrev ks : List ℕ
       ks = drop first ids
@@ -111,54 +99,76 @@ module _ (p : Programme) (layers : ℕ) (sizes : List ℕ) (start : ℕ) (part i
       many : length ks ≡ 500 - first
       many = length-drop first ids ∙ ap (λ (n : ℕ). n - first) (b .long .0)
 
-      released : drop first ready ≡ take (length ks) (releases (due j) (heldMost j) ks)
-      released = r ∙ ap (λ (l : List ℕ). take (500 - first) (ones (p .limit / p .span) ++ l)) (b .due-slots ∙ sym (each-is (dueSlot p) ks)) ∙ ap (λ (n : ℕ). take n (releases (due j) (heldMost j) ks)) (sym many)
-
-      pub layers-from : (room mark : List ℕ) → length room ≡ 500 → mark ≡ replicate 500 1 → LayersFrom layers sizes table ids dues ready first bytes room mark
+      pub layers-from : (room mark : List ℕ) → length room ≡ 500 → mark ≡ replicate 500 1 → LayersFrom layers size left ids dues ready first bytes room mark
       layers-from room mark lm m =
           let due-in : All Slot (drop first dues) = subst (All Slot) (sym (b .due-slots)) (due-slots p (o .late) (o .ends) 1 ks (b .ascending)) in
           record {
             some = o .some;
             few = o .few-layers;
+            chunks-in = asc-within 1 (p .chunks) 1 500 ks (omega arith) (o .few) (b .ascending);
             small = o .small;
-            sums = sums-small table s;
+            sums = sums-small left s;
             due-slots = due-in;
             release-slots = subst (All Slot) (sym r) (release-slots p (o .late) (o .ends) (p .limit / p .span) (500 - first) (drop first dues) due-in);
             within = b .within;
-            carried = subst (All (λ x. x ≤ 16777216)) (sym (b .base-bytes)) (all-small (λ k. sizeIn sizes k 0) 16777216 (λ k. o .small k 0) ks);
+            carried = subst (All (λ x. x ≤ 16777216)) (sym (b .base-bytes)) (all-small (λ k. size k 0) 16777216 (λ k. o .small k 0) ks);
             long = (s .long, b .long .0, b .long .1, lr, b .long .2, lm, rw m (length-replicate {A = ℕ} 500 1));
           }
 
-      -- The tables start with the base alone.
-      begins : (mark : List ℕ) → mark ≡ replicate 500 1 → keptOf ks (drop first dues) (drop first bytes) (drop first mark) ≡ based j ks
-      begins mark m =
-          ap (λ (l : List ℕ). keptOf ks (drop first dues) (drop first bytes) l) (ap (drop first) m ∙ drop-replicate 500 first 1 ∙ ap (λ (n : ℕ). replicate n 1) (sym many))
-          ∙ ap (λ (l : List ℕ). keptOf ks l (drop first bytes) (replicate (length ks) 1)) (b .due-slots)
-          ∙ ap (λ (l : List ℕ). keptOf ks (map (dueSlot p) ks) l (replicate (length ks) 1)) (b .base-bytes)
-          ∙ base-kept j ks
+      -- A job that the handed numbers say.
+      module _ (sizes : List ℕ) (overrides : List Override) (count : layers ≡ length sizes) (says : size ≡ sizeIn sizes overrides) where
+        abbrev j : Job
+        j = jobFrom p sizes overrides start part
 
-      pub decides : (all : ℕ) → all ≡ getD table 0 0 → (mark bytes' mark' : List ℕ) → mark ≡ replicate 500 1 → LayersDone layers sizes all table ids dues ready first bytes mark bytes' mark' → Decides j first ids ready mark'
-      decides all a mark bytes' mark' m y =
-          let few : 0 < length sizes = omega (arith, o .some, o .all-layers) in
-          let few′ : length sizes ≤ 8 = omega (arith, o .few-layers, o .all-layers) in
-          let bk : keptBases j ≡ kept j (plan j) = bases-kept j few in
-          let A-is = sums-are table s in
-          let whole : keptOf ks (drop first dues) (drop first bytes') (drop first mark') ≡ map (keptAt j (plan j)) (kept j (plan j)) =
-          y .kept
-          ∙ ap (onLayers (sizeIn sizes) (at table) all (drop first ready) (layers - 1)) (begins mark m)
-          ∙ ap (λ (rs : List ℕ). onLayers (sizeIn sizes) (at table) all rs (layers - 1) (based j ks)) (released ∙ ap (λ (n : ℕ). take n (releases (due j) (heldMost j) ks)) (sym (length-map ks (keptAt j (λ k. 1)))))
-          ∙ on-layers-take (sizeIn sizes) (at table) all (releases (due j) (heldMost j) ks) (layers - 1) (based j ks)
-          ∙ ap (λ (n : ℕ). onLayers (sizeIn sizes) (at table) n (releases (due j) (heldMost j) ks) (layers - 1) (based j ks)) a
-          ∙ ap (λ (n : ℕ). onLayers (sizeIn sizes) (at table) (at table 0) (releases (due j) (heldMost j) ks) (n - 1) (based j ks)) (o .all-layers)
-          ∙ ap (λ (A : ℕ → ℕ). onLayers (sizeIn sizes) A (A 0) (releases (due j) (heldMost j) ks) (length sizes - 1) (based j ks)) A-is
-          ∙ ap (λ (l : List ℕ). onLayers (sizeIn sizes) (after j) (after j 0) (releases (due j) (heldMost j) l) (length sizes - 1) (based j l)) kept-are
-          ∙ decided-is j few few′ in
-          record {
-            within = b .within;
-            chunks = kept-are ∙ bk;
-            releases-are = released ∙ ap (λ (n : ℕ). take n (releases (due j) (heldMost j) ks)) many ∙ ap (λ (l : List ℕ). take (500 - first) (releases (due j) (heldMost j) l)) (kept-are ∙ bk);
-            marks =
-                sym (marks-of ks (drop first dues) (drop first bytes') (drop first mark') (same-long ids dues first (b .long .0) (b .long .1)) (same-long ids bytes' first (b .long .0) (y .long .0)) (same-long ids mark' first (b .long .0) (y .long .1)))
-                ∙ ap (map markOf) whole ∙ map-map markOf (keptAt j (plan j)) (kept j (plan j));
-            long = (b .long .0, lr, y .long .1);
-          }
+        -- The table of sums is what is forecast after each slot.
+        sums-are : at left ≡ after j
+        sums-are =
+            fun-ext (λ t.
+            s .is t ∙ ap (λ (n : ℕ). pre (λ u. at (padded start part) (u - 1)) n - pre (λ u. at (padded start part) (u - 1)) t) (padded-long start part ∙ o .slots))
+
+        kept-are : ks ≡ keptBases j
+        kept-are =
+            b .kept
+            ∙ ap (λ (z : ℕ → ℕ → ℕ). bases (λ k. z k 0) (dueSlot p) (at left) (p .limit / p .span) 0 (p .chunks) .chunks) says
+            ∙ ap (λ (A : ℕ → ℕ). bases (λ k. sizeIn sizes overrides k 0) (dueSlot p) A (p .limit / p .span) 0 (p .chunks) .chunks) sums-are
+
+        released : drop first ready ≡ take (length ks) (releases (due j) (heldMost j) ks)
+        released = r ∙ ap (λ (l : List ℕ). take (500 - first) (ones (p .limit / p .span) ++ l)) (b .due-slots ∙ sym (each-is (dueSlot p) ks)) ∙ ap (λ (n : ℕ). take n (releases (due j) (heldMost j) ks)) (sym many)
+
+        -- The tables start with the base alone.
+        begins : (mark : List ℕ) → mark ≡ replicate 500 1 → keptOf ks (drop first dues) (drop first bytes) (drop first mark) ≡ based j ks
+        begins mark m =
+            ap (λ (l : List ℕ). keptOf ks (drop first dues) (drop first bytes) l) (ap (drop first) m ∙ drop-replicate 500 first 1 ∙ ap (λ (n : ℕ). replicate n 1) (sym many))
+            ∙ ap (λ (l : List ℕ). keptOf ks l (drop first bytes) (replicate (length ks) 1)) (b .due-slots)
+            ∙ ap (λ (l : List ℕ). keptOf ks (map (dueSlot p) ks) l (replicate (length ks) 1)) (b .base-bytes ∙ ap (λ (z : ℕ → ℕ → ℕ). map (λ k. z k 0) ks) says)
+            ∙ base-kept j ks
+
+        decides-one : (all : ℕ) → all ≡ getD left 0 0 → (mark bytes' mark' : List ℕ) → mark ≡ replicate 500 1 → LayersDone layers size all left ids dues ready first bytes mark bytes' mark' → Decides j first ids ready mark'
+        decides-one all a mark bytes' mark' m y =
+            let few : 0 < length sizes = omega (arith, o .some) in
+            let few′ : length sizes ≤ 8 = omega (arith, o .few-layers) in
+            let bk : keptBases j ≡ kept j (plan j) = bases-kept j few in
+            let own : ℕ → ℕ → ℕ = sizeIn sizes overrides in
+            let whole : keptOf ks (drop first dues) (drop first bytes') (drop first mark') ≡ map (keptAt j (plan j)) (kept j (plan j)) =
+            y .kept
+            ∙ ap (λ (z : ℕ → ℕ → ℕ). onLayers z (at left) all (drop first ready) (layers - 1) (keptOf ks (drop first dues) (drop first bytes) (drop first mark))) says
+            ∙ ap (onLayers own (at left) all (drop first ready) (layers - 1)) (begins mark m)
+            ∙ ap (λ (rs : List ℕ). onLayers own (at left) all rs (layers - 1) (based j ks)) (released ∙ ap (λ (n : ℕ). take n (releases (due j) (heldMost j) ks)) (sym (length-map ks (keptAt j (λ k. 1)))))
+            ∙ on-layers-take own (at left) all (releases (due j) (heldMost j) ks) (layers - 1) (based j ks)
+            ∙ ap (λ (n : ℕ). onLayers own (at left) n (releases (due j) (heldMost j) ks) (layers - 1) (based j ks)) a
+            ∙ ap (λ (n : ℕ). onLayers own (at left) (at left 0) (releases (due j) (heldMost j) ks) (n - 1) (based j ks)) count
+            ∙ ap (λ (A : ℕ → ℕ). onLayers own A (A 0) (releases (due j) (heldMost j) ks) (length sizes - 1) (based j ks)) sums-are
+            ∙ ap (λ (l : List ℕ). onLayers own (after j) (after j 0) (releases (due j) (heldMost j) l) (length sizes - 1) (based j l)) kept-are
+            ∙ decided-is j few few′ in
+            record {
+              within = b .within;
+              chunks = kept-are ∙ bk;
+              releases-are = released ∙ ap (λ (n : ℕ). take n (releases (due j) (heldMost j) ks)) many ∙ ap (λ (l : List ℕ). take (500 - first) (releases (due j) (heldMost j) l)) (kept-are ∙ bk);
+              marks =
+                  sym (marks-of ks (drop first dues) (drop first bytes') (drop first mark') (same-long ids dues first (b .long .0) (b .long .1)) (same-long ids bytes' first (b .long .0) (y .long .0)) (same-long ids mark' first (b .long .0) (y .long .1)))
+                  ∙ ap (map markOf) whole ∙ map-map markOf (keptAt j (plan j)) (kept j (plan j));
+              long = (b .long .0, lr, y .long .1);
+            }
+
+      pub decides : (all : ℕ) → all ≡ getD left 0 0 → (mark bytes' mark' : List ℕ) → mark ≡ replicate 500 1 → LayersDone layers size all left ids dues ready first bytes mark bytes' mark' → DecidesEach p layers size start part first ids ready mark'
+      decides all a mark bytes' mark' m y = λ sizes overrides count says. decides-one sizes overrides count says all a mark bytes' mark' m y

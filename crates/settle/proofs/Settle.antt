@@ -5,7 +5,7 @@ use Prim.Native.Nat.{ℕ, suc, _+_, _*_, _-_, _≤_, _<_}
 use native.Mathlib.Omega.{arith}
 use lib.ListN.{length, drop, length-drop}
 use Rattle.basics.specs.Tests.{All}
-use Rattle.job.specs.Job.{sizeIn, layers}
+use Rattle.job.specs.Job.{layers}
 use Rattle.schedule.specs.Plan.{kept}
 use Rattle.schedule.specs.lemmas.Necessity.{after}
 use Rattle.schedule.specs.lemmas.Trials.{Kept, rooms, back, bytesOf, markOf, onLayer, onLayers}
@@ -35,10 +35,10 @@ same-long a b first e g = omega (arith, length-drop first a, length-drop first b
 
 -- ---- layer by layer
 
-pub record Settling (layers : ℕ) (sizes : List ℕ) (all : ℕ) (after ids dues ready : List ℕ) (first : ℕ) (bytes₀ mark₀ bytes room mark : List ℕ) (n : ℕ) : Type 0 where
+pub record Settling (layers : ℕ) (size : ℕ → ℕ → ℕ) (all : ℕ) (after ids dues ready : List ℕ) (first : ℕ) (bytes₀ mark₀ bytes room mark : List ℕ) (n : ℕ) : Type 0 where
   pub says :
       keptOf (drop first ids) (drop first dues) (drop first bytes) (drop first mark)
-      ≡ onLayers (sizeIn sizes) (at after) all (drop first ready) (n - 1) (keptOf (drop first ids) (drop first dues) (drop first bytes₀) (drop first mark₀))
+      ≡ onLayers size (at after) all (drop first ready) (n - 1) (keptOf (drop first ids) (drop first dues) (drop first bytes₀) (drop first mark₀))
   pub low : 1 ≤ n
   pub high : n ≤ layers
   pub carried : All (λ b. b ≤ n * 16777216) (drop first bytes)
@@ -48,8 +48,8 @@ all-imp : (P Q : ℕ → Type 0) (l : List ℕ) → ((x : ℕ) → P x → Q x) 
 all-imp P Q [] f a = tt
 all-imp P Q (x ∷ l) f a = (f x (a .0), all-imp P Q l f (a .1))
 
-module _ (layers : ℕ) (sizes : List ℕ) (all : ℕ) (after ids dues ready : List ℕ) (first : ℕ) (bytes₀ room₀ mark₀ : List ℕ) (o : LayersFrom layers sizes after ids dues ready first bytes₀ room₀ mark₀) where
-  pub settling-start : Settling layers sizes all after ids dues ready first bytes₀ mark₀ bytes₀ room₀ mark₀ 1
+module _ (layers : ℕ) (size : ℕ → ℕ → ℕ) (all : ℕ) (after ids dues ready : List ℕ) (first : ℕ) (bytes₀ room₀ mark₀ : List ℕ) (o : LayersFrom layers size after ids dues ready first bytes₀ room₀ mark₀) where
+  pub settling-start : Settling layers size all after ids dues ready first bytes₀ mark₀ bytes₀ room₀ mark₀ 1
   settling-start =
       record {
         says = refl;
@@ -59,18 +59,19 @@ module _ (layers : ℕ) (sizes : List ℕ) (all : ℕ) (after ids dues ready : L
         long = (o .long .4, o .long .5, o .long .6);
       }
 
-  module _ (bytes room mark : List ℕ) (n : ℕ) (s : Settling layers sizes all after ids dues ready first bytes₀ mark₀ bytes room mark n) where
-    pub settling-end : layers ≤ n → LayersDone layers sizes all after ids dues ready first bytes₀ mark₀ bytes mark
+  module _ (bytes room mark : List ℕ) (n : ℕ) (s : Settling layers size all after ids dues ready first bytes₀ mark₀ bytes room mark n) where
+    pub settling-end : layers ≤ n → LayersDone layers size all after ids dues ready first bytes₀ mark₀ bytes mark
     settling-end h =
         let e : n ≡ layers = omega (arith, s .high) in
         record { kept = rw e at (s .says); long = (s .long .0, s .long .2) }
 
     module _ (h : n < layers) where
-      pub layer-from : (room' : List ℕ) → length room' ≡ 500 → LayerFrom sizes n after ids dues room' first bytes mark
+      pub layer-from : (room' : List ℕ) → length room' ≡ 500 → LayerFrom size n after ids dues room' first bytes mark
       layer-from room' e =
           record {
             low = s .low;
             high = omega (arith, o .few);
+            chunks-in = o .chunks-in;
             small = o .small;
             sums = o .sums;
             slots = o .due-slots;
@@ -81,20 +82,20 @@ module _ (layers : ℕ) (sizes : List ℕ) (all : ℕ) (after ids dues ready : L
 
       pub settling-more : (room' bytes' mark' : List ℕ) → length room' ≡ 500
           → drop first room' ≡ rooms (at after) all (drop first bytes) (drop first ready)
-          → LayerDone sizes n after ids dues room' first bytes mark bytes' mark'
-          → Settling layers sizes all after ids dues ready first bytes₀ mark₀ bytes' room' mark' (n + 1)
+          → LayerDone size n after ids dues room' first bytes mark bytes' mark'
+          → Settling layers size all after ids dues ready first bytes₀ mark₀ bytes' room' mark' (n + 1)
       settling-more room' bytes' mark' e r y =
           let here : List Kept = keptOf (drop first ids) (drop first dues) (drop first bytes) (drop first mark) in
           let there : List Kept = keptOf (drop first ids) (drop first dues) (drop first bytes₀) (drop first mark₀) in
           let b : map bytesOf here ≡ drop first bytes = bytes-of (drop first ids) (drop first dues) (drop first bytes) (drop first mark) (same-long ids dues first (o .long .1) (o .long .2)) (same-long ids bytes first (o .long .1) (s .long .0)) (same-long ids mark first (o .long .1) (s .long .2)) in
           let d : suc (n - 1) ≡ n = omega (arith, s .low) in
           let d′ : n + 1 - 1 ≡ suc (n - 1) = omega (arith, s .low) in
-          let step : keptOf (drop first ids) (drop first dues) (drop first bytes') (drop first mark') ≡ onLayer (sizeIn sizes) (at after) all (drop first ready) n here =
-          y .kept ∙ ap (λ (l : List ℕ). back (sizeIn sizes) (at after) n l here .kept) (r ∙ ap (λ (l : List ℕ). rooms (at after) all l (drop first ready)) (sym b)) in
+          let step : keptOf (drop first ids) (drop first dues) (drop first bytes') (drop first mark') ≡ onLayer size (at after) all (drop first ready) n here =
+          y .kept ∙ ap (λ (l : List ℕ). back size (at after) n l here .kept) (r ∙ ap (λ (l : List ℕ). rooms (at after) all l (drop first ready)) (sym b)) in
           record {
-            says = step ∙ ap (onLayer (sizeIn sizes) (at after) all (drop first ready) n) (s .says)
-                ∙ ap (λ (m : ℕ). onLayer (sizeIn sizes) (at after) all (drop first ready) m (onLayers (sizeIn sizes) (at after) all (drop first ready) (n - 1) there)) (sym d)
-                ∙ ap (λ (m : ℕ). onLayers (sizeIn sizes) (at after) all (drop first ready) m there) (sym d′);
+            says = step ∙ ap (onLayer size (at after) all (drop first ready) n) (s .says)
+                ∙ ap (λ (m : ℕ). onLayer size (at after) all (drop first ready) m (onLayers size (at after) all (drop first ready) (n - 1) there)) (sym d)
+                ∙ ap (λ (m : ℕ). onLayers size (at after) all (drop first ready) m there) (sym d′);
             low = omega arith;
             high = omega arith;
             carried = all-imp (λ b. b ≤ suc n * 16777216) (λ b. b ≤ (n + 1) * 16777216) (drop first bytes') (λ x h. omega arith) (y .carried);

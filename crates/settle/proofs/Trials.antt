@@ -8,16 +8,16 @@ use lib.ListN.{length, getD, set, drop, length-set, drop-of-length-le}
 use lib.Seq.{getD-set-other}
 use lib.Dec.{leb}
 use Rattle.basics.specs.Tests.{All}
-use Rattle.job.specs.Job.{sizeIn}
+use Rattle.job.specs.Job.{Within}
 use Rattle.fetch.specs.Marks.{bit, withLayer}
 use Rattle.schedule.specs.lemmas.Trials.{Kept, Tried, tryOne, back}
 use Rattle.schedule.specs.lemmas.Parts.{at}
 use Rattle.settle.specs.lemmas.Decision.{keptOf, Slot, LayerFrom, LayerDone}
 use Rattle.basics.specs.lemmas.Tables.{drop-before, set-before, all-from}
 
-pub record Backing (sizes : List ℕ) (n : ℕ) (after ids dues room : List ℕ) (first : ℕ) (bytes₀ mark₀ bytes mark : List ℕ) (need q : ℕ) : Type 0 where
+pub record Backing (size : ℕ → ℕ → ℕ) (n : ℕ) (after ids dues room : List ℕ) (first : ℕ) (bytes₀ mark₀ bytes mark : List ℕ) (need q : ℕ) : Type 0 where
   pub says :
-      back (sizeIn sizes) (at after) n (drop q room) (keptOf (drop q ids) (drop q dues) (drop q bytes₀) (drop q mark₀))
+      back size (at after) n (drop q room) (keptOf (drop q ids) (drop q dues) (drop q bytes₀) (drop q mark₀))
       ≡ record { need = need; kept = keptOf (drop q ids) (drop q dues) (drop q bytes) (drop q mark) }
   pub old : (k : ℕ) → k < q → (getD bytes k 0 ≡ getD bytes₀ k 0) × (getD mark k 0 ≡ getD mark₀ k 0)
   pub from : first ≤ q
@@ -26,8 +26,8 @@ pub record Backing (sizes : List ℕ) (n : ℕ) (after ids dues room : List ℕ)
   pub carried : All (λ b. b ≤ suc n * 16777216) (drop q bytes)
   pub long : (length bytes ≡ 500) × (length mark ≡ 500)
 
-module _ (sizes : List ℕ) (n : ℕ) (after ids dues room : List ℕ) (first : ℕ) (bytes₀ mark₀ : List ℕ) (o : LayerFrom sizes n after ids dues room first bytes₀ mark₀) where
-  pub backing-start : Backing sizes n after ids dues room first bytes₀ mark₀ bytes₀ mark₀ 0 500
+module _ (size : ℕ → ℕ → ℕ) (n : ℕ) (after ids dues room : List ℕ) (first : ℕ) (bytes₀ mark₀ : List ℕ) (o : LayerFrom size n after ids dues room first bytes₀ mark₀) where
+  pub backing-start : Backing size n after ids dues room first bytes₀ mark₀ bytes₀ mark₀ 0 500
   unfolding back
   backing-start =
       let e : drop 500 ids ≡ [] = drop-of-length-le ids {i = 500} (omega (arith, o .long .1)) in
@@ -42,15 +42,15 @@ module _ (sizes : List ℕ) (n : ℕ) (after ids dues room : List ℕ) (first : 
         long = (o .long .4, o .long .5);
       }
 
-  module _ (bytes mark : List ℕ) (need q : ℕ) (b : Backing sizes n after ids dues room first bytes₀ mark₀ bytes mark need q) where
-    pub backing-end : q ≤ first → LayerDone sizes n after ids dues room first bytes₀ mark₀ bytes mark
+  module _ (bytes mark : List ℕ) (need q : ℕ) (b : Backing size n after ids dues room first bytes₀ mark₀ bytes mark need q) where
+    pub backing-end : q ≤ first → LayerDone size n after ids dues room first bytes₀ mark₀ bytes mark
     backing-end h =
         let e : q ≡ first = omega (arith, b .from) in
         record { kept = sym (ap (λ (o : Tried). o .kept) (rw e at (b .says))); carried = rw e at (b .carried); long = b .long }
 
     module _ (h : first < q) where
-      abbrev size : ℕ
-      size = sizeIn sizes (getD ids (q - 1) 0) n
+      abbrev its : ℕ
+      its = size (getD ids (q - 1) 0) n
 
       abbrev want : ℕ
       want = getD bytes (q - 1) 0 + max (at after (getD dues (q - 1) 0)) need
@@ -65,8 +65,8 @@ module _ (sizes : List ℕ) (n : ℕ) (after ids dues room : List ℕ) (first : 
       stored l v e = set-before l q v (omega arith) (omega (arith, b .to))
 
       one :
-          back (sizeIn sizes) (at after) n (drop (q - 1) room) (keptOf (drop (q - 1) ids) (drop (q - 1) dues) (drop (q - 1) bytes₀) (drop (q - 1) mark₀))
-          ≡ tryOne (sizeIn sizes) (at after) n (getD room (q - 1) 0) it (record { need = need; kept = keptOf (drop q ids) (drop q dues) (drop q bytes) (drop q mark) })
+          back size (at after) n (drop (q - 1) room) (keptOf (drop (q - 1) ids) (drop (q - 1) dues) (drop (q - 1) bytes₀) (drop (q - 1) mark₀))
+          ≡ tryOne size (at after) n (getD room (q - 1) 0) it (record { need = need; kept = keptOf (drop q ids) (drop q dues) (drop q bytes) (drop q mark) })
       unfolding back
       one =
           let old = b .old (q - 1) (omega arith) in
@@ -76,16 +76,19 @@ module _ (sizes : List ℕ) (n : ℕ) (after ids dues room : List ℕ) (first : 
       pub bytes-small : getD bytes (q - 1) 0 ≤ n * 16777216
       bytes-small = rw (b .old (q - 1) (omega arith) .0) (all-from (λ x. x ≤ n * 16777216) bytes₀ first (q - 1) (o .carried) (omega arith) (omega (arith, b .to, o .long .4)))
 
+      pub chunk-in : Within 1 500 (getD ids (q - 1) 0)
+      chunk-in = all-from (Within 1 500) ids first (q - 1) (o .chunks-in) (omega arith) (omega (arith, b .to, o .long .1))
+
       pub due-slot : Slot (getD dues (q - 1) 0)
       due-slot = all-from Slot dues first (q - 1) (o .slots) (omega arith) (omega (arith, b .to, o .long .2))
 
-      pub want-small : want + size ≤ 100000000000
+      pub want-small : want + its ≤ 100000000000
       want-small = omega (arith, b .small, bytes-small, o .high, o .sums (getD dues (q - 1) 0), o .small (getD ids (q - 1) 0) n, b .to)
 
       need-small : (x : ℕ) → x ≤ 67108864 → x + max (at after (getD dues (q - 1) 0)) need ≤ 60397977600 + (500 - (q - 1)) * 67108864
       need-small x u = omega (arith, b .small, o .sums (getD dues (q - 1) 0), b .to)
 
-      pub backing-pass : bit (getD mark (q - 1) 0) (n - 1) && leb (want + size) (getD room (q - 1) 0) ≡ false → Backing sizes n after ids dues room first bytes₀ mark₀ bytes mark want (q - 1)
+      pub backing-pass : bit (getD mark (q - 1) 0) (n - 1) && leb (want + its) (getD room (q - 1) 0) ≡ false → Backing size n after ids dues room first bytes₀ mark₀ bytes mark want (q - 1)
       backing-pass t =
           record {
             says = one ∙ rw (t, before ids (o .long .1), before dues (o .long .2), before bytes (b .long .0), before mark (b .long .1));
@@ -98,10 +101,10 @@ module _ (sizes : List ℕ) (n : ℕ) (after ids dues room : List ℕ) (first : 
           }
 
       pub backing-take :
-          bit (getD mark (q - 1) 0) (n - 1) && leb (want + size) (getD room (q - 1) 0) ≡ true →
-          Backing sizes n after ids dues room first bytes₀ mark₀ (set bytes (q - 1) (getD bytes (q - 1) 0 + size)) (set mark (q - 1) (withLayer (getD mark (q - 1) 0) n)) (want + size) (q - 1)
+          bit (getD mark (q - 1) 0) (n - 1) && leb (want + its) (getD room (q - 1) 0) ≡ true →
+          Backing size n after ids dues room first bytes₀ mark₀ (set bytes (q - 1) (getD bytes (q - 1) 0 + its)) (set mark (q - 1) (withLayer (getD mark (q - 1) 0) n)) (want + its) (q - 1)
       backing-take t =
-          let sb = stored bytes (getD bytes (q - 1) 0 + size) (b .long .0) in
+          let sb = stored bytes (getD bytes (q - 1) 0 + its) (b .long .0) in
           let sm = stored mark (withLayer (getD mark (q - 1) 0) n) (b .long .1) in
           let z = o .small (getD ids (q - 1) 0) n in
           record {
@@ -109,7 +112,7 @@ module _ (sizes : List ℕ) (n : ℕ) (after ids dues room : List ℕ) (first : 
             old = λ k w. (getD-set-other bytes (q - 1) k _ 0 (λ e. omega arith) ∙ b .old k (omega arith) .0, getD-set-other mark (q - 1) k _ 0 (λ e. omega arith) ∙ b .old k (omega arith) .1);
             from = omega arith;
             to = omega (arith, b .to);
-            small = omega (arith, need-small (getD bytes (q - 1) 0 + size) (omega (arith, bytes-small, o .high, z)));
+            small = omega (arith, need-small (getD bytes (q - 1) 0 + its) (omega (arith, bytes-small, o .high, z)));
             carried = rw sb (omega (arith, bytes-small, z), b .carried);
             long = (simp length-set (b .long .0), simp length-set (b .long .1));
           }

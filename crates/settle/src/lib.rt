@@ -1,7 +1,7 @@
 // Internal. Which layers of which chunks are carried, in time linear in slots + chunks x layers. The kept chunks stand at the end of
 // tables of 500 places, in playing order, from a first place on. The passes serve any ascending set of kept chunks, over a part of the
 // forecast that starts at any slot: sum_after and keep_bases for the base, then, for kept chunks with their due slots and bytes
-// however they were found, set_releases and settle_layers.
+// however they were found, set_releases and settle_layers. Sizes are those of the table that job's fill_sizes fills.
 use job::Programme;
 ghost use mathlib.Core.Path.{_≡_};
 ghost use mathlib.Core.Bool.{cond, _&&_};
@@ -9,12 +9,13 @@ ghost use Prim.Native.Nat.{ℕ, _+_, _*_, _-_, _/_, _<_, _≤_, max, min};
 ghost use lib.ListN.{length, getD, take, drop};
 ghost use lib.Dec.{leb, ltb};
 ghost use Rattle.basics.specs.Tests.{All};
+ghost use Rattle.job.specs.Table.{tableAt};
 ghost use Rattle.fetch.specs.Marks.{bit};
 ghost use mathlib.Core.List.{_++_};
 ghost use Rattle.schedule.specs.lemmas.Sufficiency.{ones};
 ghost use Rattle.schedule.specs.lemmas.Trials.{rooms};
 ghost use Rattle.schedule.specs.lemmas.Parts.{at, Part};
-ghost use Rattle.settle.specs.lemmas.Decision.{Placed, SumTable, BasesFrom, Bases, Slot, LayerFrom, LayerDone, LayersFrom, LayersDone, jobFrom, DecideFrom, Decides};
+ghost use Rattle.settle.specs.lemmas.Decision.{Placed, SumTable, BasesFrom, Bases, Slot, LayerFrom, LayerDone, LayersFrom, LayersDone, DecideFrom, DecidesEach};
 
 fn larger(a: u64, b: u64) -> u64
     ensures { λ r. ⌜ r ≡ max a b ⌝ }
@@ -96,15 +97,15 @@ fn need_at(needs: &[u64; 500], k: usize, held: usize) -> u64
 // The base of each chunk from the last to the first. The kept chunks stand at the end of ids, in playing order.
 pub fn keep_bases(
     p: Programme,
-    sizes: &[u32],
+    table: &[u32; 2000],
     after: &[u64; 3601],
     ids: &mut [u16; 500],
     dues: &mut [u16; 500],
     bytes: &mut [u32; 500],
     needs: &mut [u64; 500],
 ) -> usize
-    requires { ⌜ BasesFrom p (now sizes) (now after) (now ids) (now dues) (now bytes) (now needs) ⌝ }
-    ensures { λ r. ⌜ Bases p (now (sizes .entry)) (now (after .entry)) r (now (ids .exit)) (now (dues .exit)) (now (bytes .exit)) ⌝ }
+    requires { ⌜ BasesFrom p (tableAt (now table)) (now after) (now ids) (now dues) (now bytes) (now needs) ⌝ }
+    ensures { λ r. ⌜ Bases p (tableAt (now (table .entry))) (now (after .entry)) r (now (ids .exit)) (now (dues .exit)) (now (bytes .exit)) ⌝ }
     ensures room { λ _. ⌜ length (now (needs .exit)) ≡ 500 ⌝ }
 {
     let held = job::held_most(p) as usize;
@@ -115,7 +116,7 @@ pub fn keep_bases(
     while 0 < i {
         let d = job::due_slot(p, i);
         let k = first - 1;
-        let z = job::size_of(sizes, i, 0);
+        let z = sizes::size_in(table, i, 0);
         let cand = (z as u64) + larger(after[d], last);
         let e = d - 1;
         needs[k] = cand;
@@ -188,7 +189,7 @@ fn takes(mark: u8, n: u8, more: u64, room: u64) -> bool
 
 // Layer n of each kept chunk, from the last to the first.
 fn try_layer(
-    sizes: &[u32],
+    table: &[u32; 2000],
     n: u8,
     after: &[u64; 3601],
     ids: &[u16; 500],
@@ -198,8 +199,8 @@ fn try_layer(
     bytes: &mut [u32; 500],
     mark: &mut [u8; 500],
 )
-    requires { ⌜ LayerFrom (now sizes) n (now after) (now ids) (now dues) (now room) first (now bytes) (now mark) ⌝ }
-    ensures { λ _. ⌜ LayerDone (now (sizes .entry)) n (now (after .entry)) (now (ids .entry)) (now (dues .entry)) (now (room .entry)) first (now (bytes .entry)) (now (mark .entry)) (now (bytes .exit)) (now (mark .exit)) ⌝ }
+    requires { ⌜ LayerFrom (tableAt (now table)) n (now after) (now ids) (now dues) (now room) first (now bytes) (now mark) ⌝ }
+    ensures { λ _. ⌜ LayerDone (tableAt (now (table .entry))) n (now (after .entry)) (now (ids .entry)) (now (dues .entry)) (now (room .entry)) first (now (bytes .entry)) (now (mark .entry)) (now (bytes .exit)) (now (mark .exit)) ⌝ }
 {
     let below = n - 1;
     let mut need: u64 = 0;
@@ -209,7 +210,7 @@ fn try_layer(
         let b = bytes[k];
         let m = mark[k];
         let d = dues[k] as usize;
-        let z = job::size_of(sizes, ids[k], n as usize);
+        let z = sizes::size_in(table, ids[k], n as usize);
         let want = wide(b) + larger(after[d], need);
         let more = want + wide(z);
         if takes(m, below, more, room[k]) {
@@ -227,7 +228,7 @@ fn try_layer(
 // All layers above the base.
 pub fn settle_layers(
     layers: usize,
-    sizes: &[u32],
+    table: &[u32; 2000],
     all: u64,
     after: &[u64; 3601],
     ids: &[u16; 500],
@@ -238,14 +239,14 @@ pub fn settle_layers(
     room: &mut [u64; 500],
     mark: &mut [u8; 500],
 )
-    requires { ⌜ LayersFrom layers (now sizes) (now after) (now ids) (now dues) (now ready) first (now bytes) (now room) (now mark) ⌝ }
-    ensures { λ _. ⌜ LayersDone layers (now (sizes .entry)) all (now (after .entry)) (now (ids .entry)) (now (dues .entry)) (now (ready .entry)) first (now (bytes .entry)) (now (mark .entry)) (now (bytes .exit)) (now (mark .exit)) ⌝ }
+    requires { ⌜ LayersFrom layers (tableAt (now table)) (now after) (now ids) (now dues) (now ready) first (now bytes) (now room) (now mark) ⌝ }
+    ensures { λ _. ⌜ LayersDone layers (tableAt (now (table .entry))) all (now (after .entry)) (now (ids .entry)) (now (dues .entry)) (now (ready .entry)) first (now (bytes .entry)) (now (mark .entry)) (now (bytes .exit)) (now (mark .exit)) ⌝ }
 {
     let mut n: usize = 1;
     while n < layers {
         let layer = n as u8;
         find_rooms(all, after, ready, bytes, first, room);
-        try_layer(sizes, layer, after, ids, dues, room, first, bytes, mark);
+        try_layer(table, layer, after, ids, dues, room, first, bytes, mark);
         n = n + 1;
     }
 }
@@ -255,15 +256,15 @@ pub fn settle_layers(
 pub fn decide(
     p: Programme,
     layers: usize,
-    sizes: &[u32],
+    table: &[u32; 2000],
     part: &[u32],
     start: usize,
     ids: &mut [u16; 500],
     ready: &mut [u16; 500],
     mark: &mut [u8; 500],
 ) -> usize
-    requires { ⌜ DecideFrom p layers (now sizes) start (now part) (now ids) (now ready) (now mark) ⌝ }
-    ensures { λ r. ⌜ Decides (jobFrom p (now (sizes .entry)) start (now (part .entry))) r (now (ids .exit)) (now (ready .exit)) (now (mark .exit)) ⌝ }
+    requires { ⌜ DecideFrom p layers (tableAt (now table)) start (now part) (now ids) (now ready) (now mark) ⌝ }
+    ensures { λ r. ⌜ DecidesEach p layers (tableAt (now (table .entry))) start (now (part .entry)) r (now (ids .exit)) (now (ready .exit)) (now (mark .exit)) ⌝ }
 {
     let held = job::held_most(p) as usize;
     // Both tables are written before they are read. A filling that is no constant is stored in wide words, faster than cleared.
@@ -274,11 +275,11 @@ pub fn decide(
     let mut bytes = [0u32; 500];
     sum_after(part, start, &mut after);
     let total = after[0];
-    let first = keep_bases(p, sizes, &after, ids, &mut dues, &mut bytes, &mut room);
+    let first = keep_bases(p, table, &after, ids, &mut dues, &mut bytes, &mut room);
     set_releases(held, &dues, first, ready);
     settle_layers(
         layers,
-        sizes,
+        table,
         total,
         &after,
         ids,

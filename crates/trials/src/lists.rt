@@ -42,6 +42,9 @@ fn check(
     let checked = checker::check(
         job_of(film),
         parts::words(&sizes, layers),
+        &[],
+        &[],
+        &[],
         &forecast,
         parts::bytes(&all_marks, marks),
         &all_slots,

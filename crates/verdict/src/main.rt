@@ -26,6 +26,9 @@ fn read_file(path: &[u8], file: &mut [u8; 65537]) -> usize {
 fn judge(
     p: Programme,
     sizes: &[u32],
+    size_chunks: &[u16],
+    size_layers: &[u8],
+    size_bytes: &[u32],
     forecast: &[u32],
     marks: &[u8],
     slots: &[u16],
@@ -33,14 +36,34 @@ fn judge(
     layers: &[u8],
     bytes: &[u32],
 ) {
-    match checker::check(p, sizes, forecast, marks, slots, chunks, layers, bytes) {
+    match checker::check(
+        p,
+        sizes,
+        size_chunks,
+        size_layers,
+        size_bytes,
+        forecast,
+        marks,
+        slots,
+        chunks,
+        layers,
+        bytes,
+    ) {
         Checked::Verdict(v) => print(b"verdict ", v),
         Checked::Refused(r) => print(b"refused ", r),
     }
 }
 
 // Room for the longest plan file: 500 marks, 5,957 rows.
-fn plan_file(p: Programme, sizes: &[u32], forecast: &[u32], file: &[u8]) {
+fn plan_file(
+    p: Programme,
+    sizes: &[u32],
+    size_chunks: &[u16],
+    size_layers: &[u8],
+    size_bytes: &[u32],
+    forecast: &[u32],
+    file: &[u8],
+) {
     let mut marks = [0u8; 500];
     let mut slots = [0u16; 5957];
     let mut chunks = [0u16; 5957];
@@ -49,6 +72,9 @@ fn plan_file(p: Programme, sizes: &[u32], forecast: &[u32], file: &[u8]) {
     match planfile::read_plan(
         p,
         sizes,
+        size_chunks,
+        size_layers,
+        size_bytes,
         forecast,
         file,
         &mut marks,
@@ -61,6 +87,9 @@ fn plan_file(p: Programme, sizes: &[u32], forecast: &[u32], file: &[u8]) {
         PlanRead::Rows(n) => judge(
             p,
             sizes,
+            size_chunks,
+            size_layers,
+            size_bytes,
             forecast,
             parts::bytes(&marks, p.chunks as usize),
             parts::halves(&slots, n),
@@ -71,28 +100,75 @@ fn plan_file(p: Programme, sizes: &[u32], forecast: &[u32], file: &[u8]) {
     }
 }
 
-fn plan_for(p: Programme, sizes: &[u32], forecast: &[u32]) {
+fn plan_for(
+    p: Programme,
+    sizes: &[u32],
+    size_chunks: &[u16],
+    size_layers: &[u8],
+    size_bytes: &[u32],
+    forecast: &[u32],
+) {
     let mut file = [0u8; 65537];
     let n = read_file(b"plan", &mut file);
-    plan_part(p, sizes, forecast, &file, n);
+    plan_part(
+        p,
+        sizes,
+        size_chunks,
+        size_layers,
+        size_bytes,
+        forecast,
+        &file,
+        n,
+    );
 }
 
-fn plan_part(p: Programme, sizes: &[u32], forecast: &[u32], file: &[u8; 65537], n: usize) {
-    plan_file(p, sizes, forecast, parts::bytes(file, n));
+fn plan_part(
+    p: Programme,
+    sizes: &[u32],
+    size_chunks: &[u16],
+    size_layers: &[u8],
+    size_bytes: &[u32],
+    forecast: &[u32],
+    file: &[u8; 65537],
+    n: usize,
+) {
+    plan_file(
+        p,
+        sizes,
+        size_chunks,
+        size_layers,
+        size_bytes,
+        forecast,
+        parts::bytes(file, n),
+    );
 }
 
 fn job_file(file: &[u8; 65537], n: usize) {
     let mut sizes = [0u32; 4];
+    let mut size_chunks = [0u16; 1996];
+    let mut size_layers = [0u8; 1996];
+    let mut size_bytes = [0u32; 1996];
     let mut forecast = [0u32; 3600];
-    match jobfile::read_job(parts::bytes(file, n), &mut sizes, &mut forecast) {
+    match jobfile::read_job(
+        parts::bytes(file, n),
+        &mut sizes,
+        &mut size_chunks,
+        &mut size_layers,
+        &mut size_bytes,
+        &mut forecast,
+    ) {
         JobRead::Refused(r) => print(b"refused ", r),
         JobRead::Job {
             programme,
             layers,
+            overrides,
             slots,
         } => plan_for(
             programme,
             parts::words(&sizes, layers),
+            parts::halves(&size_chunks, overrides),
+            parts::bytes(&size_layers, overrides),
+            parts::words(&size_bytes, overrides),
             parts::words(&forecast, slots),
         ),
     }

@@ -23,7 +23,7 @@ fn tell(answer: Answer) {
 
 fn ask(text: &[u8], chunks: u16, span: u16, limit: u16, sizes: &[u32], forecast: &[u32]) {
     word(text);
-    tell(wait::wait(chunks, span, limit, sizes, forecast));
+    tell(wait::wait(chunks, span, limit, sizes, &[], &[], &[], forecast));
 }
 
 fn tell_bases(film: Film, sizes: &[u32], forecast: &[u32]) {
@@ -51,7 +51,7 @@ fn show(text: &[u8], chunks: u16, span: u16, limit: u16, sizes: &[u32], forecast
         sizes,
         forecast,
     );
-    tell(wait::wait(chunks, span, limit, sizes, forecast));
+    tell(wait::wait(chunks, span, limit, sizes, &[], &[], &[], forecast));
 }
 
 // One chunk of one slot and one byte, nothing held.
@@ -111,6 +111,37 @@ pub fn ranges() {
     of_bytes(b"a size too large", 1, 16777217, 1);
     of_bytes(b"bytes too large", 1, 1, 16777217);
     of_bytes(b"7 before 16", 60, 1, 16777217);
+}
+
+// A film of one layer of 2 bytes and an SZ, of two chunks and four slots: so much of the SZ is handed.
+fn uneven(text: &[u8], chunk: u16, layer: u8, size: u32, whole: usize, slots: usize) {
+    word(text);
+    tell(wait::wait(
+        2,
+        1,
+        2,
+        &[2],
+        &[chunk],
+        &[layer],
+        parts::words(&[size], whole),
+        parts::words(&[1, 1, 1, 2], slots),
+    ));
+}
+
+pub fn uneven_films() {
+    uneven(b"chunk 2 of 1 byte", 2, 0, 1, 1, 4);
+    uneven(b"chunk 2 of 3 bytes", 2, 0, 3, 1, 4);
+    uneven(b"chunk 2 of 4 bytes", 2, 0, 4, 1, 4);
+    uneven(b"an SZ for chunk 1", 1, 0, 1, 1, 4);
+    uneven(b"an SZ for chunk 3", 3, 0, 1, 1, 4);
+    uneven_refused();
+}
+
+fn uneven_refused() {
+    uneven(b"an SZ for layer 1", 2, 1, 1, 1, 4);
+    uneven(b"the layer's own size", 2, 0, 2, 1, 4);
+    uneven(b"an SZ not whole", 2, 0, 1, 0, 4);
+    uneven(b"18 before 7", 2, 0, 2, 1, 0);
 }
 
 // The slots from t + 1 on.

@@ -11,6 +11,7 @@ fn main() {
     cases::programmes();
     cases::lengths();
     cases::ranges();
+    cases::uneven_films();
     cases::large();
     let mut tally = [0u64; 9];
     family::every_film(&mut tally);

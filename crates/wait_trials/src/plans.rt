@@ -41,6 +41,9 @@ pub fn bases(film: Film, s: u16, sizes: &[u32], forecast: &[u32]) -> u16 {
     let plan = planner::plan(
         p,
         sizes,
+        &[],
+        &[],
+        &[],
         parts::words(forecast, last_due(film, s)),
         &mut marks,
         &mut slots,

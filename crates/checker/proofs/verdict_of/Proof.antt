@@ -2,25 +2,24 @@
 use borrow.Author.Needs.{needs}
 use Rattle.checker.proofs.verdict_of.Statement.{statement}
 use Rattle.checker.proofs.verdict_of.Tie as tie
-use mathlib.Core.Path.{refl, _∙_}
+use mathlib.Core.Path.{refl}
 use native.Mathlib.Omega.{arith}
 use denote.Ref.{now}
-use Rattle.job.specs.Job.{jobOf}
 use Rattle.fetch.specs.Rows.{rowsOf}
-use Rattle.checker.proofs.Exact.{due-most, verdict-one, verdict-is}
+use Rattle.checker.proofs.Exact.{due-most, judged-one, judged}
 
 last-due-requires : tie.Need-last-due-requires
 last-due-requires c κs = search needs
 
 tally-requires : tie.Need-tally-requires
 tally-requires c κs =
-    let o = c .before .before .before .before .before .before .before .before .before .before .before .pre in (
-      omega (arith, c .before .before .before .last-due .ensures, o .0 .last-in),
-      o .0 .chunks-in .high,
-      omega (arith, o .1, o .0 .layers-in .high),
-      o .2 .chunk-each,
-      o .2 .layer-each,
-      o .2 .bytes-each,
+    let o = c .before .before .before .before .before .before .before .before .before .before .pre in (
+      omega (arith, c .before .before .before .last-due .ensures, o .1),
+      o .0,
+      o .2,
+      o .4 .chunk-each,
+      o .4 .layer-each,
+      o .4 .bytes-each,
       refl,
       refl,
       refl,
@@ -28,18 +27,18 @@ tally-requires c κs =
 
 see-all-requires : tie.Need-see-all-requires
 see-all-requires c κs =
-    let o = c .before .before .before .before .before .before .before .before .before .before .before .before .before .before .pre in
-    (omega (arith, o .1, o .0 .layers-in .high), o .0 .chunks-in .high, o .2 .byte-each)
+    let o = c .before .before .before .before .before .before .before .before .before .before .before .before .before .pre in
+    (o .2, o .0, o .4 .byte-each)
 
 within-requires : tie.Need-within-requires
-within-requires c κs = let o = c .before .before .before .before .before .before .before .before .before .before .before .before .before .before .before .before .pre in omega (arith, o .0 .slots-in, o .0 .last-in)
+within-requires c κs = let o = c .before .before .before .before .before .before .before .before .before .before .before .before .before .before .before .pre in o .3
 
 sweep-requires : tie.Need-sweep-requires
 sweep-requires c κs =
-    let o = c .before .before .before .before .before .before .before .before .before .before .before .before .before .before .before .before .before .before .pre in (
-      o .0 .chunks-in .high,
-      omega (arith, c .before .before .before .before .before .before .before .before .before .before .last-due .ensures, o .0 .last-in),
-      λ i h. due-most (c .before .before .before .before .before .before .before .before .before .before .before .before .before .before .before .before .before .before .args .p) i 3600 (o .0 .last-in) h,
+    let o = c .before .before .before .before .before .before .before .before .before .before .before .before .before .before .before .before .before .pre in (
+      o .0,
+      omega (arith, c .before .before .before .before .before .before .before .before .before .before .last-due .ensures, o .1),
+      λ i h. due-most (c .before .before .before .before .before .before .before .before .before .before .before .before .before .before .before .before .before .args .p) i 3600 (o .1) h,
       c .before .before .before .before .before .before .tally .ensures .tables (c .before .before .before .before .before .if1 .taken) .some-slot,
     )
 
@@ -48,19 +47,17 @@ lowest-broken-requires c κs = search needs
 
 returns : tie.Need-returns
 returns c =
-    let a = c .before .before .before .before .before .before .before .before .before .before .before .before .before .before .before .before .before .before .before .before .args in
-    let o = c .before .before .before .before .before .before .before .before .before .before .before .before .before .before .before .before .before .before .before .before .pre in
-    c .lowest-broken .ensures
-    ∙ verdict-is (jobOf (a .p) (now (a .sizes)) (now (a .forecast))) (now (a .marks)) (rowsOf (now (a .slots)) (now (a .chunks)) (now (a .layers)) (now (a .bytes)))
-    _ _ (c .before .before .before .before .before .before .before .before .before .before .before .before .last-due .ensures) (o .1) (c .before .before .before .before .before .before .before .before .tally .result) _ _ _ (c .before .before .before .before .before .before .before .before .tally .ensures) (c .before .before .before .before .before .before .before .if1 .taken) (o .0) (o .2 .byte-each)
-    (c .before .before .before .before .before .see-all .result) (c .before .before .before .within .result) (c .before .sweep .result) (c .before .before .before .before .before .see-all .ensures) (c .before .before .before .within .ensures) (c .before .sweep .ensures)
+    let a = c .before .before .before .before .before .before .before .before .before .before .before .before .before .before .before .before .before .before .before .args in
+    let o = c .before .before .before .before .before .before .before .before .before .before .before .before .before .before .before .before .before .before .before .pre in
+    judged (a .p) (now (a .table)) (a .depth) (now (a .forecast)) (now (a .marks)) (rowsOf (now (a .slots)) (now (a .chunks)) (now (a .layers)) (now (a .bytes)))
+    (c .before .before .before .before .before .before .before .before .before .before .before .before .last-due .result) (c .before .before .before .before .before .before .before .before .before .before .before .before .last-due .ensures) (c .before .before .before .before .before .before .before .before .tally .result) _ _ _ (c .before .before .before .before .before .before .before .before .tally .ensures) (c .before .before .before .before .before .before .before .if1 .taken) (o .4 .byte-each)
+    (c .before .before .before .before .before .see-all .result) (c .before .before .before .within .result) (c .before .sweep .result) (c .before .before .before .before .before .see-all .ensures) (c .before .before .before .within .ensures) (c .before .sweep .ensures) (c .lowest-broken .result) (c .lowest-broken .ensures)
 
 returns-2 : tie.Need-returns-2
 returns-2 c =
-    let a = c .before .before .before .before .before .before .before .before .before .before .before .before .before .args in
-    let o = c .before .before .before .before .before .before .before .before .before .before .before .before .before .pre in
-    verdict-one (jobOf (a .p) (now (a .sizes)) (now (a .forecast))) (now (a .marks)) (rowsOf (now (a .slots)) (now (a .chunks)) (now (a .layers)) (now (a .bytes)))
-    _ _ (c .before .before .before .before .before .last-due .ensures) (o .1) (c .before .tally .result) _ _ _ (c .before .tally .ensures) (c .if1 .left)
+    let a = c .before .before .before .before .before .before .before .before .before .before .before .before .args in
+    judged-one (a .p) (now (a .table)) (a .depth) (now (a .forecast)) (now (a .marks)) (rowsOf (now (a .slots)) (now (a .chunks)) (now (a .layers)) (now (a .bytes)))
+    _ (c .before .before .before .before .before .last-due .ensures) (c .before .tally .result) _ _ _ (c .before .tally .ensures) (c .if1 .left)
 
 pub verdict-of-spec : {M : Type 1} → statement M
 verdict-of-spec =

@@ -8,8 +8,10 @@ use lib.Dec.{leb, ltb, eqb}
 use Rattle.basics.specs.Tests.{all, allTo, allBelow}
 use Rattle.basics.specs.Sums.{count}
 use Rattle.job.specs.declared.Programme.{Programme}
-use Rattle.job.specs.Job.{dueSlot, sizeIn}
+use Rattle.job.specs.Job.{Job, Override, Accepted, jobOf, dueSlot, layers, size}
+use Rattle.job.specs.Table.{tableAt}
 use Rattle.fetch.specs.Rows.{Row, bytesInSlot, bytesOfLayer, markByte}
+use Rattle.fetch.specs.Verdict.{verdict}
 use Rattle.checker.specs.declared.Pass.{Pass}
 use Rattle.checker.specs.declared.Seen.{Seen}
 use Rattle.checker.specs.declared.Layers.{Layers}
@@ -50,13 +52,13 @@ pub record Passed (p : Programme) (last depth : ℕ) (rows : List Row) (r : Pass
 
 -- ---- layers of a chunk
 
--- Layer n of chunk i is carried, by the table.
-abbrev pub carriedBy : List ℕ → List ℕ → ℕ → ℕ → Bool
-carriedBy sizes layersum i n = eqb (getD layersum (4 * (i - 1) + n) 0) (sizeIn sizes i n)
+-- Layer n of chunk i is carried, by the table of sums and a size for each layer of each chunk.
+abbrev pub carriedBy : (ℕ → ℕ → ℕ) → List ℕ → ℕ → ℕ → Bool
+carriedBy size layersum i n = eqb (getD layersum (4 * (i - 1) + n) 0) (size i n)
 
--- Its sum is 0 or its full size, by the table.
-abbrev pub wholeBy : List ℕ → List ℕ → ℕ → ℕ → Bool
-wholeBy sizes layersum i n = eqb (getD layersum (4 * (i - 1) + n) 0) 0 || carriedBy sizes layersum i n
+-- Its sum is 0 or its full size.
+abbrev pub wholeBy : (ℕ → ℕ → ℕ) → List ℕ → ℕ → ℕ → Bool
+wholeBy size layersum i n = eqb (getD layersum (4 * (i - 1) + n) 0) 0 || carriedBy size layersum i n
 
 -- The layer below layer n passes, or n is the base.
 abbrev pub under : (ℕ → Bool) → ℕ → Bool
@@ -67,16 +69,16 @@ abbrev pub lowerBy : (ℕ → Bool) → ℕ → Bool
 lowerBy c n = not (c n) || under c n
 
 -- The layers of chunk i: its mark byte, rules 2 and 3.
-pub record SeenChunk (sizes layersum : List ℕ) (depth i : ℕ) (r : Seen) : Type 0 where
-  pub mark : r .mark ≡ markByte (carriedBy sizes layersum i) depth
-  pub whole : r .whole ≡ allBelow depth (wholeBy sizes layersum i)
-  pub lower : r .lower ≡ allBelow depth (lowerBy (carriedBy sizes layersum i))
+pub record SeenChunk (size : ℕ → ℕ → ℕ) (layersum : List ℕ) (depth i : ℕ) (r : Seen) : Type 0 where
+  pub mark : r .mark ≡ markByte (carriedBy size layersum i) depth
+  pub whole : r .whole ≡ allBelow depth (wholeBy size layersum i)
+  pub lower : r .lower ≡ allBelow depth (lowerBy (carriedBy size layersum i))
 
 -- Every chunk of a list with its marks: rules 2, 3 and 7.
-pub record SeenAll (sizes layersum marks : List ℕ) (depth n : ℕ) (r : Layers) : Type 0 where
-  pub whole : r .whole ≡ allTo n (λ i. allBelow depth (wholeBy sizes layersum i))
-  pub lower : r .lower ≡ allTo n (λ i. allBelow depth (lowerBy (carriedBy sizes layersum i)))
-  pub said : r .said ≡ allTo n (λ i. eqb (getD marks (i - 1) 0) (markByte (carriedBy sizes layersum i) depth))
+pub record SeenAll (size : ℕ → ℕ → ℕ) (layersum marks : List ℕ) (depth n : ℕ) (r : Layers) : Type 0 where
+  pub whole : r .whole ≡ allTo n (λ i. allBelow depth (wholeBy size layersum i))
+  pub lower : r .lower ≡ allTo n (λ i. allBelow depth (lowerBy (carriedBy size layersum i)))
+  pub said : r .said ≡ allTo n (λ i. eqb (getD marks (i - 1) 0) (markByte (carriedBy size layersum i) depth))
 
 -- ---- held chunks
 
@@ -97,3 +99,16 @@ pub record Marked (p : Programme) (first : List ℕ) (n : ℕ) (begins ends : Li
   pub end-at : (t : ℕ) → t ≤ 3600 → getD ends t 0 ≡ count (endsAt p first t) n
   pub begin-long : length begins ≡ 3601
   pub end-long : length ends ≡ 3601
+
+-- ---- the job
+
+-- An accepted job whose sizes a table has, for so many layers.
+pub record Shown (table : List ℕ) (depth : ℕ) (j : Job) : Type 0 where
+  pub accepted : Accepted j
+  pub sizes-are : tableAt table ≡ size j
+  pub depth-is : depth ≡ layers j
+
+-- The verdict of every job so shown.
+abbrev pub Judged : Programme → List ℕ → ℕ → List ℕ → List ℕ → List Row → ℕ → Type 0
+Judged p table depth forecast marks rows r =
+    (sizes : List ℕ) (os : List Override) → Shown table depth (jobOf p sizes os forecast) → r ≡ verdict (jobOf p sizes os forecast) marks rows

@@ -7,19 +7,16 @@ use Rattle.exhaustive.proofs.every_job.Statement.{statement}
 use Rattle.exhaustive.proofs.every_job.Tie as tie
 
 abbrev Inv-loop : tie.InvT-loop
-Inv-loop tally₀ k₀ tally k = (k ≤ 42768) × (length tally ≡ length tally₀)
+Inv-loop tally₀ k₀ tally k = (k ≤ 3888) × (length tally ≡ length tally₀)
 
 abbrev μ-loop : tie.MeasureT-loop
-μ-loop tally₀ k₀ tally k = 42768 - k
+μ-loop tally₀ k₀ tally k = 3888 - k
 
 loop-holds : tie.Need-loop-holds Inv-loop μ-loop
 loop-holds c = search needs
 
-film-of-requires : tie.Need-film-of-requires Inv-loop μ-loop
-film-of-requires c κs = search needs
-
-trial-requires : tie.Need-trial-requires Inv-loop μ-loop
-trial-requires c κs = search needs
+every-kind-requires : tie.Need-every-kind-requires Inv-loop μ-loop
+every-kind-requires c κs = search needs
 
 add-k : tie.Need-add-k Inv-loop μ-loop
 add-k c = search needs
@@ -43,8 +40,7 @@ every-job-spec =
     Inv-loop
     μ-loop
     loop-holds
-    film-of-requires
-    trial-requires
+    every-kind-requires
     add-k
     loop-less
     loop-again

@@ -1,15 +1,15 @@
--- Lemmas. Sums and tests over rows: in another order, of a row that stands in the list, of a base. Assumes nothing.
+-- Lemmas. Sums and tests over rows: in another order, with one row more, of a row that stands in the list, of a base. Assumes nothing.
 use Prim.Native.Nat.{ℕ, zero, suc, _+_, _≤_}
 use mathlib.Core.Path.{_≡_, refl, ap, _∙_}
 use mathlib.Core.Bool.{Bool, true, false, not, cond, _&&_, _||_}
-use mathlib.Core.List.{List, [], _∷_}
+use mathlib.Core.List.{List, [], _∷_, _++_}
 use mathlib.Core.Logic.{⊎-elim}
 use native.Mathlib.Omega.{arith}
-use lib.ListN.{length, getD}
 use lib.Dec.{T, eqb}
-use Rattle.basics.specs.Tests.{All, all, any, In, here, there}
+use Rattle.basics.specs.Tests.{all, any, In, here, there}
 use Rattle.basics.specs.lemmas.Tests.{test, T-or-iff}
-use Rattle.job.specs.Job.{Job, Layer, Within, Accepted, size}
+use Rattle.job.specs.Job.{Job, Layer, Accepted, size}
+use Rattle.job.specs.lemmas.Within.{size-least}
 use Rattle.fetch.specs.Rows.{Row, bytesIf, Carried, Permuted, none, keep, swap, next}
 use Rattle.fetch.specs.Rules.{LowerCarried}
 use Rattle.fetch.specs.Verdict.{lowerCarried}
@@ -47,6 +47,12 @@ any-permuted p (next h k) = any-permuted p h ∙ any-permuted p k
 pub lower-permuted : (j : Job) {a b : List Row} → Permuted a b → (i n : ℕ) → lowerCarried j a i n ≡ lowerCarried j b i n
 lower-permuted j h i zero = refl
 lower-permuted j h i (suc n) = ap (λ (s : ℕ). eqb s (size j i n)) (bytes-permuted (λ x. eqb (x .chunk) i && eqb (x .layer) n) h)
+
+-- ---- one row more
+
+pub bytes-snoc : (p : Row → Bool) (l : List Row) (x : Row) → bytesIf p (l ++ (x ∷ [])) ≡ bytesIf p l + cond (p x) (x .bytes) 0
+bytes-snoc p [] x = omega arith
+bytes-snoc p (y ∷ l) x = omega (arith, bytes-snoc p l x)
 
 -- ---- a row of the list
 
@@ -93,7 +99,4 @@ base-carried j rows f i (suc n) r c =
 
 -- A base of an accepted job has at least a byte.
 pub base-low : (j : Job) → Accepted j → (i : ℕ) → 1 ≤ size j i 0
-base-low j ok i = at (j .sizes) (ok .layers-in .low) (ok .sizes-in) where
-  at : (l : List ℕ) → 1 ≤ length l → All (Within 1 16777216) l → 1 ≤ getD l 0 0
-  at [] h a = absurd (omega arith)
-  at (x ∷ l) h a = a .0 .low
+base-low j ok i = size-least j ok i 0 (ok .layers-in .low)

@@ -8,7 +8,7 @@ use lib.ListN.{length, drop}
 use lib.Dec.{ltb}
 use Rattle.basics.specs.Sums.{sum}
 use Rattle.basics.specs.Tests.{All}
-use Rattle.job.specs.Job.{sizeIn}
+use Rattle.job.specs.Job.{Within}
 use Rattle.fetch.specs.Rows.{Row, rowSlot, rowChunk, rowLayer, rowBytes}
 use Rattle.fetch.specs.Marks.{bit}
 use Rattle.schedule.specs.lemmas.Fill.{Piece, take-slot, fill}
@@ -115,30 +115,32 @@ pub record Levels (mark : ℕ) : Type 0 where
   pub closed : mark ≡ levelMark (levelOf mark)
 
 -- The layers of a chunk.
-abbrev pub layersOf : List ℕ → ℕ → ℕ → ℕ → List Piece
-layersOf sizes chunk ready mark = pieces (sizeIn sizes) chunk ready 0 (levelOf mark)
+abbrev pub layersOf : (ℕ → ℕ → ℕ) → ℕ → ℕ → ℕ → List Piece
+layersOf size chunk ready mark = pieces size chunk ready 0 (levelOf mark)
 
 -- The pieces of the chunks of three tables.
-abbrev pub queueOf : List ℕ → List ℕ → List ℕ → List ℕ → List Piece
-queueOf sizes [] rs ms = []
-queueOf sizes (k ∷ ks) [] ms = []
-queueOf sizes (k ∷ ks) (r ∷ rs) [] = []
-queueOf sizes (k ∷ ks) (r ∷ rs) (m ∷ ms) = layersOf sizes k r m ++ queueOf sizes ks rs ms
+abbrev pub queueOf : (ℕ → ℕ → ℕ) → List ℕ → List ℕ → List ℕ → List Piece
+queueOf size [] rs ms = []
+queueOf size (k ∷ ks) [] ms = []
+queueOf size (k ∷ ks) (r ∷ rs) [] = []
+queueOf size (k ∷ ks) (r ∷ rs) (m ∷ ms) = layersOf size k r m ++ queueOf size ks rs ms
 
 -- What a chunk's pieces ask for.
-pub record ChunkFrom (start : ℕ) (part sizes : List ℕ) (a : At) (ready chunk mark : ℕ) (ss cs ls bs : List ℕ) : Type 0 where
+pub record ChunkFrom (start : ℕ) (part : List ℕ) (size : ℕ → ℕ → ℕ) (a : At) (ready chunk mark : ℕ) (ss cs ls bs : List ℕ) : Type 0 where
   pub room : Room start part 4 a ss cs ls bs
   pub by : ready ≤ lastOf start part
+  pub chunk-in : Within 1 500 chunk
   pub levels : Levels mark
-  pub fed : Fed (leftAt start part) (layersOf sizes chunk ready mark)
-  pub fits : load (layersOf sizes chunk ready mark) ≤ a .c + leftAt start part (a .t)
+  pub fed : Fed (leftAt start part) (layersOf size chunk ready mark)
+  pub fits : load (layersOf size chunk ready mark) ≤ a .c + leftAt start part (a .t)
 
 -- What all pieces ask for.
-pub record AllFrom (start : ℕ) (part sizes ids ready mark : List ℕ) (first : ℕ) (a : At) (ss cs ls bs : List ℕ) : Type 0 where
+pub record AllFrom (start : ℕ) (part : List ℕ) (size : ℕ → ℕ → ℕ) (ids ready mark : List ℕ) (first : ℕ) (a : At) (ss cs ls bs : List ℕ) : Type 0 where
   pub within : first ≤ 500
   pub room : Room start part (4 * (500 - first)) a ss cs ls bs
   pub by : All (λ r. r ≤ lastOf start part) (drop first ready)
+  pub chunks-in : All (Within 1 500) (drop first ids)
   pub levels : All Levels (drop first mark)
-  pub fed : Fed (leftAt start part) (queueOf sizes (drop first ids) (drop first ready) (drop first mark))
-  pub fits : load (queueOf sizes (drop first ids) (drop first ready) (drop first mark)) ≤ a .c + leftAt start part (a .t)
+  pub fed : Fed (leftAt start part) (queueOf size (drop first ids) (drop first ready) (drop first mark))
+  pub fits : load (queueOf size (drop first ids) (drop first ready) (drop first mark)) ≤ a .c + leftAt start part (a .t)
   pub long : (length ids ≡ 500) × (length ready ≡ 500) × (length mark ≡ 500)

@@ -15,16 +15,15 @@ use Rattle.basics.specs.Lists.{upTo}
 use Rattle.basics.specs.lemmas.Lists.{length-upTo, getD-upTo, upTo-cong}
 use Rattle.basics.specs.Refusals.{unless, _orElse_}
 use Rattle.basics.specs.lemmas.Refusals.{unless-iff, orElse-iff}
-use Rattle.records.specs.Fields.{h}
 use Rattle.records.specs.File.{Format, got, split, firstFault, fileRefusal, encodeAll}
 use Rattle.records.specs.lemmas.Written.{h-back, w-back, ReadsBack, Plain, split-written, refusal-written}
-use Rattle.job.specs.Job.{Job, chunks}
-use Rattle.job.specs.Refusal.{refusal}
+use Rattle.job.specs.Job.{chunks}
+use Rattle.job.specs.Handed.{HandedJob, jobIn, jobRefusal}
 use Rattle.fetch.specs.Rows.{Row, rowAt}
 use Rattle.fetch.specs.Handed.{Whole, handedRefusal, handed-iff}
 use Rattle.planfile.specs.Records.{encode, front}
 use Rattle.planfile.specs.PlanFile.{marksIn, rowsIn, fault, lacking, format, Plan, RowInWidth, InWidth, planIn, kps, ftOf, recordsOf, fileOf}
-use Rattle.planfile.specs.Calls.{Slices, room, readRefusal, planOf, writeInput, writeRefusal}
+use Rattle.planfile.specs.Calls.{Slices, room, readRefusal, planOf, writeRest, writeRefusal}
 use Rattle.planfile.specs.lemmas.Scan.{marks-append, rows-append}
 use Rattle.planfile.specs.lemmas.Writing.{bytes-all, all-upTo, map-upTo, length-file}
 use Rattle.planfile.specs.declared.Record.{Record}
@@ -162,24 +161,24 @@ module _ (count : ℕ) (plan : Plan) (i : InWidth plan) (e : length (plan .marks
 -- ---- the calls
 
 -- What a writer that does not refuse has found.
-pub record Accepts (j : Job) (s : Slices) : Type 0 where
-  pub job-in : refusal j ≡ 0
-  pub whole : Whole (chunks j) (s .marks) (s .slots) (s .chunks) (s .layers) (s .bytes)
+pub record Accepts (h : HandedJob) (s : Slices) : Type 0 where
+  pub job-in : jobRefusal h ≡ 0
+  pub whole : Whole (chunks (jobIn h)) (s .marks) (s .slots) (s .chunks) (s .layers) (s .bytes)
   pub fits : length (fileOf (planOf s)) ≤ 65536
 
-pub accepts : (j : Job) (s : Slices) (out : List ℕ) → writeRefusal j s out ≡ 0 → Accepts j s
-unfolding writeRefusal writeInput
-accepts j s out e =
-    let handed = handedRefusal (chunks j) (s .marks) (s .slots) (s .chunks) (s .layers) (s .bytes) in
+pub accepts : (h : HandedJob) (s : Slices) (out : List ℕ) → writeRefusal h s out ≡ 0 → Accepts h s
+unfolding writeRefusal writeRest
+accepts h s out e =
+    let handed = handedRefusal (chunks (jobIn h)) (s .marks) (s .slots) (s .chunks) (s .layers) (s .bytes) in
     let long = length (fileOf (planOf s)) in
     let nine = unless 9 (leb long 65536) in
-    let input = orElse-iff (refusal j orElse handed orElse nine) (unless 11 (leb long (length out))) .0 e .0 in
-    let a = orElse-iff (refusal j) (handed orElse nine) .0 input in
-    let b = orElse-iff handed nine .0 (a .1) in
+    let eleven = unless 11 (leb long (length out)) in
+    let a = orElse-iff (jobRefusal h) (handed orElse nine orElse eleven) .0 e in
+    let b = orElse-iff handed (nine orElse eleven) .0 (a .1) in
     record {
       job-in = a .0;
-      whole = handed-iff (chunks j) (s .marks) (s .slots) (s .chunks) (s .layers) (s .bytes) .0 (b .0);
-      fits = leb→le long 65536 (unless-iff 9 (leb long 65536) (omega arith) .0 (b .1));
+      whole = handed-iff (chunks (jobIn h)) (s .marks) (s .slots) (s .chunks) (s .layers) (s .bytes) .0 (b .0);
+      fits = leb→le long 65536 (unless-iff 9 (leb long 65536) (omega arith) .0 (orElse-iff nine eleven .0 (b .1) .0));
     }
 
 -- The fields of the rows that four slices of one length hand over are those slices.
@@ -190,9 +189,9 @@ field f s l h e =
     ∙ rw e (upTo-getD l)
 
 -- A file that is accepted, says that plan and has room isn't refused.
-pub not-short : (j : Job) (s lent : Slices) → refusal j ≡ 0 → fileRefusal (format (chunks j)) (fileOf (planOf s)) ≡ 0 → planIn (chunks j) (fileOf (planOf s)) ≡ planOf s → length (planOf s .rows) ≡ length (s .slots) → T (room lent (chunks j) (length (s .slots))) → readRefusal j (fileOf (planOf s)) lent ≡ 0
+pub not-short : (h : HandedJob) (s lent : Slices) → jobRefusal h ≡ 0 → fileRefusal (format (chunks (jobIn h))) (fileOf (planOf s)) ≡ 0 → planIn (chunks (jobIn h)) (fileOf (planOf s)) ≡ planOf s → length (planOf s .rows) ≡ length (s .slots) → T (room lent (chunks (jobIn h)) (length (s .slots))) → readRefusal h (fileOf (planOf s)) lent ≡ 0
 unfolding readRefusal
-not-short j s lent z f p n t = rw (z, f, p, n, T-true (room lent (chunks j) (length (s .slots))) t)
+not-short h s lent z f p n t = rw (z, f, p, n, T-true (room lent (chunks (jobIn h)) (length (s .slots))) t)
 
 -- 9 by the size alone, whatever the room.
 pub nine-by-size : (n m : ℕ) → ((unless 9 (leb n 65536) orElse unless 11 (leb n m)) ≡ 9) ↔ (65536 < n)

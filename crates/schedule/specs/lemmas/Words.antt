@@ -1,14 +1,14 @@
 -- Lemmas. Words of the argument that document 01 does not have, and the order of due slots and forecasts. Section 1 of the argument.
-use Prim.Native.Nat.{ℕ, zero, suc, _-_, _≤_, _<_}
+use Prim.Native.Nat.{ℕ, _-_, _≤_, _<_}
 use mathlib.Core.Bool.{Bool}
-use mathlib.Core.List.{List, [], _∷_}
+use mathlib.Core.List.{List}
 use native.Mathlib.Omega.{arith}
 use native.Mathlib.Nat.{mul-le-mul-right}
 use lib.Dec.{eqb}
-use lib.ListN.{length, getD}
 use Rattle.basics.specs.lemmas.Ranges.{pre-mono}
-use Rattle.basics.specs.Tests.{All, any}
-use Rattle.job.specs.Job.{Accepted, Job, Layer, Within, chunks, due, forecast, layers, size, dueSlot, lastDue}
+use Rattle.basics.specs.Tests.{any}
+use Rattle.job.specs.Job.{Accepted, Job, Layer, chunks, due, forecast, layers, size, dueSlot, lastDue}
+use Rattle.job.specs.lemmas.Within.{size-least}
 use Rattle.fetch.specs.Rows.{Row, bytesIf}
 use Rattle.schedule.specs.Plan.{after}
 use Rattle.job.specs.declared.Programme.{Programme}
@@ -40,10 +40,5 @@ layer-of j i n u v w = record { chunk-low = u; chunk-high = v; layer-in = w }
 abbrev pub Sized : Job → Type 0
 Sized j = (i n : ℕ) → Layer j i n → 1 ≤ size j i n
 
-nth-within : (lo hi : ℕ) (l : List ℕ) (n : ℕ) → All (Within lo hi) l → n < length l → lo ≤ getD l n 0
-nth-within lo hi [] n a h = absurd (omega arith)
-nth-within lo hi (x ∷ xs) zero a h = a .0 .low
-nth-within lo hi (x ∷ xs) (suc n) a h = nth-within lo hi xs n (a .1) (omega arith)
-
 pub accepted-sized : (j : Job) → Accepted j → Sized j
-accepted-sized j a i n r = nth-within 1 16777216 (j .sizes) n (a .sizes-in) (r .layer-in)
+accepted-sized j a i n r = size-least j a i n (r .layer-in)

@@ -5,23 +5,23 @@ use native.Mathlib.Omega.{arith}
 use lib.ListN.{getD}
 use borrow.Author.Needs.{needs}
 use denote.Ref.{now}
-use Rattle.job.specs.Job.{sizeIn}
+use Rattle.job.specs.Table.{tableAt}
 use Rattle.schedule.specs.lemmas.Parts.{at}
-use Rattle.settle.proofs.Trials.{Backing, backing-start, backing-end, backing-pass, backing-take, bytes-small, due-slot, want-small}
+use Rattle.settle.proofs.Trials.{Backing, backing-start, backing-end, backing-pass, backing-take, bytes-small, chunk-in, due-slot, want-small}
 use Rattle.settle.proofs.try_layer.Statement.{statement}
 use Rattle.settle.proofs.try_layer.Tie as tie
 
 abbrev Inv-loop : tie.InvT-loop
-Inv-loop sizes n after ids dues room first bytes₀ mark₀ below need₀ q₀ bytes mark need q = Backing sizes n after ids dues room first bytes₀ mark₀ bytes mark need q
+Inv-loop table n after ids dues room first bytes₀ mark₀ below need₀ q₀ bytes mark need q = Backing (tableAt table) n after ids dues room first bytes₀ mark₀ bytes mark need q
 
 abbrev μ-loop : tie.MeasureT-loop
-μ-loop sizes n after ids dues room first bytes₀ mark₀ below need₀ q₀ bytes mark need q = q
+μ-loop table n after ids dues room first bytes₀ mark₀ below need₀ q₀ bytes mark need q = q
 
 sub-below : tie.Need-sub-below Inv-loop μ-loop
-sub-below c = omega (arith, c .before .pre .low)
+sub-below c = omega (arith, c .pre .low)
 
 loop-holds : tie.Need-loop-holds Inv-loop μ-loop
-loop-holds c = let a = c .before .args in backing-start (now (a .sizes)) (a .n) (now (a .after)) (now (a .ids)) (now (a .dues)) (now (a .room)) (a .first) (now (a .bytes)) (now (a .mark)) (c .before .pre)
+loop-holds c = let a = c .args in backing-start (tableAt (now (a .table))) (a .n) (now (a .after)) (now (a .ids)) (now (a .dues)) (now (a .room)) (a .first) (now (a .bytes)) (now (a .mark)) (c .pre)
 
 sub-k : tie.Need-sub-k Inv-loop μ-loop
 sub-k c = omega arith
@@ -39,52 +39,55 @@ mul-d : tie.Need-mul-d Inv-loop μ-loop
 mul-d c = omega (arith, c .before .before .before .loop .inv .to)
 
 element-copy-out-d : tie.Need-element-copy-out-d Inv-loop μ-loop
-element-copy-out-d c = omega (arith, c .before .before .before .loop .inv .to, c .before .before .before .before .before .pre .long .2)
+element-copy-out-d c = omega (arith, c .before .before .before .loop .inv .to, c .before .before .before .before .pre .long .2)
 
 cast-d : tie.Need-cast-d Inv-loop μ-loop
-cast-d c = let a = c .before .before .before .before .before .before .args in let l = c .before .before .before .before .loop in omega (arith, due-slot (now (a .sizes)) (a .n) (now (a .after)) (now (a .ids)) (now (a .dues)) (now (a .room)) (a .first) (now (a .bytes)) (now (a .mark)) (c .before .before .before .before .before .before .pre) (l .bytes) (l .mark) (l .need) (l .q) (l .inv) (c .before .before .before .loop-test .taken))
+cast-d c = let a = c .before .before .before .before .before .args in let l = c .before .before .before .before .loop in omega (arith, due-slot (tableAt (now (a .table))) (a .n) (now (a .after)) (now (a .ids)) (now (a .dues)) (now (a .room)) (a .first) (now (a .bytes)) (now (a .mark)) (c .before .before .before .before .before .pre) (l .bytes) (l .mark) (l .need) (l .q) (l .inv) (c .before .before .before .loop-test .taken))
 
-mul-size-of : tie.Need-mul-size-of Inv-loop μ-loop
-mul-size-of c = omega (arith, c .before .before .before .before .loop .inv .to)
+mul-size-in : tie.Need-mul-size-in Inv-loop μ-loop
+mul-size-in c = omega (arith, c .before .before .before .before .loop .inv .to)
 
-element-copy-out-size-of : tie.Need-element-copy-out-size-of Inv-loop μ-loop
-element-copy-out-size-of c = omega (arith, c .before .before .before .before .loop .inv .to, c .before .before .before .before .before .before .pre .long .1)
+element-copy-out-size-in : tie.Need-element-copy-out-size-in Inv-loop μ-loop
+element-copy-out-size-in c = omega (arith, c .before .before .before .before .loop .inv .to, c .before .before .before .before .before .pre .long .1)
 
-size-of-requires : tie.Need-size-of-requires Inv-loop μ-loop
-size-of-requires c κs = search needs
+size-in-requires : tie.Need-size-in-requires Inv-loop μ-loop
+size-in-requires c κs =
+    let a = c .before .before .before .before .before .before .args in
+    let l = c .before .before .before .before .before .loop in
+    (chunk-in (tableAt (now (a .table))) (a .n) (now (a .after)) (now (a .ids)) (now (a .dues)) (now (a .room)) (a .first) (now (a .bytes)) (now (a .mark)) (c .before .before .before .before .before .before .pre) (l .bytes) (l .mark) (l .need) (l .q) (l .inv) (c .before .before .before .before .loop-test .taken), omega (arith, c .before .before .before .before .before .before .pre .high))
 
 wide-requires : tie.Need-wide-requires Inv-loop μ-loop
 wide-requires c κs = search needs
 
 mul-larger : tie.Need-mul-larger Inv-loop μ-loop
-mul-larger c = let a = c .before .before .before .before .before .before .before .before .before .args in let l = c .before .before .before .before .before .before .before .loop in omega (arith, due-slot (now (a .sizes)) (a .n) (now (a .after)) (now (a .ids)) (now (a .dues)) (now (a .room)) (a .first) (now (a .bytes)) (now (a .mark)) (c .before .before .before .before .before .before .before .before .before .pre) (l .bytes) (l .mark) (l .need) (l .q) (l .inv) (c .before .before .before .before .before .before .loop-test .taken))
+mul-larger c = let a = c .before .before .before .before .before .before .before .before .args in let l = c .before .before .before .before .before .before .before .loop in omega (arith, due-slot (tableAt (now (a .table))) (a .n) (now (a .after)) (now (a .ids)) (now (a .dues)) (now (a .room)) (a .first) (now (a .bytes)) (now (a .mark)) (c .before .before .before .before .before .before .before .before .pre) (l .bytes) (l .mark) (l .need) (l .q) (l .inv) (c .before .before .before .before .before .before .loop-test .taken))
 
 element-copy-out-larger : tie.Need-element-copy-out-larger Inv-loop μ-loop
-element-copy-out-larger c = let a = c .before .before .before .before .before .before .before .before .before .args in let l = c .before .before .before .before .before .before .before .loop in omega (arith, c .before .before .before .before .before .before .before .before .before .pre .long .0, due-slot (now (a .sizes)) (a .n) (now (a .after)) (now (a .ids)) (now (a .dues)) (now (a .room)) (a .first) (now (a .bytes)) (now (a .mark)) (c .before .before .before .before .before .before .before .before .before .pre) (l .bytes) (l .mark) (l .need) (l .q) (l .inv) (c .before .before .before .before .before .before .loop-test .taken))
+element-copy-out-larger c = let a = c .before .before .before .before .before .before .before .before .args in let l = c .before .before .before .before .before .before .before .loop in omega (arith, c .before .before .before .before .before .before .before .before .pre .long .0, due-slot (tableAt (now (a .table))) (a .n) (now (a .after)) (now (a .ids)) (now (a .dues)) (now (a .room)) (a .first) (now (a .bytes)) (now (a .mark)) (c .before .before .before .before .before .before .before .before .pre) (l .bytes) (l .mark) (l .need) (l .q) (l .inv) (c .before .before .before .before .before .before .loop-test .taken))
 
 larger-requires : tie.Need-larger-requires Inv-loop μ-loop
 larger-requires c κs = search needs
 
 add-want : tie.Need-add-want Inv-loop μ-loop
-add-want c = let a = c .before .before .before .before .before .before .before .before .before .before .before .args in let l = c .before .before .before .before .before .before .before .before .before .loop in omega (arith, c .larger .ensures, c .before .before .wide .ensures, want-small (now (a .sizes)) (a .n) (now (a .after)) (now (a .ids)) (now (a .dues)) (now (a .room)) (a .first) (now (a .bytes)) (now (a .mark)) (c .before .before .before .before .before .before .before .before .before .before .before .pre) (l .bytes) (l .mark) (l .need) (l .q) (l .inv) (c .before .before .before .before .before .before .before .before .loop-test .taken))
+add-want c = let a = c .before .before .before .before .before .before .before .before .before .before .args in let l = c .before .before .before .before .before .before .before .before .before .loop in omega (arith, c .larger .ensures, c .before .before .wide .ensures, want-small (tableAt (now (a .table))) (a .n) (now (a .after)) (now (a .ids)) (now (a .dues)) (now (a .room)) (a .first) (now (a .bytes)) (now (a .mark)) (c .before .before .before .before .before .before .before .before .before .before .pre) (l .bytes) (l .mark) (l .need) (l .q) (l .inv) (c .before .before .before .before .before .before .before .before .loop-test .taken))
 
 wide-requires-2 : tie.Need-wide-requires-2 Inv-loop μ-loop
 wide-requires-2 c κs = search needs
 
 add-more : tie.Need-add-more Inv-loop μ-loop
-add-more c = let a = c .before .before .before .before .before .before .before .before .before .before .before .before .args in let l = c .before .before .before .before .before .before .before .before .before .before .loop in omega (arith, c .wide2 .ensures, c .before .larger .ensures, c .before .before .before .wide .ensures, c .before .before .before .before .size-of .ensures, want-small (now (a .sizes)) (a .n) (now (a .after)) (now (a .ids)) (now (a .dues)) (now (a .room)) (a .first) (now (a .bytes)) (now (a .mark)) (c .before .before .before .before .before .before .before .before .before .before .before .before .pre) (l .bytes) (l .mark) (l .need) (l .q) (l .inv) (c .before .before .before .before .before .before .before .before .before .loop-test .taken))
+add-more c = let a = c .before .before .before .before .before .before .before .before .before .before .before .args in let l = c .before .before .before .before .before .before .before .before .before .before .loop in omega (arith, c .wide2 .ensures, c .before .larger .ensures, c .before .before .before .wide .ensures, c .before .before .before .before .size-in .ensures, want-small (tableAt (now (a .table))) (a .n) (now (a .after)) (now (a .ids)) (now (a .dues)) (now (a .room)) (a .first) (now (a .bytes)) (now (a .mark)) (c .before .before .before .before .before .before .before .before .before .before .before .pre) (l .bytes) (l .mark) (l .need) (l .q) (l .inv) (c .before .before .before .before .before .before .before .before .before .loop-test .taken))
 
 mul-takes : tie.Need-mul-takes Inv-loop μ-loop
 mul-takes c = omega (arith, c .before .before .before .before .before .before .before .before .before .before .loop .inv .to)
 
 element-copy-out-takes : tie.Need-element-copy-out-takes Inv-loop μ-loop
-element-copy-out-takes c = omega (arith, c .before .before .before .before .before .before .before .before .before .before .loop .inv .to, c .before .before .before .before .before .before .before .before .before .before .before .before .pre .long .3)
+element-copy-out-takes c = omega (arith, c .before .before .before .before .before .before .before .before .before .before .loop .inv .to, c .before .before .before .before .before .before .before .before .before .before .before .pre .long .3)
 
 takes-requires : tie.Need-takes-requires Inv-loop μ-loop
 takes-requires c κs = search needs
 
 add-bytes : tie.Need-add-bytes Inv-loop μ-loop
-add-bytes c = let a = c .before .before .before .before .before .before .before .before .before .before .before .before .before .before .before .args in let l = c .before .before .before .before .before .before .before .before .before .before .before .before .before .loop in omega (arith, c .before .before .before .before .before .before .before .size-of .ensures, bytes-small (now (a .sizes)) (a .n) (now (a .after)) (now (a .ids)) (now (a .dues)) (now (a .room)) (a .first) (now (a .bytes)) (now (a .mark)) (c .before .before .before .before .before .before .before .before .before .before .before .before .before .before .before .pre) (l .bytes) (l .mark) (l .need) (l .q) (l .inv) (c .before .before .before .before .before .before .before .before .before .before .before .before .loop-test .taken), c .before .before .before .before .before .before .before .before .before .before .before .before .before .before .before .pre .high, c .before .before .before .before .before .before .before .before .before .before .before .before .before .before .before .pre .small (getD (now (a .ids)) (l .q - 1) 0) (a .n))
+add-bytes c = let a = c .before .before .before .before .before .before .before .before .before .before .before .before .before .before .args in let l = c .before .before .before .before .before .before .before .before .before .before .before .before .before .loop in omega (arith, c .before .before .before .before .before .before .before .size-in .ensures, bytes-small (tableAt (now (a .table))) (a .n) (now (a .after)) (now (a .ids)) (now (a .dues)) (now (a .room)) (a .first) (now (a .bytes)) (now (a .mark)) (c .before .before .before .before .before .before .before .before .before .before .before .before .before .before .pre) (l .bytes) (l .mark) (l .need) (l .q) (l .inv) (c .before .before .before .before .before .before .before .before .before .before .before .before .loop-test .taken), c .before .before .before .before .before .before .before .before .before .before .before .before .before .before .pre .high, c .before .before .before .before .before .before .before .before .before .before .before .before .before .before .pre .small (getD (now (a .ids)) (l .q - 1) 0) (a .n))
 
 mul-bytes : tie.Need-mul-bytes Inv-loop μ-loop
 mul-bytes c = omega (arith, c .before .before .before .before .before .before .before .before .before .before .before .before .before .loop .inv .to)
@@ -103,29 +106,29 @@ loop-less c = omega arith
 
 loop-again : tie.Need-loop-again Inv-loop μ-loop
 loop-again c =
-    let a = c .before .before .before .before .before .before .before .before .before .before .before .before .before .before .before .before .args in
+    let a = c .before .before .before .before .before .before .before .before .before .before .before .before .before .before .before .args in
     let l = c .before .before .before .before .before .before .before .before .before .before .before .before .before .before .loop in
     let t = c .before .before .before .before .before .before .before .before .before .before .before .before .before .loop-test .taken in
-    let z = c .before .before .before .before .before .before .before .before .size-of .ensures in
+    let z = c .before .before .before .before .before .before .before .before .size-in .ensures in
     let w : c .before .before .before .before .before .before .before .wide .result + c .before .before .before .before .before .larger .result ≡ getD (l .bytes) (l .q - 1) 0 + max (at (now (a .after)) (getD (now (a .dues)) (l .q - 1) 0)) (l .need) = rw (c .before .before .before .before .before .before .before .wide .ensures, c .before .before .before .before .before .larger .ensures) in
-    let v : c .before .before .before .before .wide2 .result ≡ sizeIn (now (a .sizes)) (getD (now (a .ids)) (l .q - 1) 0) (a .n) = c .before .before .before .before .wide2 .ensures ∙ z in
-    rw (z, c .with .ensures, w, v) (backing-take (now (a .sizes)) (a .n) (now (a .after)) (now (a .ids)) (now (a .dues)) (now (a .room)) (a .first) (now (a .bytes)) (now (a .mark)) (c .before .before .before .before .before .before .before .before .before .before .before .before .before .before .before .before .pre) (l .bytes) (l .mark) (l .need) (l .q) (l .inv) t (sym (rw (w, v) at (c .before .before .takes .ensures)) ∙ c .before .if1 .taken))
+    let v : c .before .before .before .before .wide2 .result ≡ tableAt (now (a .table)) (getD (now (a .ids)) (l .q - 1) 0) (a .n) = c .before .before .before .before .wide2 .ensures ∙ z in
+    rw (z, c .with .ensures, w, v) (backing-take (tableAt (now (a .table))) (a .n) (now (a .after)) (now (a .ids)) (now (a .dues)) (now (a .room)) (a .first) (now (a .bytes)) (now (a .mark)) (c .before .before .before .before .before .before .before .before .before .before .before .before .before .before .before .pre) (l .bytes) (l .mark) (l .need) (l .q) (l .inv) t (sym (rw (w, v) at (c .before .before .takes .ensures)) ∙ c .before .if1 .taken))
 
 loop-less-2 : tie.Need-loop-less-2 Inv-loop μ-loop
 loop-less-2 c = omega arith
 
 loop-again-2 : tie.Need-loop-again-2 Inv-loop μ-loop
 loop-again-2 c =
-    let a = c .before .before .before .before .before .before .before .before .before .before .before .before .before .before .before .args in
+    let a = c .before .before .before .before .before .before .before .before .before .before .before .before .before .before .args in
     let l = c .before .before .before .before .before .before .before .before .before .before .before .before .before .loop in
     let t = c .before .before .before .before .before .before .before .before .before .before .before .before .loop-test .taken in
-    let z = c .before .before .before .before .before .before .before .size-of .ensures in
+    let z = c .before .before .before .before .before .before .before .size-in .ensures in
     let w : c .before .before .before .before .before .before .wide .result + c .before .before .before .before .larger .result ≡ getD (l .bytes) (l .q - 1) 0 + max (at (now (a .after)) (getD (now (a .dues)) (l .q - 1) 0)) (l .need) = rw (c .before .before .before .before .before .before .wide .ensures, c .before .before .before .before .larger .ensures) in
-    let v : c .before .before .before .wide2 .result ≡ sizeIn (now (a .sizes)) (getD (now (a .ids)) (l .q - 1) 0) (a .n) = c .before .before .before .wide2 .ensures ∙ z in
-    rw w (backing-pass (now (a .sizes)) (a .n) (now (a .after)) (now (a .ids)) (now (a .dues)) (now (a .room)) (a .first) (now (a .bytes)) (now (a .mark)) (c .before .before .before .before .before .before .before .before .before .before .before .before .before .before .before .pre) (l .bytes) (l .mark) (l .need) (l .q) (l .inv) t (sym (rw (w, v) at (c .before .takes .ensures)) ∙ c .if1 .left))
+    let v : c .before .before .before .wide2 .result ≡ tableAt (now (a .table)) (getD (now (a .ids)) (l .q - 1) 0) (a .n) = c .before .before .before .wide2 .ensures ∙ z in
+    rw w (backing-pass (tableAt (now (a .table))) (a .n) (now (a .after)) (now (a .ids)) (now (a .dues)) (now (a .room)) (a .first) (now (a .bytes)) (now (a .mark)) (c .before .before .before .before .before .before .before .before .before .before .before .before .before .before .pre) (l .bytes) (l .mark) (l .need) (l .q) (l .inv) t (sym (rw (w, v) at (c .before .takes .ensures)) ∙ c .if1 .left))
 
 returns : tie.Need-returns Inv-loop μ-loop
-returns c = let a = c .before .before .before .args in let l = c .before .loop in backing-end (now (a .sizes)) (a .n) (now (a .after)) (now (a .ids)) (now (a .dues)) (now (a .room)) (a .first) (now (a .bytes)) (now (a .mark)) (c .before .before .before .pre) (l .bytes) (l .mark) (l .need) (l .q) (l .inv) (omega arith)
+returns c = let a = c .before .before .args in let l = c .before .loop in backing-end (tableAt (now (a .table))) (a .n) (now (a .after)) (now (a .ids)) (now (a .dues)) (now (a .room)) (a .first) (now (a .bytes)) (now (a .mark)) (c .before .before .pre) (l .bytes) (l .mark) (l .need) (l .q) (l .inv) (omega arith)
 
 pub try-layer-spec : {M : Type 1} → statement M
 try-layer-spec =
@@ -142,9 +145,9 @@ try-layer-spec =
     mul-d
     element-copy-out-d
     cast-d
-    mul-size-of
-    element-copy-out-size-of
-    size-of-requires
+    mul-size-in
+    element-copy-out-size-in
+    size-in-requires
     wide-requires
     mul-larger
     element-copy-out-larger

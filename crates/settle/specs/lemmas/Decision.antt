@@ -8,7 +8,7 @@ use lib.ListN.{length, getD, take, drop, replicate}
 use lib.Dec.{leb, ltb}
 use Rattle.basics.specs.Tests.{All}
 use Rattle.job.specs.declared.Programme.{Programme}
-use Rattle.job.specs.Job.{Job, Within, jobOf, sizeIn, due, dueSlot, heldMost, lastDue}
+use Rattle.job.specs.Job.{Job, Override, Within, jobOf, sizeIn, due, dueSlot, heldMost, lastDue}
 use Rattle.schedule.specs.lemmas.Ascending.{Asc}
 use Rattle.schedule.specs.lemmas.Sufficiency.{releases}
 use Rattle.schedule.specs.Plan.{kept, plan}
@@ -32,19 +32,19 @@ pub record SumTable (start : ℕ) (part after : List ℕ) : Type 0 where
 
 -- ---- the base
 
-pub record BasesFrom (p : Programme) (sizes after ids dues bytes needs : List ℕ) : Type 0 where
+pub record BasesFrom (p : Programme) (size : ℕ → ℕ → ℕ) (after ids dues bytes needs : List ℕ) : Type 0 where
   pub few : p .chunks ≤ 500
   pub late : 1 ≤ p .delay
   pub ends : lastDue p ≤ 3600
-  pub small : (i n : ℕ) → sizeIn sizes i n ≤ 16777216
+  pub small : (i n : ℕ) → size i n ≤ 16777216
   pub sums : Sums after
   pub long : (length after ≡ 3601) × (length ids ≡ 500) × (length dues ≡ 500) × (length bytes ≡ 500) × (length needs ≡ 500)
 
-pub record Bases (p : Programme) (sizes after : List ℕ) (first : ℕ) (ids dues bytes : List ℕ) : Type 0 where
+pub record Bases (p : Programme) (size : ℕ → ℕ → ℕ) (after : List ℕ) (first : ℕ) (ids dues bytes : List ℕ) : Type 0 where
   pub within : first ≤ 500
-  pub kept : drop first ids ≡ bases (λ k. sizeIn sizes k 0) (dueSlot p) (at after) (p .limit / p .span) 0 (p .chunks) .chunks
+  pub kept : drop first ids ≡ bases (λ k. size k 0) (dueSlot p) (at after) (p .limit / p .span) 0 (p .chunks) .chunks
   pub due-slots : drop first dues ≡ map (dueSlot p) (drop first ids)
-  pub base-bytes : drop first bytes ≡ map (λ k. sizeIn sizes k 0) (drop first ids)
+  pub base-bytes : drop first bytes ≡ map (λ k. size k 0) (drop first ids)
   pub ascending : Asc 1 (p .chunks) (drop first ids)
   pub long : (length ids ≡ 500) × (length dues ≡ 500) × (length bytes ≡ 500)
 
@@ -62,29 +62,31 @@ keptOf (i ∷ is) (d ∷ ds) (b ∷ bs) (m ∷ ms) = record { chunk = i; due = d
 abbrev pub Slot : ℕ → Type 0
 Slot t = Within 1 3600 t
 
-pub record LayerFrom (sizes : List ℕ) (n : ℕ) (after ids dues room : List ℕ) (first : ℕ) (bytes mark : List ℕ) : Type 0 where
+pub record LayerFrom (size : ℕ → ℕ → ℕ) (n : ℕ) (after ids dues room : List ℕ) (first : ℕ) (bytes mark : List ℕ) : Type 0 where
   pub low : 1 ≤ n
   pub high : n ≤ 3
-  pub small : (i n : ℕ) → sizeIn sizes i n ≤ 16777216
+  pub chunks-in : All (Within 1 500) (drop first ids)
+  pub small : (i n : ℕ) → size i n ≤ 16777216
   pub sums : Sums after
   pub slots : All Slot (drop first dues)
   pub within : first ≤ 500
   pub carried : All (λ b. b ≤ n * 16777216) (drop first bytes)
   pub long : (length after ≡ 3601) × (length ids ≡ 500) × (length dues ≡ 500) × (length room ≡ 500) × (length bytes ≡ 500) × (length mark ≡ 500)
 
-pub record LayerDone (sizes : List ℕ) (n : ℕ) (after ids dues room : List ℕ) (first : ℕ) (bytes mark bytes' mark' : List ℕ) : Type 0 where
+pub record LayerDone (size : ℕ → ℕ → ℕ) (n : ℕ) (after ids dues room : List ℕ) (first : ℕ) (bytes mark bytes' mark' : List ℕ) : Type 0 where
   pub kept :
       keptOf (drop first ids) (drop first dues) (drop first bytes') (drop first mark')
-      ≡ back (sizeIn sizes) (at after) n (drop first room) (keptOf (drop first ids) (drop first dues) (drop first bytes) (drop first mark)) .kept
+      ≡ back size (at after) n (drop first room) (keptOf (drop first ids) (drop first dues) (drop first bytes) (drop first mark)) .kept
   pub carried : All (λ b. b ≤ suc n * 16777216) (drop first bytes')
   pub long : (length bytes' ≡ 500) × (length mark' ≡ 500)
 
 -- ---- all layers
 
-pub record LayersFrom (layers : ℕ) (sizes : List ℕ) (after ids dues ready : List ℕ) (first : ℕ) (bytes room mark : List ℕ) : Type 0 where
+pub record LayersFrom (layers : ℕ) (size : ℕ → ℕ → ℕ) (after ids dues ready : List ℕ) (first : ℕ) (bytes room mark : List ℕ) : Type 0 where
   pub some : 1 ≤ layers
   pub few : layers ≤ 4
-  pub small : (i n : ℕ) → sizeIn sizes i n ≤ 16777216
+  pub chunks-in : All (Within 1 500) (drop first ids)
+  pub small : (i n : ℕ) → size i n ≤ 16777216
   pub sums : Sums after
   pub due-slots : All Slot (drop first dues)
   pub release-slots : All Slot (drop first ready)
@@ -92,26 +94,25 @@ pub record LayersFrom (layers : ℕ) (sizes : List ℕ) (after ids dues ready : 
   pub carried : All (λ b. b ≤ 16777216) (drop first bytes)
   pub long : (length after ≡ 3601) × (length ids ≡ 500) × (length dues ≡ 500) × (length ready ≡ 500) × (length bytes ≡ 500) × (length room ≡ 500) × (length mark ≡ 500)
 
-pub record LayersDone (layers : ℕ) (sizes : List ℕ) (all : ℕ) (after ids dues ready : List ℕ) (first : ℕ) (bytes mark bytes' mark' : List ℕ) : Type 0 where
+pub record LayersDone (layers : ℕ) (size : ℕ → ℕ → ℕ) (all : ℕ) (after ids dues ready : List ℕ) (first : ℕ) (bytes mark bytes' mark' : List ℕ) : Type 0 where
   pub kept :
       keptOf (drop first ids) (drop first dues) (drop first bytes') (drop first mark')
-      ≡ onLayers (sizeIn sizes) (at after) all (drop first ready) (layers - 1) (keptOf (drop first ids) (drop first dues) (drop first bytes) (drop first mark))
+      ≡ onLayers size (at after) all (drop first ready) (layers - 1) (keptOf (drop first ids) (drop first dues) (drop first bytes) (drop first mark))
   pub long : (length bytes' ≡ 500) × (length mark' ≡ 500)
 
 -- ---- the whole decision
 
 -- The job of which a part of the forecast is handed.
-abbrev pub jobFrom : Programme → List ℕ → ℕ → List ℕ → Job
-jobFrom p sizes start part = jobOf p sizes (padded start part)
+abbrev pub jobFrom : Programme → List ℕ → List Override → ℕ → List ℕ → Job
+jobFrom p sizes overrides start part = jobOf p sizes overrides (padded start part)
 
-pub record DecideFrom (p : Programme) (layers : ℕ) (sizes : List ℕ) (start : ℕ) (part ids ready mark : List ℕ) : Type 0 where
+pub record DecideFrom (p : Programme) (layers : ℕ) (size : ℕ → ℕ → ℕ) (start : ℕ) (part ids ready mark : List ℕ) : Type 0 where
   pub few : p .chunks ≤ 500
   pub late : 1 ≤ p .delay
   pub ends : lastDue p ≤ 3600
   pub some : 1 ≤ layers
   pub few-layers : layers ≤ 4
-  pub all-layers : layers ≡ length sizes
-  pub small : (i n : ℕ) → sizeIn sizes i n ≤ 16777216
+  pub small : (i n : ℕ) → size i n ≤ 16777216
   pub part-in : Part start part
   pub slots : start - 1 + length part ≡ lastDue p
   pub long : (length ids ≡ 500) × (length ready ≡ 500)
@@ -124,3 +125,9 @@ pub record Decides (j : Job) (first : ℕ) (ids ready mark : List ℕ) : Type 0 
   pub releases-are : drop first ready ≡ take (500 - first) (releases (due j) (heldMost j) (kept j (plan j)))
   pub marks : drop first mark ≡ map (λ k. levelMark (plan j k)) (kept j (plan j))
   pub long : (length ids ≡ 500) × (length ready ≡ 500) × (length mark ≡ 500)
+
+-- So for every job that the handed numbers say, however its sizes are stored.
+abbrev pub DecidesEach : Programme → ℕ → (ℕ → ℕ → ℕ) → ℕ → List ℕ → ℕ → List ℕ → List ℕ → List ℕ → Type 0
+DecidesEach p layers size start part first ids ready mark =
+    (sizes : List ℕ) (overrides : List Override) → layers ≡ length sizes → size ≡ sizeIn sizes overrides →
+    Decides (jobFrom p sizes overrides start part) first ids ready mark
