@@ -1,0 +1,159 @@
+// Internal. Request 9's walk over the bases, in C log C: a table of maxima of 1,024 places, place 512 + i the bytes of chunk i's base
+// if it is kept, else 0, and each place below 512 the larger of the two under it. A base added or dropped costs a way up, which ends
+// where nothing changes; the largest kept one, the earliest among equals, a way down. The kept chunks end up where settle's pass over
+// the bases leaves them: at the end of tables of 500 places, in playing order.
+use job::Programme;
+ghost use mathlib.Core.Path.{_≡_};
+ghost use mathlib.Core.Bool.{_&&_, not};
+ghost use Prim.Native.Nat.{_≤_, _<_, max};
+ghost use lib.ListN.{length};
+ghost use lib.Dec.{eqb};
+ghost use Rattle.basics.specs.Tests.{allTo};
+ghost use Rattle.job.specs.Table.{tableAt};
+ghost use Rattle.pictures.specs.lemmas.Walking.{Maxima, Stored, LargestLeaf, WalkFrom, Walked, GatherFrom, Gathered, KeepFrom, Keeps, equalIn, walksIn};
+
+fn larger(a: u32, b: u32) -> u32
+    ensures { λ r. ⌜ r ≡ max a b ⌝ }
+{
+    if a < b {
+        return b;
+    }
+    a
+}
+
+// Base sizes do not vary: each base has chunk 1's size.
+fn equal_bases(p: Programme, table: &[u32; 2000]) -> bool
+    ensures { λ r. ⌜ r ≡ equalIn (p .chunks) (tableAt (now (table .entry))) ⌝ }
+{
+    let own = job::size_at(table, 1, 0);
+    let mut i = p.chunks;
+    while 0 < i {
+        if job::size_at(table, i, 0) != own {
+            return false;
+        }
+        i = i - 1;
+    }
+    true
+}
+
+// The walk settles the bases: the limit holds the programme, and base sizes vary.
+pub fn by_walk(p: Programme, table: &[u32; 2000]) -> bool
+    ensures { λ r. ⌜ r ≡ walksIn p (tableAt (now (table .entry))) ⌝ }
+{
+    if job::held_most(p) < p.chunks {
+        return false;
+    }
+    !equal_bases(p, table)
+}
+
+// A leaf gets a value, and the places above it are set right.
+fn set_leaf(tree: &mut [u32; 1024], leaf: usize, v: u32)
+    requires { ⌜ (512 ≤ leaf) × (leaf < 1024) × Maxima (now tree) ⌝ }
+    ensures { λ _. ⌜ Stored leaf v (now (tree .entry)) (now (tree .exit)) ⌝ }
+{
+    tree[leaf] = v;
+    let mut p = leaf / 2;
+    while 0 < p {
+        let left = 2 * p;
+        let right = left + 1;
+        let top = larger(tree[left], tree[right]);
+        if tree[p] == top {
+            return;
+        }
+        tree[p] = top;
+        p = p / 2;
+    }
+}
+
+// The leaf of the largest, the first among equals: down from place 1, to the left where the largest is there.
+fn find_largest(tree: &[u32; 1024]) -> usize
+    requires { ⌜ Maxima (now tree) ⌝ }
+    ensures { λ r. ⌜ LargestLeaf (now (tree .entry)) r ⌝ }
+{
+    let mut p: usize = 1;
+    while p < 512 {
+        let left = 2 * p;
+        if tree[left] == tree[p] {
+            p = left;
+        } else {
+            p = left + 1;
+        }
+    }
+    p
+}
+
+// Chunks 1 to C: each is added, and where the kept ones are then more than the forecast up to its due slot, the largest is dropped.
+fn walk(p: Programme, table: &[u32; 2000], after: &[u64; 3601], tree: &mut [u32; 1024])
+    requires { ⌜ WalkFrom p (tableAt (now table)) (now after) (now tree) ⌝ }
+    ensures { λ _. ⌜ Walked p (tableAt (now (table .entry))) (now (after .entry)) (now (tree .exit)) ⌝ }
+{
+    let all = after[0];
+    let mut sum: u64 = 0;
+    let mut n: u16 = 0;
+    while n < p.chunks {
+        let i = n + 1;
+        let d = job::due_slot(p, i);
+        let z = job::size_at(table, i, 0);
+        let leaf = 512 + (i as usize);
+        set_leaf(tree, leaf, z);
+        let more = sum + (z as u64);
+        if more + after[d] <= all {
+            sum = more;
+            n = i;
+        } else {
+            let q = find_largest(tree);
+            let top = tree[q];
+            set_leaf(tree, q, 0);
+            sum = more - (top as u64);
+            n = i;
+        }
+    }
+}
+
+// The chunks whose leaf is not 0, from the last to the first, with their due slots and their base's bytes.
+fn gather(
+    p: Programme,
+    tree: &[u32; 1024],
+    ids: &mut [u16; 500],
+    dues: &mut [u16; 500],
+    bytes: &mut [u32; 500],
+) -> usize
+    requires { ⌜ GatherFrom p (now tree) (now ids) (now dues) (now bytes) ⌝ }
+    ensures { λ r. ⌜ Gathered p (now (tree .entry)) r (now (ids .exit)) (now (dues .exit)) (now (bytes .exit)) ⌝ }
+{
+    let mut first: usize = 500;
+    let mut i = p.chunks;
+    while 0 < i {
+        let leaf = 512 + (i as usize);
+        let z = tree[leaf];
+        if 0 < z {
+            let slot = job::due_slot(p, i);
+            let k = first - 1;
+            ids[k] = i;
+            dues[k] = slot as u16;
+            bytes[k] = z;
+            first = k;
+            i = i - 1;
+        } else {
+            i = i - 1;
+        }
+    }
+    first
+}
+
+// The bases that the walk keeps, from the place handed back on: chunks, due slots and bytes.
+pub fn keep_most(
+    p: Programme,
+    table: &[u32; 2000],
+    after: &[u64; 3601],
+    ids: &mut [u16; 500],
+    dues: &mut [u16; 500],
+    bytes: &mut [u32; 500],
+) -> usize
+    requires { ⌜ KeepFrom p (tableAt (now table)) (now after) (now ids) (now dues) (now bytes) ⌝ }
+    ensures { λ r. ⌜ Keeps p (tableAt (now (table .entry))) (now (after .entry)) r (now (ids .exit)) (now (dues .exit)) (now (bytes .exit)) ⌝ }
+{
+    let mut tree = [0u32; 1024];
+    walk(p, table, after, &mut tree);
+    gather(p, &tree, ids, dues, bytes)
+}
