@@ -1,22 +1,26 @@
-// Plans the largest job (500 chunks, 4 layers, 3,600 slots) by the planner named on the command line and prints the number of rows and
-// a checksum over marks, counts and rows, so that both did the same work.
+// Plans the largest job (500 chunks, 4 layers, 3,600 slots), of equal or of uneven chunks (1,996 SZs), by the planner named on the
+// command line and prints the number of rows and a checksum over marks and rows, so that both did the same work.
 #include "plan.h"
 #include <stdio.h>
 
 // The proved planner, as crate `export` hands it to C: a slice is a pointer and a length.
 size_t plan_job(uint16_t chunks, uint16_t span, uint16_t delay, uint16_t limit, const uint32_t *sizes, size_t layers,
+                const uint16_t *size_chunks, size_t e, const uint8_t *size_layers, size_t f, const uint32_t *size_bytes, size_t g,
                 const uint32_t *forecast, size_t slots, uint8_t *marks, size_t marks_len, uint16_t *row_slots, size_t a,
                 uint16_t *row_chunks, size_t b, uint8_t *row_layers, size_t c, uint32_t *row_bytes, size_t d);
 
 size_t plan_rattle(const struct job *j, struct plan *out)
 {
-    return plan_job(j->chunks, j->span, j->delay, j->limit, j->sizes, j->layers, j->forecast, j->slots, out->marks, 500, out->slots,
-                    5599, out->chunks, 5599, out->layers, 5599, out->bytes, 5599);
+    return plan_job(j->chunks, j->span, j->delay, j->limit, j->sizes, j->layers, j->size_chunks, j->overrides, j->size_layers,
+                    j->overrides, j->size_bytes, j->overrides, j->forecast, j->slots, out->marks, 500, out->slots, 5599, out->chunks, 5599,
+                    out->layers, 5599, out->bytes, 5599);
 }
 
 int main(int argc, char **argv)
 {
-    static uint32_t forecast[3600];
+    static uint32_t forecast[3600], size_bytes[1996];
+    static uint16_t size_chunks[1996];
+    static uint8_t size_layers[1996];
     static struct plan out;
     const uint32_t sizes[4] = {9000, 7000, 5000, 4000};
     uint32_t x = 12345;
@@ -24,7 +28,17 @@ int main(int argc, char **argv)
         x = x * 1664525 + 1013904223;
         forecast[t] = (x >> 16) % 6000;
     }
-    struct job j = {500, 7, 107, 28, 4, 3600, sizes, forecast};
+    // Every size but chunk 1's own: from half of the layer's to half more, and not the layer's.
+    for (int k = 0; k < 1996; k++) {
+        uint32_t own = sizes[k % 4];
+        x = x * 1664525 + 1013904223;
+        size_chunks[k] = 2 + k / 4;
+        size_layers[k] = k % 4;
+        size_bytes[k] = own / 2 + (x >> 16) % own;
+        if (size_bytes[k] == own) size_bytes[k]++;
+    }
+    size_t overrides = argc > 2 && argv[2][0] == 'u' ? 1996 : 0;
+    struct job j = {500, 7, 107, 28, 4, 3600, sizes, forecast, overrides, size_chunks, size_layers, size_bytes};
     size_t rows = argc > 1 && argv[1][0] == 'c' ? plan_c(&j, &out) : plan_rattle(&j, &out);
     uint64_t sum = rows;
     for (int i = 0; i < 500; i++) sum = sum * 31 + out.marks[i];

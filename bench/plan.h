@@ -6,6 +6,11 @@ struct job {
     uint16_t chunks, span, delay, limit;
     size_t layers, slots;
     const uint32_t *sizes, *forecast;
+    // The SZs: chunk, layer and size of each.
+    size_t overrides;
+    const uint16_t *size_chunks;
+    const uint8_t *size_layers;
+    const uint32_t *size_bytes;
 };
 
 struct plan {

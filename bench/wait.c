@@ -4,6 +4,7 @@
 #include <stdio.h>
 
 size_t plan_job(uint16_t chunks, uint16_t span, uint16_t delay, uint16_t limit, const uint32_t *sizes, size_t layers,
+                const uint16_t *size_chunks, size_t e, const uint8_t *size_layers, size_t f, const uint32_t *size_bytes, size_t g,
                 const uint32_t *forecast, size_t slots, uint8_t *marks, size_t marks_len, uint16_t *row_slots, size_t a,
                 uint16_t *row_chunks, size_t b, uint8_t *row_layers, size_t c, uint32_t *row_bytes, size_t d);
 size_t wait_film(uint16_t chunks, uint16_t span, uint16_t limit, const uint32_t *sizes, size_t layers, const uint32_t *forecast, size_t slots);

@@ -2,7 +2,7 @@
 use Prim.Native.Nat.{ℕ, _+_}
 use mathlib.Core.Path.{_≡_}
 use mathlib.Core.List.{List}
-use Rattle.job.specs.Job.{Job}
+use Rattle.job.specs.Handed.{HandedJob}
 use Rattle.planner.specs.declared.Answer.{Answer}
 use Rattle.planner.specs.declared.Answer.the-variants.{Rows, Refused}
 use Rattle.planner.specs.declared.Planned.{Planned}
@@ -13,7 +13,7 @@ numberOf (Rows n) = n
 numberOf (Refused n) = 65536 + n
 
 -- The number r, and the lent slices at exit, are what the planner's call hands over (planner, Answer).
-pub record Exported (j : Job) (marks slots chunks layers bytes : List ℕ) (r : ℕ) (marks' slots' chunks' layers' bytes' : List ℕ) : Type 0 where
+pub record Exported (h : HandedJob) (marks slots chunks layers bytes : List ℕ) (r : ℕ) (marks' slots' chunks' layers' bytes' : List ℕ) : Type 0 where
   pub planned : Planned
-  pub handed : Handed j marks slots chunks layers bytes planned marks' slots' chunks' layers' bytes'
+  pub handed : Handed h marks slots chunks layers bytes planned marks' slots' chunks' layers' bytes'
   pub number-is : r ≡ numberOf (planned .answer)

@@ -6,7 +6,7 @@ mod waits;
 use job::Programme;
 use planner::Answer;
 ghost use mathlib.Core.Path.{_≡_};
-ghost use Rattle.job.specs.Job.{jobOf};
+ghost use Rattle.job.specs.Handed.{handed};
 ghost use Rattle.export.specs.Number.{numberOf, Exported};
 
 fn number(answer: Answer) -> usize
@@ -25,6 +25,9 @@ pub extern "C" fn plan_job(
     delay: u16,
     limit: u16,
     sizes: &[u32],
+    size_chunks: &[u16],
+    size_layers: &[u8],
+    size_bytes: &[u32],
     forecast: &[u32],
     marks: &mut [u8],
     slots: &mut [u16],
@@ -32,7 +35,7 @@ pub extern "C" fn plan_job(
     layers: &mut [u8],
     bytes: &mut [u32],
 ) -> usize
-    ensures { λ r. ⌜ Exported (jobOf (record { chunks = chunks; span = span; delay = delay; limit = limit }) (now (sizes .entry)) (now (forecast .entry))) (now (marks .entry)) (now (slots .entry)) (now (rowchunks .entry)) (now (layers .entry)) (now (bytes .entry)) r (now (marks .exit)) (now (slots .exit)) (now (rowchunks .exit)) (now (layers .exit)) (now (bytes .exit)) ⌝ }
+    ensures { λ r. ⌜ Exported (handed (record { chunks = chunks; span = span; delay = delay; limit = limit }) (now (sizes .entry)) (now («size_chunks» .entry)) (now («size_layers» .entry)) (now («size_bytes» .entry)) (now (forecast .entry))) (now (marks .entry)) (now (slots .entry)) (now (rowchunks .entry)) (now (layers .entry)) (now (bytes .entry)) r (now (marks .exit)) (now (slots .exit)) (now (rowchunks .exit)) (now (layers .exit)) (now (bytes .exit)) ⌝ }
 {
     let p = Programme {
         chunks,
@@ -40,7 +43,19 @@ pub extern "C" fn plan_job(
         delay,
         limit,
     };
-    let plan = planner::plan(p, sizes, forecast, marks, slots, rowchunks, layers, bytes);
+    let plan = planner::plan(
+        p,
+        sizes,
+        size_chunks,
+        size_layers,
+        size_bytes,
+        forecast,
+        marks,
+        slots,
+        rowchunks,
+        layers,
+        bytes,
+    );
     let answer = plan.answer;
     number(answer)
 }

@@ -10,6 +10,7 @@ use lib.ListN.{getD, drop, drop-of-length-le}
 use lib.Dec.{ltb, ltb→lt, nltb→le}
 use borrow.Author.Tests.{lt-ltb, le-ltb, ltb-true, ltb-false}
 use Rattle.basics.specs.lemmas.Tests.{test}
+use Rattle.job.specs.Job.{Within}
 use Rattle.fetch.specs.Marks.{bit}
 use Rattle.schedule.specs.lemmas.Fill.{Piece}
 use Rattle.schedule.specs.lemmas.Linear.{level-bit}
@@ -264,6 +265,7 @@ module _ (start : ℕ) (part : List ℕ) (size : ℕ → ℕ → ℕ) (ids ready
           record {
             room = room-left start part 4 (4 * (500 - first)) (omega (arith, y .from)) (o .room) (y .puts);
             by = all-from (λ r. r ≤ lastOf start part) ready first q (o .by) (y .from) (omega (arith, o .long .1));
+            chunk-in = all-from (Within 1 500) ids first q (o .chunks-in) (y .from) (omega (arith, o .long .0));
             levels = all-from Levels mark first q (o .levels) (y .from) (omega (arith, o .long .2));
             fed = fed-front (leftAt start part) here′ later (fed-append (leftAt start part) (y .done) (here′ ++ later) split-fed);
             fits = omega (arith, load-append here′ later, y .puts .enough (here′ ++ later) split-fed (subst (λ (l : List Piece). load l ≤ a .c + leftAt start part (a .t)) split (o .fits)));

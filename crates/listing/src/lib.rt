@@ -109,7 +109,7 @@ pub fn put_chunk(
     let mut at = begin(part, start, from, ready);
     let mut n: u8 = 0;
     while fetch::has(mark, n) {
-        let z = job::size_at(table, chunk, n as usize);
+        let z = sizes::size_in(table, chunk, n as usize);
         at = put_piece(part, start, at, chunk, n, z, slots, chunks, layers, bytes);
         n = n + 1;
     }

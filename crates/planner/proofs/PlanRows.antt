@@ -14,7 +14,7 @@ use Rattle.basics.specs.lemmas.Lists.{upTo-cong, length-upTo}
 use Rattle.basics.specs.Sums.{pre, sum, count}
 use Rattle.basics.specs.Tests.{All}
 use Rattle.basics.specs.lemmas.Tests.{test, by-cond}
-use Rattle.job.specs.Job.{Job, Accepted, size, chunks, layers, due, forecast, heldMost, lastSlot}
+use Rattle.job.specs.Job.{Job, Accepted, Within, size, chunks, layers, due, forecast, heldMost, lastSlot}
 use Rattle.job.specs.Table.{sizesTable, tableAt}
 use Rattle.job.specs.Uneven.{table-is}
 use Rattle.job.specs.lemmas.Within.{all-most, size-most}
@@ -23,7 +23,7 @@ use Rattle.fetch.specs.Counts.{markCount}
 use Rattle.fetch.specs.lemmas.Counts.{count-up-to}
 use Rattle.fetch.specs.lemmas.Marks.{mark-cong}
 use Rattle.fetch.specs.Rows.{Row, markByte, rowSlot, rowChunk, rowLayer, rowBytes}
-use Rattle.schedule.specs.lemmas.Ascending.{Asc}
+use Rattle.schedule.specs.lemmas.Ascending.{Asc, asc-within}
 use Rattle.schedule.specs.lemmas.Choice.{fits-weight, kept-asc}
 use Rattle.schedule.specs.Plan.{kept, picked, plan, after}
 use Rattle.schedule.specs.lemmas.Fill.{Piece, Ready, fill, needs}
@@ -185,6 +185,7 @@ module _ (j : Job) (ok : Accepted j) where
           within = d .within;
           room = record { part-in = part-in; low = omega arith; high = omega arith; count = omega arith; s = omega arith; c = omega arith; l = omega arith; b = omega arith };
           by = subst (All (λ r. r ≤ lastOf 1 f)) (sym (d .releases-are)) released;
+          chunks-in = subst (All (Within 1 500)) (sym (d .chunks)) (asc-within 1 (chunks j) 1 500 (kept j (plan j)) (omega arith) (ok .chunks-in .high) (kept-asc j (plan j)));
           levels = subst (All Levels) (sym (d .marks)) (all-each Levels (λ k. levelMark (plan j k)) (kept j (plan j)) (each-imp (λ k. (1 ≤ plan j k) × (plan j k ≤ 4)) (λ k. Levels (levelMark (plan j k))) (kept j (plan j)) level levels-in));
           fed = subst (Fed (leftAt 1 f)) (sym (queued own says)) (subst (λ (A : ℕ → ℕ). Fed A plan-queue) (sym left-is) (fed-ready (due j) (after j) plan-queue (plan-ready .1)));
           fits = subst (λ (q : List Piece). load q ≤ getD f 0 0 + leftAt 1 f 1) (sym (queued own says)) (omega (arith, load-needs (due j) (after j) plan-queue, plan-ready .0, ap (λ (A : ℕ → ℕ). A 0) left-is, left-next 1 f 0 (omega arith)));

@@ -12,7 +12,7 @@ use Rattle.basics.specs.lemmas.Tests.{by-cond}
 use Rattle.fetch.specs.Marks.{bit}
 use Rattle.job.specs.declared.Programme.{Programme}
 use Rattle.job.specs.Job.{Job, Override, sizeIn, size, due, dueSlot, heldMost, lastDue, layers, chunks}
-use Rattle.schedule.specs.lemmas.Ascending.{Asc}
+use Rattle.schedule.specs.lemmas.Ascending.{Asc, asc-within}
 use Rattle.schedule.specs.Bases.{baseSize, forecastBy}
 use Rattle.schedule.specs.Plan.{after, byWalk, kept, plan}
 use Rattle.schedule.specs.lemmas.Walk.{same-rooms}
@@ -107,6 +107,7 @@ module _ (p : Programme) (layers : ℕ) (size : ℕ → ℕ → ℕ) (start : �
           record {
             some = o .some;
             few = o .few-layers;
+            chunks-in = asc-within 1 (p .chunks) 1 500 ks (omega arith) (o .few) (b .ascending);
             small = o .small;
             sums = sums-small left s;
             due-slots = due-in;

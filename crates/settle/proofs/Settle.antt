@@ -71,6 +71,7 @@ module _ (layers : ℕ) (size : ℕ → ℕ → ℕ) (all : ℕ) (after ids dues
           record {
             low = s .low;
             high = omega (arith, o .few);
+            chunks-in = o .chunks-in;
             small = o .small;
             sums = o .sums;
             slots = o .due-slots;

@@ -8,6 +8,7 @@ use lib.ListN.{length, getD, set, drop, length-set, drop-of-length-le}
 use lib.Seq.{getD-set-other}
 use lib.Dec.{leb}
 use Rattle.basics.specs.Tests.{All}
+use Rattle.job.specs.Job.{Within}
 use Rattle.fetch.specs.Marks.{bit, withLayer}
 use Rattle.schedule.specs.lemmas.Trials.{Kept, Tried, tryOne, back}
 use Rattle.schedule.specs.lemmas.Parts.{at}
@@ -74,6 +75,9 @@ module _ (size : ℕ → ℕ → ℕ) (n : ℕ) (after ids dues room : List ℕ)
       -- Its bytes so far.
       pub bytes-small : getD bytes (q - 1) 0 ≤ n * 16777216
       bytes-small = rw (b .old (q - 1) (omega arith) .0) (all-from (λ x. x ≤ n * 16777216) bytes₀ first (q - 1) (o .carried) (omega arith) (omega (arith, b .to, o .long .4)))
+
+      pub chunk-in : Within 1 500 (getD ids (q - 1) 0)
+      chunk-in = all-from (Within 1 500) ids first (q - 1) (o .chunks-in) (omega arith) (omega (arith, b .to, o .long .1))
 
       pub due-slot : Slot (getD dues (q - 1) 0)
       due-slot = all-from Slot dues first (q - 1) (o .slots) (omega arith) (omega (arith, b .to, o .long .2))

@@ -116,7 +116,7 @@ pub fn keep_bases(
     while 0 < i {
         let d = job::due_slot(p, i);
         let k = first - 1;
-        let z = job::size_at(table, i, 0);
+        let z = sizes::size_in(table, i, 0);
         let cand = (z as u64) + larger(after[d], last);
         let e = d - 1;
         needs[k] = cand;
@@ -231,7 +231,7 @@ fn try_layer(
         let b = bytes[k];
         let m = mark[k];
         let d = dues[k] as usize;
-        let z = job::size_at(table, ids[k], n as usize);
+        let z = sizes::size_in(table, ids[k], n as usize);
         let want = wide(b) + larger(after[d], need);
         let more = want + wide(z);
         if takes(m, below, more, room[k]) {

@@ -25,11 +25,14 @@ loop-holds c = let a = c .before .before .before .before .before .before .args i
 has-requires : tie.Need-has-requires Inv-loop μ-loop
 has-requires c κs = search needs
 
-cast-size-at : tie.Need-cast-size-at Inv-loop μ-loop
-cast-size-at c = omega arith
+cast-size-in : tie.Need-cast-size-in Inv-loop μ-loop
+cast-size-in c = omega arith
 
-size-at-requires : tie.Need-size-at-requires Inv-loop μ-loop
-size-at-requires c κs = search needs
+size-in-requires : tie.Need-size-in-requires Inv-loop μ-loop
+size-in-requires c κs =
+    let a = c .before .before .before .before .before .before .before .before .before .args in
+    let l = c .before .before .loop in
+    (c .before .before .before .before .before .before .before .before .before .pre .chunk-in, omega (arith, below-level (a .start) (now (a .part)) (tableAt (now (a .table))) (a .chunk) (a .ready) (a .mark) (a .from) (now (a .slots)) (now (a .chunks)) (now (a .layers)) (now (a .bytes)) (c .before .before .before .before .before .before .before .before .before .pre) (c .before .before .before .begin .result) (c .before .before .before .begin .ensures) (l .slots) (l .chunks) (l .layers) (l .bytes) (l .at) (l .n) (l .inv) (sym (c .before .has .ensures) ∙ c .if1 .taken), c .before .before .before .before .before .before .before .before .before .pre .levels .high))
 
 put-piece-requires : tie.Need-put-piece-requires Inv-loop μ-loop
 put-piece-requires c κs =
@@ -38,7 +41,7 @@ put-piece-requires c κs =
     let o = c .before .before .before .before .before .before .before .before .before .before .before .before .before .before .pre in
     let b = c .before .before .before .before .before .before .before .before .begin in
     let e = sym (c .before .before .before .before .before .before .has .ensures) ∙ c .before .before .before .before .before .if1 .taken in
-    rw (c .before .before .before .before .size-at .ensures) (layer-room (a .start) (now (a .part)) (tableAt (now (a .table))) (a .chunk) (a .ready) (a .mark) (a .from) (now (a .slots)) (now (a .chunks)) (now (a .layers)) (now (a .bytes)) o (b .result) (b .ensures) (l .slots) (l .chunks) (l .layers) (l .bytes) (l .at) (l .n) (l .inv) e, layer-some (a .start) (now (a .part)) (tableAt (now (a .table))) (a .chunk) (a .ready) (a .mark) (a .from) (now (a .slots)) (now (a .chunks)) (now (a .layers)) (now (a .bytes)) o (b .result) (b .ensures) (l .slots) (l .chunks) (l .layers) (l .bytes) (l .at) (l .n) (l .inv) e, layer-fits (a .start) (now (a .part)) (tableAt (now (a .table))) (a .chunk) (a .ready) (a .mark) (a .from) (now (a .slots)) (now (a .chunks)) (now (a .layers)) (now (a .bytes)) o (b .result) (b .ensures) (l .slots) (l .chunks) (l .layers) (l .bytes) (l .at) (l .n) (l .inv) e)
+    rw (c .before .before .before .before .size-in .ensures) (layer-room (a .start) (now (a .part)) (tableAt (now (a .table))) (a .chunk) (a .ready) (a .mark) (a .from) (now (a .slots)) (now (a .chunks)) (now (a .layers)) (now (a .bytes)) o (b .result) (b .ensures) (l .slots) (l .chunks) (l .layers) (l .bytes) (l .at) (l .n) (l .inv) e, layer-some (a .start) (now (a .part)) (tableAt (now (a .table))) (a .chunk) (a .ready) (a .mark) (a .from) (now (a .slots)) (now (a .chunks)) (now (a .layers)) (now (a .bytes)) o (b .result) (b .ensures) (l .slots) (l .chunks) (l .layers) (l .bytes) (l .at) (l .n) (l .inv) e, layer-fits (a .start) (now (a .part)) (tableAt (now (a .table))) (a .chunk) (a .ready) (a .mark) (a .from) (now (a .slots)) (now (a .chunks)) (now (a .layers)) (now (a .bytes)) o (b .result) (b .ensures) (l .slots) (l .chunks) (l .layers) (l .bytes) (l .at) (l .n) (l .inv) e)
 
 add-n : tie.Need-add-n Inv-loop μ-loop
 add-n c =
@@ -56,7 +59,7 @@ loop-again : tie.Need-loop-again Inv-loop μ-loop
 loop-again c =
     let a = c .before .before .before .before .before .before .before .before .before .before .before .before .before .before .before .before .before .before .before .before .before .before .before .args in
     let l = c .before .before .before .before .before .before .before .before .before .before .before .before .before .before .before .before .loop in
-    layering-more (a .start) (now (a .part)) (tableAt (now (a .table))) (a .chunk) (a .ready) (a .mark) (a .from) (now (a .slots)) (now (a .chunks)) (now (a .layers)) (now (a .bytes)) (c .before .before .before .before .before .before .before .before .before .before .before .before .before .before .before .before .before .before .before .before .before .before .before .pre) (c .before .before .before .before .before .before .before .before .before .before .before .before .before .before .before .before .before .begin .result) (c .before .before .before .before .before .before .before .before .before .before .before .before .before .before .before .before .before .begin .ensures) (l .slots) (l .chunks) (l .layers) (l .bytes) (l .at) (l .n) (l .inv) (sym (c .before .before .before .before .before .before .before .before .before .before .before .before .before .before .before .has .ensures) ∙ c .before .before .before .before .before .before .before .before .before .before .before .before .before .before .if1 .taken) _ _ _ _ _ (rw (c .before .before .before .before .before .before .before .before .before .before .before .before .before .size-at .ensures) at (c .before .before .before .before .before .before .before .before .put-piece .ensures))
+    layering-more (a .start) (now (a .part)) (tableAt (now (a .table))) (a .chunk) (a .ready) (a .mark) (a .from) (now (a .slots)) (now (a .chunks)) (now (a .layers)) (now (a .bytes)) (c .before .before .before .before .before .before .before .before .before .before .before .before .before .before .before .before .before .before .before .before .before .before .before .pre) (c .before .before .before .before .before .before .before .before .before .before .before .before .before .before .before .before .before .begin .result) (c .before .before .before .before .before .before .before .before .before .before .before .before .before .before .before .before .before .begin .ensures) (l .slots) (l .chunks) (l .layers) (l .bytes) (l .at) (l .n) (l .inv) (sym (c .before .before .before .before .before .before .before .before .before .before .before .before .before .before .before .has .ensures) ∙ c .before .before .before .before .before .before .before .before .before .before .before .before .before .before .if1 .taken) _ _ _ _ _ (rw (c .before .before .before .before .before .before .before .before .before .before .before .before .before .size-in .ensures) at (c .before .before .before .before .before .before .before .before .put-piece .ensures))
 
 same-length : tie.Need-same-length Inv-loop μ-loop
 same-length c = c .before .before .loop .inv .puts .long .s
@@ -85,8 +88,8 @@ put-chunk-spec =
     begin-requires
     loop-holds
     has-requires
-    cast-size-at
-    size-at-requires
+    cast-size-in
+    size-in-requires
     put-piece-requires
     add-n
     loop-less

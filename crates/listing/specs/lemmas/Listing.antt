@@ -8,6 +8,7 @@ use lib.ListN.{length, drop}
 use lib.Dec.{ltb}
 use Rattle.basics.specs.Sums.{sum}
 use Rattle.basics.specs.Tests.{All}
+use Rattle.job.specs.Job.{Within}
 use Rattle.fetch.specs.Rows.{Row, rowSlot, rowChunk, rowLayer, rowBytes}
 use Rattle.fetch.specs.Marks.{bit}
 use Rattle.schedule.specs.lemmas.Fill.{Piece, take-slot, fill}
@@ -128,6 +129,7 @@ queueOf size (k ∷ ks) (r ∷ rs) (m ∷ ms) = layersOf size k r m ++ queueOf s
 pub record ChunkFrom (start : ℕ) (part : List ℕ) (size : ℕ → ℕ → ℕ) (a : At) (ready chunk mark : ℕ) (ss cs ls bs : List ℕ) : Type 0 where
   pub room : Room start part 4 a ss cs ls bs
   pub by : ready ≤ lastOf start part
+  pub chunk-in : Within 1 500 chunk
   pub levels : Levels mark
   pub fed : Fed (leftAt start part) (layersOf size chunk ready mark)
   pub fits : load (layersOf size chunk ready mark) ≤ a .c + leftAt start part (a .t)
@@ -137,6 +139,7 @@ pub record AllFrom (start : ℕ) (part : List ℕ) (size : ℕ → ℕ → ℕ) 
   pub within : first ≤ 500
   pub room : Room start part (4 * (500 - first)) a ss cs ls bs
   pub by : All (λ r. r ≤ lastOf start part) (drop first ready)
+  pub chunks-in : All (Within 1 500) (drop first ids)
   pub levels : All Levels (drop first mark)
   pub fed : Fed (leftAt start part) (queueOf size (drop first ids) (drop first ready) (drop first mark))
   pub fits : load (queueOf size (drop first ids) (drop first ready) (drop first mark)) ≤ a .c + leftAt start part (a .t)

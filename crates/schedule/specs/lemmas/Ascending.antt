@@ -8,6 +8,7 @@ use lib.ListN.{length, getD, drop}
 use Rattle.basics.specs.Sums.{count}
 use Rattle.basics.specs.lemmas.Ranges.{pre-mono, bit, count-step}
 use Rattle.basics.specs.Tests.{All}
+use Rattle.job.specs.Job.{Within}
 
 -- Ascending, in lo .. hi.
 abbrev pub Asc : ℕ → ℕ → List ℕ → Type 0
@@ -17,6 +18,11 @@ Asc lo hi (k ∷ ks) = (lo ≤ k) × (k ≤ hi) × Asc (suc k) hi ks
 pub asc-lower : (lo lo′ hi : ℕ) (ks : List ℕ) → lo ≤ lo′ → Asc lo′ hi ks → Asc lo hi ks
 asc-lower lo lo′ hi [] h a = tt
 asc-lower lo lo′ hi (k ∷ ks) h a = (omega arith, a .1, a .2)
+
+-- Each lies in a range that holds lo .. hi.
+pub asc-within : (lo hi low high : ℕ) (ks : List ℕ) → low ≤ lo → hi ≤ high → Asc lo hi ks → All (Within low high) ks
+asc-within lo hi low high [] l h a = tt
+asc-within lo hi low high (k ∷ ks) l h a = (record { low = omega arith; high = omega arith }, asc-within (suc k) hi low high ks (omega arith) h (a .2))
 
 pub asc-nth : (lo hi : ℕ) (ks : List ℕ) (n : ℕ) → n < length ks → Asc lo hi ks → (lo ≤ getD ks n 0) × (getD ks n 0 ≤ hi)
 asc-nth lo hi [] n h a = absurd (omega arith)

@@ -37,11 +37,11 @@ due-slot-requires c κs = search needs
 sub-k : tie.Need-sub-k Inv-loop μ-loop
 sub-k c = omega (arith, c .before .before .loop .inv .room, c .before .before .before .before .before .pre .few)
 
-size-at-requires : tie.Need-size-at-requires Inv-loop μ-loop
-size-at-requires c κs = search needs
+size-in-requires : tie.Need-size-in-requires Inv-loop μ-loop
+size-in-requires c κs = (record { low = c .before .loop-test .taken; high = omega (arith, c .before .before .loop .inv .left, c .before .before .before .before .before .pre .few) }, omega arith)
 
 cast-cand : tie.Need-cast-cand Inv-loop μ-loop
-cast-cand c = omega (arith, c .size-at .ensures, c .before .before .before .before .before .before .pre .small (c .before .before .before .loop .i) 0)
+cast-cand c = omega (arith, c .size-in .ensures, c .before .before .before .before .before .before .pre .small (c .before .before .before .loop .i) 0)
 
 mul-larger : tie.Need-mul-larger Inv-loop μ-loop
 mul-larger c = omega (arith, c .before .due-slot .ensures, due-by (c .before .before .before .before .before .before .args .p) (c .before .before .before .loop .i) (c .before .before .before .loop .inv .left), c .before .before .before .before .before .before .pre .ends)
@@ -53,7 +53,7 @@ larger-requires : tie.Need-larger-requires Inv-loop μ-loop
 larger-requires c κs = search needs
 
 add-cand : tie.Need-add-cand Inv-loop μ-loop
-add-cand c = omega (arith, c .larger .ensures, c .before .before .size-at .ensures, c .before .before .before .before .before .before .before .before .pre .small (c .before .before .before .before .before .loop .i) 0, c .before .before .before .before .before .loop .inv .small, c .before .before .before .before .before .before .before .before .pre .sums 0, c .before .before .before .before .before .before .before .before .pre .sums (c .before .before .before .due-slot .result))
+add-cand c = omega (arith, c .larger .ensures, c .before .before .size-in .ensures, c .before .before .before .before .before .before .before .before .pre .small (c .before .before .before .before .before .loop .i) 0, c .before .before .before .before .before .loop .inv .small, c .before .before .before .before .before .before .before .before .pre .sums 0, c .before .before .before .before .before .before .before .before .pre .sums (c .before .before .before .due-slot .result))
 
 sub-e : tie.Need-sub-e Inv-loop μ-loop
 sub-e c = omega (arith, c .before .before .before .due-slot .ensures, c .before .before .before .before .before .before .before .before .pre .late)
@@ -76,7 +76,7 @@ loop-again c =
     let a = c .before .before .before .before .before .before .before .before .before .args in
     let t : 0 < l .i = c .before .before .before .before .before .loop-test .taken in
     let few = c .before .before .before .before .before .before .before .before .before .pre .few in
-    let v : c .before .before .before .size-at .result + c .before .larger .result ≡ tableAt (now (a .table)) (l .i) 0 + max (at (now (a .after)) (dueSlot (a .p) (l .i))) (l .last) = rw (c .before .before .before .size-at .ensures, c .before .larger .ensures, c .before .before .before .before .due-slot .ensures) in
+    let v : c .before .before .before .size-in .result + c .before .larger .result ≡ tableAt (now (a .table)) (l .i) 0 + max (at (now (a .after)) (dueSlot (a .p) (l .i))) (l .last) = rw (c .before .before .before .size-in .ensures, c .before .larger .ensures, c .before .before .before .before .due-slot .ensures) in
     let g : at (now (a .after)) 0 < tableAt (now (a .table)) (l .i) 0 + max (at (now (a .after)) (dueSlot (a .p) (l .i))) (l .last) = rw v at (c .if1 .taken) in
     rw v (basing-pass (a .p) (tableAt (now (a .table))) (now (a .after)) (l .ids) (l .dues) (l .bytes) (l .needs) (l .last) (l .first) (l .i) (l .inv) t few (keep-not-all (a .p) (tableAt (now (a .table))) (now (a .after)) (l .ids) (l .dues) (l .bytes) (l .needs) (l .last) (l .first) (l .i) (l .inv) t few g))
 
@@ -102,7 +102,7 @@ loop-again-2 c =
     let t : 0 < l .i = c .before .before .before .before .before .before .before .before .before .loop-test .taken in
     let few = c .before .before .before .before .before .before .before .before .before .before .before .before .before .pre .few in
     let d = c .before .before .before .before .before .before .before .before .due-slot .ensures in
-    let v : c .before .before .before .before .before .before .before .size-at .result + c .before .before .before .before .before .larger .result ≡ tableAt (now (a .table)) (l .i) 0 + max (at (now (a .after)) (dueSlot (a .p) (l .i))) (l .last) = rw (c .before .before .before .before .before .before .before .size-at .ensures, c .before .before .before .before .before .larger .ensures, d) in
+    let v : c .before .before .before .before .before .before .before .size-in .result + c .before .before .before .before .before .larger .result ≡ tableAt (now (a .table)) (l .i) 0 + max (at (now (a .after)) (dueSlot (a .p) (l .i))) (l .last) = rw (c .before .before .before .before .before .before .before .size-in .ensures, c .before .before .before .before .before .larger .ensures, d) in
     let h : c .before .before .before .before .before .before .before .before .before .before .before .before .held-most .result ≡ a .p .limit / a .p .span = c .before .before .before .before .before .before .before .before .before .before .before .before .held-most .ensures in
     let g : tableAt (now (a .table)) (l .i) 0 + max (at (now (a .after)) (dueSlot (a .p) (l .i))) (l .last) ≤ at (now (a .after)) 0 = rw v at (c .before .before .before .before .if1 .left) in
     let w = rw (v, h) at (c .before .need-at .ensures) ∙ held-is (a .p) (tableAt (now (a .table))) (now (a .after)) (l .ids) (l .dues) (l .bytes) (l .needs) (l .last) (l .first) (l .i) (l .inv) t few in
@@ -143,8 +143,8 @@ loop-again-3 c =
     let t : 0 < l .i = c .before .before .before .before .before .before .before .before .before .loop-test .taken in
     let few = c .before .before .before .before .before .before .before .before .before .before .before .before .before .pre .few in
     let d = c .before .before .before .before .before .before .before .before .due-slot .ensures in
-    let z = c .before .before .before .before .before .before .before .size-at .ensures in
-    let v : c .before .before .before .before .before .before .before .size-at .result + c .before .before .before .before .before .larger .result ≡ tableAt (now (a .table)) (l .i) 0 + max (at (now (a .after)) (dueSlot (a .p) (l .i))) (l .last) = rw (z, c .before .before .before .before .before .larger .ensures, d) in
+    let z = c .before .before .before .before .before .before .before .size-in .ensures in
+    let v : c .before .before .before .before .before .before .before .size-in .result + c .before .before .before .before .before .larger .result ≡ tableAt (now (a .table)) (l .i) 0 + max (at (now (a .after)) (dueSlot (a .p) (l .i))) (l .last) = rw (z, c .before .before .before .before .before .larger .ensures, d) in
     let h : c .before .before .before .before .before .before .before .before .before .before .before .before .held-most .result ≡ a .p .limit / a .p .span = c .before .before .before .before .before .before .before .before .before .before .before .before .held-most .ensures in
     let g : tableAt (now (a .table)) (l .i) 0 + max (at (now (a .after)) (dueSlot (a .p) (l .i))) (l .last) ≤ at (now (a .after)) 0 = rw v at (c .before .before .before .before .if1 .left) in
     let w = rw (v, h) at (c .before .need-at .ensures) ∙ held-is (a .p) (tableAt (now (a .table))) (now (a .after)) (l .ids) (l .dues) (l .bytes) (l .needs) (l .last) (l .first) (l .i) (l .inv) t few in
@@ -166,7 +166,7 @@ keep-bases-spec =
     loop-holds
     due-slot-requires
     sub-k
-    size-at-requires
+    size-in-requires
     cast-cand
     mul-larger
     element-copy-out-larger

@@ -7,7 +7,7 @@ use borrow.Author.Needs.{needs}
 use denote.Ref.{now}
 use Rattle.job.specs.Table.{tableAt}
 use Rattle.schedule.specs.lemmas.Parts.{at}
-use Rattle.settle.proofs.Trials.{Backing, backing-start, backing-end, backing-pass, backing-take, bytes-small, due-slot, want-small}
+use Rattle.settle.proofs.Trials.{Backing, backing-start, backing-end, backing-pass, backing-take, bytes-small, chunk-in, due-slot, want-small}
 use Rattle.settle.proofs.try_layer.Statement.{statement}
 use Rattle.settle.proofs.try_layer.Tie as tie
 
@@ -44,14 +44,17 @@ element-copy-out-d c = omega (arith, c .before .before .before .loop .inv .to, c
 cast-d : tie.Need-cast-d Inv-loop μ-loop
 cast-d c = let a = c .before .before .before .before .before .args in let l = c .before .before .before .before .loop in omega (arith, due-slot (tableAt (now (a .table))) (a .n) (now (a .after)) (now (a .ids)) (now (a .dues)) (now (a .room)) (a .first) (now (a .bytes)) (now (a .mark)) (c .before .before .before .before .before .pre) (l .bytes) (l .mark) (l .need) (l .q) (l .inv) (c .before .before .before .loop-test .taken))
 
-mul-size-at : tie.Need-mul-size-at Inv-loop μ-loop
-mul-size-at c = omega (arith, c .before .before .before .before .loop .inv .to)
+mul-size-in : tie.Need-mul-size-in Inv-loop μ-loop
+mul-size-in c = omega (arith, c .before .before .before .before .loop .inv .to)
 
-element-copy-out-size-at : tie.Need-element-copy-out-size-at Inv-loop μ-loop
-element-copy-out-size-at c = omega (arith, c .before .before .before .before .loop .inv .to, c .before .before .before .before .before .pre .long .1)
+element-copy-out-size-in : tie.Need-element-copy-out-size-in Inv-loop μ-loop
+element-copy-out-size-in c = omega (arith, c .before .before .before .before .loop .inv .to, c .before .before .before .before .before .pre .long .1)
 
-size-at-requires : tie.Need-size-at-requires Inv-loop μ-loop
-size-at-requires c κs = search needs
+size-in-requires : tie.Need-size-in-requires Inv-loop μ-loop
+size-in-requires c κs =
+    let a = c .before .before .before .before .before .before .args in
+    let l = c .before .before .before .before .before .loop in
+    (chunk-in (tableAt (now (a .table))) (a .n) (now (a .after)) (now (a .ids)) (now (a .dues)) (now (a .room)) (a .first) (now (a .bytes)) (now (a .mark)) (c .before .before .before .before .before .before .pre) (l .bytes) (l .mark) (l .need) (l .q) (l .inv) (c .before .before .before .before .loop-test .taken), omega (arith, c .before .before .before .before .before .before .pre .high))
 
 wide-requires : tie.Need-wide-requires Inv-loop μ-loop
 wide-requires c κs = search needs
@@ -72,7 +75,7 @@ wide-requires-2 : tie.Need-wide-requires-2 Inv-loop μ-loop
 wide-requires-2 c κs = search needs
 
 add-more : tie.Need-add-more Inv-loop μ-loop
-add-more c = let a = c .before .before .before .before .before .before .before .before .before .before .before .args in let l = c .before .before .before .before .before .before .before .before .before .before .loop in omega (arith, c .wide2 .ensures, c .before .larger .ensures, c .before .before .before .wide .ensures, c .before .before .before .before .size-at .ensures, want-small (tableAt (now (a .table))) (a .n) (now (a .after)) (now (a .ids)) (now (a .dues)) (now (a .room)) (a .first) (now (a .bytes)) (now (a .mark)) (c .before .before .before .before .before .before .before .before .before .before .before .pre) (l .bytes) (l .mark) (l .need) (l .q) (l .inv) (c .before .before .before .before .before .before .before .before .before .loop-test .taken))
+add-more c = let a = c .before .before .before .before .before .before .before .before .before .before .before .args in let l = c .before .before .before .before .before .before .before .before .before .before .loop in omega (arith, c .wide2 .ensures, c .before .larger .ensures, c .before .before .before .wide .ensures, c .before .before .before .before .size-in .ensures, want-small (tableAt (now (a .table))) (a .n) (now (a .after)) (now (a .ids)) (now (a .dues)) (now (a .room)) (a .first) (now (a .bytes)) (now (a .mark)) (c .before .before .before .before .before .before .before .before .before .before .before .pre) (l .bytes) (l .mark) (l .need) (l .q) (l .inv) (c .before .before .before .before .before .before .before .before .before .loop-test .taken))
 
 mul-takes : tie.Need-mul-takes Inv-loop μ-loop
 mul-takes c = omega (arith, c .before .before .before .before .before .before .before .before .before .before .loop .inv .to)
@@ -84,7 +87,7 @@ takes-requires : tie.Need-takes-requires Inv-loop μ-loop
 takes-requires c κs = search needs
 
 add-bytes : tie.Need-add-bytes Inv-loop μ-loop
-add-bytes c = let a = c .before .before .before .before .before .before .before .before .before .before .before .before .before .before .args in let l = c .before .before .before .before .before .before .before .before .before .before .before .before .before .loop in omega (arith, c .before .before .before .before .before .before .before .size-at .ensures, bytes-small (tableAt (now (a .table))) (a .n) (now (a .after)) (now (a .ids)) (now (a .dues)) (now (a .room)) (a .first) (now (a .bytes)) (now (a .mark)) (c .before .before .before .before .before .before .before .before .before .before .before .before .before .before .pre) (l .bytes) (l .mark) (l .need) (l .q) (l .inv) (c .before .before .before .before .before .before .before .before .before .before .before .before .loop-test .taken), c .before .before .before .before .before .before .before .before .before .before .before .before .before .before .pre .high, c .before .before .before .before .before .before .before .before .before .before .before .before .before .before .pre .small (getD (now (a .ids)) (l .q - 1) 0) (a .n))
+add-bytes c = let a = c .before .before .before .before .before .before .before .before .before .before .before .before .before .before .args in let l = c .before .before .before .before .before .before .before .before .before .before .before .before .before .loop in omega (arith, c .before .before .before .before .before .before .before .size-in .ensures, bytes-small (tableAt (now (a .table))) (a .n) (now (a .after)) (now (a .ids)) (now (a .dues)) (now (a .room)) (a .first) (now (a .bytes)) (now (a .mark)) (c .before .before .before .before .before .before .before .before .before .before .before .before .before .before .pre) (l .bytes) (l .mark) (l .need) (l .q) (l .inv) (c .before .before .before .before .before .before .before .before .before .before .before .before .loop-test .taken), c .before .before .before .before .before .before .before .before .before .before .before .before .before .before .pre .high, c .before .before .before .before .before .before .before .before .before .before .before .before .before .before .pre .small (getD (now (a .ids)) (l .q - 1) 0) (a .n))
 
 mul-bytes : tie.Need-mul-bytes Inv-loop μ-loop
 mul-bytes c = omega (arith, c .before .before .before .before .before .before .before .before .before .before .before .before .before .loop .inv .to)
@@ -106,7 +109,7 @@ loop-again c =
     let a = c .before .before .before .before .before .before .before .before .before .before .before .before .before .before .before .args in
     let l = c .before .before .before .before .before .before .before .before .before .before .before .before .before .before .loop in
     let t = c .before .before .before .before .before .before .before .before .before .before .before .before .before .loop-test .taken in
-    let z = c .before .before .before .before .before .before .before .before .size-at .ensures in
+    let z = c .before .before .before .before .before .before .before .before .size-in .ensures in
     let w : c .before .before .before .before .before .before .before .wide .result + c .before .before .before .before .before .larger .result ≡ getD (l .bytes) (l .q - 1) 0 + max (at (now (a .after)) (getD (now (a .dues)) (l .q - 1) 0)) (l .need) = rw (c .before .before .before .before .before .before .before .wide .ensures, c .before .before .before .before .before .larger .ensures) in
     let v : c .before .before .before .before .wide2 .result ≡ tableAt (now (a .table)) (getD (now (a .ids)) (l .q - 1) 0) (a .n) = c .before .before .before .before .wide2 .ensures ∙ z in
     rw (z, c .with .ensures, w, v) (backing-take (tableAt (now (a .table))) (a .n) (now (a .after)) (now (a .ids)) (now (a .dues)) (now (a .room)) (a .first) (now (a .bytes)) (now (a .mark)) (c .before .before .before .before .before .before .before .before .before .before .before .before .before .before .before .pre) (l .bytes) (l .mark) (l .need) (l .q) (l .inv) t (sym (rw (w, v) at (c .before .before .takes .ensures)) ∙ c .before .if1 .taken))
@@ -119,7 +122,7 @@ loop-again-2 c =
     let a = c .before .before .before .before .before .before .before .before .before .before .before .before .before .before .args in
     let l = c .before .before .before .before .before .before .before .before .before .before .before .before .before .loop in
     let t = c .before .before .before .before .before .before .before .before .before .before .before .before .loop-test .taken in
-    let z = c .before .before .before .before .before .before .before .size-at .ensures in
+    let z = c .before .before .before .before .before .before .before .size-in .ensures in
     let w : c .before .before .before .before .before .before .wide .result + c .before .before .before .before .larger .result ≡ getD (l .bytes) (l .q - 1) 0 + max (at (now (a .after)) (getD (now (a .dues)) (l .q - 1) 0)) (l .need) = rw (c .before .before .before .before .before .before .wide .ensures, c .before .before .before .before .larger .ensures) in
     let v : c .before .before .before .wide2 .result ≡ tableAt (now (a .table)) (getD (now (a .ids)) (l .q - 1) 0) (a .n) = c .before .before .before .wide2 .ensures ∙ z in
     rw w (backing-pass (tableAt (now (a .table))) (a .n) (now (a .after)) (now (a .ids)) (now (a .dues)) (now (a .room)) (a .first) (now (a .bytes)) (now (a .mark)) (c .before .before .before .before .before .before .before .before .before .before .before .before .before .before .pre) (l .bytes) (l .mark) (l .need) (l .q) (l .inv) t (sym (rw (w, v) at (c .before .takes .ensures)) ∙ c .if1 .left))
@@ -142,9 +145,9 @@ try-layer-spec =
     mul-d
     element-copy-out-d
     cast-d
-    mul-size-at
-    element-copy-out-size-at
-    size-at-requires
+    mul-size-in
+    element-copy-out-size-in
+    size-in-requires
     wide-requires
     mul-larger
     element-copy-out-larger

@@ -80,6 +80,7 @@ Slot t = Within 1 3600 t
 pub record LayerFrom (size : ℕ → ℕ → ℕ) (n : ℕ) (after ids dues room : List ℕ) (first : ℕ) (bytes mark : List ℕ) : Type 0 where
   pub low : 1 ≤ n
   pub high : n ≤ 3
+  pub chunks-in : All (Within 1 500) (drop first ids)
   pub small : (i n : ℕ) → size i n ≤ 16777216
   pub sums : Sums after
   pub slots : All Slot (drop first dues)
@@ -99,6 +100,7 @@ pub record LayerDone (size : ℕ → ℕ → ℕ) (n : ℕ) (after ids dues room
 pub record LayersFrom (layers : ℕ) (size : ℕ → ℕ → ℕ) (after ids dues ready : List ℕ) (first : ℕ) (bytes room mark : List ℕ) : Type 0 where
   pub some : 1 ≤ layers
   pub few : layers ≤ 4
+  pub chunks-in : All (Within 1 500) (drop first ids)
   pub small : (i n : ℕ) → size i n ≤ 16777216
   pub sums : Sums after
   pub due-slots : All Slot (drop first dues)
