@@ -18,6 +18,9 @@ loop-holds c = falling-start (now (c .args .tree))
 mul-left : tie.Need-mul-left Inv-loop μ-loop
 mul-left c = omega (arith, c .loop-test .taken)
 
+add-right : tie.Need-add-right Inv-loop μ-loop
+add-right c = omega (arith, c .loop-test .taken)
+
 mul-if1 : tie.Need-mul-if1 Inv-loop μ-loop
 mul-if1 c = omega (arith, c .loop-test .taken)
 
@@ -36,9 +39,6 @@ loop-less c = omega (arith, c .before .before .before .loop-test .taken, c .befo
 loop-again : tie.Need-loop-again Inv-loop μ-loop
 loop-again c = let l = c .before .before .before .before .loop in falling-left (now (c .before .before .before .before .before .args .tree)) (c .before .before .before .before .before .pre) (l .p) (c .before .before .before .loop-test .taken) (l .inv) (c .if1 .taken)
 
-add-p : tie.Need-add-p Inv-loop μ-loop
-add-p c = omega (arith, c .before .before .before .loop-test .taken)
-
 loop-less-2 : tie.Need-loop-less-2 Inv-loop μ-loop
 loop-less-2 c = omega (arith, c .before .before .before .loop-test .taken, c .before .before .before .before .loop .inv .falls .some)
 
@@ -56,13 +56,13 @@ find-largest-spec =
     μ-loop
     loop-holds
     mul-left
+    add-right
     mul-if1
     element-copy-out-if1
     mul-if1-2
     element-copy-out-if1-2
     loop-less
     loop-again
-    add-p
     loop-less-2
     loop-again-2
     returns)
