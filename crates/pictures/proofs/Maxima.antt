@@ -181,7 +181,7 @@ falling-start t =
     }
 
 module _ (t : List ℕ) (m : Maxima t) (p : ℕ) (g : p < 512) where
-  fall-left : (d : ℕ) → Falls t p d → at t (2 * p) ≡ at t p → Falling t (2 * p)
+  fall-left : (d : ℕ) → Falls t p d → at t (2 * p) ≡ at t 1 → Falling t (2 * p)
   fall-left zero f s = absurd (omega (arith, f .low))
   fall-left (suc d) f s =
       let e : 2 ^ suc d ≡ 2 * 2 ^ d = omega arith in
@@ -194,7 +194,7 @@ module _ (t : List ℕ) (m : Maxima t) (p : ℕ) (g : p < 512) where
           some = omega (arith, f .some);
           low = omega arith;
           high = omega arith;
-          same = s ∙ f .same;
+          same = s;
           before = λ q u v. f .before q u (rw e (omega arith));
           behind = λ q u v.
               ⊎-elim
@@ -204,14 +204,14 @@ module _ (t : List ℕ) (m : Maxima t) (p : ℕ) (g : p < 512) where
         };
       }
 
-  fall-right : (d : ℕ) → Falls t p d → (at t (2 * p) ≡ at t p → ⊥) → Falling t (2 * p + 1)
+  fall-right : (d : ℕ) → Falls t p d → (at t (2 * p) ≡ at t 1 → ⊥) → Falling t (2 * p + 1)
   fall-right zero f s = absurd (omega (arith, f .low))
   fall-right (suc d) f s =
       let e : 2 ^ suc d ≡ 2 * 2 ^ d = omega arith in
       let low : 512 ≤ p * (2 * 2 ^ d) = rw e at (f .low) in
       let high : (p + 1) * (2 * 2 ^ d) ≤ 1024 = rw e at (f .high) in
       let r = m .right p (f .some) g in
-      let less : at t (2 * p) < at t p = omega arith in
+      let less : at t (2 * p) < at t 1 = omega (arith, f .same) in
       record {
         below = omega arith;
         depth = d;
@@ -229,10 +229,10 @@ module _ (t : List ℕ) (m : Maxima t) (p : ℕ) (g : p < 512) where
         };
       }
 
-  pub falling-left : Falling t p → at t (2 * p) ≡ at t p → Falling t (2 * p)
+  pub falling-left : Falling t p → at t (2 * p) ≡ at t 1 → Falling t (2 * p)
   falling-left f = fall-left (f .depth) (f .falls)
 
-  pub falling-right : Falling t p → (at t (2 * p) ≡ at t p → ⊥) → Falling t (2 * p + 1)
+  pub falling-right : Falling t p → (at t (2 * p) ≡ at t 1 → ⊥) → Falling t (2 * p + 1)
   falling-right f = fall-right (f .depth) (f .falls)
 
 fall-end : (t : List ℕ) (p d : ℕ) → Falls t p d → 512 ≤ p → p < 1024 → LargestLeaf t p

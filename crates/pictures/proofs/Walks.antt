@@ -10,7 +10,7 @@ use lib.ListN.{length, replicate, length-replicate, getD-replicate}
 use lib.Dec.{T, T-not, not-T, ltb, eqb, ltb→lt, nltb→le, eqb→eq, eqb-refl}
 use borrow.Author.Tests.{eq-eqb, ne-eqb}
 use Rattle.basics.specs.Lists.{has}
-use Rattle.basics.specs.lemmas.Tests.{T-true, by-cond, not-T-false, same-test, test}
+use Rattle.basics.specs.lemmas.Tests.{T-true, not-T-false, same-test, test}
 use Rattle.job.specs.declared.Programme.{Programme}
 use Rattle.job.specs.Job.{dueSlot}
 use Rattle.schedule.specs.Bases.{allBut, keptAfter, keptBytes}
@@ -64,16 +64,6 @@ module _ (s room : ℕ → ℕ) (n : ℕ) (few : suc n < 512) (one : (k : ℕ) �
   new-leaf : at t (512 + suc n) ≡ 0
   new-leaf = x .leaf (suc n) few ∙ rw (not-T-false (has old (suc n)) (not-T (has old (suc n)) (λ u. omega (arith, has-in 1 n old (suc n) (kept-asc s room n) u .1))))
 
-  -- Of those but m, with or without the new chunk.
-  other : (m k : ℕ) → (k ≡ suc n → ⊥) → has (allBut m new) k ≡ has (allBut m old) k
-  other m k d =
-      let a = added-has s room n k in
-      let g = has-all-but m 1 (suc n) new k (added-asc s room n) in
-      let h = has-all-but m 1 n old k (kept-asc s room n) in
-      same-test (has (allBut m new) k) (has (allBut m old) k)
-      (λ c. let u = g .0 c in h .1 (⊎-elim (λ v. v) (λ e. absurd (d (sym e))) (a .0 (u .0)), u .1))
-      (λ c. let u = h .0 c in g .1 (a .1 (inl (u .0)), u .1))
-
   -- The chunk is added.
   add-shows : (t′ : List ℕ) → Stored (512 + suc n) (s (suc n)) t t′ → Shows s t′ new
   add-shows t′ o =
@@ -111,7 +101,7 @@ module _ (s room : ℕ → ℕ) (n : ℕ) (few : suc n < 512) (one : (k : ℕ) �
         }
 
     -- Else the leaf of the largest is that of the largest kept one, the earliest among equals.
-    leaf-is : (q : ℕ) → LargestLeaf t q → s (suc n) ≤ at t 1 → (q ≡ 512 + m) × (at t 1 ≡ s m) × T (has old m)
+    leaf-is : (q : ℕ) → LargestLeaf t q → s (suc n) ≤ at t 1 → (q ≡ 512 + m) × (at t 1 ≡ s m)
     leaf-is q l h =
         let k = q - 512 in
         let e : 512 + k ≡ q = omega (arith, l .low) in
@@ -124,23 +114,17 @@ module _ (s room : ℕ → ℕ) (n : ℕ) (few : suc n < 512) (one : (k : ℕ) �
         let first = big .first k in-new same in
         let low = has-in 1 n old k (kept-asc s room n) yes in
         let here : k ≡ m = ⊎-elim (λ u. ⊎-elim (λ c. absurd (omega (arith, kept-leaf m u, l .same, l .first (512 + m) (omega arith) (omega (arith, ltb→lt m k c))))) (λ c. omega (arith, nltb→le m k c)) (test (ltb m k))) (λ d. absurd (omega (arith, low .1))) mine in
-        (omega arith, omega (arith, l .same), rw here at yes)
+        (omega arith, omega (arith, l .same))
 
-    -- And it is dropped before the new one is added.
-    drop-shows : (t′ t″ : List ℕ) → T (has old m) → Stored (512 + m) 0 t t′ → Stored (512 + suc n) (s (suc n)) t′ t″ → Shows s t″ (allBut m new)
-    drop-shows t′ t″ u o o′ =
-        let r = has-in 1 n old m (kept-asc s room n) u in
-        let gone = has-all-but m 1 n old m (kept-asc s room n) in
-        let stays = has-all-but m 1 (suc n) new (suc n) (added-asc s room n) in
-        put-shows s t′ t″ (allBut m old) (allBut m new) (suc n) (s (suc n)) few
-        (put-shows s t t′ old (allBut m old) m 0 (omega arith) x o
-        (rw (not-T-false (has (allBut m old) m) (not-T (has (allBut m old) m) (λ c. gone .0 c .1 refl))))
+    -- And it is dropped, after the new one was added.
+    drop-shows : (t′ t″ : List ℕ) → m < 512 → Stored (512 + suc n) (s (suc n)) t t′ → Stored (512 + m) 0 t′ t″ → Shows s t″ (allBut m new)
+    drop-shows t′ t″ h o o′ =
+        let gone = has-all-but m 1 (suc n) new m (added-asc s room n) in
+        put-shows s t′ t″ new (allBut m new) m 0 h (add-shows t′ o) o′
+        (rw (not-T-false (has (allBut m new) m) (not-T (has (allBut m new) m) (λ c. gone .0 c .1 refl))))
         (λ k d.
-        let g = has-all-but m 1 n old k (kept-asc s room n) in
-        same-test (has (allBut m old) k) (has old k) (λ c. g .0 c .0) (λ c. g .1 (c, λ e. d (sym e)))))
-        o′
-        (rw (T-true (has (allBut m new) (suc n)) (stays .1 (added-has s room n (suc n) .1 (inr refl), λ e. omega (arith, r .1)))))
-        (other m)
+        let g = has-all-but m 1 (suc n) new k (added-asc s room n) in
+        same-test (has (allBut m new) k) (has new k) (λ c. g .0 c .0) (λ c. g .1 (c, λ e. d (sym e))))
 
 -- ---- the walk
 
@@ -188,10 +172,6 @@ module _
   -- The new chunk's leaf has nothing yet.
   pub leaf-free : at tree (512 + (n + 1)) ≤ z
   leaf-free = rw add-one (omega (arith, new-leaf s room n few one tree (w .shows)))
-
-  pub leaf-still-free : (q : ℕ) (tree′ : List ℕ) → Stored q 0 tree tree′ → at tree′ (512 + (n + 1)) ≤ z
-  leaf-still-free q tree′ o =
-      rw (o .leaves (512 + (n + 1)) (omega arith)) (by-cond (λ (v : ℕ). v ≤ z) (eqb (512 + (n + 1)) q) (λ t. omega arith) (λ t. leaf-free))
 
   pub walking-stays :
       (tree′ : List ℕ) → Stored (512 + (n + 1)) z tree tree′ → sum + z + at after (dueSlot p (n + 1)) ≤ at after 0 →
@@ -241,7 +221,7 @@ module _
             (omega (arith, fit .bases m (r .0) (omega arith) .high), omega (arith, less-one m b))
 
       pub walking-drops :
-          (tree′ tree″ : List ℕ) → Stored q 0 tree tree′ → Stored (512 + (n + 1)) z tree′ tree″ → Walking p s after tree″ (sum + z - at tree 1) (n + 1)
+          (tree′ tree″ : List ℕ) → Stored (512 + (n + 1)) z tree tree′ → Stored q 0 tree′ tree″ → Walking p s after tree″ (sum + z - at tree 1) (n + 1)
       walking-drops tree′ tree″ o o′ = by-step (step s room n) where
         by-step : Step s room n → Walking p s after tree″ (sum + z - at tree 1) (n + 1)
         by-step (stays f e) = absurd (omega (arith, exceeds-as h))
@@ -252,7 +232,7 @@ module _
               left = omega arith;
               small = omega (arith, w .small, small-base);
               bytes = rw e (omega (arith, l .1, less-one m b));
-              shows = rw e (drop-shows s room n few one tree (w .shows) m b tree′ tree″ (l .2) (rw (l .0) at o) (rw (own, add-one) at o′));
+              shows = rw e (drop-shows s room n few one tree (w .shows) m b tree′ tree″ (omega (arith, l .0, leaf .high)) (rw (own, add-one) at o) (rw (l .0) at o′));
             })
 
 pub walking-end : (p : Programme) (size : ℕ → ℕ → ℕ) (after tree : List ℕ) (sum n : ℕ) → Walking p (λ k. size k 0) after tree sum n → p .chunks ≤ n → Walked p size after tree

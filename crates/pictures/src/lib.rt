@@ -85,11 +85,12 @@ fn find_largest(tree: &[u32; 1024]) -> usize
     requires { ⌜ Maxima (now tree) ⌝ }
     ensures { λ r. ⌜ LargestLeaf (now (tree .entry)) r ⌝ }
 {
+    let top = tree[1];
     let mut p: usize = 1;
     while p < 512 {
         let left = 2 * p;
         let right = left + 1;
-        if tree[left] == tree[p] {
+        if tree[left] == top {
             p = left;
         } else {
             p = right;
@@ -123,8 +124,8 @@ fn walk(p: Programme, table: &[u32; 2000], after: &[u64; 3601], tree: &mut [u32;
                 n = i;
             } else {
                 let q = find_largest(tree);
-                clear_leaf(tree, q);
                 add_leaf(tree, leaf, z);
+                clear_leaf(tree, q);
                 sum = more - (top as u64);
                 n = i;
             }

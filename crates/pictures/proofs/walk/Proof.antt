@@ -5,7 +5,7 @@ use borrow.Author.Needs.{needs}
 use denote.Ref.{now}
 use Rattle.job.specs.Table.{tableAt}
 use Rattle.schedule.specs.lemmas.Words.{due-by}
-use Rattle.pictures.proofs.Walks.{Walking, drop-within, leaf-free, leaf-still-free, walking-start, walking-stays, walking-passes, walking-drops, walking-end}
+use Rattle.pictures.proofs.Walks.{Walking, drop-within, leaf-free, walking-start, walking-stays, walking-passes, walking-drops, walking-end}
 use Rattle.pictures.proofs.walk.Statement.{statement}
 use Rattle.pictures.proofs.walk.Tie as tie
 
@@ -81,14 +81,14 @@ loop-again-2 c =
 find-largest-requires : tie.Need-find-largest-requires Inv-loop μ-loop
 find-largest-requires c κs = c .before .before .before .before .before .before .before .before .before .loop .inv .shows .maxima
 
-clear-leaf-requires : tie.Need-clear-leaf-requires Inv-loop μ-loop
-clear-leaf-requires c κs = record { low = c .before .find-largest .ensures .low; high = c .before .find-largest .ensures .high; maxima = c .before .before .before .before .before .before .before .before .before .before .before .loop .inv .shows .maxima }
-
 add-leaf-requires-2 : tie.Need-add-leaf-requires-2 Inv-loop μ-loop
 add-leaf-requires-2 c κs =
-    let l = c .before .before .before .before .before .before .before .before .before .before .before .before .before .loop in
-    let a = c .before .before .before .before .before .before .before .before .before .before .before .before .before .before .before .args in
-    (record { low = omega arith; high = omega (arith, c .before .before .before .before .before .before .before .before .before .before .before .if1 .taken, c .before .before .before .before .before .before .before .before .before .before .before .before .before .before .before .pre .fit .few); maxima = c .before .clear-leaf .ensures .maxima }, leaf-still-free (a .p) (tableAt (now (a .table))) (now (a .after)) (c .before .before .before .before .before .before .before .before .before .before .before .before .before .before .before .pre .fit) (l .tree) (l .sum) (l .n) (l .inv) (c .before .before .before .before .before .before .before .before .before .before .before .if1 .taken) (c .before .before .before .before .before .before .before .before .before .size-at .result) (c .before .before .before .before .before .before .before .before .before .size-at .ensures) _ _ (c .before .clear-leaf .ensures))
+    let l = c .before .before .before .before .before .before .before .before .before .before .before .loop in
+    let a = c .before .before .before .before .before .before .before .before .before .before .before .before .before .args in
+    (record { low = omega arith; high = omega (arith, c .before .before .before .before .before .before .before .before .before .if1 .taken, c .before .before .before .before .before .before .before .before .before .before .before .before .before .pre .fit .few); maxima = l .inv .shows .maxima }, leaf-free (a .p) (tableAt (now (a .table))) (now (a .after)) (c .before .before .before .before .before .before .before .before .before .before .before .before .before .pre .fit) (l .tree) (l .sum) (l .n) (l .inv) (c .before .before .before .before .before .before .before .before .before .if1 .taken) (c .before .before .before .before .before .before .before .size-at .result) (c .before .before .before .before .before .before .before .size-at .ensures))
+
+clear-leaf-requires : tie.Need-clear-leaf-requires Inv-loop μ-loop
+clear-leaf-requires c κs = record { low = c .before .before .before .find-largest .ensures .low; high = c .before .before .before .find-largest .ensures .high; maxima = c .before .add-leaf2 .ensures .maxima }
 
 cast-sum : tie.Need-cast-sum Inv-loop μ-loop
 cast-sum c =
@@ -109,7 +109,7 @@ loop-again-3 : tie.Need-loop-again-3 Inv-loop μ-loop
 loop-again-3 c =
     let l = c .before .before .before .before .before .before .before .before .before .before .before .before .before .before .loop in
     let a = c .before .before .before .before .before .before .before .before .before .before .before .before .before .before .before .before .args in
-    walking-drops (a .p) (tableAt (now (a .table))) (now (a .after)) (c .before .before .before .before .before .before .before .before .before .before .before .before .before .before .before .before .pre .fit) (l .tree) (l .sum) (l .n) (l .inv) (c .before .before .before .before .before .before .before .before .before .before .before .before .if1 .taken) (c .before .before .before .before .before .before .before .before .before .before .size-at .result) (c .before .before .before .before .before .before .before .before .before .before .size-at .ensures) (rw (c .before .before .before .before .before .before .before .before .before .before .before .due-slot .ensures) at (c .before .before .before .before .before .before .before .before .if2 .left)) _ (c .before .before .before .before .find-largest .ensures) (c .before .before .before .before .before .before .if3 .left) _ _ (c .before .before .clear-leaf .ensures) (c .add-leaf2 .ensures)
+    walking-drops (a .p) (tableAt (now (a .table))) (now (a .after)) (c .before .before .before .before .before .before .before .before .before .before .before .before .before .before .before .before .pre .fit) (l .tree) (l .sum) (l .n) (l .inv) (c .before .before .before .before .before .before .before .before .before .before .before .before .if1 .taken) (c .before .before .before .before .before .before .before .before .before .before .size-at .result) (c .before .before .before .before .before .before .before .before .before .before .size-at .ensures) (rw (c .before .before .before .before .before .before .before .before .before .before .before .due-slot .ensures) at (c .before .before .before .before .before .before .before .before .if2 .left)) _ (c .before .before .before .before .find-largest .ensures) (c .before .before .before .before .before .before .if3 .left) _ _ (c .before .before .add-leaf2 .ensures) (c .clear-leaf .ensures)
 
 returns : tie.Need-returns Inv-loop μ-loop
 returns c = let l = c .before .before .loop in let a = c .before .before .before .before .args in walking-end (a .p) (tableAt (now (a .table))) (now (a .after)) (l .tree) (l .sum) (l .n) (l .inv) (omega (arith, c .if1 .left))
@@ -139,8 +139,8 @@ walk-spec =
     loop-less-2
     loop-again-2
     find-largest-requires
-    clear-leaf-requires
     add-leaf-requires-2
+    clear-leaf-requires
     cast-sum
     sub-sum
     loop-less-3
