@@ -15,7 +15,6 @@ use Rattle.job.specs.declared.Programme.{Programme}
 use Rattle.job.specs.Job.{dueSlot}
 use Rattle.schedule.specs.Bases.{keptAfter}
 use Rattle.schedule.specs.Plan.{picked}
-use Rattle.schedule.specs.lemmas.Ascending.{Asc}
 use Rattle.schedule.specs.lemmas.Kept.{picked-asc, picked-cong, picked-each, picked-has}
 use Rattle.schedule.specs.lemmas.Parts.{at}
 use Rattle.schedule.specs.lemmas.Walk.{kept-asc}

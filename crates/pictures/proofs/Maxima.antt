@@ -1,9 +1,8 @@
 -- Laws on the ways up and down a table of maxima. Assumes nothing.
-use mathlib.Core.Path.{_≡_, refl, _∙_}
-use mathlib.Core.Bool.{cond}
+use mathlib.Core.Path.{_≡_, refl, sym, ap, _∙_}
 use mathlib.Core.List.{List}
 use mathlib.Core.Logic.{⊎-elim}
-use Prim.Native.Nat.{ℕ, zero, suc, _+_, _*_, _/_, _^_, _≤_, _<_}
+use Prim.Native.Nat.{ℕ, zero, suc, _+_, _*_, _/_, _^_, _≤_, _<_, max}
 use native.Mathlib.Omega.{arith}
 use native.Mathlib.Nat.{mul-le-mul-left}
 use lib.ListN.{length, set, length-set}
@@ -13,7 +12,7 @@ use lib.Dec.{T-not, ltb, eqb, ltb→lt, nltb→le, eqb→eq, eqb-refl}
 use borrow.Author.Tests.{eq-eqb, ne-eqb}
 use Rattle.basics.specs.lemmas.Tests.{test}
 use Rattle.schedule.specs.lemmas.Parts.{at}
-use Rattle.pictures.specs.lemmas.Walking.{LargestLeaf, Maxima, Stored, under}
+use Rattle.pictures.specs.lemmas.Walking.{InTree, LargestLeaf, Maxima, Stored, under}
 
 -- ---- up
 
@@ -33,14 +32,14 @@ other-child : (r p : ℕ) → (p ≡ r / 2 → ⊥) → (2 * p ≡ r → ⊥) ×
 other-child r p h = (λ e. h (omega arith), λ e. h (omega arith))
 
 -- A new leaf disturbs only the place above it.
-pub climbing-start : (leaf v : ℕ) (old : List ℕ) → 512 ≤ leaf → leaf < 1024 → Maxima old → Climbing (set old leaf v) (set old leaf v) (leaf / 2)
-climbing-start leaf v old g h m =
+pub climbing-start : (leaf v : ℕ) (old : List ℕ) → InTree leaf old → Climbing (set old leaf v) (set old leaf v) (leaf / 2)
+climbing-start leaf v old m =
     record {
-      below = omega arith;
-      long = length-set old leaf v ∙ m .long;
+      below = omega (arith, m .high);
+      long = length-set old leaf v ∙ m .maxima .long;
       right = λ q u w o.
           let c = other-child leaf q o in
-          rw (getD-set-other old leaf (2 * q) v 0 (c .0), getD-set-other old leaf (2 * q + 1) v 0 (c .1), getD-set-other old leaf q v 0 (λ e. omega arith)) (m .right q u w);
+          rw (getD-set-other old leaf (2 * q) v 0 (c .0), getD-set-other old leaf (2 * q + 1) v 0 (c .1), getD-set-other old leaf q v 0 (λ e. omega (arith, m .low))) (m .maxima .right q u w);
       leaves = λ q u. refl;
     }
 
@@ -77,17 +76,60 @@ module _ (start t : List ℕ) (p : ℕ) (c : Climbing start t p) where
   climbing-ends h = record { long = c .long; right = λ q u w. c .right q u w (λ e. omega arith) }
 
 -- The leaves are those of the start.
-pub stored : (leaf v : ℕ) (old t : List ℕ) → leaf < length old → ((q : ℕ) → 512 ≤ q → at t q ≡ at (set old leaf v) q) → Maxima t → Stored leaf v old t
-stored leaf v old t h f m =
+pub stored : (leaf v : ℕ) (old t : List ℕ) (p : ℕ) → InTree leaf old → Climbing (set old leaf v) t p → Maxima t → Stored leaf v old t
+stored leaf v old t p h c m =
     record {
       maxima = m;
       leaves = λ q u.
-          f q u
+          c .leaves q u
           ∙ ⊎-elim
-          (λ x. let e = eqb→eq q leaf x in rw (e, eq-eqb leaf leaf refl) (getD-set-same old leaf v 0 h))
+          (λ x. let e = eqb→eq q leaf x in rw (e, eq-eqb leaf leaf refl) (getD-set-same old leaf v 0 (omega (arith, h .high, h .maxima .long))))
           (λ x. let d : q ≡ leaf → ⊥ = λ e. T-not (eqb q leaf) x (rw e (eqb-refl leaf)) in rw (ne-eqb q leaf d) (getD-set-other old leaf q v 0 d))
           (test (eqb q leaf));
     }
+
+-- ---- up, with a leaf that grew to v
+
+-- Below the place above it: that place wants the larger of its own and v.
+raise-child : (t : List ℕ) (c v : ℕ) → c < length t → 1 ≤ c / 2 → at t c ≤ v → at t (c / 2) ≡ under t (c / 2) → under (set t c v) (c / 2) ≡ max (at (set t c v) (c / 2)) v
+raise-child t c v l g h r =
+    let p = c / 2 in
+    let own = getD-set-same t c v 0 l in
+    let above = getD-set-other t c p v 0 (λ e. omega arith) in
+    ⊎-elim
+    (λ x.
+    let e : c ≡ 2 * p + 1 = omega (arith, ltb→lt (2 * p) c x) in
+    let a : at (set t c v) (2 * p + 1) ≡ v = sym (ap (at (set t c v)) e) ∙ own in
+    omega (arith, a, ap (at t) e, above, r, getD-set-other t c (2 * p) v 0 (λ d. omega arith)))
+    (λ x.
+    let e : c ≡ 2 * p = omega (arith, nltb→le (2 * p) c x) in
+    let a : at (set t c v) (2 * p) ≡ v = sym (ap (at (set t c v)) e) ∙ own in
+    omega (arith, a, ap (at t) e, above, r, getD-set-other t c (2 * p + 1) v 0 (λ d. omega arith)))
+    (test (ltb (2 * p) c))
+
+pub record Adding (v : ℕ) (start t : List ℕ) (p : ℕ) : Type 0 where
+  pub climbing : Climbing start t p
+  pub wants : 1 ≤ p → under t p ≡ max (at t p) v
+
+pub adding-start : (leaf v : ℕ) (old : List ℕ) → InTree leaf old → at old leaf ≤ v → Adding v (set old leaf v) (set old leaf v) (leaf / 2)
+adding-start leaf v old m h =
+    record {
+      climbing = climbing-start leaf v old m;
+      wants = λ g. raise-child old leaf v (omega (arith, m .high, m .maxima .long)) g h (m .maxima .right (leaf / 2) g (omega (arith, m .high)));
+    }
+
+module _ (v : ℕ) (start t : List ℕ) (p : ℕ) (a : Adding v start t p) (some : 0 < p) where
+  pub adding-more : at t p < v → Adding v start (set t p v) (p / 2)
+  adding-more h =
+      let e : under t p ≡ v = omega (arith, a .wants some) in
+      let c = a .climbing in
+      record {
+        climbing = rw e at (climbing-more start t p c);
+        wants = λ g. raise-child t p v (omega (arith, c .below, c .long)) g (omega arith) (c .right (p / 2) g (omega (arith, c .below)) (λ d. omega arith));
+      }
+
+  pub adding-stops : v ≤ at t p → Maxima t
+  adding-stops h = climbing-stops start t p (a .climbing) (omega (arith, a .wants some))
 
 -- ---- down
 
@@ -104,6 +146,10 @@ under-le t m (suc d) p q g h u v =
     (λ x. omega (arith, r, under-le t m d (2 * p) q (omega arith) (omega arith) (omega arith) (ltb→lt q ((2 * p + 1) * 2 ^ d) x)))
     (λ x. omega (arith, r, under-le t m d (2 * p + 1) q (omega arith) (omega arith) (nltb→le q ((2 * p + 1) * 2 ^ d) x) (omega arith)))
     (test (ltb q ((2 * p + 1) * 2 ^ d)))
+
+-- No leaf has more than place 1.
+pub leaf-le : (t : List ℕ) → Maxima t → (q : ℕ) → 512 ≤ q → q < 1024 → at t q ≤ at t 1
+leaf-le t m q u v = under-le t m 9 1 q (omega arith) (omega arith) (omega arith) (omega arith)
 
 -- p has what place 1 has, the leaves before those under it have less, and those behind have no more. d: how far the leaves are.
 pub record Falls (t : List ℕ) (p d : ℕ) : Type 0 where
@@ -135,7 +181,7 @@ falling-start t =
     }
 
 module _ (t : List ℕ) (m : Maxima t) (p : ℕ) (g : p < 512) where
-  fall-left : (d : ℕ) → Falls t p d → at t (2 * p) ≡ at t p → Falling t (2 * p)
+  fall-left : (d : ℕ) → Falls t p d → at t (2 * p) ≡ at t 1 → Falling t (2 * p)
   fall-left zero f s = absurd (omega (arith, f .low))
   fall-left (suc d) f s =
       let e : 2 ^ suc d ≡ 2 * 2 ^ d = omega arith in
@@ -148,7 +194,7 @@ module _ (t : List ℕ) (m : Maxima t) (p : ℕ) (g : p < 512) where
           some = omega (arith, f .some);
           low = omega arith;
           high = omega arith;
-          same = s ∙ f .same;
+          same = s;
           before = λ q u v. f .before q u (rw e (omega arith));
           behind = λ q u v.
               ⊎-elim
@@ -158,14 +204,14 @@ module _ (t : List ℕ) (m : Maxima t) (p : ℕ) (g : p < 512) where
         };
       }
 
-  fall-right : (d : ℕ) → Falls t p d → (at t (2 * p) ≡ at t p → ⊥) → Falling t (2 * p + 1)
+  fall-right : (d : ℕ) → Falls t p d → (at t (2 * p) ≡ at t 1 → ⊥) → Falling t (2 * p + 1)
   fall-right zero f s = absurd (omega (arith, f .low))
   fall-right (suc d) f s =
       let e : 2 ^ suc d ≡ 2 * 2 ^ d = omega arith in
       let low : 512 ≤ p * (2 * 2 ^ d) = rw e at (f .low) in
       let high : (p + 1) * (2 * 2 ^ d) ≤ 1024 = rw e at (f .high) in
       let r = m .right p (f .some) g in
-      let less : at t (2 * p) < at t p = omega arith in
+      let less : at t (2 * p) < at t 1 = omega (arith, f .same) in
       record {
         below = omega arith;
         depth = d;
@@ -183,10 +229,10 @@ module _ (t : List ℕ) (m : Maxima t) (p : ℕ) (g : p < 512) where
         };
       }
 
-  pub falling-left : Falling t p → at t (2 * p) ≡ at t p → Falling t (2 * p)
+  pub falling-left : Falling t p → at t (2 * p) ≡ at t 1 → Falling t (2 * p)
   falling-left f = fall-left (f .depth) (f .falls)
 
-  pub falling-right : Falling t p → (at t (2 * p) ≡ at t p → ⊥) → Falling t (2 * p + 1)
+  pub falling-right : Falling t p → (at t (2 * p) ≡ at t 1 → ⊥) → Falling t (2 * p + 1)
   falling-right f = fall-right (f .depth) (f .falls)
 
 fall-end : (t : List ℕ) (p d : ℕ) → Falls t p d → 512 ≤ p → p < 1024 → LargestLeaf t p
@@ -194,6 +240,7 @@ fall-end t p zero f g h =
     record {
       low = g;
       high = h;
+      same = f .same;
       top = λ q u v.
           ⊎-elim
           (λ x. omega (arith, f .same, f .before q u (omega (arith, ltb→lt q p x))))

@@ -1,16 +1,14 @@
 // Internal. Request 9's walk over the bases, in C log C: a table of maxima of 1,024 places, place 512 + i the bytes of chunk i's base
 // if it is kept, else 0, and each place below 512 the larger of the two under it. A base added or dropped costs a way up, which ends
-// where nothing changes; the largest kept one, the earliest among equals, a way down. The kept chunks end up where settle's pass over
-// the bases leaves them: at the end of tables of 500 places, in playing order.
+// where nothing changes, and the largest kept one, the earliest among equals, a way down. The kept chunks end up where settle's pass
+// over the bases leaves them: at the end of tables of 500 places, in playing order.
 use job::Programme;
 ghost use mathlib.Core.Path.{_≡_};
-ghost use mathlib.Core.Bool.{_&&_, not};
-ghost use Prim.Native.Nat.{_≤_, _<_, max};
-ghost use lib.ListN.{length};
-ghost use lib.Dec.{eqb};
-ghost use Rattle.basics.specs.Tests.{allTo};
+ghost use mathlib.Core.Bool.{not};
+ghost use Prim.Native.Nat.{_≤_, max};
 ghost use Rattle.job.specs.Table.{tableAt};
-ghost use Rattle.pictures.specs.lemmas.Walking.{Maxima, Stored, LargestLeaf, WalkFrom, Walked, GatherFrom, Gathered, KeepFrom, Keeps, equalIn, walksIn};
+ghost use Rattle.schedule.specs.lemmas.Parts.{at};
+ghost use Rattle.pictures.specs.lemmas.Walking.{Maxima, InTree, Stored, LargestLeaf, WalkFrom, Walked, GatherFrom, Gathered, KeepFrom, Keeps, equalIn, walksIn};
 
 fn larger(a: u32, b: u32) -> u32
     ensures { λ r. ⌜ r ≡ max a b ⌝ }
@@ -40,18 +38,35 @@ fn equal_bases(p: Programme, table: &[u32; 2000]) -> bool
 pub fn by_walk(p: Programme, table: &[u32; 2000]) -> bool
     ensures { λ r. ⌜ r ≡ walksIn p (tableAt (now (table .entry))) ⌝ }
 {
-    if job::held_most(p) < p.chunks {
+    let held = job::held_most(p);
+    if held < p.chunks {
         return false;
     }
     !equal_bases(p, table)
 }
 
-// A leaf gets a value, and the places above it are set right.
-fn set_leaf(tree: &mut [u32; 1024], leaf: usize, v: u32)
-    requires { ⌜ (512 ≤ leaf) × (leaf < 1024) × Maxima (now tree) ⌝ }
+// A leaf gets a value no smaller than its own. The way up ends where a place has as much.
+fn add_leaf(tree: &mut [u32; 1024], leaf: usize, v: u32)
+    requires { ⌜ InTree leaf (now tree) × (at (now tree) leaf ≤ v) ⌝ }
     ensures { λ _. ⌜ Stored leaf v (now (tree .entry)) (now (tree .exit)) ⌝ }
 {
     tree[leaf] = v;
+    let mut p = leaf / 2;
+    while 0 < p {
+        if v <= tree[p] {
+            return;
+        }
+        tree[p] = v;
+        p = p / 2;
+    }
+}
+
+// A leaf gets 0. The way up ends where a place keeps what it has.
+fn clear_leaf(tree: &mut [u32; 1024], leaf: usize)
+    requires { ⌜ InTree leaf (now tree) ⌝ }
+    ensures { λ _. ⌜ Stored leaf 0 (now (tree .entry)) (now (tree .exit)) ⌝ }
+{
+    tree[leaf] = 0;
     let mut p = leaf / 2;
     while 0 < p {
         let left = 2 * p;
@@ -70,13 +85,15 @@ fn find_largest(tree: &[u32; 1024]) -> usize
     requires { ⌜ Maxima (now tree) ⌝ }
     ensures { λ r. ⌜ LargestLeaf (now (tree .entry)) r ⌝ }
 {
+    let top = tree[1];
     let mut p: usize = 1;
     while p < 512 {
         let left = 2 * p;
-        if tree[left] == tree[p] {
+        let right = left + 1;
+        if tree[left] == top {
             p = left;
         } else {
-            p = left + 1;
+            p = right;
         }
     }
     p
@@ -95,17 +112,23 @@ fn walk(p: Programme, table: &[u32; 2000], after: &[u64; 3601], tree: &mut [u32;
         let d = job::due_slot(p, i);
         let z = job::size_at(table, i, 0);
         let leaf = 512 + (i as usize);
-        set_leaf(tree, leaf, z);
         let more = sum + (z as u64);
         if more + after[d] <= all {
+            add_leaf(tree, leaf, z);
             sum = more;
             n = i;
         } else {
-            let q = find_largest(tree);
-            let top = tree[q];
-            set_leaf(tree, q, 0);
-            sum = more - (top as u64);
-            n = i;
+            let top = tree[1];
+            if top < z {
+                // The new one is the largest.
+                n = i;
+            } else {
+                let q = find_largest(tree);
+                add_leaf(tree, leaf, z);
+                clear_leaf(tree, q);
+                sum = more - (top as u64);
+                n = i;
+            }
         }
     }
 }

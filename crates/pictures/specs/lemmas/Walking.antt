@@ -4,7 +4,7 @@ use Prim.Native.Nat.{ℕ, _+_, _*_, _-_, _/_, _≤_, _<_, max}
 use mathlib.Core.Path.{_≡_}
 use mathlib.Core.Bool.{Bool, cond, not, _&&_}
 use mathlib.Core.List.{List, map}
-use lib.ListN.{length, getD, drop, replicate}
+use lib.ListN.{length, drop, replicate}
 use lib.Dec.{leb, ltb, eqb}
 use Rattle.basics.specs.Lists.{has}
 use Rattle.basics.specs.Tests.{allTo}
@@ -34,15 +34,22 @@ pub record Maxima (t : List ℕ) : Type 0 where
   pub long : length t ≡ 1024
   pub right : (q : ℕ) → 1 ≤ q → q < 512 → at t q ≡ under t q
 
+-- A leaf of such a table.
+pub record InTree (leaf : ℕ) (t : List ℕ) : Type 0 where
+  pub low : 512 ≤ leaf
+  pub high : leaf < 1024
+  pub maxima : Maxima t
+
 -- A leaf got v, the others have what they had.
 pub record Stored (leaf v : ℕ) (old new : List ℕ) : Type 0 where
   pub maxima : Maxima new
   pub leaves : (q : ℕ) → 512 ≤ q → at new q ≡ cond (eqb q leaf) v (at old q)
 
--- The leaf of the largest, the first among equals.
+-- The leaf of the largest, the first among equals. Place 1 has as much.
 pub record LargestLeaf (t : List ℕ) (leaf : ℕ) : Type 0 where
   pub low : 512 ≤ leaf
   pub high : leaf < 1024
+  pub same : at t leaf ≡ at t 1
   pub top : (q : ℕ) → 512 ≤ q → q < 1024 → at t q ≤ at t leaf
   pub first : (q : ℕ) → 512 ≤ q → q < leaf → at t q < at t leaf
 

@@ -1,27 +1,26 @@
--- `set_leaf` meets its contract: on the way up only the place p may be wrong. Assumes nothing.
-use Prim.Native.Nat.{_/_}
+-- `clear_leaf` meets its contract: on the way up only the place p may be wrong. Assumes nothing.
 use native.Mathlib.Omega.{arith}
 use mathlib.Core.Path.{_∙_}
 use borrow.Author.Needs.{needs}
 use denote.Ref.{now}
 use Rattle.pictures.proofs.Maxima.{Climbing, climbing-start, climbing-more, climbing-stops, climbing-ends, stored}
-use Rattle.pictures.proofs.set_leaf.Statement.{statement}
-use Rattle.pictures.proofs.set_leaf.Tie as tie
+use Rattle.pictures.proofs.clear_leaf.Statement.{statement}
+use Rattle.pictures.proofs.clear_leaf.Tie as tie
 
 abbrev Inv-loop : tie.InvT-loop
-Inv-loop tree₀ leaf v p₀ tree p = Climbing tree₀ tree p
+Inv-loop tree₀ leaf p₀ tree p = Climbing tree₀ tree p
 
 abbrev μ-loop : tie.MeasureT-loop
-μ-loop tree₀ leaf v p₀ tree p = p
+μ-loop tree₀ leaf p₀ tree p = p
 
 mul-tree : tie.Need-mul-tree Inv-loop μ-loop
-mul-tree c = omega arith
+mul-tree c = omega (arith, c .pre .high)
 
 element-write-tree : tie.Need-element-write-tree Inv-loop μ-loop
-element-write-tree c = omega (arith, c .pre .2 .long)
+element-write-tree c = omega (arith, c .pre .high, c .pre .maxima .long)
 
 loop-holds : tie.Need-loop-holds Inv-loop μ-loop
-loop-holds c = let a = c .args in climbing-start (a .leaf) (a .v) (now (a .tree)) (c .pre .0) (c .pre .1) (c .pre .2)
+loop-holds c = climbing-start (c .args .leaf) 0 (now (c .args .tree)) (c .pre)
 
 mul-left : tie.Need-mul-left Inv-loop μ-loop
 mul-left c = omega (arith, c .before .loop .inv .below)
@@ -54,7 +53,7 @@ returns : tie.Need-returns Inv-loop μ-loop
 returns c =
     let l = c .before .before .before .before .before .before .loop in
     let a = c .before .before .before .before .before .before .before .args in
-    stored (a .leaf) (a .v) (now (a .tree)) (l .tree) (omega (arith, c .before .before .before .before .before .before .before .pre .1, c .before .before .before .before .before .before .before .pre .2 .long)) (l .inv .leaves) (climbing-stops _ (l .tree) (l .p) (l .inv) (c .if1 .taken ∙ c .before .before .larger .ensures))
+    stored (a .leaf) 0 (now (a .tree)) (l .tree) (l .p) (c .before .before .before .before .before .before .before .pre) (l .inv) (climbing-stops _ (l .tree) (l .p) (l .inv) (c .if1 .taken ∙ c .before .before .larger .ensures))
 
 mul-tree-2 : tie.Need-mul-tree-2 Inv-loop μ-loop
 mul-tree-2 c = omega (arith, c .before .before .before .before .before .before .loop .inv .below)
@@ -72,10 +71,10 @@ returns-2 : tie.Need-returns-2 Inv-loop μ-loop
 returns-2 c =
     let l = c .before .loop in
     let a = c .before .before .args in
-    stored (a .leaf) (a .v) (now (a .tree)) (l .tree) (omega (arith, c .before .before .pre .1, c .before .before .pre .2 .long)) (l .inv .leaves) (climbing-ends _ (l .tree) (l .p) (l .inv) (omega (arith, c .loop-test .left)))
+    stored (a .leaf) 0 (now (a .tree)) (l .tree) (l .p) (c .before .before .pre) (l .inv) (climbing-ends _ (l .tree) (l .p) (l .inv) (omega (arith, c .loop-test .left)))
 
-pub set-leaf-spec : {M : Type 1} → statement M
-set-leaf-spec =
+pub clear-leaf-spec : {M : Type 1} → statement M
+clear-leaf-spec =
     tie.close
     (tie.spec
     Inv-loop
