@@ -7,7 +7,7 @@ use denote.Ref.{now}
 use Rattle.job.specs.Handed.{handed, jobRefusal, handed-iff}
 use Rattle.schedule.specs.Plan.{plan}
 use Rattle.planner.specs.declared.Answer.the-variants.{Rows}
-use Rattle.planner.proofs.Handing.{handed-refused, refused-input, refused-short, short-marks, holds-rows, ample-rows, handed-plan, four-hold, decided-by-lists, best-of-lists}
+use Rattle.planner.proofs.Handing.{handed-refused, refused-input, refused-short, short-marks, holds-rows, ample-rows, handed-plan, four-hold, decided-by-lists, pictures-of-lists, best-of-lists}
 use Rattle.planner.proofs.plan.Statement.{statement}
 use Rattle.planner.proofs.plan.Tie as tie
 
@@ -23,7 +23,7 @@ returns c =
     let h = handed (a .p) (now (a .sizes)) (now (a .size-chunks)) (now (a .size-layers)) (now (a .size-bytes)) (now (a .forecast)) in
     let e = c .before .before .refusal .ensures in
     let o : jobRefusal h ≡ 0 → ⊥ = λ z. omega (arith, e, z, c .before .if1 .taken) in
-    (handed-refused h (now (a .marks)) (now (a .slots)) (now (a .chunks)) (now (a .layers)) (now (a .bytes)) (jobRefusal h) (refused-input h (now (a .marks)) (now (a .slots)) (now (a .chunks)) (now (a .layers)) (now (a .bytes)) o) o _ (rw e at (c .refused .ensures)), (decided-by-lists h, best-of-lists h))
+    (handed-refused h (now (a .marks)) (now (a .slots)) (now (a .chunks)) (now (a .layers)) (now (a .bytes)) (jobRefusal h) (refused-input h (now (a .marks)) (now (a .slots)) (now (a .chunks)) (now (a .layers)) (now (a .bytes)) o) o _ (rw e at (c .refused .ensures)), (decided-by-lists h, (pictures-of-lists h, best-of-lists h)))
 
 cast-if2 : tie.Need-cast-if2
 cast-if2 c = search needs
@@ -36,7 +36,7 @@ returns-2 c =
     let a = c .before .before .before .before .before .before .before .before .before .before .before .before .before .before .before .args in
     let h = handed (a .p) (now (a .sizes)) (now (a .size-chunks)) (now (a .size-layers)) (now (a .size-bytes)) (now (a .forecast)) in
     let z : jobRefusal h ≡ 0 = omega (arith, c .before .before .before .before .refusal .ensures, c .before .before .before .if1 .left) in
-    (handed-refused h (now (a .marks)) (now (a .slots)) (now (a .chunks)) (now (a .layers)) (now (a .bytes)) 11 (refused-short h (now (a .marks)) (now (a .slots)) (now (a .chunks)) (now (a .layers)) (now (a .bytes)) z (short-marks h (now (a .marks)) (now (a .slots)) (now (a .chunks)) (now (a .layers)) (now (a .bytes)) (c .before .if2 .taken))) (λ x. omega arith) _ (c .refused2 .ensures), (decided-by-lists h, best-of-lists h))
+    (handed-refused h (now (a .marks)) (now (a .slots)) (now (a .chunks)) (now (a .layers)) (now (a .bytes)) 11 (refused-short h (now (a .marks)) (now (a .slots)) (now (a .chunks)) (now (a .layers)) (now (a .bytes)) z (short-marks h (now (a .marks)) (now (a .slots)) (now (a .chunks)) (now (a .layers)) (now (a .bytes)) (c .before .if2 .taken))) (λ x. omega arith) _ (c .refused2 .ensures), (decided-by-lists h, (pictures-of-lists h, best-of-lists h)))
 
 all-hold-requires : tie.Need-all-hold-requires
 all-hold-requires c κs = search needs
@@ -82,7 +82,7 @@ returns-3 c =
     let four = four-hold _ _ _ _ _ (sym (c .before .before .before .before .before .before .before .before .before .before .before .before .before .before .before .before .before .before .all-hold .ensures) ∙ c .before .before .before .before .before .before .before .before .before .before .before .before .before .before .before .before .before .if3 .taken) in
     let l = c .before .before .before .before .before .before .before .before .before .before .before .lay-out .ensures in
     let fit = holds-rows h (now (a .marks)) (now (a .slots)) (now (a .chunks)) (now (a .layers)) (now (a .bytes)) (c .before .before .before .before .before .before .before .before .before .before .before .before .before .before .before .before .before .before .before .if2 .left) true (ample-rows h (now (a .marks)) (now (a .slots)) (now (a .chunks)) (now (a .layers)) (now (a .bytes)) (handed-iff h .0 z .1) (four .0) (four .1) (four .2) (four .3)) in
-    (handed-plan h (now (a .marks)) (now (a .slots)) (now (a .chunks)) (now (a .layers)) (now (a .bytes)) z fit _ _ _ _ _ _ (c .handed .ensures .0 ∙ ap Rows (l .rows)) (c .handed .ensures .1 ∙ l .counts) (l .marks-are) (l .slots-are) (l .chunks-are) (l .layers-are) (l .bytes-are), (decided-by-lists h, best-of-lists h))
+    (handed-plan h (now (a .marks)) (now (a .slots)) (now (a .chunks)) (now (a .layers)) (now (a .bytes)) z fit _ _ _ _ _ _ (c .handed .ensures .0 ∙ ap Rows (l .rows)) (c .handed .ensures .1 ∙ l .counts) (l .marks-are) (l .slots-are) (l .chunks-are) (l .layers-are) (l .bytes-are), (decided-by-lists h, (pictures-of-lists h, best-of-lists h)))
 
 same-length-6 : tie.Need-same-length-6
 same-length-6 c = search needs
@@ -100,7 +100,7 @@ same-length-10 : tie.Need-same-length-10
 same-length-10 c = search needs
 
 returns-4 : tie.Need-returns-4
-returns-4 c = let a = c .before .before .before .before .before .before .before .before .before .before .before .before .before .before .before .before .before .before .before .before .before .before .before .before .before .before .before .before .before .before .before .before .args in let h = handed (a .p) (now (a .sizes)) (now (a .size-chunks)) (now (a .size-layers)) (now (a .size-bytes)) (now (a .forecast)) in (c .before .before .before .before .before .before .before .before .before .before .lay-tight .ensures, (decided-by-lists h, best-of-lists h))
+returns-4 c = let a = c .before .before .before .before .before .before .before .before .before .before .before .before .before .before .before .before .before .before .before .before .before .before .before .before .before .before .before .before .before .before .before .before .args in let h = handed (a .p) (now (a .sizes)) (now (a .size-chunks)) (now (a .size-layers)) (now (a .size-bytes)) (now (a .forecast)) in (c .before .before .before .before .before .before .before .before .before .before .lay-tight .ensures, (decided-by-lists h, (pictures-of-lists h, best-of-lists h)))
 
 pub plan-spec : {M : Type 1} → statement M
 plan-spec =
