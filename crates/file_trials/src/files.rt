@@ -22,9 +22,9 @@ pub(crate) fn read_case(kind: u8, i: u8, file: &mut [u8; 65537]) -> usize {
     n
 }
 
-fn lengths_said(layers: usize, uneven: usize, slots: usize) {
+fn lengths_said(layers: usize, overrides: usize, slots: usize) {
     pair(b" layers ", layers);
-    pair(b" SZs ", uneven);
+    pair(b" SZs ", overrides);
     pair(b" slots ", slots);
 }
 
@@ -47,10 +47,10 @@ fn again(file: &[u8]) {
         JobRead::Job {
             programme: _,
             layers,
-            uneven,
+            overrides,
             slots,
         } => {
-            lengths_said(layers, uneven, slots);
+            lengths_said(layers, overrides, slots);
             word(b"\n");
         }
     }
@@ -72,7 +72,15 @@ fn written(
     forecast: &[u32],
 ) {
     let mut out = [0u8; 46800];
-    match jobfile::write_job(p, sizes, size_chunks, size_layers, size_bytes, forecast, &mut out) {
+    match jobfile::write_job(
+        p,
+        sizes,
+        size_chunks,
+        size_layers,
+        size_bytes,
+        forecast,
+        &mut out,
+    ) {
         jobfile::Written::Bytes(n) => written_bytes(&out, n),
         jobfile::Written::Refused(n) => refused(n),
     }
@@ -91,17 +99,17 @@ fn job_said(
         JobRead::Job {
             programme,
             layers,
-            uneven,
+            overrides,
             slots,
         } => {
             pair(b"chunks ", programme.chunks as usize);
-            lengths_said(layers, uneven, slots);
+            lengths_said(layers, overrides, slots);
             written(
                 programme,
                 parts::words(sizes, layers),
-                parts::halves(size_chunks, uneven),
-                parts::bytes(size_layers, uneven),
-                parts::words(size_bytes, uneven),
+                parts::halves(size_chunks, overrides),
+                parts::bytes(size_layers, overrides),
+                parts::words(size_bytes, overrides),
                 parts::words(forecast, slots),
             );
         }

@@ -1,10 +1,15 @@
--- Lemmas. A loop that copies from the front, an element a turn. Assumes nothing.
-use Prim.Native.Nat.{ℕ, zero, suc, _+_, _<_}
-use mathlib.Core.Path.{_≡_, refl, ap}
-use mathlib.Core.List.{List, [], _∷_, _++_}
+-- Lemmas. Loops that copy from the front, an element a turn. Assumes nothing.
+use Prim.Native.Nat.{ℕ, zero, suc, _+_, _*_, _≤_, _<_}
+use mathlib.Core.Path.{_≡_, refl, sym, ap, _∙_}
+use mathlib.Core.List.{List, [], _∷_, _++_, map}
 use native.Mathlib.Nat.{not-suc-le-zero, le-of-suc-le-suc}
 use native.Mathlib.Numerals.{add-one}
-use lib.ListN.{length, take, drop, set, getD}
+use lib.ListN.{length, take, drop, set, getD, length-set}
+use Rattle.basics.specs.Lent.{over}
+use Rattle.basics.specs.lemmas.Lent.{stored}
+use Rattle.basics.specs.lemmas.Lists.{length-upTo}
+use Rattle.job.specs.Job.{Override}
+use Rattle.jobrecords.specs.lemmas.Reading.{overrideOn, overridesOn}
 
 copy-suc : (j : ℕ) (d s : List ℕ) → j < length d → j < length s → set (take j s ++ drop j d) j (getD s j 0) ≡ take (suc j) s ++ drop (suc j) d
 copy-suc j [] s h k = absurd (not-suc-le-zero h)
@@ -14,3 +19,18 @@ copy-suc (suc j) (x ∷ d) (y ∷ s) h k = ap (λ (t : List ℕ). y ∷ t) (copy
 
 pub copy-more : (j : ℕ) (d s : List ℕ) → j < length d → j < length s → set (take j s ++ drop j d) j (getD s j 0) ≡ take (j + 1) s ++ drop (j + 1) d
 copy-more j d s h k = rw add-one (copy-suc j d s h k)
+
+-- A number of each of the first i SZs that stand in a file from a place on is copied.
+pub record Column (g : Override → ℕ) (s : List ℕ) (from : ℕ) (old t : List ℕ) (i : ℕ) : Type 0 where
+  pub long : length t ≡ length old
+  pub says : t ≡ over (map g (overridesOn s from i)) old
+
+pub column-start : (g : Override → ℕ) (s : List ℕ) (from : ℕ) (old : List ℕ) → Column g s from old old 0
+column-start g s from old = record { long = refl; says = refl }
+
+pub column-more : (g : Override → ℕ) (s : List ℕ) (from : ℕ) (old t : List ℕ) (i x : ℕ) → Column g s from old t i → i < length t → x ≡ g (overrideOn s (from + 9 * i)) → Column g s from old (set t i x) (i + 1)
+column-more g s from old t i x c h e =
+    record {
+      long = length-set t i x ∙ c .long;
+      says = rw (add-one i, e) (stored g old t (overridesOn s from i) (overrideOn s (from + 9 * i)) i (sym (length-upTo (λ k. overrideOn s (from + 9 * k)) i)) h (c .says) (c .long));
+    }

@@ -10,6 +10,7 @@ use Rattle.basics.specs.Lent.{lentAfter}
 use Rattle.records.specs.File.{Front, got, none}
 use Rattle.basics.specs.Refusals.{unless, _orElse_}
 use Rattle.job.specs.Job.{Job, layers}
+use Rattle.job.specs.Handed.{chunksOf, layersOf, bytesOf}
 use Rattle.jobrecords.specs.declared.JobRead.{JobRead}
 use Rattle.jobrecords.specs.declared.JobRead.the-variants as jobRead
 use Rattle.jobrecords.specs.declared.Record.{Record}
@@ -23,29 +24,54 @@ abbrev pub readFront : ℕ → Front Record → Read
 readFront at (got r n) = Got r (at + n)
 readFront at (none n) = Refused n
 
-abbrev pub readAt : List ℕ → ℕ → Read
-readAt s at = readFront at (front (drop at s))
+abbrev pub readAt : Bool → List ℕ → ℕ → Read
+readAt sequenced s at = readFront at (front sequenced (drop at s))
 
--- 11: sizes shorter than the layers, or a forecast shorter than the slots.
-abbrev pub roomRefusal : Job → ℕ → ℕ → ℕ
-roomRefusal j sizes slots = unless 11 (leb (layers j) sizes && leb (length (j .forecast)) slots)
+-- The lent buffers: for the sizes, for the chunks, layers and sizes of the SZs, and for the forecast.
+pub record Buffers : Type 0 where
+  pub sizes : List ℕ
+  pub size-chunks : List ℕ
+  pub size-layers : List ℕ
+  pub size-bytes : List ℕ
+  pub forecast : List ℕ
+
+abbrev pub buffers : (sizes size-chunks size-layers size-bytes forecast : List ℕ) → Buffers
+buffers sizes cs ls bs forecast = record { sizes = sizes; size-chunks = cs; size-layers = ls; size-bytes = bs; forecast = forecast }
+
+-- 11: a buffer shorter than what the job has for it.
+abbrev pub roomRefusal : Job → Buffers → ℕ
+roomRefusal j lent =
+    unless 11
+    (leb (layers j) (length (lent .sizes))
+    && (leb (length (j .overrides)) (length (lent .size-chunks))
+    && (leb (length (j .overrides)) (length (lent .size-layers))
+    && (leb (length (j .overrides)) (length (lent .size-bytes))
+    && leb (length (j .forecast)) (length (lent .forecast))))))
 
 -- The answer with a job.
 abbrev pub jobAnswer : Job → JobRead
-jobAnswer j = jobRead.Job (j .programme) (layers j) (length (j .forecast))
+jobAnswer j = jobRead.Job (j .programme) (layers j) (length (j .overrides)) (length (j .forecast))
 
-module _ (sequenced : Bool) (s : List ℕ) where
-  -- The refusal of a file read into buffers of so many sizes and slots: 11 after all input refusals.
-  abbrev pub readRefusal : ℕ → ℕ → ℕ
-  readRefusal sizes slots = refusalOf sequenced s orElse roomRefusal (jobOfFile sequenced s) sizes slots
+-- The buffers after a job was read into them, or after a refusal.
+abbrev pub lentBy : ℕ → Job → Buffers → Buffers
+lentBy refused j lent =
+    record {
+      sizes = lentAfter refused (j .sizes) (lent .sizes);
+      size-chunks = lentAfter refused (chunksOf (j .overrides)) (lent .size-chunks);
+      size-layers = lentAfter refused (layersOf (j .overrides)) (lent .size-layers);
+      size-bytes = lentAfter refused (bytesOf (j .overrides)) (lent .size-bytes);
+      forecast = lentAfter refused (j .forecast) (lent .forecast);
+    }
+
+module _ (sequenced : Bool) (s : List ℕ) (lent : Buffers) where
+  -- The refusal of a file read into some buffers: 11 after all input refusals.
+  abbrev pub readRefusal : ℕ
+  readRefusal = refusalOf sequenced s orElse roomRefusal (jobOfFile sequenced s) lent
 
   -- The answer.
-  unfoldable pub readAnswer : ℕ → ℕ → JobRead
-  readAnswer sizes slots = cond (eqb (readRefusal sizes slots) 0) (jobAnswer (jobOfFile sequenced s)) (jobRead.Refused (readRefusal sizes slots))
+  unfoldable pub readAnswer : JobRead
+  readAnswer = cond (eqb readRefusal 0) (jobAnswer (jobOfFile sequenced s)) (jobRead.Refused readRefusal)
 
-  -- The lent sizes and forecast afterwards.
-  unfoldable pub sizesRead : List ℕ → List ℕ → List ℕ
-  sizesRead sizes forecast = lentAfter (readRefusal (length sizes) (length forecast)) (jobOfFile sequenced s .sizes) sizes
-
-  unfoldable pub forecastRead : List ℕ → List ℕ → List ℕ
-  forecastRead sizes forecast = lentAfter (readRefusal (length sizes) (length forecast)) (jobOfFile sequenced s .forecast) forecast
+  -- The lent buffers afterwards.
+  unfoldable pub lentRead : Buffers
+  lentRead = lentBy readRefusal (jobOfFile sequenced s) lent

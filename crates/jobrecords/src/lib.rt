@@ -1,24 +1,27 @@
 // Records of job files, and the reading of a file of either form into lent buffers that a refusal leaves as they are: document 02's files,
 // in one sequence, and document 01's mixed ones. A record is read, judged and taken a turn; sizes and slots stand in tables until every
-// refusal has been ruled out.
+// refusal has been ruled out. The SZs stand in the file one after the other, so only their number and the place after them are kept.
 ghost use mathlib.Core.Path.{_≡_};
-ghost use Prim.Native.Nat.{_+_, _≤_, _<_};
-ghost use mathlib.Core.List.{_++_};
-ghost use lib.ListN.{length, replicate, take, drop};
+ghost use Prim.Native.Nat.{_+_, _*_, _≤_, _<_};
+ghost use lib.ListN.{length, replicate, take};
 ghost use lib.Seq.{paste};
-ghost use mathlib.Core.Bool.{not, _||_};
+ghost use mathlib.Core.Bool.{not, _&&_, _||_};
+ghost use lib.Dec.{leb};
+ghost use Rattle.basics.specs.Lent.{over};
 ghost use Rattle.basics.specs.Refusals.{unless};
-ghost use Rattle.job.specs.Refusal.{within};
+ghost use Rattle.job.specs.Refusal.{within, overridesRefusal};
+ghost use Rattle.job.specs.Handed.{chunksOf, layersOf, bytesOf};
 ghost use Rattle.jobrecords.specs.Records.{front, isEnd};
 ghost use Rattle.jobrecords.specs.Refusal.{layerFault, runFault};
-ghost use Rattle.jobrecords.specs.lemmas.Reading.{noRecords, readWhole, runFollows, faultAfter, endRefusal, endedBy, readRefusalOf, endRefusalOf, Room, Fine, Takes, Going, Turned, Ended};
-ghost use Rattle.jobrecords.specs.Reader.{readFront, readAt, readAnswer, sizesRead, forecastRead};
+ghost use Rattle.jobrecords.specs.lemmas.Reading.{noRecords, readWhole, lastMark, runFollows, faultAfter, overridesOn, jobFrom, endRefusal, endedBy, readRefusalOf, endRefusalOf, Inside, Sized, Room, Fine, Takes, Going, Turned, Ended, Handed};
+ghost use Rattle.jobrecords.specs.Reader.{readFront, readAt, buffers, readAnswer, lentRead};
 use job::Programme;
 
 // A record of a job file, without its mark.
 pub enum Record {
     Pg(Programme),
     Ly(u32),
+    Sz { chunk: u16, layer: u8, bytes: u32 },
     Bw { count: u16, bytes: u32 },
     En,
 }
@@ -29,24 +32,27 @@ enum Read {
     Refused(u8),
 }
 
-// What reading a job file gives: the job, whose sizes and forecast are in the lent buffers, or a refusal.
+// What reading a job file gives: the job, whose sizes, SZs and forecast are in the lent buffers, or a refusal.
 pub enum JobRead {
     Job {
         programme: Programme,
         layers: usize,
+        overrides: usize,
         slots: usize,
     },
     Refused(u8),
 }
 
 // What the records so far say beside the sizes and the forecast, which stand in tables; of the last record its place in the sequence, 0 if
-// there is none, and its bytes, if it is a run.
+// there is none, and its bytes, if it is a run; of the SZs how many there are and the place in the file after the last.
 struct Sofar {
     place: u8,
     bytes: u32,
     seen: bool,
     programme: Programme,
     layers: usize,
+    overrides: usize,
+    ends: usize,
     slots: usize,
 }
 
@@ -73,10 +79,29 @@ fn whole(left: usize, n: usize, record: Record, at: usize) -> Read
     Read::Got(record, at + n)
 }
 
-// The record in front of the bytes that start at a place.
-fn record_in(rest: &[u8], at: usize) -> Read
+// The SZ in front of the bytes that start at a place; no other mark is left.
+fn override_in(rest: &[u8], at: usize) -> Read
     requires { ⌜ at + length (now rest) < 18446744073709551616 ⌝ }
-    ensures { λ r. ⌜ r ≡ readFront at (front (now (rest .entry))) ⌝ }
+    ensures { λ r. ⌜ r ≡ readFront at (lastMark (now (rest .entry))) ⌝ }
+{
+    if records::is_mark(rest, 0, b"SZ") {
+        let chunk = records::h_at(rest, 2);
+        let layer = records::byte_at(rest, 4);
+        let bytes = records::w_at(rest, 5);
+        let record = Record::Sz {
+            chunk,
+            layer,
+            bytes,
+        };
+        return whole(rest.len(), 9, record, at);
+    }
+    Read::Refused(2)
+}
+
+// The record in front of the bytes that start at a place.
+fn record_in(sequenced: bool, rest: &[u8], at: usize) -> Read
+    requires { ⌜ at + length (now rest) < 18446744073709551616 ⌝ }
+    ensures { λ r. ⌜ r ≡ readFront at (front sequenced (now (rest .entry))) ⌝ }
 {
     let left = rest.len();
     if left < 2 {
@@ -102,20 +127,23 @@ fn record_in(rest: &[u8], at: usize) -> Read
     if records::is_mark(rest, 0, b"EN") {
         return whole(left, 2, Record::En, at);
     }
+    if sequenced {
+        return override_in(rest, at);
+    }
     Read::Refused(2)
 }
 
 // The record at a place: taken only if its mark and its whole body are there.
-fn record_at(file: &[u8], at: usize) -> Read
-    ensures { λ r. ⌜ r ≡ readAt (now (file .entry)) at ⌝ }
+fn record_at(sequenced: bool, file: &[u8], at: usize) -> Read
+    ensures { λ r. ⌜ r ≡ readAt sequenced (now (file .entry)) at ⌝ }
 {
     if file.len() < at {
         return Read::Refused(1);
     }
-    record_in(&file[at..], at)
+    record_in(sequenced, &file[at..], at)
 }
 
-// Whether an LY, and whether a run of some bytes, may stand after a record of that place in the sequence and, if it is a run, of those last
+// Whether an LY, an SZ, and a run of some bytes may stand after a record of that place in the sequence and, if it is a run, of those last
 // bytes.
 fn layer_follows(place: u8) -> bool
     ensures { λ r. ⌜ r ≡ within 1 2 place ⌝ }
@@ -126,13 +154,22 @@ fn layer_follows(place: u8) -> bool
     place <= 2
 }
 
+fn override_follows(place: u8) -> bool
+    ensures { λ r. ⌜ r ≡ within 1 3 place ⌝ }
+{
+    if place < 1 {
+        return false;
+    }
+    place <= 3
+}
+
 fn run_follows(place: u8, last: u32, bytes: u32) -> bool
     ensures { λ r. ⌜ r ≡ runFollows place last bytes ⌝ }
 {
     if place < 1 {
         return false;
     }
-    if place <= 2 {
+    if place <= 3 {
         return true;
     }
     last != bytes
@@ -183,13 +220,61 @@ fn run_fault(slots: usize, count: u16, bytes: u32) -> u8
     0
 }
 
-// 4, 6, 7 at EN.
-fn end_refusal(seen: bool, p: Programme, layers: usize, slots: usize) -> u8
-    ensures { λ r. ⌜ r ≡ endRefusal seen p layers slots ⌝ }
+// So many SZs that stand in a file from a place on go to the start of three buffers.
+fn gather(file: &[u8], from: usize, n: usize, cs: &mut [u16], ls: &mut [u8], bs: &mut [u32])
+    requires { ⌜ from + 9 * n ≤ length (now file) ⌝ }
+    requires { ⌜ (n ≤ length (now cs)) × (n ≤ length (now ls)) × (n ≤ length (now bs)) ⌝ }
+    ensures chunks { λ _. ⌜ now (cs .exit) ≡ over (chunksOf (overridesOn (now (file .entry)) from n)) (now (cs .entry)) ⌝ }
+    ensures layers { λ _. ⌜ now (ls .exit) ≡ over (layersOf (overridesOn (now (file .entry)) from n)) (now (ls .entry)) ⌝ }
+    ensures bytes { λ _. ⌜ now (bs .exit) ≡ over (bytesOf (overridesOn (now (file .entry)) from n)) (now (bs .entry)) ⌝ }
 {
+    let mut i: usize = 0;
+    while i < n {
+        let at = from + 9 * i;
+        let chunk = at + 2;
+        let layer = at + 4;
+        let bytes = at + 5;
+        cs[i] = records::h_at(file, chunk);
+        ls[i] = records::byte_at(file, layer);
+        bs[i] = records::w_at(file, bytes);
+        i += 1;
+    }
+}
+
+// 18 of so many SZs that stand in a file from a place on. A file can hold more of them than a job can have, which is 1,996.
+fn uneven_refusal(file: &[u8], p: Programme, sizes: &[u32], from: usize, n: usize) -> u8
+    requires { ⌜ from + 9 * n ≤ length (now file) ⌝ }
+    requires { ⌜ (p .chunks ≤ 500) × (length (now sizes) ≤ 4) ⌝ }
+    ensures { λ r. ⌜ r ≡ overridesRefusal p (now (sizes .entry)) (overridesOn (now (file .entry)) from n) ⌝ }
+{
+    if n == 0 {
+        return 0;
+    }
+    if 1996 < n {
+        return 18;
+    }
+    let mut cs = [0u16; 1996];
+    let mut ls = [0u8; 1996];
+    let mut bs = [0u32; 1996];
+    gather(file, from, n, &mut cs, &mut ls, &mut bs);
+    job::overrides_refusal(p, sizes, &cs[..n], &ls[..n], &bs[..n])
+}
+
+// 4, 6, 18, 7 at EN, with the sizes in a table.
+fn end_refusal(file: &[u8], j: Sofar, sizes: &[u32]) -> u8
+    requires { ⌜ Inside (now file) j × Sized j (now sizes) ⌝ }
+    ensures { λ r. ⌜ r ≡ endRefusal (now (file .entry)) j (now (sizes .entry)) ⌝ }
+{
+    let layers = j.layers;
+    let n = j.overrides;
+    let p = j.programme;
     let bare = job::refuse_unless(6, 1 <= layers);
-    let total = job::refuse_unless(7, slots == job::last_due(p));
-    job::or_else(job::refuse_unless(4, seen), job::or_else(bare, total))
+    let uneven = uneven_refusal(file, p, &sizes[..layers], j.ends - 9 * n, n);
+    let total = job::refuse_unless(7, j.slots == job::last_due(p));
+    job::or_else(
+        job::refuse_unless(4, j.seen),
+        job::or_else(bare, job::or_else(uneven, total)),
+    )
 }
 
 // 4, 17, 5 of a PG after the records that the state stands for.
@@ -211,6 +296,13 @@ fn layer_refusal(sequenced: bool, j: Sofar, size: u32) -> u8
     job::or_else(sequence, layer)
 }
 
+// 17 of an SZ.
+fn override_refusal(sequenced: bool, j: Sofar) -> u8
+    ensures { λ r. ⌜ r ≡ unless 17 (not sequenced || within 1 3 (j .place)) ⌝ }
+{
+    out_of_sequence(sequenced, override_follows(j.place))
+}
+
 // 17, 7 of a BW. By branches and not by `or_else`, which costs 20 instructions more for each of up to 3,600 runs.
 fn run_refusal(sequenced: bool, j: Sofar, count: u16, bytes: u32) -> u8
     ensures { λ r. ⌜ r ≡ faultAfter sequenced j (Record.Bw count bytes) ⌝ }
@@ -229,6 +321,11 @@ fn fault_of(sequenced: bool, j: Sofar, record: Record) -> u8
     match record {
         Record::Pg(p) => programme_refusal(sequenced, j, p),
         Record::Ly(size) => layer_refusal(sequenced, j, size),
+        Record::Sz {
+            chunk: _,
+            layer: _,
+            bytes: _,
+        } => override_refusal(sequenced, j),
         Record::Bw { count, bytes } => run_refusal(sequenced, j, count, bytes),
         Record::En => 0,
     }
@@ -241,15 +338,21 @@ fn is_end(record: Record) -> bool
         Record::En => true,
         Record::Pg(_) => false,
         Record::Ly(_) => false,
+        Record::Sz {
+            chunk: _,
+            layer: _,
+            bytes: _,
+        } => false,
         Record::Bw { count: _, bytes: _ } => false,
     }
 }
 
 // EN with so many bytes after it.
-fn ended(j: Sofar, after: usize) -> Ending
-    ensures { λ r. ⌜ r ≡ endedBy j after ⌝ }
+fn ended(file: &[u8], j: Sofar, after: usize, sizes: &[u32]) -> Ending
+    requires { ⌜ Inside (now file) j × Sized j (now sizes) ⌝ }
+    ensures { λ r. ⌜ r ≡ endedBy (now (file .entry)) j after (now (sizes .entry)) ⌝ }
 {
-    let lacking = end_refusal(j.seen, j.programme, j.layers, j.slots);
+    let lacking = end_refusal(file, j, sizes);
     let n = job::or_else(job::refuse_unless(3, after == 0), lacking);
     if n == 0 {
         return Ending::Whole(j);
@@ -269,13 +372,16 @@ fn fill(slots: &mut [u32], from: usize, count: usize, v: u32)
     }
 }
 
-// A record without a fault goes into the state and the tables.
-fn take_record(j: Sofar, record: Record, sizes: &mut [u32], slots: &mut [u32]) -> Sofar
+// A record without a fault that ends at a place goes into the state and the tables.
+fn take_record(j: Sofar, record: Record, next: usize, sizes: &mut [u32], slots: &mut [u32]) -> Sofar
     requires { ⌜ Room j (now sizes) (now slots) ⌝ }
+    requires { ⌜ 9 * j .overrides ≤ j .ends ⌝ }
     requires { ⌜ Fine j «record» ⌝ }
-    ensures { λ r. ⌜ Takes j (now (sizes .entry)) (now (slots .entry)) «record» r (now (sizes .exit)) (now (slots .exit)) ⌝ }
+    ensures { λ r. ⌜ Takes j (now (sizes .entry)) (now (slots .entry)) «record» next r (now (sizes .exit)) (now (slots .exit)) ⌝ }
 {
     let n = j.layers;
+    let overrides = j.overrides;
+    let ends = j.ends;
     let from = j.slots;
     let seen = j.seen;
     let p = j.programme;
@@ -286,29 +392,54 @@ fn take_record(j: Sofar, record: Record, sizes: &mut [u32], slots: &mut [u32]) -
             seen: true,
             programme,
             layers: n,
+            overrides,
+            ends,
             slots: from,
         },
         Record::Ly(size) => {
+            let layers = n + 1;
             sizes[n] = size;
             Sofar {
                 place: 2,
                 bytes: 0,
                 seen,
                 programme: p,
-                layers: n + 1,
+                layers,
+                overrides,
+                ends,
+                slots: from,
+            }
+        }
+        Record::Sz {
+            chunk: _,
+            layer: _,
+            bytes: _,
+        } => {
+            let counted = overrides + 1;
+            Sofar {
+                place: 3,
+                bytes: 0,
+                seen,
+                programme: p,
+                layers: n,
+                overrides: counted,
+                ends: next,
                 slots: from,
             }
         }
         Record::Bw { count, bytes } => {
             let more = count as usize;
+            let end = from + more;
             fill(slots, from, more, bytes);
             Sofar {
-                place: 3,
+                place: 4,
                 bytes,
                 seen,
                 programme: p,
                 layers: n,
-                slots: from + more,
+                overrides,
+                ends,
+                slots: end,
             }
         }
         Record::En => Sofar {
@@ -317,6 +448,8 @@ fn take_record(j: Sofar, record: Record, sizes: &mut [u32], slots: &mut [u32]) -
             seen,
             programme: p,
             layers: n,
+            overrides,
+            ends,
             slots: from,
         },
     }
@@ -343,19 +476,19 @@ fn one_turn(
     requires { ⌜ Going sequenced (now file) at j (now sizes) (now slots) ⌝ }
     ensures { λ r. ⌜ Turned sequenced (now (file .entry)) at (now (sizes .exit)) (now (slots .exit)) r ⌝ }
 {
-    let read = record_at(file, at);
+    let read = record_at(sequenced, file, at);
     let Read::Got(record, next) = read else {
         return Turn::Over(Ending::Broken(refusal_of(read)));
     };
     if is_end(record) {
         let after = file.len() - next;
-        return Turn::Over(ended(j, after));
+        return Turn::Over(ended(file, j, after, sizes));
     }
     let n = fault_of(sequenced, j, record);
     if n != 0 {
         return Turn::Over(Ending::Broken(n));
     }
-    Turn::On(take_record(j, record, sizes, slots), next)
+    Turn::On(take_record(j, record, next, sizes, slots), next)
 }
 
 // The state before any record.
@@ -374,6 +507,8 @@ fn nothing() -> Sofar
         seen: false,
         programme,
         layers: 0,
+        overrides: 0,
+        ends: 0,
         slots: 0,
     }
 }
@@ -399,7 +534,7 @@ fn read_all(sequenced: bool, file: &[u8], sizes: &mut [u32], slots: &mut [u32]) 
 // The first n numbers of a table go to the start of a lent buffer.
 fn copy(from: &[u32], to: &mut [u32], n: usize)
     requires { ⌜ (n ≤ length (now from)) × (n ≤ length (now to)) ⌝ }
-    ensures { λ _. ⌜ now (to .exit) ≡ take n (now (from .entry)) ++ drop n (now (to .entry)) ⌝ }
+    ensures { λ _. ⌜ now (to .exit) ≡ over (take n (now (from .entry))) (now (to .entry)) ⌝ }
 {
     let mut i: usize = 0;
     while i < n {
@@ -417,12 +552,81 @@ fn refusal_at(end: Ending) -> u8
     }
 }
 
-// Reads a job file, in one sequence or mixed, into the lent sizes and forecast. Refusals: 9, then record by record, 17 where one sequence
-// is asked, at EN 3, 4, 6, 7; then 11 where a buffer is shorter than the job's sizes or slots. On a refusal both buffers stay as they are.
-pub fn read_job(sequenced: bool, file: &[u8], sizes: &mut [u32], forecast: &mut [u32]) -> JobRead
-    ensures answer { λ r. ⌜ r ≡ readAnswer sequenced (now (file .entry)) (length (now (sizes .entry))) (length (now (forecast .entry))) ⌝ }
-    ensures sizes { λ r. ⌜ now (sizes .exit) ≡ sizesRead sequenced (now (file .entry)) (now (sizes .entry)) (now (forecast .entry)) ⌝ }
-    ensures forecast { λ r. ⌜ now (forecast .exit) ≡ forecastRead sequenced (now (file .entry)) (now (sizes .entry)) (now (forecast .entry)) ⌝ }
+// 11 unless each of five buffers holds what the state has for it.
+fn room_refusal(j: Sofar, sizes: usize, cs: usize, ls: usize, bs: usize, slots: usize) -> u8
+    ensures { λ r. ⌜ r ≡ unless 11 (leb (j .layers) sizes && (leb (j .overrides) cs && (leb (j .overrides) ls && (leb (j .overrides) bs && leb (j .slots) slots)))) ⌝ }
+{
+    let n = j.overrides;
+    if sizes < j.layers {
+        return 11;
+    }
+    if cs < n {
+        return 11;
+    }
+    if ls < n {
+        return 11;
+    }
+    if bs < n {
+        return 11;
+    }
+    if slots < j.slots {
+        return 11;
+    }
+    0
+}
+
+// The job of a whole file, with its sizes and slots in tables, goes to the lent buffers, if they hold it.
+fn hand_over(
+    file: &[u8],
+    j: Sofar,
+    zs: &[u32],
+    fs: &[u32],
+    sizes: &mut [u32],
+    cs: &mut [u16],
+    ls: &mut [u8],
+    bs: &mut [u32],
+    forecast: &mut [u32],
+) -> JobRead
+    requires { ⌜ Inside (now file) j × Room j (now zs) (now fs) ⌝ }
+    ensures { λ r. ⌜ Handed (jobFrom (now (file .entry)) j (now (zs .entry)) (now (fs .entry))) (buffers (now (sizes .entry)) (now (cs .entry)) (now (ls .entry)) (now (bs .entry)) (now (forecast .entry))) r (buffers (now (sizes .exit)) (now (cs .exit)) (now (ls .exit)) (now (bs .exit)) (now (forecast .exit))) ⌝ }
+{
+    let room = room_refusal(j, sizes.len(), cs.len(), ls.len(), bs.len(), forecast.len());
+    if room != 0 {
+        return JobRead::Refused(room);
+    }
+    let programme = j.programme;
+    let layers = j.layers;
+    let overrides = j.overrides;
+    let slots = j.slots;
+    copy(zs, sizes, layers);
+    gather(file, j.ends - 9 * overrides, overrides, cs, ls, bs);
+    copy(fs, forecast, slots);
+    JobRead::Job {
+        programme,
+        layers,
+        overrides,
+        slots,
+    }
+}
+
+// Reads a job file, in one sequence or mixed, into the lent sizes, SZs and forecast. Refusals: 9, then record by record, 17 where one
+// sequence is asked, at EN 3, 4, 6, 18, 7; then 11 where a buffer is shorter than the job's sizes, SZs or slots. On a refusal every buffer
+// stays as it is.
+pub fn read_job(
+    sequenced: bool,
+    file: &[u8],
+    sizes: &mut [u32],
+    size_chunks: &mut [u16],
+    size_layers: &mut [u8],
+    size_bytes: &mut [u32],
+    forecast: &mut [u32],
+) -> JobRead
+    ensures answer { λ r. ⌜ r ≡ readAnswer sequenced (now (file .entry)) (buffers (now (sizes .entry)) (now («size_chunks» .entry)) (now («size_layers» .entry)) (now («size_bytes» .entry)) (now (forecast .entry))) ⌝ }
+    ensures sizes { λ r. ⌜ now (sizes .exit) ≡ lentRead sequenced (now (file .entry)) (buffers (now (sizes .entry)) (now («size_chunks» .entry)) (now («size_layers» .entry)) (now («size_bytes» .entry)) (now (forecast .entry))) .sizes ⌝ }
+    ensures chunks { λ r. ⌜ now («size_chunks» .exit) ≡ lentRead sequenced (now (file .entry)) (buffers (now (sizes .entry)) (now («size_chunks» .entry)) (now («size_layers» .entry)) (now («size_bytes» .entry)) (now (forecast .entry))) .size-chunks ⌝ }
+    ensures layers { λ r. ⌜ now («size_layers» .exit) ≡ lentRead sequenced (now (file .entry)) (buffers (now (sizes .entry)) (now («size_chunks» .entry)) (now («size_layers» .entry)) (now («size_bytes» .entry)) (now (forecast .entry))) .size-layers ⌝ }
+    ensures bytes { λ r. ⌜ now («size_bytes» .exit) ≡ lentRead sequenced (now (file .entry)) (buffers (now (sizes .entry)) (now («size_chunks» .entry)) (now («size_layers» .entry)) (now («size_bytes» .entry)) (now (forecast .entry))) .size-bytes ⌝ }
+    ensures forecast { λ r. ⌜ now (forecast .exit) ≡ lentRead sequenced (now (file .entry)) (buffers (now (sizes .entry)) (now («size_chunks» .entry)) (now («size_layers» .entry)) (now («size_bytes» .entry)) (now (forecast .entry))) .forecast ⌝ }
 {
     if 65536 < file.len() {
         return JobRead::Refused(9);
@@ -433,20 +637,15 @@ pub fn read_job(sequenced: bool, file: &[u8], sizes: &mut [u32], forecast: &mut 
     let Ending::Whole(j) = end else {
         return JobRead::Refused(refusal_at(end));
     };
-    let layers = j.layers;
-    let slots = j.slots;
-    if sizes.len() < layers {
-        return JobRead::Refused(11);
-    }
-    if forecast.len() < slots {
-        return JobRead::Refused(11);
-    }
-    copy(&layer_table, sizes, layers);
-    copy(&slot_table, forecast, slots);
-    let programme = j.programme;
-    JobRead::Job {
-        programme,
-        layers,
-        slots,
-    }
+    hand_over(
+        file,
+        j,
+        &layer_table,
+        &slot_table,
+        sizes,
+        size_chunks,
+        size_layers,
+        size_bytes,
+        forecast,
+    )
 }

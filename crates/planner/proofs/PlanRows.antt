@@ -102,6 +102,15 @@ all-each : (P : ℕ → Type 0) (g : ℕ → ℕ) (ks : List ℕ) → Each (λ k
 all-each P g [] a = tt
 all-each P g (k ∷ ks) a = (a .0, all-each P g ks (a .1))
 
+-- ---- the counts
+
+counts-are : (j : Job) → upTo (λ n. markCount n (marksOf j (plan j))) 4 ≡ countsOf j (plan j)
+counts-are j =
+    upTo-cong _ _ 4 (λ n h.
+    count-up-to n (λ k. markByte (λ i. ltb i (plan j (k + 1))) (layers j)) (λ i. ltb n (plan j i)) (chunks j) (λ k u.
+    let e : k + 1 ≡ suc k = omega arith in
+    ap (λ (m : ℕ). bit m n) (mark-level (plan j (k + 1)) (layers j) (plan-choice j (k + 1) (omega arith) (omega arith))) ∙ level-bit (plan j (k + 1)) n ∙ rw e))
+
 -- ---- from an accepted job
 
 module _ (j : Job) (ok : Accepted j) where
@@ -287,20 +296,14 @@ module _ (j : Job) (ok : Accepted j) where
       pub laid-long : length marks' ≡ length marks
       laid-long = ap length laid-marks ∙ over-long (marksOf j (plan j)) marks (omega (arith, marks-long))
 
-      pub laid-front : take (chunks j) marks' ≡ marksOf j (plan j)
+      laid-front : take (chunks j) marks' ≡ marksOf j (plan j)
       laid-front = ap (take (chunks j)) laid-marks ∙ take-at (marksOf j (plan j)) (drop (length (marksOf j (plan j))) marks) (chunks j) marks-long
 
       pub laid-front-long : length (take (chunks j) marks') ≡ chunks j
       laid-front-long = ap length laid-front ∙ marks-long
 
+      pub laid-counts : (counts : List ℕ) → counts ≡ upTo (λ n. markCount n (take (chunks j) marks')) 4 → counts ≡ countsOf j (plan j)
+      laid-counts counts e′ = e′ ∙ ap (λ (m : List ℕ). upTo (λ n. markCount n m) 4) laid-front ∙ counts-are j
+
     pub ascending : Asc 1 (chunks j) (drop first ids)
     ascending = subst (Asc 1 (chunks j)) (sym (d .chunks)) (kept-asc j (plan j))
-
--- ---- the counts
-
-pub counts-are : (j : Job) → upTo (λ n. markCount n (marksOf j (plan j))) 4 ≡ countsOf j (plan j)
-counts-are j =
-    upTo-cong _ _ 4 (λ n h.
-    count-up-to n (λ k. markByte (λ i. ltb i (plan j (k + 1))) (layers j)) (λ i. ltb n (plan j i)) (chunks j) (λ k u.
-    let e : k + 1 ≡ suc k = omega arith in
-    ap (λ (m : ℕ). bit m n) (mark-level (plan j (k + 1)) (layers j) (plan-choice j (k + 1) (omega arith) (omega arith))) ∙ level-bit (plan j (k + 1)) n ∙ rw e))

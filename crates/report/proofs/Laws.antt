@@ -10,32 +10,29 @@ use lib.Seq.{getD-set-same, getD-set-other}
 use lib.Dec.{eqb}
 use borrow.Author.Tests.{eqb-true, eqb-false}
 use Rattle.basics.specs.Lists.{upTo}
-use Rattle.job.specs.Job.{sizeIn}
+use Rattle.job.specs.Table.{tableAt}
 use Rattle.fetch.specs.Rows.{Row, rowAt, rowsOf, bytesIf, bytesOfLayer}
+use Rattle.fetch.specs.lemmas.Rows.{bytes-snoc}
 use Rattle.basics.specs.lemmas.Ranges.{sum-most, cond-most}
 use Rattle.report.specs.lemmas.Bounds.{equal-most}
 use Rattle.report.specs.lemmas.Switches.{differences-more, differences-most, last-more}
-use Rattle.report.specs.lemmas.Tables.{bytesAt, Summed, carriedBy, bytesBy, bytesTo, switchBy, pictureBy, changeOf, heldOf, lastOf}
+use Rattle.report.specs.lemmas.Tables.{SizesIn, bytesAt, Summed, carriedBy, bytesBy, bytesTo, switchBy, pictureBy, changeOf, heldOf, lastOf}
 use Rattle.report.specs.declared.table.Picture.{Picture}
 
 -- ---- bounds
 
-module _ (sizes table : List ℕ) (most : ℕ) (h : (n : ℕ) → getD sizes n 0 ≤ most) where
+module _ (sizes table : List ℕ) (h : SizesIn sizes) where
   -- A carried layer has the bytes of its size.
-  pub carried-most : (i n : ℕ) → cond (carriedBy sizes table i n) (bytesAt table i n) 0 ≤ most
-  carried-most i n = equal-most (bytesAt table i n) (sizeIn sizes i n) most (h n)
+  pub carried-most : (i n : ℕ) → cond (carriedBy sizes table i n) (bytesAt table i n) 0 ≤ 16777216
+  carried-most i n = equal-most (bytesAt table i n) (tableAt sizes i n) 16777216 (h i n)
 
-  pub bytes-most : (depth i : ℕ) → bytesBy sizes table depth i ≤ depth * most
-  bytes-most depth i = sum-most (λ n. cond (carriedBy sizes table i n) (bytesAt table i n) 0) most depth (carried-most i)
+  pub bytes-most : (depth i : ℕ) → bytesBy sizes table depth i ≤ depth * 16777216
+  bytes-most depth i = sum-most (λ n. cond (carriedBy sizes table i n) (bytesAt table i n) 0) 16777216 depth (carried-most i)
 
-  pub switch-most : (depth n : ℕ) → switchBy sizes table depth n ≤ n * (depth * most)
-  switch-most depth n = differences-most (λ i. carriedBy sizes table i 0) (bytesBy sizes table depth) (depth * most) n (bytes-most depth)
+  pub switch-most : (depth n : ℕ) → switchBy sizes table depth n ≤ n * (depth * 16777216)
+  switch-most depth n = differences-most (λ i. carriedBy sizes table i 0) (bytesBy sizes table depth) (depth * 16777216) n (bytes-most depth)
 
 -- ---- the table
-
-pub bytes-snoc : (p : Row → Bool) (l : List Row) (x : Row) → bytesIf p (l ++ (x ∷ [])) ≡ bytesIf p l + cond (p x) (x .bytes) 0
-bytes-snoc p [] x = omega arith
-bytes-snoc p (y ∷ l) x = omega (arith, bytes-snoc p l x)
 
 -- So many rows of at most so many bytes.
 pub rows-most : (p : Row → Bool) (f : ℕ → Row) (most n : ℕ) → ((k : ℕ) → f k .bytes ≤ most) → bytesIf p (upTo f n) ≤ n * most

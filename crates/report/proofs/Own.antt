@@ -1,68 +1,69 @@
--- The plan's own list as four slices: its rows again, and what the report asks of a list handed. Assumes nothing.
-use Prim.Native.Nat.{ℕ}
-use mathlib.Core.Path.{_≡_, refl, sym, subst, _∙_}
-use mathlib.Core.List.{List, map}
+-- The plan's own list as four slices: its rows again, their bytes, and that each row has a place in the table. Assumes nothing.
+use Prim.Native.Nat.{ℕ, zero, suc, _≤_, _<_}
+use mathlib.Core.Path.{_≡_, sym, ap, _∙_}
+use mathlib.Core.List.{List, [], _∷_, map}
 use native.Mathlib.Omega.{arith}
 use lib.ListN.{length, getD, length-map, List·getD-map}
 use lib.Seq.{ext-getD}
 use Rattle.basics.specs.Tests.{All}
+use Rattle.basics.specs.Sums.{sum}
 use Rattle.basics.specs.lemmas.Lists.{length-upTo, getD-upTo}
-use Rattle.job.specs.Job.{Job, Accepted, layers}
-use Rattle.fetch.specs.Rows.{Row, rowAt, rowsOf}
-use Rattle.fetch.specs.Rules.{InRange, Keeps, WithinForecast}
-use Rattle.schedule.specs.Own.{ownList}
+use Rattle.job.specs.Job.{Job, Accepted}
+use Rattle.fetch.specs.Rows.{Row, rowAt, rowsOf, rowSlot, rowChunk, rowLayer, rowBytes}
+use Rattle.fetch.specs.Rules.{InRange, Keeps}
 use Rattle.schedule.specs.Plan.{plan}
 use Rattle.schedule.specs.Theorems.{own-list-rows, plan-exists, plan-carried}
 use Rattle.schedule.specs.Statement.{marksOf}
 use Rattle.schedule.specs.lemmas.Words.{accepted-sized}
-use Rattle.report.specs.lemmas.Tables.{Listed}
-
-abbrev pub slotsOf : List Row → List ℕ
-slotsOf rows = map (λ x. x .slot) rows
-
-abbrev pub chunksOf : List Row → List ℕ
-chunksOf rows = map (λ x. x .chunk) rows
-
-abbrev pub layersOf : List Row → List ℕ
-layersOf rows = map (λ x. x .layer) rows
-
-abbrev pub bytesOf : List Row → List ℕ
-bytesOf rows = map (λ x. x .bytes) rows
+use Rattle.planner.specs.Answer.{planRows}
+use Rattle.report.specs.Report.{bytesInRows}
+use Rattle.report.specs.lemmas.Tables.{Rows}
+use Rattle.report.proofs.ByTable.{spent-is}
 
 abbrev none : Row
 none = record { slot = 0; chunk = 0; layer = 0; bytes = 0 }
 
 -- The fields of rows, slice by slice, are the rows again.
-rows-again : (l : List Row) → rowsOf (slotsOf l) (chunksOf l) (layersOf l) (bytesOf l) ≡ l
+pub rows-again : (l : List Row) → rowsOf (map rowSlot l) (map rowChunk l) (map rowLayer l) (map rowBytes l) ≡ l
 rows-again l =
-    ext-getD none (rowsOf (slotsOf l) (chunksOf l) (layersOf l) (bytesOf l)) l (length-upTo f (length (slotsOf l)) ∙ length-map l (λ x. x .slot))
-    (λ k h. getD-upTo f (length (slotsOf l)) k none (omega (arith, length-upTo f (length (slotsOf l)))) ∙ same k)
+    ext-getD none (rowsOf (map rowSlot l) (map rowChunk l) (map rowLayer l) (map rowBytes l)) l (length-upTo f (length (map rowSlot l)) ∙ length-map l rowSlot)
+    (λ k h. getD-upTo f (length (map rowSlot l)) k none (omega (arith, length-upTo f (length (map rowSlot l)))) ∙ same k)
   where
     f : ℕ → Row
-    f = rowAt (slotsOf l) (chunksOf l) (layersOf l) (bytesOf l)
+    f = rowAt (map rowSlot l) (map rowChunk l) (map rowLayer l) (map rowBytes l)
 
     same : (k : ℕ) → f k ≡ getD l k none
-    same k = rw (List·getD-map (λ x. x .slot) l k none, List·getD-map (λ x. x .chunk) l k none, List·getD-map (λ x. x .layer) l k none, List·getD-map (λ x. x .bytes) l k none)
+    same k = rw (List·getD-map rowSlot l k none, List·getD-map rowChunk l k none, List·getD-map rowLayer l k none, List·getD-map rowBytes l k none)
+
+row-at : (P : Row → Type 0) (l : List Row) (k : ℕ) → All P l → k < length l → P (getD l k none)
+row-at P [] k a h = absurd (omega arith)
+row-at P (x ∷ l) zero a h = a .0
+row-at P (x ∷ l) (suc k) a h = row-at P l k (a .1) (omega arith)
+
+-- The sum of the slice of bytes.
+pub spent-again : (l : List Row) → sum (λ k. getD (map rowBytes l) k 0) (length (map rowBytes l)) ≡ bytesInRows l
+spent-again l =
+    spent-is (map rowSlot l) (map rowChunk l) (map rowLayer l) (map rowBytes l) (length-map l rowSlot ∙ sym (length-map l rowBytes))
+    ∙ ap bytesInRows (rows-again l)
 
 module _ {j : Job} (a : Accepted j) where
-  keeps : Keeps j (marksOf j (plan j)) (ownList j (plan j))
+  pub keeps : Keeps j (marksOf j (plan j)) (planRows j)
   keeps = plan-carried j (accepted-sized j a) (plan j) (plan-exists j a) .0
 
-  pub own-listed : Listed j (layers j) (slotsOf (ownList j (plan j))) (chunksOf (ownList j (plan j))) (layersOf (ownList j (plan j))) (bytesOf (ownList j (plan j)))
-  own-listed =
-      let l = ownList j (plan j) in
+  pub few : length (planRows j) ≤ 5599
+  few = own-list-rows j a (plan j) (plan-exists j a .choice)
+
+  -- Each of its rows has a place in the table.
+  pub own-rows : Rows (map rowSlot (planRows j)) (map rowChunk (planRows j)) (map rowLayer (planRows j)) (map rowBytes (planRows j))
+  own-rows =
+      let l = planRows j in
+      let at : (k : ℕ) → k < length (map rowSlot l) → InRange j (getD l k none) = λ k h. row-at (InRange j) l k (keeps .in-range) (omega (arith, length-map l rowSlot)) in
       record {
-        accepted = a;
-        depth-is = refl;
-        chunk-each = length-map l (λ x. x .slot) ∙ sym (length-map l (λ x. x .chunk));
-        layer-each = length-map l (λ x. x .slot) ∙ sym (length-map l (λ x. x .layer));
-        bytes-each = length-map l (λ x. x .slot) ∙ sym (length-map l (λ x. x .bytes));
-        few = omega (arith, length-map l (λ x. x .slot), own-list-rows j a (plan j) (plan-exists j a .choice));
-        in-range = subst (All (InRange j)) (sym (rows-again l)) (keeps .in-range);
+        chunk-each = length-map l rowSlot ∙ sym (length-map l rowChunk);
+        layer-each = length-map l rowSlot ∙ sym (length-map l rowLayer);
+        bytes-each = length-map l rowSlot ∙ sym (length-map l rowBytes);
+        few = omega (arith, length-map l rowSlot, few);
+        chunk-low = λ k h. rw (List·getD-map rowChunk l k none) (at k h .chunk-low);
+        chunk-high = λ k h. rw (List·getD-map rowChunk l k none) (omega (arith, at k h .chunk-high, a .chunks-in .high));
+        layer-in = λ k h. rw (List·getD-map rowLayer l k none) (omega (arith, at k h .layer-in, a .layers-in .high));
       }
-
-  pub own-within : WithinForecast j (rowsOf (slotsOf (ownList j (plan j))) (chunksOf (ownList j (plan j))) (layersOf (ownList j (plan j))) (bytesOf (ownList j (plan j))))
-  own-within = subst (WithinForecast j) (sym (rows-again (ownList j (plan j)))) (keeps .within)
-
-  pub own-again : rowsOf (slotsOf (ownList j (plan j))) (chunksOf (ownList j (plan j))) (layersOf (ownList j (plan j))) (bytesOf (ownList j (plan j))) ≡ ownList j (plan j)
-  own-again = rows-again (ownList j (plan j))

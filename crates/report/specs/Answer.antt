@@ -1,5 +1,5 @@
 -- Meaning, then its theorem. What the report call answers, and the lent buffer afterwards: document 01, "Direct calls without files
--- check 5, 6, 7", then 11 where "a lent buffer is shorter than the whole result. In a longer one the bytes past the result stay unchanged."
+-- check 5, 6, 7", with document 02's 18 before 7, then 11 where "a lent buffer is shorter than the whole result. In a longer one the bytes past the result stay unchanged."
 use Prim.Native.Nat.{ℕ}
 use mathlib.Core.Path.{_≡_, ap}
 use mathlib.Core.Bool.{cond}
@@ -9,7 +9,7 @@ use lib.Dec.{leb, eqb}
 use Rattle.basics.specs.Lent.{lentAfter}
 use Rattle.basics.specs.Refusals.{unless, _orElse_}
 use Rattle.job.specs.Job.{Job, Accepted}
-use Rattle.job.specs.Refusal.{refusal}
+use Rattle.job.specs.Handed.{HandedJob, jobIn, jobRefusal}
 use Rattle.schedule.specs.Own.{ownList}
 use Rattle.schedule.specs.Plan.{plan}
 use Rattle.schedule.specs.Statement.{IsPlan}
@@ -35,14 +35,14 @@ pub record Answered (t old now : List ℕ) (r : Written) : Type 0 where
   pub result : r ≡ answer (roomRefusal t old) (length t)
   pub buffer : now ≡ lentAfter (roomRefusal t old) t old
 
--- The refusal of the call: 5, 6, 7 by the job, then 11.
-abbrev pub reportRefusal : Job → List ℕ → ℕ
-reportRefusal j out = refusal j orElse roomRefusal (planReport j) out
+-- The refusal of the call: 5, 6, 18, 7 by the job, then 11.
+abbrev pub reportRefusal : HandedJob → List ℕ → ℕ
+reportRefusal h out = jobRefusal h orElse roomRefusal (planReport (jobIn h)) out
 
--- What the call hands over, and what it leaves in the lent buffer.
-pub record Reported (j : Job) (old now : List ℕ) (r : Written) : Type 0 where
-  pub result : r ≡ answer (reportRefusal j old) (length (planReport j))
-  pub buffer : now ≡ lentAfter (reportRefusal j old) (planReport j) old
+-- What the call hands over for a job as handed, and what it leaves in the lent buffer.
+pub record Reported (h : HandedJob) (old now : List ℕ) (r : Written) : Type 0 where
+  pub result : r ≡ answer (reportRefusal h old) (length (planReport (jobIn h)))
+  pub buffer : now ≡ lentAfter (reportRefusal h old) (planReport (jobIn h)) old
 
 -- Whichever plan of an accepted job is taken, this is its report.
 pub report-of-plan : (j : Job) (p : ℕ → ℕ) → Accepted j → IsPlan j p → planReport j ≡ reportOf j (ownList j p)

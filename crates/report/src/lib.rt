@@ -9,16 +9,13 @@ mod table;
 ghost use mathlib.Core.Path.{_≡_};
 ghost use mathlib.Core.List.{_∷_};
 ghost use Prim.Native.Nat.{_+_, _*_, _-_, _≤_};
-ghost use lib.ListN.{length};
+ghost use lib.ListN.{length, replicate};
 ghost use Rattle.basics.specs.Lists.{upTo};
-ghost use Rattle.job.specs.Job.{jobOf, Accepted};
-ghost use Rattle.fetch.specs.Rows.{rowsOf};
-ghost use Rattle.fetch.specs.Rules.{WithinForecast};
+ghost use Rattle.job.specs.Handed.{handed};
 ghost use Rattle.basics.specs.Text.{ascii, digits, line, text};
-ghost use Rattle.report.specs.Report.{reportOf};
-ghost use Rattle.report.specs.Answer.{planReport, Answered, Reported};
+ghost use Rattle.report.specs.Answer.{Answered, Reported};
 ghost use Rattle.text.specs.lemmas.Places.{Put};
-ghost use Rattle.report.specs.lemmas.Tables.{Listed, chunkLineBy, countBy, linesBy, rowsIn};
+ghost use Rattle.report.specs.lemmas.Tables.{SizesIn, Tabled, chunkLineBy, countBy, linesBy};
 
 // The number of bytes written, or the number of a refusal.
 pub enum Written {
@@ -29,12 +26,12 @@ pub enum Written {
 fn chunk_lines(
     out: &mut [u8],
     at: usize,
-    sizes: &[u32],
+    sizes: &[u32; 2000],
     depth: usize,
     table: &[u64; 2000],
     count: u16,
 ) -> usize
-    requires { ⌜ (depth ≤ 4) × (count ≤ 500) × (at + length (text (upTo (λ k. chunkLineBy (now sizes) (now table) depth (k + 1)) count)) ≤ length (now out)) ⌝ }
+    requires { ⌜ (depth ≤ 4) × (count ≤ 500) × (at + length (text (upTo (λ k. chunkLineBy (now sizes) (now table) depth (k + 1)) count)) ≤ length (now out)) × SizesIn (now sizes) ⌝ }
     ensures { λ r. ⌜ Put (now (out .entry)) at (text (upTo (λ k. chunkLineBy (now (sizes .entry)) (now (table .entry)) depth (k + 1)) count)) (now (out .exit)) r ⌝ }
 {
     let mut next = at;
@@ -52,7 +49,7 @@ fn chunk_lines(
 fn layer_counts(
     out: &mut [u8],
     at: usize,
-    sizes: &[u32],
+    sizes: &[u32; 2000],
     depth: usize,
     table: &[u64; 2000],
     count: u16,
@@ -73,7 +70,7 @@ fn layer_counts(
 fn layers_line(
     out: &mut [u8],
     at: usize,
-    sizes: &[u32],
+    sizes: &[u32; 2000],
     depth: usize,
     table: &[u64; 2000],
     count: u16,
@@ -109,14 +106,14 @@ fn film_slots(p: Programme) -> u64
 // The lines, by the table and the sums.
 fn put_lines(
     p: Programme,
-    sizes: &[u32],
+    sizes: &[u32; 2000],
     depth: usize,
     table: &[u64; 2000],
     spent: u64,
     left: u64,
     out: &mut [u8],
 ) -> usize
-    requires { ⌜ (depth ≤ 4) × (1 ≤ p .chunks) × (p .chunks ≤ 500) × (1 ≤ p .span) × (length (linesBy p (now sizes) depth (now table) spent left) ≤ length (now out)) ⌝ }
+    requires { ⌜ (depth ≤ 4) × (1 ≤ p .chunks) × (p .chunks ≤ 500) × (1 ≤ p .span) × (length (linesBy p (now sizes) depth (now table) spent left) ≤ length (now out)) × SizesIn (now sizes) ⌝ }
     ensures { λ r. ⌜ Put (now (out .entry)) 0 (linesBy p (now (sizes .entry)) depth (now (table .entry)) spent left) (now (out .exit)) r ⌝ }
 {
     let count = p.chunks;
@@ -131,29 +128,6 @@ fn put_lines(
     lines::switch_lines(out, end, switch, film)
 }
 
-// The report of rows handed, into a buffer that holds it.
-fn put_report(
-    p: Programme,
-    sizes: &[u32],
-    depth: usize,
-    forecast: &[u32],
-    slots: &[u16],
-    chunks: &[u16],
-    layers: &[u8],
-    bytes: &[u32],
-    out: &mut [u8],
-) -> usize
-    requires { ⌜ Listed (jobOf p (now sizes) (now forecast)) depth (now slots) (now chunks) (now layers) (now bytes) × (length (reportOf (jobOf p (now sizes) (now forecast)) (rowsOf (now slots) (now chunks) (now layers) (now bytes))) ≤ length (now out)) ⌝ }
-    ensures { λ r. ⌜ Put (now (out .entry)) 0 (reportOf (jobOf p (now (sizes .entry)) (now (forecast .entry))) (rowsOf (now (slots .entry)) (now (chunks .entry)) (now (layers .entry)) (now (bytes .entry)))) (now (out .exit)) r ⌝ }
-{
-    let mut table = [0u64; 2000];
-    table::add_rows(slots, chunks, layers, bytes, &mut table);
-    let spent = table::sum_of(bytes);
-    let total = table::sum_of(forecast);
-    let left = less(total, spent);
-    put_lines(p, sizes, depth, &table, spent, left, out)
-}
-
 // The text over the front of the buffer, if it fits.
 fn hand_over(text: &[u8], out: &mut [u8]) -> Written
     ensures { λ r. ⌜ Answered (now (text .entry)) (now (out .entry)) (now (out .exit)) r ⌝ }
@@ -165,50 +139,37 @@ fn hand_over(text: &[u8], out: &mut [u8]) -> Written
     Written::Bytes(text.len())
 }
 
-// The report of rows handed, for a list that takes no more than the forecast.
-fn report_rows(
+// The lines, made in a local buffer that holds any report, over the front of the lent one, if they fit.
+fn hand_lines(
     p: Programme,
-    sizes: &[u32],
+    sizes: &[u32; 2000],
     depth: usize,
-    forecast: &[u32],
-    slots: &[u16],
-    chunks: &[u16],
-    layers: &[u8],
-    bytes: &[u32],
+    table: &[u64; 2000],
+    spent: u64,
+    left: u64,
     out: &mut [u8],
 ) -> Written
-    requires { ⌜ Listed (jobOf p (now sizes) (now forecast)) depth (now slots) (now chunks) (now layers) (now bytes) × WithinForecast (jobOf p (now sizes) (now forecast)) (rowsOf (now slots) (now chunks) (now layers) (now bytes)) ⌝ }
-    ensures { λ r. ⌜ Answered (reportOf (jobOf p (now (sizes .entry)) (now (forecast .entry))) (rowsOf (now (slots .entry)) (now (chunks .entry)) (now (layers .entry)) (now (bytes .entry)))) (now (out .entry)) (now (out .exit)) r ⌝ }
+    requires { ⌜ (depth ≤ 4) × (1 ≤ p .chunks) × (p .chunks ≤ 500) × (1 ≤ p .span) × (length (linesBy p (now sizes) depth (now table) spent left) ≤ 7633) × SizesIn (now sizes) ⌝ }
+    ensures { λ r. ⌜ Answered (linesBy p (now (sizes .entry)) depth (now (table .entry)) spent left) (now (out .entry)) (now (out .exit)) r ⌝ }
 {
     let mut text = [0u8; 7633];
-    let n = put_report(
-        p,
-        sizes,
-        depth,
-        forecast,
-        slots,
-        chunks,
-        layers,
-        bytes,
-        &mut text,
-    );
+    let n = put_lines(p, sizes, depth, table, spent, left, &mut text);
     hand_over(&text[..n], out)
 }
 
-// How many rows the planner made.
-fn rows_in(a: Answer) -> usize
-    ensures { λ r. ⌜ r ≡ rowsIn a ⌝ }
-{
-    match a {
-        Answer::Rows(n) => n,
-        Answer::Refused(_) => 0,
-    }
-}
-
-// The report of an accepted job's plan, made into local slices that have room for any plan.
-fn report_plan(p: Programme, sizes: &[u32], forecast: &[u32], out: &mut [u8]) -> Written
-    requires { ⌜ Accepted (jobOf p (now sizes) (now forecast)) ⌝ }
-    ensures { λ r. ⌜ Answered (planReport (jobOf p (now (sizes .entry)) (now (forecast .entry)))) (now (out .entry)) (now (out .exit)) r ⌝ }
+// The plan's rows, made into local slices that have room for any plan: their bytes go into the table. The bytes of all of them, or the
+// refusal of the job.
+fn plan_table(
+    p: Programme,
+    sizes: &[u32],
+    size_chunks: &[u16],
+    size_layers: &[u8],
+    size_bytes: &[u32],
+    forecast: &[u32],
+    table: &mut [u64; 2000],
+) -> table::Spent
+    requires { ⌜ now table ≡ replicate 2000 0 ⌝ }
+    ensures { λ r. ⌜ Tabled (handed p (now (sizes .entry)) (now («size_chunks» .entry)) (now («size_layers» .entry)) (now («size_bytes» .entry)) (now (forecast .entry))) (now (table .exit)) r ⌝ }
 {
     let mut marks = [0u8; 500];
     let mut slots = [0u16; 5599];
@@ -218,6 +179,9 @@ fn report_plan(p: Programme, sizes: &[u32], forecast: &[u32], out: &mut [u8]) ->
     let made = planner::plan(
         p,
         sizes,
+        size_chunks,
+        size_layers,
+        size_bytes,
         forecast,
         &mut marks,
         &mut slots,
@@ -226,28 +190,46 @@ fn report_plan(p: Programme, sizes: &[u32], forecast: &[u32], out: &mut [u8]) ->
         &mut bytes,
     );
     let answer = made.answer;
-    let n = rows_in(answer);
-    let depth = sizes.len();
-    report_rows(
-        p,
-        sizes,
-        depth,
-        forecast,
-        &slots[..n],
-        &chunks[..n],
-        &layers[..n],
-        &bytes[..n],
-        out,
-    )
+    match answer {
+        Answer::Refused(no) => table::Spent::Refused(no),
+        Answer::Rows(n) => {
+            let each = &bytes[..n];
+            table::add_rows(&slots[..n], &chunks[..n], &layers[..n], each, table);
+            table::Spent::Bytes(table::sum_of(each))
+        }
+    }
 }
 
-// The report of a job's plan. Refused: 5, 6, 7 by the job, then 11 exactly if out is shorter than the text.
-pub fn report(p: Programme, sizes: &[u32], forecast: &[u32], out: &mut [u8]) -> Written
-    ensures { λ r. ⌜ Reported (jobOf p (now (sizes .entry)) (now (forecast .entry))) (now (out .entry)) (now (out .exit)) r ⌝ }
+// The report of a job's plan. Refused: 5, 6, 18, 7 by the job, then 11 exactly if out is shorter than the text.
+pub fn report(
+    p: Programme,
+    sizes: &[u32],
+    size_chunks: &[u16],
+    size_layers: &[u8],
+    size_bytes: &[u32],
+    forecast: &[u32],
+    out: &mut [u8],
+) -> Written
+    ensures { λ r. ⌜ Reported (handed p (now (sizes .entry)) (now («size_chunks» .entry)) (now («size_layers» .entry)) (now («size_bytes» .entry)) (now (forecast .entry))) (now (out .entry)) (now (out .exit)) r ⌝ }
 {
-    let no = job::refusal(p, sizes, forecast);
-    if no != 0 {
-        return Written::Refused(no);
+    let mut table = [0u64; 2000];
+    let made = plan_table(
+        p,
+        sizes,
+        size_chunks,
+        size_layers,
+        size_bytes,
+        forecast,
+        &mut table,
+    );
+    match made {
+        table::Spent::Refused(no) => Written::Refused(no),
+        table::Spent::Bytes(spent) => {
+            let left = less(table::sum_of(forecast), spent);
+            let unset = p.chunks as u32;
+            let mut stored = [unset; 2000];
+            job::fill_sizes(sizes, size_chunks, size_layers, size_bytes, &mut stored);
+            hand_lines(p, &stored, sizes.len(), &table, spent, left, out)
+        }
     }
-    report_plan(p, sizes, forecast, out)
 }

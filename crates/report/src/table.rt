@@ -7,12 +7,18 @@ ghost use lib.Dec.{eqb};
 ghost use Rattle.basics.specs.Sums.{sum};
 ghost use Rattle.fetch.specs.Rows.{rowsOf};
 ghost use Rattle.report.specs.Report.{apart};
-ghost use Rattle.report.specs.lemmas.Tables.{Rows, Summed, bytesAt, carriedBy, ChunkBy, countBy, pictureBy, changeOf, heldOf, switchBy};
+ghost use Rattle.report.specs.lemmas.Tables.{Rows, SizesIn, Summed, bytesAt, carriedBy, ChunkBy, countBy, pictureBy, changeOf, heldOf, switchBy};
 
 // What a chunk carries: how many layers and how many bytes.
 pub struct Chunk {
     pub layers: u64,
     pub bytes: u64,
+}
+
+// The bytes in the rows of a plan, or the number of the job's refusal.
+pub enum Spent {
+    Bytes(u64),
+    Refused(u8),
 }
 
 // What is on the screen: nothing yet, or a chunk of so many bytes.
@@ -84,13 +90,13 @@ fn same(sum: u64, size: u32) -> bool
     sum == (size as u64)
 }
 
-// Whether layer n of chunk i is carried: its rows sum to its size.
-fn is_carried(sizes: &[u32], table: &[u64; 2000], i: u16, n: usize) -> bool
+// Whether layer n of chunk i is carried: its rows sum to its size, which the table of all sizes has.
+fn is_carried(sizes: &[u32; 2000], table: &[u64; 2000], i: u16, n: usize) -> bool
     requires { ⌜ (1 ≤ i) × (i ≤ 500) × (n < 4) ⌝ }
     ensures { λ r. ⌜ r ≡ carriedBy (now (sizes .entry)) (now (table .entry)) i n ⌝ }
 {
     let sum = bytes_at(table, i, n);
-    same(sum, job::size_of(sizes, i, n))
+    same(sum, job::size_at(sizes, i, n))
 }
 
 fn only_if(carried: bool, x: u64) -> u64
@@ -103,8 +109,8 @@ fn only_if(carried: bool, x: u64) -> u64
 }
 
 // The layers and bytes that chunk i carries.
-pub(crate) fn chunk_of(sizes: &[u32], depth: usize, table: &[u64; 2000], i: u16) -> Chunk
-    requires { ⌜ (depth ≤ 4) × (1 ≤ i) × (i ≤ 500) ⌝ }
+pub(crate) fn chunk_of(sizes: &[u32; 2000], depth: usize, table: &[u64; 2000], i: u16) -> Chunk
+    requires { ⌜ (depth ≤ 4) × (1 ≤ i) × (i ≤ 500) × SizesIn (now sizes) ⌝ }
     ensures { λ r. ⌜ ChunkBy (now (sizes .entry)) (now (table .entry)) depth i r ⌝ }
 {
     let mut layers: u64 = 0;
@@ -120,7 +126,7 @@ pub(crate) fn chunk_of(sizes: &[u32], depth: usize, table: &[u64; 2000], i: u16)
 }
 
 // How many of the chunks carry layer n.
-pub(crate) fn layer_count(sizes: &[u32], table: &[u64; 2000], count: u16, n: usize) -> u64
+pub(crate) fn layer_count(sizes: &[u32; 2000], table: &[u64; 2000], count: u16, n: usize) -> u64
     requires { ⌜ (count ≤ 500) × (n < 4) ⌝ }
     ensures { λ r. ⌜ r ≡ countBy (now (sizes .entry)) (now (table .entry)) count n ⌝ }
 {
@@ -144,8 +150,8 @@ fn distance(a: u64, b: u64) -> u64
 }
 
 // A chunk on the screen: its bytes, or nothing new if it is skipped.
-fn picture_of(sizes: &[u32], depth: usize, table: &[u64; 2000], i: u16) -> Picture
-    requires { ⌜ (depth ≤ 4) × (1 ≤ i) × (i ≤ 500) ⌝ }
+fn picture_of(sizes: &[u32; 2000], depth: usize, table: &[u64; 2000], i: u16) -> Picture
+    requires { ⌜ (depth ≤ 4) × (1 ≤ i) × (i ≤ 500) × SizesIn (now sizes) ⌝ }
     ensures { λ r. ⌜ r ≡ pictureBy (now (sizes .entry)) (now (table .entry)) depth i ⌝ }
 {
     let chunk = chunk_of(sizes, depth, table, i);
@@ -179,8 +185,8 @@ fn held(last: Picture, here: Picture) -> Picture
     }
 }
 
-pub(crate) fn switch_sum(sizes: &[u32], depth: usize, table: &[u64; 2000], count: u16) -> u64
-    requires { ⌜ (depth ≤ 4) × (count ≤ 500) ⌝ }
+pub(crate) fn switch_sum(sizes: &[u32; 2000], depth: usize, table: &[u64; 2000], count: u16) -> u64
+    requires { ⌜ (depth ≤ 4) × (count ≤ 500) × SizesIn (now sizes) ⌝ }
     ensures { λ r. ⌜ r ≡ switchBy (now (sizes .entry)) (now (table .entry)) depth count ⌝ }
 {
     let mut sum: u64 = 0;

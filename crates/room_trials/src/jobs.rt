@@ -55,7 +55,7 @@ fn read_said(read: JobRead) {
         JobRead::Job {
             programme: _,
             layers: a,
-            uneven: _,
+            overrides: _,
             slots: b,
         } => {
             pair(b"layers ", a);

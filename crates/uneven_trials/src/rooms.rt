@@ -30,11 +30,11 @@ fn read_said(read: JobRead) {
         JobRead::Job {
             programme: _,
             layers,
-            uneven,
+            overrides,
             slots,
         } => {
             pair(b"layers ", layers);
-            pair(b" SZs ", uneven);
+            pair(b" SZs ", overrides);
             pair(b" slots ", slots);
         }
         JobRead::Refused(n) => pair(b"refused ", n as usize),

@@ -10,7 +10,9 @@ use lib.ListN.{length, getD, replicate, getD-replicate, length-replicate, List·
 use lib.Dec.{leb, ltb, ltb→lt, nltb→le}
 use Rattle.basics.specs.lemmas.Ranges.{pre-mono, pre-most}
 use Rattle.basics.specs.lemmas.Tests.{same-test, test}
-use Rattle.job.specs.Job.{sizeIn}
+use Rattle.job.specs.Job.{Override, sizeIn}
+use Rattle.job.specs.Table.{sizesTable}
+use Rattle.job.specs.lemmas.Table.{table-says}
 use Rattle.job.specs.lemmas.Within.{all-most}
 use Rattle.schedule.specs.Plan.{plan}
 use Rattle.schedule.specs.Theorems.{plan-exists}
@@ -91,9 +93,9 @@ module _
 
 -- ---- of a film in range
 
-module _ (chunks span limit : ℕ) (sizes f : List ℕ) (r : InRange (filmOf chunks span limit sizes f)) where
+module _ (chunks span limit : ℕ) (sizes : List ℕ) (os : List Override) (f : List ℕ) (r : InRange (filmOf chunks span limit sizes os f)) where
   abbrev film : Film
-  film = filmOf chunks span limit sizes f
+  film = filmOf chunks span limit sizes os f
 
   pub bytes-small : Small f
   bytes-small = all-most 0 16777216 f (r .forecast-in)
@@ -134,15 +136,16 @@ module _ (chunks span limit : ℕ) (sizes f : List ℕ) (r : InRange (filmOf chu
           long = length-replicate 1000 never;
         }
 
-    module _ (table-of-bases : BaseTable chunks sizes bases) where
+    module _ (table-of-bases : BaseTable chunks (sizesTable sizes os) bases) where
       kept-same : (s : ℕ) → 1 ≤ s → s ≤ tries film → keptWith film s ≡ keptBy chunks span (min (limit / span) 500) bases sums s
       unfolding keptWith keptBy
       kept-same s l h =
           let last : ℕ = (chunks - 1) * span + s in
           let in-f : last ≤ length f = omega arith in
+          let ok = job-accepted film s r (record { low = l; reaches = in-f }) in
           let same : (t : ℕ) → t ≤ last → left film s t ≡ leftAt sums last t = λ t u. omega (arith, table .is last in-f, table .is t (omega arith)) in
-          keeps-same (λ k. sizeIn sizes k 0) (sizeAt bases) (dueAt span s) (left film s) (leftAt sums last) chunks
-          (λ k u v. sym (table-of-bases k u v))
+          keeps-same (λ k. sizeIn sizes os k 0) (sizeAt bases) (dueAt span s) (left film s) (leftAt sums last) chunks
+          (λ k u v. sym (table-of-bases k u v ∙ table-says (jobAt film s) ok k 0))
           (λ k u v. same ((k - 1) * span + s) (due-in chunks span s v))
           (λ k u v. same ((k - 1) * span + s - 1) (omega (arith, due-in chunks span s v)))
           (same 0 (omega arith))

@@ -7,7 +7,7 @@ use native.Mathlib.Numerals.{add-one}
 use lib.ListN.{length, getD, set, length-set}
 use lib.Seq.{getD-set-same}
 use Rattle.basics.specs.lemmas.Tables.{at-set, below-next}
-use Rattle.job.specs.Job.{sizeIn}
+use Rattle.job.specs.Table.{tableAt}
 use Rattle.schedule.specs.lemmas.Parts.{Small}
 use Rattle.wait.specs.lemmas.Scan.{brought}
 use Rattle.wait.specs.lemmas.Table.{BaseTable, SumTable}
@@ -54,25 +54,25 @@ module _ (f sums : List ℕ) (sum t : ℕ) (s : Summing f sums sum t) where
 
 -- ---- the bases
 
-pub record Based (chunks : ℕ) (sizes bases : List ℕ) (i : ℕ) : Type 0 where
+pub record Based (chunks : ℕ) (stored bases : List ℕ) (i : ℕ) : Type 0 where
   pub inside : i ≤ chunks
   pub long : length bases ≡ 500
-  pub table : BaseTable i sizes bases
+  pub table : BaseTable i stored bases
 
-pub based-start : (chunks : ℕ) (sizes bases : List ℕ) → length bases ≡ 500 → Based chunks sizes bases 0
-based-start chunks sizes bases h = record { inside = omega arith; long = h; table = λ i l u. absurd (omega arith) }
+pub based-start : (chunks : ℕ) (stored bases : List ℕ) → length bases ≡ 500 → Based chunks stored bases 0
+based-start chunks stored bases h = record { inside = omega arith; long = h; table = λ i l u. absurd (omega arith) }
 
-module _ (chunks : ℕ) (sizes bases : List ℕ) (i : ℕ) (b : Based chunks sizes bases i) where
-  pub based-more : i < chunks → chunks ≤ 500 → Based chunks sizes (set bases i (sizeIn sizes (i + 1) 0)) (i + 1)
+module _ (chunks : ℕ) (stored bases : List ℕ) (i : ℕ) (b : Based chunks stored bases i) where
+  pub based-more : i < chunks → chunks ≤ 500 → Based chunks stored (set bases i (tableAt stored (i + 1) 0)) (i + 1)
   based-more h few =
       record {
         inside = omega arith;
-        long = length-set bases i (sizeIn sizes (i + 1) 0) ∙ b .long;
+        long = length-set bases i (tableAt stored (i + 1) 0) ∙ b .long;
         table = λ k l u.
-            at-set (λ x. x ≡ sizeIn sizes k 0) bases i (sizeIn sizes (i + 1) 0) (k - 1) (omega (arith, b .long))
-            (λ e. let q : i + 1 ≡ k = omega arith in subst (λ (m : ℕ). sizeIn sizes (i + 1) 0 ≡ sizeIn sizes m 0) q refl)
+            at-set (λ x. x ≡ tableAt stored k 0) bases i (tableAt stored (i + 1) 0) (k - 1) (omega (arith, b .long))
+            (λ e. let q : i + 1 ≡ k = omega arith in subst (λ (m : ℕ). tableAt stored (i + 1) 0 ≡ tableAt stored m 0) q refl)
             (λ o. b .table k l (omega (arith, below-next (k - 1) i (omega arith) o)));
       }
 
-  pub based-end : chunks ≤ i → BaseTable chunks sizes bases
+  pub based-end : chunks ≤ i → BaseTable chunks stored bases
   based-end h k l u = b .table k l (omega arith)

@@ -9,19 +9,20 @@ use lib.ListN.{length}
 use lib.Seq.{length-take-le}
 use lib.Dec.{T, T-not, eqb, ltb, eqb→eq, ltb→lt, lt→ltb, nltb→le}
 use borrow.Author.Tests.{ne-eqb}
-use Rattle.basics.specs.Refusals.{_orElse_}
+use Rattle.basics.specs.Refusals.{_orElse_, unless}
 use Rattle.basics.specs.Tests.{all}
-use Rattle.basics.specs.lemmas.Refusals.{orElse-as, orElse-most, orElse-none, orElse-some, unless-as, unless-most}
+use Rattle.basics.specs.lemmas.Refusals.{orElse-as, orElse-none, orElse-some, unless-as}
 use Rattle.basics.specs.lemmas.Tables.{all-take}
-use Rattle.basics.specs.lemmas.Tests.{allTo-iff, eqb-iff, ltb-iff, test}
-use Rattle.job.specs.Job.{Accepted, EqualChunks, Within, chunks, lastDue}
-use Rattle.job.specs.Refusal.{bytes-iff, bytesRefusal, film-iff, sizes-iff, within, within-iff}
+use Rattle.basics.specs.lemmas.Tests.{all-map, allTo-iff, by-cond, eqb-iff, ltb-iff, test}
+use Rattle.job.specs.Handed.{whole-iff, wholeRefusal}
+use Rattle.job.specs.Job.{Accepted, EqualChunks, Named, Within, chunks, lastDue}
+use Rattle.job.specs.Refusal.{bytes-iff, bytesRefusal, film-iff, named, overrides-iff, rising, sized, sizes-iff, within, within-iff}
 use Rattle.schedule.specs.Plan.{plan}
 use Rattle.schedule.specs.Statement.{CanCarry, IsPlan}
 use Rattle.schedule.specs.Theorems.{plan-exists, plan-unique}
 use Rattle.schedule.specs.lemmas.Words.{accepted-sized}
 use Rattle.wait.specs.declared.Answer.the-variants.{Delay, Refused}
-use Rattle.wait.specs.Answer.{DelayMeans, SixteenMeans, answerOf, fiveRefusal, inputRefusal, sevenRefusal, shortest, sixRefusal, sixteenRefusal, skipsNone, slotsRefusal, tries, waitRefusal}
+use Rattle.wait.specs.Answer.{DelayMeans, HandedFilm, HandedWhole, SixteenMeans, answerOf, eighteenRefusal, filmIn, fiveRefusal, inputRefusal, numbersRefusal, sevenRefusal, shortest, sixRefusal, sixteenRefusal, skipsNone, slotsRefusal, tries, waitRefusal}
 use Rattle.wait.specs.Wait.{Film, InRange, NoSkip, NoneWorks, ShortestWait, SomeList, SomeOrdered, Tried, Works, jobAt, programmeAt}
 use Rattle.wait.specs.lemmas.Bases.{basesAlone, no-skip-any, no-skip-can-carry, no-skip-ordered}
 use Rattle.wait.specs.lemmas.First.{first-none, first-some}
@@ -39,33 +40,51 @@ job-accepted w s r t =
       last-in = omega (arith, t .reaches, r .slots-in .high);
       layers-in = r .layers-in;
       sizes-in = r .sizes-in;
+      overrides-named =
+          all-map (Named (programmeAt w 1) (w .sizes)) (Named (programmeAt w s) (w .sizes)) (w .overrides)
+          (λ o n. record { chunk-in = n .chunk-in; layer-in = n .layer-in; not-own = n .not-own }) (r .overrides-named);
+      overrides-rise = r .overrides-rise;
+      overrides-in = r .overrides-in;
       forecast-in = all-take (Within 0 16777216) (lastDue (programmeAt w s)) (w .forecast) (r .forecast-in);
       slots-in = length-take-le (lastDue (programmeAt w s)) (w .forecast) (t .reaches);
     }
 
--- None of 5, 6 and 7 exactly if the input is in range.
-pub input-iff : (w : Film) → (inputRefusal w ≡ 0) ↔ InRange w
+-- None of 5, 6, 18 and 7 exactly if every SZ is handed whole and the input is in range.
+pub input-iff : (h : HandedFilm) → (inputRefusal h ≡ 0) ↔ (HandedWhole h × InRange (filmIn h))
 unfolding inputRefusal
-input-iff w =
+input-iff h =
+    let w = filmIn h in
     let n = length (w .forecast) in
     let seven =
     orElse-as (slotsRefusal (w .forecast)) (bytesRefusal (w .forecast))
     (unless-as 7 (within 1 3600 n) (omega arith) (within-iff 1 3600 n)) (bytes-iff (w .forecast)) in
-    let r =
-    orElse-as (fiveRefusal w) (sixRefusal w orElse sevenRefusal w) (film-iff (programmeAt w 1))
-    (orElse-as (sixRefusal w) (sevenRefusal w) (sizes-iff (w .sizes)) seven) in (
+    let eighteen =
+    orElse-as (wholeRefusal (h .size-chunks) (h .size-layers) (h .size-bytes)) (numbersRefusal w)
+    (whole-iff (h .size-chunks) (h .size-layers) (h .size-bytes)) (overrides-iff (programmeAt w 1) (w .sizes) (w .overrides)) in
+    let six =
+    orElse-as (sixRefusal w) (eighteenRefusal h orElse sevenRefusal w) (sizes-iff (w .sizes))
+    (orElse-as (eighteenRefusal h) (sevenRefusal w) eighteen seven) in
+    let r = orElse-as (fiveRefusal w) (sixRefusal w orElse eighteenRefusal h orElse sevenRefusal w) (film-iff (programmeAt w 1)) six in (
       λ e.
-          let u = r .0 e in
-          record {
-            chunks-in = u .0 .0;
-            span-in = u .0 .1 .0;
-            limit-in = u .0 .1 .1;
-            layers-in = u .1 .0 .0;
-            sizes-in = u .1 .0 .1;
-            slots-in = u .1 .1 .0;
-            forecast-in = u .1 .1 .1;
-          },
-      λ i. r .1 ((i .chunks-in, (i .span-in, i .limit-in)), ((i .layers-in, i .sizes-in), (i .slots-in, i .forecast-in))),
+          let u = r .0 e in (
+            u .1 .1 .0 .0,
+            record {
+              chunks-in = u .0 .0;
+              span-in = u .0 .1 .0;
+              limit-in = u .0 .1 .1;
+              layers-in = u .1 .0 .0;
+              sizes-in = u .1 .0 .1;
+              overrides-named = u .1 .1 .0 .1 .0;
+              overrides-rise = u .1 .1 .0 .1 .1 .0;
+              overrides-in = u .1 .1 .0 .1 .1 .1;
+              slots-in = u .1 .1 .1 .0;
+              forecast-in = u .1 .1 .1 .1;
+            },
+          ),
+      λ x.
+          let i = x .1 in
+          r .1
+          ((i .chunks-in, (i .span-in, i .limit-in)), ((i .layers-in, i .sizes-in), ((x .0, (i .overrides-named, (i .overrides-rise, i .overrides-in))), (i .slots-in, i .forecast-in)))),
     )
 
 -- ---- one s
@@ -175,88 +194,107 @@ module _ (w : Film) (r : InRange w) where
 
 -- ---- the refusals
 
--- Not refused exactly if the input is in range and some s works.
-pub wait-iff : (w : Film) → (waitRefusal w ≡ 0) ↔ (InRange w × (0 < shortest w))
+-- Not refused exactly if every SZ is handed whole, the input is in range and some s works.
+pub wait-iff : (h : HandedFilm) → (waitRefusal h ≡ 0) ↔ ((HandedWhole h × InRange (filmIn h)) × (0 < shortest (filmIn h)))
 unfolding waitRefusal
-wait-iff w = orElse-as (inputRefusal w) (sixteenRefusal w) (input-iff w) (unless-as 16 (ltb 0 (shortest w)) (omega arith) (ltb-iff 0 (shortest w)))
+wait-iff h =
+    let s : ℕ = shortest (filmIn h) in
+    orElse-as (inputRefusal h) (sixteenRefusal (filmIn h)) (input-iff h) (unless-as 16 (ltb 0 s) (omega arith) (ltb-iff 0 s))
 
 -- ---- the answer
 
-module _ (w : Film) where
-  delay-test : (s : ℕ) (b : Bool) → cond b (Delay (shortest w)) (Refused (waitRefusal w)) ≡ Delay s → (b ≡ true) × (shortest w ≡ s)
+-- A composed refusal is none but one of its parts.
+unless-other : (m n : ℕ) (b : Bool) → 0 < m → (n ≡ m → ⊥) → unless n b ≡ m → ⊥
+unless-other m n b p h = by-cond (λ (r : ℕ). r ≡ m → ⊥) b (λ t e. omega arith) (λ t. h)
+
+orElse-other : (m a b : ℕ) → (a ≡ m → ⊥) → (b ≡ m → ⊥) → (a orElse b) ≡ m → ⊥
+orElse-other m a b g h = by-cond (λ (r : ℕ). r ≡ m → ⊥) (eqb a 0) (λ t. h) (λ t. g)
+
+module _ (h : HandedFilm) where
+  abbrev film : Film
+  film = filmIn h
+
+  delay-test : (s : ℕ) (b : Bool) → cond b (Delay (shortest film)) (Refused (waitRefusal h)) ≡ Delay s → (b ≡ true) × (shortest film ≡ s)
   delay-test s true e = (cc, cc)
   delay-test s false e = let z : _≡_ {A = ℕ} 0 1 = cc in absurd (omega arith)
 
-  refused-test : (n : ℕ) (b : Bool) → cond b (Delay (shortest w)) (Refused (waitRefusal w)) ≡ Refused n → waitRefusal w ≡ n
+  refused-test : (n : ℕ) (b : Bool) → cond b (Delay (shortest film)) (Refused (waitRefusal h)) ≡ Refused n → waitRefusal h ≡ n
   refused-test n true e = let z : _≡_ {A = ℕ} 0 1 = cc in absurd (omega arith)
   refused-test n false e = cc
 
   -- The call answers s exactly if it is the shortest wait.
-  pub answered-iff : DelayMeans w (answerOf w)
+  pub answered-iff : DelayMeans h (answerOf h)
   answered-iff s = (
     λ e.
-        let u = delay-test s (eqb (waitRefusal w) 0) e in
-        let z : waitRefusal w ≡ 0 = eqb→eq (waitRefusal w) 0 (subst T (sym (u .0)) tt) in
-        let r = wait-iff w .0 z in
-        let x = shortest-iff w (r .0) s .0 (u .1, omega (arith, r .1, u .1)) in
-        record { in-range = r .0; accepted = job-accepted w s (r .0) (x .works .tried); shortest = x },
+        let u = delay-test s (eqb (waitRefusal h) 0) e in
+        let z : waitRefusal h ≡ 0 = eqb→eq (waitRefusal h) 0 (subst T (sym (u .0)) tt) in
+        let r = wait-iff h .0 z in
+        let x = shortest-iff film (r .0 .1) s .0 (u .1, omega (arith, r .1, u .1)) in
+        record { whole = r .0 .0; in-range = r .0 .1; accepted = job-accepted film s (r .0 .1) (x .works .tried); shortest = x },
     λ x.
-        let v = shortest-iff w (x .in-range) s .1 (x .shortest) in
-        let z : waitRefusal w ≡ 0 = wait-iff w .1 (x .in-range, omega (arith, v .0, v .1)) in
+        let v = shortest-iff film (x .in-range) s .1 (x .shortest) in
+        let z : waitRefusal h ≡ 0 = wait-iff h .1 ((x .whole, x .in-range), omega (arith, v .0, v .1)) in
         rw (z, v .0),
   )
 
-  -- 5, 6 and 7 come first,
-  pub input-first : 0 < inputRefusal w → answerOf w ≡ Refused (inputRefusal w)
+  -- 5, 6, 18 and 7 come first,
+  pub input-first : 0 < inputRefusal h → answerOf h ≡ Refused (inputRefusal h)
   unfolding waitRefusal
-  input-first h =
-      let z : inputRefusal w ≡ 0 → ⊥ = λ e. omega (arith, h, e) in
-      let r : waitRefusal w ≡ inputRefusal w = orElse-some (inputRefusal w) (sixteenRefusal w) z in
-      rw (r, ne-eqb (inputRefusal w) 0 z)
+  input-first p =
+      let z : inputRefusal h ≡ 0 → ⊥ = λ e. omega (arith, p, e) in
+      let r : waitRefusal h ≡ inputRefusal h = orElse-some (inputRefusal h) (sixteenRefusal film) z in
+      rw (r, ne-eqb (inputRefusal h) 0 z)
 
-  below-sixteen : inputRefusal w ≤ 7
+  not-sixteen : inputRefusal h ≡ 16 → ⊥
   unfolding inputRefusal
-  below-sixteen =
-      let five = within 1 500 (w .chunks) && (within 1 60 (w .span) && within 0 65535 (w .limit)) in
-      let six = within 1 4 (length (w .sizes)) && all (within 1 16777216) (w .sizes) in
-      let slots = within 1 3600 (length (w .forecast)) in
-      let bytes = all (within 0 16777216) (w .forecast) in
-      orElse-most 7 (fiveRefusal w) (sixRefusal w orElse sevenRefusal w) (unless-most 7 5 five (omega arith))
-      (orElse-most 7 (sixRefusal w) (sevenRefusal w) (unless-most 7 6 six (omega arith))
-      (orElse-most 7 (slotsRefusal (w .forecast)) (bytesRefusal (w .forecast)) (unless-most 7 7 slots (omega arith)) (unless-most 7 7 bytes (omega arith))))
+  not-sixteen =
+      let p = programmeAt film 1 in
+      let five = within 1 500 (p .chunks) && (within 1 60 (p .span) && within 0 65535 (p .limit)) in
+      let six = within 1 4 (length (h .sizes)) && all (within 1 16777216) (h .sizes) in
+      let whole = eqb (length (h .size-layers)) (length (h .size-chunks)) && eqb (length (h .size-bytes)) (length (h .size-chunks)) in
+      let os = film .overrides in
+      let numbers = all (named p (h .sizes)) os && (rising os && all sized os) in
+      let slots = within 1 3600 (length (h .forecast)) in
+      let bytes = all (within 0 16777216) (h .forecast) in
+      let no : (n : ℕ) (b : Bool) → (n ≡ 16 → ⊥) → unless n b ≡ 16 → ⊥ = λ n b. unless-other 16 n b (omega arith) in
+      let seven = orElse-other 16 (slotsRefusal (h .forecast)) (bytesRefusal (h .forecast)) (no 7 slots (λ e. omega arith)) (no 7 bytes (λ e. omega arith)) in
+      let eighteen =
+      orElse-other 16 (wholeRefusal (h .size-chunks) (h .size-layers) (h .size-bytes)) (numbersRefusal film) (no 18 whole (λ e. omega arith)) (no 18 numbers (λ e. omega arith)) in
+      orElse-other 16 (fiveRefusal film) (sixRefusal film orElse eighteenRefusal h orElse sevenRefusal film) (no 5 five (λ e. omega arith))
+      (orElse-other 16 (sixRefusal film) (eighteenRefusal h orElse sevenRefusal film) (no 6 six (λ e. omega arith)) (orElse-other 16 (eighteenRefusal h) (sevenRefusal film) eighteen seven))
 
-  sixteen-in-range : waitRefusal w ≡ 16 → (inputRefusal w ≡ 0) × (shortest w ≡ 0)
+  sixteen-in-range : waitRefusal h ≡ 16 → (inputRefusal h ≡ 0) × (shortest film ≡ 0)
   unfolding waitRefusal
   sixteen-in-range e =
       ⊎-elim
       (λ t.
-      let z = eqb→eq (inputRefusal w) 0 t in
-      let s : sixteenRefusal w ≡ 16 = sym (orElse-none (inputRefusal w) (sixteenRefusal w) z) ∙ e in (
+      let z = eqb→eq (inputRefusal h) 0 t in
+      let s : sixteenRefusal film ≡ 16 = sym (orElse-none (inputRefusal h) (sixteenRefusal film) z) ∙ e in (
         z,
         ⊎-elim
-            (λ u. absurd (omega (arith, s, unless-as 16 (ltb 0 (shortest w)) (omega arith) (ltb-iff 0 (shortest w)) .1 (ltb→lt 0 (shortest w) u))))
-            (λ u. omega (arith, nltb→le 0 (shortest w) u))
-            (test (ltb 0 (shortest w))),
+            (λ u. absurd (omega (arith, s, unless-as 16 (ltb 0 (shortest film)) (omega arith) (ltb-iff 0 (shortest film)) .1 (ltb→lt 0 (shortest film) u))))
+            (λ u. omega (arith, nltb→le 0 (shortest film) u))
+            (test (ltb 0 (shortest film))),
       ))
       (λ t.
-      let n : inputRefusal w ≡ 0 → ⊥ = λ z. T-not (eqb (inputRefusal w) 0) t (eqb-iff (inputRefusal w) 0 .1 z) in
-      absurd (omega (arith, below-sixteen, sym (orElse-some (inputRefusal w) (sixteenRefusal w) n) ∙ e)))
-      (test (eqb (inputRefusal w) 0))
+      let n : inputRefusal h ≡ 0 → ⊥ = λ z. T-not (eqb (inputRefusal h) 0) t (eqb-iff (inputRefusal h) 0 .1 z) in
+      absurd (not-sixteen (sym (orElse-some (inputRefusal h) (sixteenRefusal film) n) ∙ e)))
+      (test (eqb (inputRefusal h) 0))
 
-  none-sixteen : inputRefusal w ≡ 0 → shortest w ≡ 0 → waitRefusal w ≡ 16
+  none-sixteen : inputRefusal h ≡ 0 → shortest film ≡ 0 → waitRefusal h ≡ 16
   unfolding waitRefusal
-  none-sixteen z e = orElse-none (inputRefusal w) (sixteenRefusal w) z ∙ rw e
+  none-sixteen z e = orElse-none (inputRefusal h) (sixteenRefusal film) z ∙ rw e
 
   -- then "16, exactly if no s within the forecast works,
-  pub sixteen-iff : SixteenMeans w (answerOf w)
+  pub sixteen-iff : SixteenMeans h (answerOf h)
   sixteen-iff = (
     λ e.
-        let u = sixteen-in-range (refused-test 16 (eqb (waitRefusal w) 0) e) in
-        let r = input-iff w .0 (u .0) in
-        (r, none-iff w r .0 (u .1)),
-    λ x. let z : waitRefusal w ≡ 16 = none-sixteen (input-iff w .1 (x .0)) (none-iff w (x .0) .1 (x .1)) in rw z,
+        let u = sixteen-in-range (refused-test 16 (eqb (waitRefusal h) 0) e) in
+        let r = input-iff h .0 (u .0) in
+        (r, none-iff film (r .1) .0 (u .1)),
+    λ x. let z : waitRefusal h ≡ 16 = none-sixteen (input-iff h .1 (x .0)) (none-iff film (x .0 .1) .1 (x .1)) in rw z,
   )
 
   -- a forecast too short for s = 1 included."
-  pub too-short : InRange w → length (w .forecast) < lastDue (programmeAt w 1) → answerOf w ≡ Refused 16
-  too-short r h = sixteen-iff .1 (r, λ s k. omega (arith, h, k .tried .low, k .tried .reaches))
+  pub too-short : HandedWhole h → InRange film → length (film .forecast) < lastDue (programmeAt film 1) → answerOf h ≡ Refused 16
+  too-short whole r l = sixteen-iff .1 ((whole, r), λ s k. omega (arith, l, k .tried .low, k .tried .reaches))

@@ -5,7 +5,7 @@ use mathlib.Core.List.{List}
 use lib.ListN.{length, take}
 use Rattle.basics.specs.Tests.{All}
 use Rattle.job.specs.declared.Programme.{Programme}
-use Rattle.job.specs.Job.{Job, Within, chunks, jobOf, lastDue}
+use Rattle.job.specs.Job.{Job, Named, Override, Rising, Within, chunks, jobOf, lastDue}
 use Rattle.fetch.specs.Rows.{Row, Carried}
 use Rattle.fetch.specs.Rules.{Passes, PlayingOrder}
 use Rattle.schedule.specs.Statement.{IsPlan}
@@ -16,11 +16,12 @@ pub record Film : Type 0 where
   pub span : ℕ
   pub limit : ℕ
   pub sizes : List ℕ
+  pub overrides : List Override
   pub forecast : List ℕ
 
--- The film that a call hands over.
-abbrev pub filmOf : (chunks span limit : ℕ) → List ℕ → List ℕ → Film
-filmOf chunks span limit sizes forecast = record { chunks = chunks; span = span; limit = limit; sizes = sizes; forecast = forecast }
+abbrev pub filmOf : (chunks span limit : ℕ) → List ℕ → List Override → List ℕ → Film
+filmOf chunks span limit sizes overrides forecast =
+    record { chunks = chunks; span = span; limit = limit; sizes = sizes; overrides = overrides; forecast = forecast }
 
 -- ---- one s
 
@@ -29,7 +30,7 @@ programmeAt w s = record { chunks = w .chunks; span = w .span; delay = s; limit 
 
 -- "The job for a tried s uses the first d(C) slots",
 abbrev pub jobAt : Film → ℕ → Job
-jobAt w s = jobOf (programmeAt w s) (w .sizes) (take (lastDue (programmeAt w s)) (w .forecast))
+jobAt w s = jobOf (programmeAt w s) (w .sizes) (w .overrides) (take (lastDue (programmeAt w s)) (w .forecast))
 
 -- "and s is tried only while the forecast reaches d(C)". A start delay is at least 1.
 pub record Tried (w : Film) (s : ℕ) : Type 0 where
@@ -60,13 +61,17 @@ NoneWorks w = (s : ℕ) → Works w s → ⊥
 
 -- ---- what is asked of the input
 
--- C, L and the limit as of a job, s and d(C) left out; layers and sizes as of a job; 1 to 3,600 slots, each of 0 to 16,777,216 bytes.
+-- C, L and the limit as of a job, s and d(C) left out; layers, sizes and SZs as of a job, whatever s is; 1 to 3,600 slots, each of 0 to
+-- 16,777,216 bytes.
 pub record InRange (w : Film) : Type 0 where
   pub chunks-in : Within 1 500 (w .chunks)
   pub span-in : Within 1 60 (w .span)
   pub limit-in : Within 0 65535 (w .limit)
   pub layers-in : Within 1 4 (length (w .sizes))
   pub sizes-in : All (Within 1 16777216) (w .sizes)
+  pub overrides-named : All (Named (programmeAt w 1) (w .sizes)) (w .overrides)
+  pub overrides-rise : Rising (w .overrides)
+  pub overrides-in : All (λ (o : Override). Within 1 16777216 (o .bytes)) (w .overrides)
   pub slots-in : Within 1 3600 (length (w .forecast))
   pub forecast-in : All (Within 0 16777216) (w .forecast)
 

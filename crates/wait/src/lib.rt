@@ -5,8 +5,10 @@ ghost use mathlib.Core.Path.{_≡_};
 ghost use Prim.Native.Nat.{_*_, _-_, _/_, _≤_, min};
 ghost use lib.ListN.{length};
 ghost use Rattle.schedule.specs.lemmas.Parts.{Small};
-ghost use Rattle.wait.specs.Wait.{InRange, filmOf};
-ghost use Rattle.wait.specs.Answer.{DelayMeans, SixteenMeans, answerOf, firstFrom, inputRefusal, shortest, slotsRefusal};
+ghost use Rattle.job.specs.Handed.{overridesOf};
+ghost use Rattle.job.specs.Table.{sizesTable};
+ghost use Rattle.wait.specs.Wait.{InRange};
+ghost use Rattle.wait.specs.Answer.{DelayMeans, SixteenMeans, answerOf, filmIn, firstFrom, handedFilm, inputRefusal, shortest, slotsRefusal};
 ghost use Rattle.wait.specs.lemmas.Table.{BaseTable, PassDone, PassFrom, SearchFrom, SumTable, keptBy};
 
 // The start delay, or the refusal's number.
@@ -46,18 +48,36 @@ fn add_up(forecast: &[u32], sums: &mut [u64; 3601])
     }
 }
 
-// The base's bytes of each chunk.
-fn set_bases(chunks: u16, sizes: &[u32], bases: &mut [u32; 500])
+// The base's bytes of each chunk, out of the table of all sizes.
+fn read_bases(chunks: u16, table: &[u32; 2000], bases: &mut [u32; 500])
     requires { ⌜ (chunks ≤ 500) × (length (now bases) ≡ 500) ⌝ }
-    ensures { λ _. ⌜ BaseTable chunks (now (sizes .entry)) (now (bases .exit)) ⌝ }
+    ensures { λ _. ⌜ BaseTable chunks (now (table .entry)) (now (bases .exit)) ⌝ }
 {
     let mut i: u16 = 0;
     while i < chunks {
         let next = i + 1;
         let q = i as usize;
-        bases[q] = job::size_of(sizes, next, 0);
+        bases[q] = job::size_at(table, next, 0);
         i = next;
     }
+}
+
+// The same of a film as handed. Only here its sizes are read.
+fn set_bases(
+    chunks: u16,
+    sizes: &[u32],
+    size_chunks: &[u16],
+    size_layers: &[u8],
+    size_bytes: &[u32],
+    bases: &mut [u32; 500],
+)
+    requires { ⌜ (chunks ≤ 500) × (length (now bases) ≡ 500) ⌝ }
+    ensures { λ _. ⌜ BaseTable chunks (sizesTable (now (sizes .entry)) (overridesOf (now («size_chunks» .entry)) (now («size_layers» .entry)) (now («size_bytes» .entry)))) (now (bases .exit)) ⌝ }
+{
+    let unset = chunks as u32;
+    let mut table = [unset; 2000];
+    job::fill_sizes(sizes, size_chunks, size_layers, size_bytes, &mut table);
+    read_bases(chunks, &table, bases);
 }
 
 // Whether the job with s keeps every base. From the last chunk down, begins holds what the forecast may have brought at most when the
@@ -145,15 +165,29 @@ fn count_tries(p: Programme, slots: usize) -> usize
 }
 
 // The shortest wait of a film in range, p being its programme with s = 1; 0 if no s within the forecast works.
-fn shortest_delay(p: Programme, sizes: &[u32], forecast: &[u32]) -> usize
-    requires { ⌜ (p .delay ≡ 1) × InRange (filmOf (p .chunks) (p .span) (p .limit) (now sizes) (now forecast)) ⌝ }
-    ensures { λ r. ⌜ (r ≡ shortest (filmOf (p .chunks) (p .span) (p .limit) (now (sizes .entry)) (now (forecast .entry)))) × (r ≤ 3600) ⌝ }
+fn shortest_delay(
+    p: Programme,
+    sizes: &[u32],
+    size_chunks: &[u16],
+    size_layers: &[u8],
+    size_bytes: &[u32],
+    forecast: &[u32],
+) -> usize
+    requires { ⌜ (p .delay ≡ 1) × InRange (filmIn (handedFilm (p .chunks) (p .span) (p .limit) (now sizes) (now «size_chunks») (now «size_layers») (now «size_bytes») (now forecast))) ⌝ }
+    ensures { λ r. ⌜ (r ≡ shortest (filmIn (handedFilm (p .chunks) (p .span) (p .limit) (now (sizes .entry)) (now («size_chunks» .entry)) (now («size_layers» .entry)) (now («size_bytes» .entry)) (now (forecast .entry))))) × (r ≤ 3600) ⌝ }
 {
     let mut sums = [0u64; 3601];
     let mut bases = [0u32; 500];
     let mut begins = [60397977600u64; 1000];
     add_up(forecast, &mut sums);
-    set_bases(p.chunks, sizes, &mut bases);
+    set_bases(
+        p.chunks,
+        sizes,
+        size_chunks,
+        size_layers,
+        size_bytes,
+        &mut bases,
+    );
     let held = held_behind(p);
     let tries = count_tries(p, forecast.len());
     find_delay(
@@ -177,21 +211,41 @@ fn slots_refusal(forecast: &[u32]) -> u8
     job::refuse_unless(7, forecast.len() <= 3600)
 }
 
-// 5, 6, 7 in that order, or 0 for none; s and d(C) are no part of it.
-fn input_refusal(p: Programme, sizes: &[u32], forecast: &[u32]) -> u8
-    ensures { λ r. ⌜ r ≡ inputRefusal (filmOf (p .chunks) (p .span) (p .limit) (now (sizes .entry)) (now (forecast .entry))) ⌝ }
+// 5, 6, 18, 7 in that order, or 0 for none; s and d(C) are no part of it.
+fn input_refusal(
+    p: Programme,
+    sizes: &[u32],
+    size_chunks: &[u16],
+    size_layers: &[u8],
+    size_bytes: &[u32],
+    forecast: &[u32],
+) -> u8
+    ensures { λ r. ⌜ r ≡ inputRefusal (handedFilm (p .chunks) (p .span) (p .limit) (now (sizes .entry)) (now («size_chunks» .entry)) (now («size_layers» .entry)) (now («size_bytes» .entry)) (now (forecast .entry))) ⌝ }
 {
     let seven = job::or_else(slots_refusal(forecast), job::bytes_refusal(forecast));
+    let numbers = job::overrides_refusal(p, sizes, size_chunks, size_layers, size_bytes);
+    let whole = job::whole_refusal(size_chunks, size_layers, size_bytes);
+    let eighteen = job::or_else(whole, numbers);
     let six = job::sizes_refusal(sizes);
-    job::or_else(job::film_refusal(p), job::or_else(six, seven))
+    let five = job::film_refusal(p);
+    job::or_else(five, job::or_else(six, job::or_else(eighteen, seven)))
 }
 
-// How long the film must wait: the smallest s for which the plan skips no base. Refused: 5 for C, L and the limit, 6, 7, then 16 exactly
-// if no s within the forecast works.
-pub fn wait(chunks: u16, span: u16, limit: u16, sizes: &[u32], forecast: &[u32]) -> Answer
-    ensures answer { λ r. ⌜ r ≡ answerOf (filmOf chunks span limit (now (sizes .entry)) (now (forecast .entry))) ⌝ }
-    ensures delay { λ r. ⌜ DelayMeans (filmOf chunks span limit (now (sizes .entry)) (now (forecast .entry))) r ⌝ }
-    ensures sixteen { λ r. ⌜ SixteenMeans (filmOf chunks span limit (now (sizes .entry)) (now (forecast .entry))) r ⌝ }
+// How long the film must wait: the smallest s for which the plan skips no base. Refused: 5 for C, L and the limit, 6, 18, 7, then 16
+// exactly if no s within the forecast works.
+pub fn wait(
+    chunks: u16,
+    span: u16,
+    limit: u16,
+    sizes: &[u32],
+    size_chunks: &[u16],
+    size_layers: &[u8],
+    size_bytes: &[u32],
+    forecast: &[u32],
+) -> Answer
+    ensures answer { λ r. ⌜ r ≡ answerOf (handedFilm chunks span limit (now (sizes .entry)) (now («size_chunks» .entry)) (now («size_layers» .entry)) (now («size_bytes» .entry)) (now (forecast .entry))) ⌝ }
+    ensures delay { λ r. ⌜ DelayMeans (handedFilm chunks span limit (now (sizes .entry)) (now («size_chunks» .entry)) (now («size_layers» .entry)) (now («size_bytes» .entry)) (now (forecast .entry))) r ⌝ }
+    ensures sixteen { λ r. ⌜ SixteenMeans (handedFilm chunks span limit (now (sizes .entry)) (now («size_chunks» .entry)) (now («size_layers» .entry)) (now («size_bytes» .entry)) (now (forecast .entry))) r ⌝ }
 {
     let p = Programme {
         chunks,
@@ -199,11 +253,11 @@ pub fn wait(chunks: u16, span: u16, limit: u16, sizes: &[u32], forecast: &[u32])
         delay: 1,
         limit,
     };
-    let no = input_refusal(p, sizes, forecast);
+    let no = input_refusal(p, sizes, size_chunks, size_layers, size_bytes, forecast);
     if 0 < no {
         return Answer::Refused(no);
     }
-    let s = shortest_delay(p, sizes, forecast);
+    let s = shortest_delay(p, sizes, size_chunks, size_layers, size_bytes, forecast);
     if s < 1 {
         return Answer::Refused(16);
     }

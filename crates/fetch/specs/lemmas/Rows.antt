@@ -1,8 +1,8 @@
--- Lemmas. Sums and tests over rows: in another order, of a row that stands in the list, of a base. Assumes nothing.
+-- Lemmas. Sums and tests over rows: in another order, with one row more, of a row that stands in the list, of a base. Assumes nothing.
 use Prim.Native.Nat.{ℕ, zero, suc, _+_, _≤_}
 use mathlib.Core.Path.{_≡_, refl, ap, _∙_}
 use mathlib.Core.Bool.{Bool, true, false, not, cond, _&&_, _||_}
-use mathlib.Core.List.{List, [], _∷_}
+use mathlib.Core.List.{List, [], _∷_, _++_}
 use mathlib.Core.Logic.{⊎-elim}
 use native.Mathlib.Omega.{arith}
 use lib.Dec.{T, eqb}
@@ -47,6 +47,12 @@ any-permuted p (next h k) = any-permuted p h ∙ any-permuted p k
 pub lower-permuted : (j : Job) {a b : List Row} → Permuted a b → (i n : ℕ) → lowerCarried j a i n ≡ lowerCarried j b i n
 lower-permuted j h i zero = refl
 lower-permuted j h i (suc n) = ap (λ (s : ℕ). eqb s (size j i n)) (bytes-permuted (λ x. eqb (x .chunk) i && eqb (x .layer) n) h)
+
+-- ---- one row more
+
+pub bytes-snoc : (p : Row → Bool) (l : List Row) (x : Row) → bytesIf p (l ++ (x ∷ [])) ≡ bytesIf p l + cond (p x) (x .bytes) 0
+bytes-snoc p [] x = omega arith
+bytes-snoc p (y ∷ l) x = omega (arith, bytes-snoc p l x)
 
 -- ---- a row of the list
 

@@ -3,6 +3,7 @@ use borrow.Author.Needs.{needs}
 use Rattle.jobrecords.proofs.ended.Statement.{statement}
 use Rattle.jobrecords.proofs.ended.Tie as tie
 use mathlib.Core.Path.{_≡_, sym, ap₂, _∙_}
+use denote.Ref.{now}
 use Rattle.basics.specs.Refusals.{_orElse_}
 use borrow.Author.Tests.{eq-eqb, ne-eqb}
 use Rattle.jobrecords.specs.lemmas.Reading.{endCode}
@@ -18,12 +19,14 @@ or-else-requires c κs = search needs
 
 returns : tie.Need-returns
 returns c =
-    let e : c .before .or-else .result ≡ endCode (c .before .before .before .before .args .j) (c .before .before .before .before .args .after) = c .before .or-else .ensures ∙ ap₂ _orElse_ (c .before .before .refuse-unless .ensures) (c .before .before .before .end-refusal .ensures) in
+    let a = c .before .before .before .before .before .before .args in
+    let e : c .before .or-else .result ≡ endCode (now (a .file)) (a .j) (a .after) (now (a .sizes)) = c .before .or-else .ensures ∙ ap₂ _orElse_ (c .before .before .refuse-unless .ensures) (c .before .before .before .end-refusal .ensures) in
     rw (eq-eqb _ _ (sym e ∙ c .if1 .taken))
 
 returns-2 : tie.Need-returns-2
 returns-2 c =
-    let e : c .before .or-else .result ≡ endCode (c .before .before .before .before .args .j) (c .before .before .before .before .args .after) = c .before .or-else .ensures ∙ ap₂ _orElse_ (c .before .before .refuse-unless .ensures) (c .before .before .before .end-refusal .ensures) in
+    let a = c .before .before .before .before .before .before .args in
+    let e : c .before .or-else .result ≡ endCode (now (a .file)) (a .j) (a .after) (now (a .sizes)) = c .before .or-else .ensures ∙ ap₂ _orElse_ (c .before .before .refuse-unless .ensures) (c .before .before .before .end-refusal .ensures) in
     rw (← e, ne-eqb _ _ (c .if1 .left))
 
 pub ended-spec : {M : Type 1} → statement M

@@ -8,7 +8,7 @@ use denote.Ref.{now}
 use Rattle.jobrecords.specs.declared.Read.the-variants.{Refused}
 use Rattle.jobrecords.specs.lemmas.Reading.{readRefusalOf}
 use Rattle.jobrecords.proofs.Fronts.{known}
-use Rattle.jobrecords.proofs.Turned.{turn-none, turn-inside, turn-end, turn-fault, turn-fine, turn-more}
+use Rattle.jobrecords.proofs.Turned.{turn-none, turn-counted, turn-inside, turn-end, turn-fault, turn-fine, turn-more}
 
 record-at-requires : tie.Need-record-at-requires
 record-at-requires c κs = search needs
@@ -39,13 +39,19 @@ sub-after c =
     turn-inside (a .sequenced) (now (a .file)) (a .at) (a .j) (now (a .sizes)) (now (a .slots)) (c .before .before .before .before .before .before .before .before .before .pre) (v .0 .0) (v .0 .1 .0) (sym (c .before .before .before .before .before .record-at .ensures) ∙ v .1)
 
 ended-requires : tie.Need-ended-requires
-ended-requires c κs = search needs
+ended-requires c κs =
+    let a = c .before .before .before .before .before .before .before .before .before .before .args in
+    let g = c .before .before .before .before .before .before .before .before .before .before .pre in
+    (turn-counted (a .sequenced) (now (a .file)) (a .at) (a .j) (now (a .sizes)) (now (a .slots)) g, g .stands .room .sized)
+
+same-length : tie.Need-same-length
+same-length c = search needs
 
 returns-2 : tie.Need-returns-2
 returns-2 c =
-    let a = c .before .before .before .before .before .before .before .before .before .before .args in
-    let v = c .before .before .before .before .read .given in
-    turn-end (a .sequenced) (now (a .file)) (a .at) (a .j) (now (a .sizes)) (now (a .slots)) (c .before .before .before .before .before .before .before .before .before .before .pre) (v .0 .0) (v .0 .1 .0) (sym (c .before .before .before .before .before .before .record-at .ensures) ∙ v .1) (c .ended .result) (known (c .before .before .is-end .ensures) (c .before .if1 .taken)) (c .ended .ensures)
+    let a = c .before .before .before .before .before .before .before .before .before .before .before .args in
+    let v = c .before .before .before .before .before .read .given in
+    turn-end (a .sequenced) (now (a .file)) (a .at) (a .j) (now (a .sizes)) (now (a .slots)) (c .before .before .before .before .before .before .before .before .before .before .before .pre) (v .0 .0) (v .0 .1 .0) (sym (c .before .before .before .before .before .before .before .record-at .ensures) ∙ v .1) (c .ended .result) (known (c .before .before .before .is-end .ensures) (c .before .before .if1 .taken)) (c .ended .ensures)
 
 fault-of-requires : tie.Need-fault-of-requires
 fault-of-requires c κs = search needs
@@ -61,13 +67,13 @@ take-record-requires c κs =
     let a = c .before .before .before .before .before .before .before .before .before .before .before .before .before .args in
     let g = c .before .before .before .before .before .before .before .before .before .before .before .before .before .pre in
     let v = c .before .before .before .before .before .before .before .read .given in
-    (g .stands .room, turn-fine (a .sequenced) (now (a .file)) (a .at) (a .j) (now (a .sizes)) (now (a .slots)) g (v .0 .0) (v .0 .1 .0) (sym (c .before .before .before .before .before .before .before .before .before .record-at .ensures) ∙ v .1) (known (c .before .before .before .before .before .is-end .ensures) (c .before .before .before .before .if1 .left)) (sym (c .before .before .before .fault-of .ensures) ∙ c .before .before .if2 .left))
-
-same-length : tie.Need-same-length
-same-length c = search needs
+    (g .stands .room, (g .counts .room, turn-fine (a .sequenced) (now (a .file)) (a .at) (a .j) (now (a .sizes)) (now (a .slots)) g (v .0 .0) (v .0 .1 .0) (sym (c .before .before .before .before .before .before .before .before .before .record-at .ensures) ∙ v .1) (known (c .before .before .before .before .before .is-end .ensures) (c .before .before .before .before .if1 .left)) (sym (c .before .before .before .fault-of .ensures) ∙ c .before .before .if2 .left)))
 
 same-length-2 : tie.Need-same-length-2
 same-length-2 c = search needs
+
+same-length-3 : tie.Need-same-length-3
+same-length-3 c = search needs
 
 returns-4 : tie.Need-returns-4
 returns-4 c =
@@ -87,10 +93,11 @@ one-turn-spec =
     is-end-requires
     sub-after
     ended-requires
+    same-length
     returns-2
     fault-of-requires
     returns-3
     take-record-requires
-    same-length
     same-length-2
+    same-length-3
     returns-4)

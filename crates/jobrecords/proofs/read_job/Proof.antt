@@ -4,17 +4,16 @@ use Rattle.jobrecords.proofs.read_job.Statement.{statement}
 use Rattle.jobrecords.proofs.read_job.Tie as tie
 use mathlib.Core.Path.{sym, ap, _∙_}
 use Prim.Native.Nat.{ℕ}
-use native.Mathlib.Omega.{arith}
 use denote.Ref.{now}
 use Rattle.jobrecords.specs.declared.Ending.the-variants.{Broken}
+use Rattle.jobrecords.specs.Reader.{buffers}
 use Rattle.jobrecords.specs.lemmas.Reading.{endRefusalOf}
-use Rattle.jobrecords.proofs.Answers.{handed-long, handed-broken, handed-few-sizes, handed-few-slots, handed-job, layers-inside, slots-inside}
+use Rattle.jobrecords.proofs.Answers.{read-long, read-broken, complete, read-whole}
 
 returns : tie.Need-returns
 returns c =
-    let a = c .before .before .before .before .args in
-    let h = handed-long (a .sequenced) (now (a .file)) (now (a .sizes)) (now (a .forecast)) (omega arith) in
-    (h .answer, (h .sizes, h .forecast))
+    let h = read-long (c .before .before .before .before .before .before .before .args .sequenced) (now (c .before .before .before .before .before .before .before .args .file)) (buffers (now (c .before .before .before .before .before .before .before .args .sizes)) (now (c .before .before .before .before .before .before .before .args .size-chunks)) (now (c .before .before .before .before .before .before .before .args .size-layers)) (now (c .before .before .before .before .before .before .before .args .size-bytes)) (now (c .before .before .before .before .before .before .before .args .forecast))) (c .if1 .taken) in
+    (h .answer, (h .sizes, (h .size-chunks, (h .size-layers, (h .size-bytes, h .forecast)))))
 
 slice-aggregate-read-all : tie.Need-slice-aggregate-read-all
 slice-aggregate-read-all c = search needs
@@ -36,39 +35,21 @@ refusal-at-requires c κs = search needs
 
 returns-2 : tie.Need-returns-2
 returns-2 c =
-    let a = c .before .before .before .before .before .before .before .before .before .before .before .before .args in
     let told = c .before .enum-told .given .1 in
     let same = c .refusal-at .ensures ∙ ap endRefusalOf told in
-    let h = handed-broken (a .sequenced) (now (a .file)) (now (a .sizes)) (now (a .forecast)) (omega arith) (c .before .before .before .before .before .read-all .result) _ _ (c .refusal-at .result) (c .before .before .before .before .before .read-all .ensures) (told ∙ ap (λ (n : ℕ). Broken n) (sym same)) in
-    (h .answer, (h .sizes, h .forecast))
+    let h = read-broken (c .before .before .before .before .before .before .before .before .before .before .before .before .before .before .before .args .sequenced) (now (c .before .before .before .before .before .before .before .before .before .before .before .before .before .before .before .args .file)) (buffers (now (c .before .before .before .before .before .before .before .before .before .before .before .before .before .before .before .args .sizes)) (now (c .before .before .before .before .before .before .before .before .before .before .before .before .before .before .before .args .size-chunks)) (now (c .before .before .before .before .before .before .before .before .before .before .before .before .before .before .before .args .size-layers)) (now (c .before .before .before .before .before .before .before .before .before .before .before .before .before .before .before .args .size-bytes)) (now (c .before .before .before .before .before .before .before .before .before .before .before .before .before .before .before .args .forecast))) (c .before .before .before .before .before .before .before .before .if1 .left) (c .before .before .before .before .before .read-all .result) _ _ (c .before .before .before .before .before .read-all .ensures) (c .refusal-at .result) (told ∙ ap (λ (n : ℕ). Broken n) (sym same)) in
+    (h .answer, (h .sizes, (h .size-chunks, (h .size-layers, (h .size-bytes, h .forecast)))))
 
-returns-3 : tie.Need-returns-3
-returns-3 c =
-    let a = c .before .before .before .before .before .before .before .before .before .before .before .before .before .args in
-    let h = handed-few-sizes (a .sequenced) (now (a .file)) (now (a .sizes)) (now (a .forecast)) (c .before .before .before .before .before .before .before .before .before .if1 .left) (c .before .before .before .before .before .before .read-all .result) _ _ (c .before .before .end .given .0 .0) (c .before .before .before .before .before .before .read-all .ensures) (c .before .before .end .given .1) (c .if2 .taken) in
-    (h .answer, (h .sizes, h .forecast))
+slice-aggregate-hand-over : tie.Need-slice-aggregate-hand-over
+slice-aggregate-hand-over c = search needs
 
-returns-4 : tie.Need-returns-4
-returns-4 c =
-    let a = c .before .before .before .before .before .before .before .before .before .before .before .before .before .before .args in
-    let h = handed-few-slots (a .sequenced) (now (a .file)) (now (a .sizes)) (now (a .forecast)) (c .before .before .before .before .before .before .before .before .before .before .if1 .left) (c .before .before .before .before .before .before .before .read-all .result) _ _ (c .before .before .before .end .given .0 .0) (c .before .before .before .before .before .before .before .read-all .ensures) (c .before .before .before .end .given .1) (c .before .if2 .left) (c .if3 .taken) in
-    (h .answer, (h .sizes, h .forecast))
+slice-aggregate-hand-over-2 : tie.Need-slice-aggregate-hand-over-2
+slice-aggregate-hand-over-2 c = search needs
 
-slice-aggregate-copy : tie.Need-slice-aggregate-copy
-slice-aggregate-copy c = search needs
-
-copy-requires : tie.Need-copy-requires
-copy-requires c κs =
-    let a = c .before .before .before .before .before .before .before .before .before .before .before .before .before .before .before .before .args in
-    (layers-inside (a .sequenced) (now (a .file)) (now (a .sizes)) (now (a .forecast)) (c .before .before .before .before .before .before .before .before .before .before .before .before .if1 .left) (c .before .before .before .before .before .before .before .before .before .read-all .result) _ _ (c .before .before .before .before .before .end .given .0 .0) (c .before .before .before .before .before .before .before .before .before .read-all .ensures) (c .before .before .before .before .before .end .given .1), c .before .before .before .if2 .left)
-
-slice-aggregate-copy-2 : tie.Need-slice-aggregate-copy-2
-slice-aggregate-copy-2 c = search needs
-
-copy-requires-2 : tie.Need-copy-requires-2
-copy-requires-2 c κs =
-    let a = c .before .before .before .before .before .before .before .before .before .before .before .before .before .before .before .before .before .before .before .before .before .args in
-    (slots-inside (a .sequenced) (now (a .file)) (now (a .sizes)) (now (a .forecast)) (c .before .before .before .before .before .before .before .before .before .before .before .before .before .before .before .before .before .if1 .left) (c .before .before .before .before .before .before .before .before .before .before .before .before .before .before .read-all .result) _ _ (c .before .before .before .before .before .before .before .before .before .before .end .given .0 .0) (c .before .before .before .before .before .before .before .before .before .before .before .before .before .before .read-all .ensures) (c .before .before .before .before .before .before .before .before .before .before .end .given .1), c .before .before .before .before .before .before .before .if3 .left)
+hand-over-requires : tie.Need-hand-over-requires
+hand-over-requires c κs =
+    let whole = complete (c .before .before .before .before .before .before .before .before .before .before .before .before .before .before .before .before .before .before .before .before .before .before .args .sequenced) (now (c .before .before .before .before .before .before .before .before .before .before .before .before .before .before .before .before .before .before .before .before .before .before .args .file)) (buffers (now (c .before .before .before .before .before .before .before .before .before .before .before .before .before .before .before .before .before .before .before .before .before .before .args .sizes)) (now (c .before .before .before .before .before .before .before .before .before .before .before .before .before .before .before .before .before .before .before .before .before .before .args .size-chunks)) (now (c .before .before .before .before .before .before .before .before .before .before .before .before .before .before .before .before .before .before .before .before .before .before .args .size-layers)) (now (c .before .before .before .before .before .before .before .before .before .before .before .before .before .before .before .before .before .before .before .before .before .before .args .size-bytes)) (now (c .before .before .before .before .before .before .before .before .before .before .before .before .before .before .before .before .before .before .before .before .before .before .args .forecast))) (c .before .before .before .before .before .before .before .before .before .before .before .before .before .before .before .if1 .left) (c .before .before .before .before .before .before .before .before .before .before .before .before .read-all .result) _ _ (c .before .before .before .before .before .before .before .before .before .before .before .before .read-all .ensures) (c .before .before .before .before .before .before .before .before .end .given .0 .0) (c .before .before .before .before .before .before .before .before .end .given .1) in
+    (whole .inside, whole .room)
 
 same-length : tie.Need-same-length
 same-length c = search needs
@@ -76,11 +57,19 @@ same-length c = search needs
 same-length-2 : tie.Need-same-length-2
 same-length-2 c = search needs
 
-returns-5 : tie.Need-returns-5
-returns-5 c =
-    let a = c .before .before .before .before .before .before .before .before .before .before .before .before .before .before .before .before .before .before .before .before .before .before .before .before .before .args in
-    let h = handed-job (a .sequenced) (now (a .file)) (now (a .sizes)) (now (a .forecast)) (c .before .before .before .before .before .before .before .before .before .before .before .before .before .before .before .before .before .before .before .before .before .if1 .left) (c .before .before .before .before .before .before .before .before .before .before .before .before .before .before .before .before .before .before .read-all .result) _ _ (c .before .before .before .before .before .before .before .before .before .before .before .before .before .before .end .given .0 .0) (c .before .before .before .before .before .before .before .before .before .before .before .before .before .before .before .before .before .before .read-all .ensures) (c .before .before .before .before .before .before .before .before .before .before .before .before .before .before .end .given .1) (c .before .before .before .before .before .before .before .before .before .before .before .before .if2 .left) (c .before .before .before .before .before .before .before .before .before .before .before .if3 .left) in
-    (h .answer, (c .before .before .before .before .before .before .before .before .copy .ensures ∙ h .sizes, c .before .before .before .copy2 .ensures ∙ h .forecast))
+same-length-3 : tie.Need-same-length-3
+same-length-3 c = search needs
+
+same-length-4 : tie.Need-same-length-4
+same-length-4 c = search needs
+
+same-length-5 : tie.Need-same-length-5
+same-length-5 c = search needs
+
+returns-3 : tie.Need-returns-3
+returns-3 c =
+    let h = read-whole (c .before .before .before .before .before .before .before .before .before .before .before .before .before .before .before .before .before .before .before .before .before .before .before .before .before .before .before .before .before .before .before .before .before .args .sequenced) (now (c .before .before .before .before .before .before .before .before .before .before .before .before .before .before .before .before .before .before .before .before .before .before .before .before .before .before .before .before .before .before .before .before .before .args .file)) (buffers (now (c .before .before .before .before .before .before .before .before .before .before .before .before .before .before .before .before .before .before .before .before .before .before .before .before .before .before .before .before .before .before .before .before .before .args .sizes)) (now (c .before .before .before .before .before .before .before .before .before .before .before .before .before .before .before .before .before .before .before .before .before .before .before .before .before .before .before .before .before .before .before .before .before .args .size-chunks)) (now (c .before .before .before .before .before .before .before .before .before .before .before .before .before .before .before .before .before .before .before .before .before .before .before .before .before .before .before .before .before .before .before .before .before .args .size-layers)) (now (c .before .before .before .before .before .before .before .before .before .before .before .before .before .before .before .before .before .before .before .before .before .before .before .before .before .before .before .before .before .before .before .before .before .args .size-bytes)) (now (c .before .before .before .before .before .before .before .before .before .before .before .before .before .before .before .before .before .before .before .before .before .before .before .before .before .before .before .before .before .before .before .before .before .args .forecast))) (c .before .before .before .before .before .before .before .before .before .before .before .before .before .before .before .before .before .before .before .before .before .before .before .before .before .before .if1 .left) (c .before .before .before .before .before .before .before .before .before .before .before .before .before .before .before .before .before .before .before .before .before .before .before .read-all .result) _ _ (c .before .before .before .before .before .before .before .before .before .before .before .before .before .before .before .before .before .before .before .before .before .before .before .read-all .ensures) (c .before .before .before .before .before .before .before .before .before .before .before .before .before .before .before .before .before .before .before .end .given .0 .0) (c .before .before .before .before .before .before .before .before .before .before .before .before .before .before .before .before .before .before .before .end .given .1) (c .before .before .before .before .before .before .before .before .before .before .hand-over .result) _ (c .before .before .before .before .before .before .before .before .before .before .hand-over .ensures) in
+    (h .answer, (h .sizes, (h .size-chunks, (h .size-layers, (h .size-bytes, h .forecast)))))
 
 pub read-job-spec : {M : Type 1} → statement M
 read-job-spec =
@@ -94,12 +83,12 @@ read-job-spec =
     enum-told
     refusal-at-requires
     returns-2
-    returns-3
-    returns-4
-    slice-aggregate-copy
-    copy-requires
-    slice-aggregate-copy-2
-    copy-requires-2
+    slice-aggregate-hand-over
+    slice-aggregate-hand-over-2
+    hand-over-requires
     same-length
     same-length-2
-    returns-5)
+    same-length-3
+    same-length-4
+    same-length-5
+    returns-3)

@@ -10,7 +10,7 @@ use Rattle.jobrecords.specs.Reader.{readFront}
 use Rattle.jobrecords.proofs.Fronts.{past-end, from-here}
 
 returns : tie.Need-returns
-returns c = sym (past-end (c .before .before .args .file .now) (c .before .before .args .at) (c .if1 .taken))
+returns c = sym (past-end (c .before .before .args .sequenced) (c .before .before .args .file .now) (c .before .before .args .at) (c .if1 .taken))
 
 sub-record-in : tie.Need-sub-record-in
 sub-record-in c = search needs
@@ -25,7 +25,7 @@ record-in-requires : tie.Need-record-in-requires
 record-in-requires c κs = search needs
 
 returns-2 : tie.Need-returns-2
-returns-2 c = c .record-in .ensures ∙ ap (λ (l : List ℕ). readFront (c .before .before .before .before .args .at) (front l)) (from-here (c .before .before .before .before .args .file .now) (c .before .before .before .before .args .at))
+returns-2 c = c .record-in .ensures ∙ ap (λ (l : List ℕ). readFront (c .before .before .before .before .args .at) (front (c .before .before .before .before .args .sequenced) l)) (from-here (c .before .before .before .before .args .file .now) (c .before .before .before .before .args .at))
 
 pub record-at-spec : {M : Type 1} → statement M
 record-at-spec =

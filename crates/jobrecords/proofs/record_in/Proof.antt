@@ -3,10 +3,10 @@ use borrow.Author.Needs.{needs}
 use Rattle.jobrecords.proofs.record_in.Statement.{statement}
 use Rattle.jobrecords.proofs.record_in.Tie as tie
 use mathlib.Core.Path.{sym, _∙_}
-use Rattle.jobrecords.proofs.Fronts.{known, no-mark, programme-read, layer-read, run-read, end-read, unknown-read}
+use Rattle.jobrecords.proofs.Fronts.{known, no-mark, programme-read, layer-read, run-read, end-read, last-read, unknown-read}
 
 returns : tie.Need-returns
-returns c = sym (no-mark (c .before .before .args .rest .now) (c .before .before .args .at) (c .if1 .taken))
+returns c = sym (no-mark (c .before .before .args .sequenced) (c .before .before .args .rest .now) (c .before .before .args .at) (c .if1 .taken))
 
 is-mark-requires : tie.Need-is-mark-requires
 is-mark-requires c κs = search needs
@@ -27,7 +27,7 @@ whole-requires : tie.Need-whole-requires
 whole-requires c κs = search needs
 
 returns-2 : tie.Need-returns-2
-returns-2 c = c .whole .ensures ∙ programme-read (c .before .before .before .before .before .before .before .before .before .before .args .rest .now) (c .before .before .before .before .before .before .before .before .before .before .args .at) (c .before .before .before .before .before .before .before .before .if1 .left) (known (c .before .before .before .before .before .before .is-mark .ensures) (c .before .before .before .before .before .if2 .taken)) _ _ _ _ (c .before .before .before .before .h-at .ensures) (c .before .before .before .h-at2 .ensures) (c .before .before .h-at3 .ensures) (c .before .h-at4 .ensures)
+returns-2 c = c .whole .ensures ∙ programme-read (c .before .before .before .before .before .before .before .before .before .before .args .sequenced) (c .before .before .before .before .before .before .before .before .before .before .args .rest .now) (c .before .before .before .before .before .before .before .before .before .before .args .at) (c .before .before .before .before .before .before .before .before .if1 .left) (known (c .before .before .before .before .before .before .is-mark .ensures) (c .before .before .before .before .before .if2 .taken)) _ _ _ _ (c .before .before .before .before .h-at .ensures) (c .before .before .before .h-at2 .ensures) (c .before .before .h-at3 .ensures) (c .before .h-at4 .ensures)
 
 is-mark-requires-2 : tie.Need-is-mark-requires-2
 is-mark-requires-2 c κs = search needs
@@ -39,7 +39,7 @@ whole-requires-2 : tie.Need-whole-requires-2
 whole-requires-2 c κs = search needs
 
 returns-3 : tie.Need-returns-3
-returns-3 c = c .whole2 .ensures ∙ layer-read (c .before .before .before .before .before .before .before .before .before .before .args .rest .now) (c .before .before .before .before .before .before .before .before .before .before .args .at) (c .before .before .before .before .before .before .before .before .if1 .left) (known (c .before .before .before .before .before .before .is-mark .ensures) (c .before .before .before .before .before .if2 .left)) (known (c .before .before .before .is-mark2 .ensures) (c .before .before .if3 .taken)) _ (c .before .w-at .ensures)
+returns-3 c = c .whole2 .ensures ∙ layer-read (c .before .before .before .before .before .before .before .before .before .before .args .sequenced) (c .before .before .before .before .before .before .before .before .before .before .args .rest .now) (c .before .before .before .before .before .before .before .before .before .before .args .at) (c .before .before .before .before .before .before .before .before .if1 .left) (known (c .before .before .before .before .before .before .is-mark .ensures) (c .before .before .before .before .before .if2 .left)) (known (c .before .before .before .is-mark2 .ensures) (c .before .before .if3 .taken)) _ (c .before .w-at .ensures)
 
 is-mark-requires-3 : tie.Need-is-mark-requires-3
 is-mark-requires-3 c κs = search needs
@@ -54,7 +54,7 @@ whole-requires-3 : tie.Need-whole-requires-3
 whole-requires-3 c κs = search needs
 
 returns-4 : tie.Need-returns-4
-returns-4 c = c .whole3 .ensures ∙ run-read (c .before .before .before .before .before .before .before .before .before .before .before .before .before .before .args .rest .now) (c .before .before .before .before .before .before .before .before .before .before .before .before .before .before .args .at) (c .before .before .before .before .before .before .before .before .before .before .before .before .if1 .left) (known (c .before .before .before .before .before .before .before .before .before .before .is-mark .ensures) (c .before .before .before .before .before .before .before .before .before .if2 .left)) (known (c .before .before .before .before .before .before .before .is-mark2 .ensures) (c .before .before .before .before .before .before .if3 .left)) (known (c .before .before .before .before .is-mark3 .ensures) (c .before .before .before .if4 .taken)) _ _ (c .before .before .h-at5 .ensures) (c .before .w-at2 .ensures)
+returns-4 c = c .whole3 .ensures ∙ run-read (c .before .before .before .before .before .before .before .before .before .before .before .before .before .before .args .sequenced) (c .before .before .before .before .before .before .before .before .before .before .before .before .before .before .args .rest .now) (c .before .before .before .before .before .before .before .before .before .before .before .before .before .before .args .at) (c .before .before .before .before .before .before .before .before .before .before .before .before .if1 .left) (known (c .before .before .before .before .before .before .before .before .before .before .is-mark .ensures) (c .before .before .before .before .before .before .before .before .before .if2 .left)) (known (c .before .before .before .before .before .before .before .is-mark2 .ensures) (c .before .before .before .before .before .before .if3 .left)) (known (c .before .before .before .before .is-mark3 .ensures) (c .before .before .before .if4 .taken)) _ _ (c .before .before .h-at5 .ensures) (c .before .w-at2 .ensures)
 
 is-mark-requires-4 : tie.Need-is-mark-requires-4
 is-mark-requires-4 c κs = search needs
@@ -63,10 +63,16 @@ whole-requires-4 : tie.Need-whole-requires-4
 whole-requires-4 c κs = search needs
 
 returns-5 : tie.Need-returns-5
-returns-5 c = c .whole4 .ensures ∙ end-read (c .before .before .before .before .before .before .before .before .before .before .before .before .before .before .before .args .rest .now) (c .before .before .before .before .before .before .before .before .before .before .before .before .before .before .before .args .at) (c .before .before .before .before .before .before .before .before .before .before .before .before .before .if1 .left) (known (c .before .before .before .before .before .before .before .before .before .before .before .is-mark .ensures) (c .before .before .before .before .before .before .before .before .before .before .if2 .left)) (known (c .before .before .before .before .before .before .before .before .is-mark2 .ensures) (c .before .before .before .before .before .before .before .if3 .left)) (known (c .before .before .before .before .before .is-mark3 .ensures) (c .before .before .before .before .if4 .left)) (known (c .before .before .is-mark4 .ensures) (c .before .if5 .taken))
+returns-5 c = c .whole4 .ensures ∙ end-read (c .before .before .before .before .before .before .before .before .before .before .before .before .before .before .before .args .sequenced) (c .before .before .before .before .before .before .before .before .before .before .before .before .before .before .before .args .rest .now) (c .before .before .before .before .before .before .before .before .before .before .before .before .before .before .before .args .at) (c .before .before .before .before .before .before .before .before .before .before .before .before .before .if1 .left) (known (c .before .before .before .before .before .before .before .before .before .before .before .is-mark .ensures) (c .before .before .before .before .before .before .before .before .before .before .if2 .left)) (known (c .before .before .before .before .before .before .before .before .is-mark2 .ensures) (c .before .before .before .before .before .before .before .if3 .left)) (known (c .before .before .before .before .before .is-mark3 .ensures) (c .before .before .before .before .if4 .left)) (known (c .before .before .is-mark4 .ensures) (c .before .if5 .taken))
+
+override-in-requires : tie.Need-override-in-requires
+override-in-requires c κs = search needs
 
 returns-6 : tie.Need-returns-6
-returns-6 c = sym (unknown-read (c .before .before .before .before .before .before .before .before .before .before .before .before .before .before .args .rest .now) (c .before .before .before .before .before .before .before .before .before .before .before .before .before .before .args .at) (c .before .before .before .before .before .before .before .before .before .before .before .before .if1 .left) (known (c .before .before .before .before .before .before .before .before .before .before .is-mark .ensures) (c .before .before .before .before .before .before .before .before .before .if2 .left)) (known (c .before .before .before .before .before .before .before .is-mark2 .ensures) (c .before .before .before .before .before .before .if3 .left)) (known (c .before .before .before .before .is-mark3 .ensures) (c .before .before .before .if4 .left)) (known (c .before .is-mark4 .ensures) (c .if5 .left)))
+returns-6 c = c .override-in .ensures ∙ last-read (c .before .before .before .before .before .before .before .before .before .before .before .before .before .before .before .before .args .sequenced) (c .before .before .before .before .before .before .before .before .before .before .before .before .before .before .before .before .args .rest .now) (c .before .before .before .before .before .before .before .before .before .before .before .before .before .before .before .before .args .at) (c .before .before .before .before .before .before .before .before .before .before .before .before .before .before .if1 .left) (known (c .before .before .before .before .before .before .before .before .before .before .before .before .is-mark .ensures) (c .before .before .before .before .before .before .before .before .before .before .before .if2 .left)) (known (c .before .before .before .before .before .before .before .before .before .is-mark2 .ensures) (c .before .before .before .before .before .before .before .before .if3 .left)) (known (c .before .before .before .before .before .before .is-mark3 .ensures) (c .before .before .before .before .before .if4 .left)) (known (c .before .before .before .is-mark4 .ensures) (c .before .before .if5 .left)) (c .before .if6 .taken)
+
+returns-7 : tie.Need-returns-7
+returns-7 c = sym (unknown-read (c .before .before .before .before .before .before .before .before .before .before .before .before .before .before .before .args .sequenced) (c .before .before .before .before .before .before .before .before .before .before .before .before .before .before .before .args .rest .now) (c .before .before .before .before .before .before .before .before .before .before .before .before .before .before .before .args .at) (c .before .before .before .before .before .before .before .before .before .before .before .before .before .if1 .left) (known (c .before .before .before .before .before .before .before .before .before .before .before .is-mark .ensures) (c .before .before .before .before .before .before .before .before .before .before .if2 .left)) (known (c .before .before .before .before .before .before .before .before .is-mark2 .ensures) (c .before .before .before .before .before .before .before .if3 .left)) (known (c .before .before .before .before .before .is-mark3 .ensures) (c .before .before .before .before .if4 .left)) (known (c .before .before .is-mark4 .ensures) (c .before .if5 .left)) (c .if6 .left))
 
 pub record-in-spec : {M : Type 1} → statement M
 record-in-spec =
@@ -92,4 +98,6 @@ record-in-spec =
     is-mark-requires-4
     whole-requires-4
     returns-5
-    returns-6)
+    override-in-requires
+    returns-6
+    returns-7)

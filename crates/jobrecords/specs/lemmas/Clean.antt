@@ -13,10 +13,10 @@ use Rattle.basics.specs.lemmas.Refusals.{unless-iff, orElse-iff}
 use Rattle.records.specs.File.{Stop, ended, broken, split, firstFault, stopRefusal, recordsRefusal, fileRefusal}
 use Rattle.job.specs.declared.Programme.{Programme}
 use Rattle.job.specs.Job.{Within, Accepted}
-use Rattle.job.specs.Refusal.{within, within-iff, fieldsRefusal, lastDueRefusal, filmRefusal, delayRefusal, slotsRefusal, film-iff, delay-iff, last-due-iff, slots-iff}
+use Rattle.job.specs.Refusal.{within, within-iff, fieldsRefusal, lastDueRefusal, filmRefusal, delayRefusal, overridesRefusal, slotsRefusal, film-iff, delay-iff, last-due-iff, overrides-iff, slots-iff}
 use Rattle.jobrecords.specs.declared.Record.{Record}
-use Rattle.jobrecords.specs.declared.Record.the-variants.{Pg, Ly, Bw, En}
-use Rattle.jobrecords.specs.Says.{hasProgramme, programmeIn, sizesIn, forecastIn, jobIn}
+use Rattle.jobrecords.specs.declared.Record.the-variants.{Pg, Ly, Sz, Bw, En}
+use Rattle.jobrecords.specs.Says.{hasProgramme, programmeIn, sizesIn, overridesIn, forecastIn, jobIn}
 use Rattle.jobrecords.specs.Refusal.{secondRefusal, previous, sequenceRefusal, layerFault, runFault, rangeFault, fault, missingRefusal, bareRefusal, lacking, format}
 use Rattle.jobrecords.specs.lemmas.Joined.{has-same, programme-same, programme-new, sizes-append, forecast-append}
 use Rattle.jobrecords.specs.lemmas.Sound.{broken-some}
@@ -47,6 +47,9 @@ first-programme seen p e = not-T-false seen (unless-iff 4 (not seen) (omega arit
 record GoodProgramme (p : Programme) : Type 0 where
   fields : fieldsRefusal p ≡ 0
   due : lastDueRefusal p ≡ 0
+
+pub programme-in : (p : Programme) → (fieldsRefusal p orElse lastDueRefusal p) ≡ 0 → p .chunks ≤ 500
+programme-in p e = film-iff p .0 (orElse-iff (filmRefusal p) (delayRefusal p) .0 (orElse-iff (fieldsRefusal p) (lastDueRefusal p) .0 e .0) .0) .0 .high
 
 pub layer-in : (layers size : ℕ) → layerFault layers size ≡ 0 → (layers < 4) × Within 1 16777216 size
 layer-in layers size e =
@@ -96,6 +99,9 @@ module _ (rs : List Record) (k : Clean rs) where
         sizes = rw (sizes-append rs (Ly size ∷ [])) (all-append (Within 1 16777216) (sizesIn rs) (size ∷ []) (k .sizes) (i .1, tt));
         forecast = rw (forecast-append rs (Ly size ∷ []), append-nil (forecastIn rs)) (k .forecast);
       }
+  clean-more (Sz chunk layer bytes) first e =
+      let one = Sz chunk layer bytes ∷ [] in
+      same-clean rs (rs ++ one) (has-same rs one refl) (programme-same rs one refl) (sizes-append rs one ∙ append-nil (sizesIn rs)) (forecast-append rs one ∙ append-nil (forecastIn rs)) k
   clean-more (Bw count bytes) first e =
       let i = run-in (length (forecastIn rs)) count bytes e in
       record {
@@ -128,8 +134,12 @@ none-clean = record { programme = λ e. absurd (let z : _≡_ {A = ℕ} 0 1 = cc
 accepted : (rs : List Record) → Clean rs → lacking rs ≡ 0 → Accepted (jobIn rs)
 accepted rs k e =
     let p = programmeIn rs in
-    let u = orElse-iff (missingRefusal rs) (bareRefusal rs orElse slotsRefusal p (forecastIn rs)) .0 e in
-    let v = orElse-iff (bareRefusal rs) (slotsRefusal p (forecastIn rs)) .0 (u .1) in
+    let uneven : ℕ = overridesRefusal p (sizesIn rs) (overridesIn rs) in
+    let total : ℕ = slotsRefusal p (forecastIn rs) in
+    let u = orElse-iff (missingRefusal rs) (bareRefusal rs orElse uneven orElse total) .0 e in
+    let v = orElse-iff (bareRefusal rs) (uneven orElse total) .0 (u .1) in
+    let w = orElse-iff uneven total .0 (v .1) in
+    let named = overrides-iff p (sizesIn rs) (overridesIn rs) .0 (w .0) in
     let has = T-true (hasProgramme rs) (unless-iff 4 (hasProgramme rs) (omega arith) .0 (u .0)) in
     let good = k .programme has in
     let fields = orElse-iff (filmRefusal p) (delayRefusal p) .0 (good .fields) in
@@ -142,13 +152,17 @@ accepted rs k e =
       last-in = last-due-iff p .0 (good .due);
       layers-in = record { low = leb-iff 1 (length (sizesIn rs)) .0 (unless-iff 6 (leb 1 (length (sizesIn rs))) (omega arith) .0 (v .0)); high = k .few };
       sizes-in = k .sizes;
+      overrides-named = named .0;
+      overrides-rise = named .1 .0;
+      overrides-in = named .1 .1;
       forecast-in = k .forecast;
-      slots-in = slots-iff p (forecastIn rs) .0 (v .1);
+      slots-in = slots-iff p (forecastIn rs) .0 (w .1);
     }
 
 -- ---- a file that is not refused
 
 pub record Taken (q : Bool) (s : List ℕ) : Type 0 where
+  pub short : unless 9 (leb (length s) 65536) ≡ 0
   pub no-faults : firstFault (format q) [] (split (format q) s .records) ≡ 0
   pub ends : split (format q) s .stop ≡ ended 0
   pub none-lacking : lacking (split (format q) s .records) ≡ 0
@@ -164,10 +178,10 @@ module _ (q : Bool) (s : List ℕ) where
   unfolding fileRefusal
   taken e =
       let rs = split (format q) s .records in
-      let u = orElse-iff (unless 9 (leb (length s) 65536)) (recordsRefusal (format q) s) .0 e .1 in
-      let v = orElse-iff (firstFault (format q) [] rs) (stopRefusal (format q) rs (split (format q) s .stop)) .0 u in
+      let u = orElse-iff (unless 9 (leb (length s) 65536)) (recordsRefusal (format q) s) .0 e in
+      let v = orElse-iff (firstFault (format q) [] rs) (stopRefusal (format q) rs (split (format q) s .stop)) .0 (u .1) in
       let w = at-end (split (format q) s .stop) refl (v .1) in
-      record { no-faults = v .0; ends = w .0; none-lacking = w .1 }
+      record { short = u .0; no-faults = v .0; ends = w .0; none-lacking = w .1 }
 
   -- It says an accepted job.
   pub file-clean : fileRefusal (format q) s ≡ 0 → Accepted (jobIn (split (format q) s .records))

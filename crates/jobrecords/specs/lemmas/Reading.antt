@@ -1,19 +1,22 @@
 -- Lemmas. The state of the loop that reads a job file, which the contracts of its private functions cite: it stands for the records
 -- read so far. Assumes nothing.
-use Prim.Native.Nat.{ℕ, _+_, _-_, _≤_, _<_}
-use mathlib.Core.Path.{_≡_, refl, ap}
+use Prim.Native.Nat.{ℕ, _+_, _*_, _-_, _≤_, _<_}
+use mathlib.Core.Path.{_≡_, refl, sym, ap}
 use mathlib.Core.Bool.{Bool, true, false, not, _&&_, _||_, cond}
 use mathlib.Core.List.{List, [], _∷_, _++_}
-use lib.ListN.{length, take}
-use lib.Dec.{leb, eqb}
+use lib.ListN.{length, getD, take}
+use lib.Dec.{leb, eqb, eqb→eq}
+use Rattle.basics.specs.Lists.{upTo}
 use Rattle.basics.specs.Refusals.{unless, _orElse_}
-use Rattle.records.specs.File.{split, recordsRefusal}
+use Rattle.basics.specs.lemmas.Tests.{by-cond}
+use Rattle.records.specs.Fields.{hAt, wAt, marked}
+use Rattle.records.specs.File.{Front, none, split, recordsRefusal}
 use Rattle.records.specs.lemmas.Reading.{Reads}
 use Rattle.job.specs.declared.Programme.{Programme}
-use Rattle.job.specs.Job.{lastDue}
-use Rattle.job.specs.Refusal.{within}
+use Rattle.job.specs.Job.{Job, Override, jobOf, lastDue}
+use Rattle.job.specs.Refusal.{within, overridesRefusal}
 use Rattle.jobrecords.specs.declared.Record.{Record}
-use Rattle.jobrecords.specs.declared.Record.the-variants.{Pg, Ly, Bw, En}
+use Rattle.jobrecords.specs.declared.Record.the-variants.{Pg, Ly, Sz, Bw, En}
 use Rattle.jobrecords.specs.declared.Read.{Read}
 use Rattle.jobrecords.specs.declared.Read.the-variants.{Got, Refused}
 use Rattle.jobrecords.specs.declared.Sofar.{Sofar}
@@ -21,15 +24,23 @@ use Rattle.jobrecords.specs.declared.Ending.{Ending}
 use Rattle.jobrecords.specs.declared.Ending.the-variants.{Whole, Broken}
 use Rattle.jobrecords.specs.declared.Turn.{Turn}
 use Rattle.jobrecords.specs.declared.Turn.the-variants.{On, Over}
-use Rattle.jobrecords.specs.Says.{hasProgramme, noProgramme, programmeIn, sizesIn, forecastIn}
-use Rattle.jobrecords.specs.Refusal.{secondRefusal, previous, place, isRunOf, follows, sequenceRefusal, rangeFault, format}
+use Rattle.jobrecords.specs.declared.JobRead.{JobRead}
+use Rattle.jobrecords.specs.declared.JobRead.the-variants as jobRead
+use Rattle.jobrecords.specs.Records.{SZ, whole, overrideAt}
+use Rattle.jobrecords.specs.Says.{hasProgramme, noProgramme, programmeIn, sizesIn, overridesIn, forecastIn}
+use Rattle.jobrecords.specs.Refusal.{secondRefusal, previous, place, isRunOf, follows, sequenceRefusal, rangeFault, format, jobOfFile}
+use Rattle.jobrecords.specs.Reader.{Buffers, roomRefusal, jobAnswer, lentBy}
 
 abbrev pub noRecords : Sofar
-noRecords = record { place = 0; bytes = 0; seen = false; programme = noProgramme; layers = 0; slots = 0 }
+noRecords = record { place = 0; bytes = 0; seen = false; programme = noProgramme; layers = 0; overrides = 0; ends = 0; slots = 0 }
 
 -- A record of n bytes, where so many are left.
 abbrev pub readWhole : ℕ → ℕ → Record → ℕ → Read
 readWhole left n r at = cond (leb n left) (Got r (at + n)) (Refused 1)
+
+-- What stands in front of bytes that begin with no mark but perhaps SZ.
+abbrev pub lastMark : List ℕ → Front Record
+lastMark s = cond (marked SZ s) (whole s 9 (overrideAt s)) (none 2)
 
 -- The refusal in an answer, 0 for none.
 abbrev pub readRefusalOf : Read → ℕ
@@ -44,15 +55,17 @@ endRefusalOf (Broken n) = n
 abbrev pub runBytes : Record → ℕ
 runBytes (Pg p) = 0
 runBytes (Ly size) = 0
+runBytes (Sz chunk layer bytes) = 0
 runBytes (Bw count bytes) = bytes
 runBytes En = 0
 
 abbrev pub runFollows : ℕ → ℕ → ℕ → Bool
-runFollows before last bytes = leb 1 before && (leb before 2 || not (eqb last bytes))
+runFollows before last bytes = leb 1 before && (leb before 3 || not (eqb last bytes))
 
 abbrev pub followsAt : ℕ → ℕ → Record → Bool
 followsAt before last (Pg p) = eqb before 0
 followsAt before last (Ly size) = within 1 2 before
+followsAt before last (Sz chunk layer bytes) = within 1 3 before
 followsAt before last (Bw count bytes) = runFollows before last bytes
 followsAt before last En = true
 
@@ -62,12 +75,14 @@ sequenceAt sequenced before last r = unless 17 (not sequenced || followsAt befor
 run-follows-at : (q : Record) (bytes : ℕ) → runFollows (place q) (runBytes q) bytes ≡ leb 1 (place q) && not (isRunOf bytes q)
 run-follows-at (Pg p) bytes = refl
 run-follows-at (Ly size) bytes = refl
+run-follows-at (Sz chunk layer size) bytes = refl
 run-follows-at (Bw count same) bytes = refl
 run-follows-at En bytes = refl
 
 follows-at : (q r : Record) → followsAt (place q) (runBytes q) r ≡ follows q r
 follows-at q (Pg p) = refl
 follows-at q (Ly size) = refl
+follows-at q (Sz chunk layer bytes) = refl
 follows-at q (Bw count bytes) = run-follows-at q bytes
 follows-at q En = refl
 
@@ -78,6 +93,12 @@ sequence-at sequenced q r = ap (λ (b : Bool). unless 17 (not sequenced || b)) (
 abbrev pub faultAfter : Bool → Sofar → Record → ℕ
 faultAfter sequenced j r = secondRefusal (j .seen) r orElse sequenceAt sequenced (j .place) (j .bytes) r orElse rangeFault (j .layers) (j .slots) r
 
+-- An SZ has no other fault than 17, and EN none.
+pub override-after : (sequenced : Bool) (j : Sofar) (chunk layer bytes : ℕ) → faultAfter sequenced j (Sz chunk layer bytes) ≡ unless 17 (not sequenced || within 1 3 (j .place))
+override-after sequenced j chunk layer bytes = orElse-zero (unless 17 (not sequenced || within 1 3 (j .place))) where
+  orElse-zero : (n : ℕ) → (n orElse 0) ≡ n
+  orElse-zero n = by-cond (λ (m : ℕ). m ≡ n) (eqb n 0) (λ t. sym (eqb→eq n 0 t)) (λ t. refl)
+
 pub end-after : (sequenced : Bool) (j : Sofar) → faultAfter sequenced j En ≡ 0
 end-after true j = refl
 end-after false j = refl
@@ -87,22 +108,57 @@ pub record Fine (j : Sofar) (r : Record) : Type 0 where
   pub first : secondRefusal (j .seen) r ≡ 0
   pub in-range : rangeFault (j .layers) (j .slots) r ≡ 0
 
--- 4, 6, 7 at EN, by the state.
-abbrev pub endRefusal : Bool → Programme → ℕ → ℕ → ℕ
-endRefusal seen p layers slots = unless 4 seen orElse unless 6 (leb 1 layers) orElse unless 7 (eqb slots (lastDue p))
+-- ---- the SZs, which stand in the file one after the other
+
+-- The SZ at a place, and so many from a place on.
+abbrev pub overrideOn : List ℕ → ℕ → Override
+overrideOn s at = record { chunk = hAt s (at + 2); layer = getD s (at + 4) 0; bytes = wAt s (at + 5) }
+
+abbrev pub overridesOn : List ℕ → ℕ → ℕ → List Override
+overridesOn s from n = upTo (λ k. overrideOn s (from + 9 * k)) n
+
+-- Those that the state counts.
+abbrev pub counted : List ℕ → Sofar → List Override
+counted s j = overridesOn s (j .ends - 9 * j .overrides) (j .overrides)
+
+-- The job that the state stands for, with the sizes in the table z and the slots in the table f.
+abbrev pub jobFrom : List ℕ → Sofar → List ℕ → List ℕ → Job
+jobFrom s j z f = jobOf (j .programme) (take (j .layers) z) (counted s j) (take (j .slots) f)
+
+-- ---- at EN
+
+-- 4, 6, 18, 7 at EN, by the state.
+abbrev pub endRefusal : List ℕ → Sofar → List ℕ → ℕ
+endRefusal s j z =
+    unless 4 (j .seen)
+    orElse unless 6 (leb 1 (j .layers))
+    orElse overridesRefusal (j .programme) (take (j .layers) z) (counted s j)
+    orElse unless 7 (eqb (j .slots) (lastDue (j .programme)))
 
 -- EN with so many bytes after it, by the state.
-abbrev pub endCode : Sofar → ℕ → ℕ
-endCode j after = unless 3 (eqb after 0) orElse endRefusal (j .seen) (j .programme) (j .layers) (j .slots)
+abbrev pub endCode : List ℕ → Sofar → ℕ → List ℕ → ℕ
+endCode s j after z = unless 3 (eqb after 0) orElse endRefusal s j z
 
-abbrev pub endedBy : Sofar → ℕ → Ending
-endedBy j after = cond (eqb (endCode j after) 0) (Whole j) (Broken (endCode j after))
+abbrev pub endedBy : List ℕ → Sofar → ℕ → List ℕ → Ending
+endedBy s j after z = cond (eqb (endCode s j after z) 0) (Whole j) (Broken (endCode s j after z))
 
--- Tables with room for every layer and every slot.
-pub record Room (j : Sofar) (z f : List ℕ) : Type 0 where
+-- ---- what the state stands for
+
+-- The SZs that the state counts stand in the file.
+pub record Inside (s : List ℕ) (j : Sofar) : Type 0 where
+  pub overrides-in : 9 * j .overrides ≤ j .ends
+  pub ends-in : j .ends ≤ length s
+
+-- A table with room for every layer,
+pub record Sized (j : Sofar) (z : List ℕ) : Type 0 where
+  pub chunks-in : j .programme .chunks ≤ 500
   pub layers-in : j .layers ≤ 4
-  pub slots-in : j .slots ≤ 3600
   pub sizes-room : length z ≡ 4
+
+-- and one with room for every slot.
+pub record Room (j : Sofar) (z f : List ℕ) : Type 0 where
+  pub sized : Sized j z
+  pub slots-in : j .slots ≤ 3600
   pub slots-room : length f ≡ 3600
 
 -- The state, with the sizes in the table z and the slots in the table f, stands for some records.
@@ -115,17 +171,29 @@ pub record StandsFor (j : Sofar) (z f : List ℕ) (rs : List Record) : Type 0 wh
   pub sizes-are : take (j .layers) z ≡ sizesIn rs
   pub forecast-is : take (j .slots) f ≡ forecastIn rs
 
+-- The SZs among some records of the file s, read up to a place, are those that the state counts: none before the first SZ, and after an SZ
+-- the next would stand behind it.
+pub record Counts (s : List ℕ) (at : ℕ) (j : Sofar) (rs : List Record) : Type 0 where
+  pub are : overridesIn rs ≡ counted s j
+  pub room : 9 * j .overrides ≤ j .ends
+  pub inside : j .ends ≤ at
+  pub none-yet : place (previous rs) ≤ 2 → j .overrides ≡ 0
+  pub behind : place (previous rs) ≡ 3 → j .ends ≡ at
+
 module _ (sequenced : Bool) where
   -- The file s is read up to a place without a refusal.
   pub record Going (s : List ℕ) (at : ℕ) (j : Sofar) (z f : List ℕ) : Type 0 where
     pub before : List Record
     pub reads : Reads (format sequenced) s at before
     pub stands : StandsFor j z f before
+    pub counts : Counts s at j before
 
   -- The file s is read to its end.
   pub record Complete (s : List ℕ) (j : Sofar) (z f : List ℕ) : Type 0 where
     pub none : recordsRefusal (format sequenced) s ≡ 0
-    pub stands : StandsFor j z f (split (format sequenced) s .records)
+    pub room : Room j z f
+    pub inside : Inside s j
+    pub job-is : jobFrom s j z f ≡ jobOfFile sequenced s
 
   pub record Refuses (s : List ℕ) (n : ℕ) : Type 0 where
     pub is : recordsRefusal (format sequenced) s ≡ n
@@ -140,6 +208,28 @@ module _ (sequenced : Bool) where
   Turned s at z f (On j next) = (at < next) × Going s next j z f
   Turned s at z f (Over e) = Ended s z f e
 
--- A record without a fault goes into the tables: whatever the state stood for, it then stands for that record too.
-pub record Takes (j : Sofar) (z f : List ℕ) (r : Record) (j′ : Sofar) (z′ f′ : List ℕ) : Type 0 where
+-- How many SZs there are, and the place after the last, with a record more that ends at a place.
+abbrev pub moreOverrides : ℕ → Record → ℕ
+moreOverrides n (Pg p) = n
+moreOverrides n (Ly size) = n
+moreOverrides n (Sz chunk layer bytes) = n + 1
+moreOverrides n (Bw count bytes) = n
+moreOverrides n En = n
+
+abbrev pub endsAfter : ℕ → ℕ → Record → ℕ
+endsAfter ends next (Pg p) = ends
+endsAfter ends next (Ly size) = ends
+endsAfter ends next (Sz chunk layer bytes) = next
+endsAfter ends next (Bw count bytes) = ends
+endsAfter ends next En = ends
+
+-- A record without a fault that ends at a place goes into the tables: whatever the state stood for, it then stands for that record too.
+pub record Takes (j : Sofar) (z f : List ℕ) (r : Record) (next : ℕ) (j′ : Sofar) (z′ f′ : List ℕ) : Type 0 where
   pub stands : (rs : List Record) → StandsFor j z f rs → StandsFor j′ z′ f′ (rs ++ (r ∷ []))
+  pub overrides-are : j′ .overrides ≡ moreOverrides (j .overrides) r
+  pub ends-are : j′ .ends ≡ endsAfter (j .ends) next r
+
+-- A job that is handed over to lent buffers, if they hold it.
+pub record Handed (j : Job) (lent : Buffers) (r : JobRead) (lent′ : Buffers) : Type 0 where
+  pub answer : r ≡ cond (eqb (roomRefusal j lent) 0) (jobAnswer j) (jobRead.Refused (roomRefusal j lent))
+  pub lent-is : lent′ ≡ lentBy (roomRefusal j lent) j lent

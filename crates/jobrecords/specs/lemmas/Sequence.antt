@@ -1,5 +1,4 @@
--- Lemmas. Records of which none has a fault, as a sequence of neighbours; and that a file in one sequence is a mixed file too. Assumes
--- nothing.
+-- Lemmas. Records of which none has a fault, as a sequence of neighbours. Assumes nothing.
 use Prim.Native.Nat.{ℕ, zero, suc, _+_, _≤_}
 use mathlib.Core.Path.{_≡_, refl, subst, ap, _∙_}
 use mathlib.Core.Bool.{Bool, true, false, _&&_}
@@ -14,7 +13,7 @@ use Rattle.basics.specs.lemmas.Refusals.{unless-iff, orElse-iff}
 use Rattle.records.specs.File.{Front, got, none, splitBy, splitUpTo, split, firstFault}
 use Rattle.job.specs.Refusal.{within}
 use Rattle.jobrecords.specs.declared.Record.{Record}
-use Rattle.jobrecords.specs.declared.Record.the-variants.{Pg, Ly, Bw, En}
+use Rattle.jobrecords.specs.declared.Record.the-variants.{Pg, Ly, Sz, Bw, En}
 use Rattle.jobrecords.specs.Records.{front}
 use Rattle.jobrecords.specs.Says.{hasProgramme, sizesIn, forecastIn}
 use Rattle.jobrecords.specs.Refusal.{oneSequence, mixed, lastAfter, previous, follows, runFault, rangeFault, fault, format}
@@ -39,18 +38,20 @@ Sequence q (r ∷ rs) = T (follows q r) × Sequence r rs
 abbrev pub Filled : Record → Type 0
 Filled (Pg p) = Unit {0}
 Filled (Ly size) = Unit {0}
+Filled (Sz chunk layer bytes) = Unit {0}
 Filled (Bw count bytes) = 1 ≤ count
 Filled En = Unit {0}
 
 filled : (layers slots : ℕ) (r : Record) → rangeFault layers slots r ≡ 0 → Filled r
 filled layers slots (Pg p) e = tt
 filled layers slots (Ly size) e = tt
+filled layers slots (Sz chunk layer bytes) e = tt
 filled layers slots (Bw count bytes) e =
     let rest : Bool = leb (slots + count) 3600 && within 0 16777216 bytes in
     leb-iff 1 count .0 (and-T (leb 1 count) rest (unless-iff 7 (leb 1 count && rest) (omega arith) .0 e) .0)
 filled layers slots En e = tt
 
-parts : (q : Bool) (before : List Record) (r : Record) → fault q before r ≡ 0 → Faultless q (hasProgramme before) (previous before) (length (sizesIn before)) (length (forecastIn before)) r
+pub parts : (q : Bool) (before : List Record) (r : Record) → fault q before r ≡ 0 → Faultless q (hasProgramme before) (previous before) (length (sizesIn before)) (length (forecastIn before)) r
 parts q before r e = faultless q (hasProgramme before) (previous before) (length (sizesIn before)) (length (forecastIn before)) r e
 
 pub in-sequence : (before rs : List Record) → firstFault (format oneSequence) before rs ≡ 0 → Sequence (previous before) rs × All Filled rs
@@ -62,25 +63,3 @@ in-sequence before (r ∷ rs) e =
       (unless-iff 17 (follows (previous before) r) (omega arith) .0 (f .turn), subst (λ (q : Record). Sequence q rs) (previous-snoc before r) (more .0)),
       (filled (length (sizesIn before)) (length (forecastIn before)) r (f .in-range), more .1),
     )
-
--- ---- a file in one sequence is a mixed file
-
-pub mixed-faults : (before rs : List Record) → firstFault (format oneSequence) before rs ≡ 0 → firstFault (format mixed) before rs ≡ 0
-mixed-faults before [] e = refl
-mixed-faults before (r ∷ rs) e =
-    let u = orElse-iff (fault oneSequence before r) (firstFault (format oneSequence) (before ++ (r ∷ [])) rs) .0 e in
-    let f = parts oneSequence before r (u .0) in
-    let none : fault mixed before r ≡ 0 = no-fault mixed (hasProgramme before) (previous before) (length (sizesIn before)) (length (forecastIn before)) r (record { first = f .first; turn = refl; in-range = f .in-range }) in
-    orElse-iff (fault mixed before r) (firstFault (format mixed) (before ++ (r ∷ [])) rs) .1 (none, mixed-faults (before ++ (r ∷ [])) rs (u .1))
-
--- Both forms have the same records.
-split-step : (k : ℕ) (s : List ℕ) → splitUpTo (format mixed) k s ≡ splitUpTo (format oneSequence) k s
-unfolding splitUpTo
-split-step zero s = refl
-split-step (suc k) s = by-front (split-step k) (front s) where
-  by-front : ((t : List ℕ) → splitUpTo (format mixed) k t ≡ splitUpTo (format oneSequence) k t) → (x : Front Record) → splitBy (format mixed) (splitUpTo (format mixed) k) s x ≡ splitBy (format oneSequence) (splitUpTo (format oneSequence) k) s x
-  by-front same (got r n) = rw (same (drop n s))
-  by-front same (none n) = refl
-
-pub split-same : (s : List ℕ) → split (format mixed) s ≡ split (format oneSequence) s
-split-same s = split-step (length s + 1) s

@@ -1,7 +1,7 @@
 -- Lemmas. A record lies within the bytes that it stands in front of, and where records break off the refusal is not 0. Assumes nothing.
 use Prim.Native.Nat.{ℕ, zero, suc, _+_, _≤_, _<_}
 use mathlib.Core.Path.{_≡_}
-use mathlib.Core.Bool.{Bool}
+use mathlib.Core.Bool.{Bool, _&&_}
 use mathlib.Core.List.{List}
 use native.Mathlib.Omega.{arith}
 use lib.ListN.{length, drop}
@@ -11,7 +11,7 @@ use Rattle.records.specs.Fields.{marked}
 use Rattle.records.specs.File.{Front, got, none, Stop, ended, broken, Split, splitBy, splitUpTo, split}
 use Rattle.jobrecords.specs.declared.Record.{Record}
 use Rattle.jobrecords.specs.declared.Record.the-variants.{En}
-use Rattle.jobrecords.specs.Records.{PG, LY, BW, EN, programmeAt, layerAt, runAt, whole, front, isEnd}
+use Rattle.jobrecords.specs.Records.{PG, LY, SZ, BW, EN, programmeAt, layerAt, overrideAt, runAt, whole, front, isEnd}
 use Rattle.jobrecords.specs.Refusal.{format}
 
 -- A record lies within the bytes, and where there is none the refusal is not 0.
@@ -22,14 +22,15 @@ Sound s (none n) = n ≡ 0 → ⊥
 whole-sound : (s : List ℕ) (n : ℕ) (r : Record) → 0 < n → Sound s (whole s n r)
 whole-sound s n r h = by-cond (Sound s) (leb n (length s)) (λ t. (h, leb→le n (length s) t)) (λ t e. omega arith)
 
-pub front-sound : (s : List ℕ) → Sound s (front s)
+pub front-sound : (sequenced : Bool) (s : List ℕ) → Sound s (front sequenced s)
 unfolding front
-front-sound s =
+front-sound sequenced s =
     by-cond (Sound s) (leb 2 (length s))
     (λ t. by-cond (Sound s) (marked PG s) (λ u. whole-sound s 10 (programmeAt s) (omega arith))
     (λ u. by-cond (Sound s) (marked LY s) (λ v. whole-sound s 6 (layerAt s) (omega arith))
     (λ v. by-cond (Sound s) (marked BW s) (λ w. whole-sound s 8 (runAt s) (omega arith))
-    (λ w. by-cond (Sound s) (marked EN s) (λ x. whole-sound s 2 En (omega arith)) (λ x e. omega arith)))))
+    (λ w. by-cond (Sound s) (marked EN s) (λ x. whole-sound s 2 En (omega arith))
+    (λ x. by-cond (Sound s) (sequenced && marked SZ s) (λ y. whole-sound s 9 (overrideAt s) (omega arith)) (λ y e. omega arith))))))
     (λ t e. omega arith)
 
 -- Where the records stop, a refusal is not 0.
@@ -45,7 +46,7 @@ module _ (q : Bool) where
   stop-sound : (k : ℕ) (s : List ℕ) → SoundStop (splitUpTo (format q) k s .stop)
   unfolding splitUpTo
   stop-sound zero s = λ e. omega arith
-  stop-sound (suc k) s = by-front (splitUpTo (format q) k) (stop-sound k) s (front s) (front-sound s)
+  stop-sound (suc k) s = by-front (splitUpTo (format q) k) (stop-sound k) s (front q s) (front-sound q s)
 
   pub broken-some : (s : List ℕ) (n : ℕ) → split (format q) s .stop ≡ broken n → n ≡ 0 → ⊥
   broken-some s n e = rw e at (stop-sound (length s + 1) s)

@@ -1,17 +1,11 @@
 -- `lay_out` meets its contract: the decision, the fill and the marks are those of the plan.
-use mathlib.Core.Path.{refl, sym, _∙_, ap}
-use mathlib.Core.List.{List}
+use mathlib.Core.Path.{refl, sym}
 use Prim.Native.Nat.{ℕ}
 use native.Mathlib.Omega.{arith}
 use lib.ListN.{length-replicate}
 use borrow.Author.Needs.{needs}
 use denote.Ref.{now}
-use Rattle.basics.specs.Lists.{upTo}
-use Rattle.job.specs.Job.{chunks}
-use Rattle.job.specs.Handed.{handed, jobIn, overridesOf}
-use Rattle.schedule.specs.Plan.{plan}
-use Rattle.fetch.specs.Counts.{markCount}
-use Rattle.planner.proofs.PlanRows.{filled, decide-from, all-from, listed, ascending, laid-marks, laid-long, laid-front, laid-front-long, counts-are}
+use Rattle.planner.proofs.PlanRows.{filled, decide-from, all-from, listed, ascending, laid-marks, laid-long, laid-counts, laid-front-long}
 use Rattle.planner.proofs.lay_out.Statement.{statement}
 use Rattle.planner.proofs.lay_out.Tie as tie
 
@@ -27,10 +21,9 @@ cast-count c = search needs
 decide-requires : tie.Need-decide-requires
 decide-requires c κs =
     let a = c .before .before .before .before .before .before .before .before .before .before .before .before .before .before .before .before .before .before .args in
-    let j = jobIn (handed (a .p) (now (a .sizes)) (now (a .size-chunks)) (now (a .size-layers)) (now (a .size-bytes)) (now (a .forecast))) in
     let o = c .before .before .before .before .before .before .before .before .before .before .before .before .before .before .before .before .before .before .pre in
-    let says = filled j (o .accepted) _ (c .before .before .before .before .before .fill-sizes .ensures (length-replicate {A = ℕ} 2000 (a .p .chunks))) in
-    decide-from j (o .accepted) _ says _ _ (length-replicate {A = ℕ} 500 0) (length-replicate {A = ℕ} 500 0)
+    let says = filled _ (o .accepted) _ (c .before .before .before .before .before .fill-sizes .ensures (length-replicate {A = ℕ} 2000 (a .p .chunks))) in
+    decide-from _ (o .accepted) _ says _ _ (length-replicate {A = ℕ} 500 0) (length-replicate {A = ℕ} 500 0)
 
 shared-slice-read-c : tie.Need-shared-slice-read-c
 shared-slice-read-c c = let o = c .before .before .before .before .before .before .before .before .before .before .before .before .before .before .before .before .before .before .before .before .pre in omega (arith, o .accepted .slots-in, o .accepted .delay-in .low)
@@ -38,49 +31,44 @@ shared-slice-read-c c = let o = c .before .before .before .before .before .befor
 put-all-requires : tie.Need-put-all-requires
 put-all-requires c κs =
     let a = c .before .before .before .before .before .before .before .before .before .before .before .before .before .before .before .before .before .before .before .before .before .before .before .before .before .before .before .before .args in
-    let j = jobIn (handed (a .p) (now (a .sizes)) (now (a .size-chunks)) (now (a .size-layers)) (now (a .size-bytes)) (now (a .forecast))) in
     let o = c .before .before .before .before .before .before .before .before .before .before .before .before .before .before .before .before .before .before .before .before .before .before .before .before .before .before .before .before .pre in
-    let says = filled j (o .accepted) _ (c .before .before .before .before .before .before .before .before .before .before .before .before .before .before .before .fill-sizes .ensures (length-replicate {A = ℕ} 2000 (a .p .chunks))) in
-    all-from j (o .accepted) _ _ _ _ (c .before .before .before .before .before .before .before .before .before .decide .ensures (now (a .sizes)) (overridesOf (now (a .size-chunks)) (now (a .size-layers)) (now (a .size-bytes))) refl says) _ says (now (a .slots)) (now (a .chunks)) (now (a .layers)) (now (a .bytes)) (o .slots-fit) (o .chunks-fit) (o .layers-fit) (o .bytes-fit)
+    let says = filled _ (o .accepted) _ (c .before .before .before .before .before .before .before .before .before .before .before .before .before .before .before .fill-sizes .ensures (length-replicate {A = ℕ} 2000 (a .p .chunks))) in
+    all-from _ (o .accepted) _ _ _ _ (c .before .before .before .before .before .before .before .before .before .decide .ensures _ _ refl says) _ says (now (a .slots)) (now (a .chunks)) (now (a .layers)) (now (a .bytes)) (o .slots-fit) (o .chunks-fit) (o .layers-fit) (o .bytes-fit)
 
 spread-requires : tie.Need-spread-requires
 spread-requires c κs =
     let a = c .before .before .before .before .before .before .before .before .before .before .before .before .before .before .before .before .before .before .before .before .before .before .before .before .before .before .before .before .before .before .before .before .before .before .before .before .before .before .before .before .args in
-    let j = jobIn (handed (a .p) (now (a .sizes)) (now (a .size-chunks)) (now (a .size-layers)) (now (a .size-bytes)) (now (a .forecast))) in
     let o = c .before .before .before .before .before .before .before .before .before .before .before .before .before .before .before .before .before .before .before .before .before .before .before .before .before .before .before .before .before .before .before .before .before .before .before .before .before .before .before .before .pre in
-    let says = filled j (o .accepted) _ (c .before .before .before .before .before .before .before .before .before .before .before .before .before .before .before .before .before .before .before .before .before .before .before .before .before .before .before .fill-sizes .ensures (length-replicate {A = ℕ} 2000 (a .p .chunks))) in
-    let d = c .before .before .before .before .before .before .before .before .before .before .before .before .before .before .before .before .before .before .before .before .before .decide .ensures (now (a .sizes)) (overridesOf (now (a .size-chunks)) (now (a .size-layers)) (now (a .size-bytes))) refl says in
-    (d .within, o .marks-fit, ascending j (o .accepted) _ _ _ _ d, d .long .0, d .long .2)
+    let says = filled _ (o .accepted) _ (c .before .before .before .before .before .before .before .before .before .before .before .before .before .before .before .before .before .before .before .before .before .before .before .before .before .before .before .fill-sizes .ensures (length-replicate {A = ℕ} 2000 (a .p .chunks))) in
+    let d = c .before .before .before .before .before .before .before .before .before .before .before .before .before .before .before .before .before .before .before .before .before .decide .ensures _ _ refl says in
+    (d .within, o .marks-fit, ascending _ (o .accepted) _ _ _ _ d, d .long .0, d .long .2)
 
 slice-reshare-prefix-count-layers : tie.Need-slice-reshare-prefix-count-layers
 slice-reshare-prefix-count-layers c =
     let a = c .before .before .before .before .before .before .before .before .before .before .before .before .before .before .before .before .before .before .before .before .before .before .before .before .before .before .before .before .before .before .before .before .before .before .before .before .before .before .before .before .before .before .before .args in
-    let j = jobIn (handed (a .p) (now (a .sizes)) (now (a .size-chunks)) (now (a .size-layers)) (now (a .size-bytes)) (now (a .forecast))) in
     let o = c .before .before .before .before .before .before .before .before .before .before .before .before .before .before .before .before .before .before .before .before .before .before .before .before .before .before .before .before .before .before .before .before .before .before .before .before .before .before .before .before .before .before .before .pre in
-    let says = filled j (o .accepted) _ (c .before .before .before .before .before .before .before .before .before .before .before .before .before .before .before .before .before .before .before .before .before .before .before .before .before .before .before .before .before .before .fill-sizes .ensures (length-replicate {A = ℕ} 2000 (a .p .chunks))) in
-    let d = c .before .before .before .before .before .before .before .before .before .before .before .before .before .before .before .before .before .before .before .before .before .before .before .before .decide .ensures (now (a .sizes)) (overridesOf (now (a .size-chunks)) (now (a .size-layers)) (now (a .size-bytes))) refl says in
+    let says = filled _ (o .accepted) _ (c .before .before .before .before .before .before .before .before .before .before .before .before .before .before .before .before .before .before .before .before .before .before .before .before .before .before .before .before .before .before .fill-sizes .ensures (length-replicate {A = ℕ} 2000 (a .p .chunks))) in
+    let d = c .before .before .before .before .before .before .before .before .before .before .before .before .before .before .before .before .before .before .before .before .before .before .before .before .decide .ensures _ _ refl says in
     let e = c .before .before .spread .ensures in
-    omega (arith, laid-long j (o .accepted) _ _ _ _ d (now (a .marks)) _ (o .marks-fit) e, o .marks-fit)
+    omega (arith, laid-long _ (o .accepted) _ _ _ _ d (now (a .marks)) _ (o .marks-fit) e, o .marks-fit)
 
 slice-aggregate-count-layers : tie.Need-slice-aggregate-count-layers
 slice-aggregate-count-layers c =
     let a = c .before .before .before .before .before .before .before .before .before .before .before .before .before .before .before .before .before .before .before .before .before .before .before .before .before .before .before .before .before .before .before .before .before .before .before .before .before .before .before .before .before .before .before .before .args in
-    let j = jobIn (handed (a .p) (now (a .sizes)) (now (a .size-chunks)) (now (a .size-layers)) (now (a .size-bytes)) (now (a .forecast))) in
     let o = c .before .before .before .before .before .before .before .before .before .before .before .before .before .before .before .before .before .before .before .before .before .before .before .before .before .before .before .before .before .before .before .before .before .before .before .before .before .before .before .before .before .before .before .before .pre in
-    let says = filled j (o .accepted) _ (c .before .before .before .before .before .before .before .before .before .before .before .before .before .before .before .before .before .before .before .before .before .before .before .before .before .before .before .before .before .before .before .fill-sizes .ensures (length-replicate {A = ℕ} 2000 (a .p .chunks))) in
-    let d = c .before .before .before .before .before .before .before .before .before .before .before .before .before .before .before .before .before .before .before .before .before .before .before .before .before .decide .ensures (now (a .sizes)) (overridesOf (now (a .size-chunks)) (now (a .size-layers)) (now (a .size-bytes))) refl says in
+    let says = filled _ (o .accepted) _ (c .before .before .before .before .before .before .before .before .before .before .before .before .before .before .before .before .before .before .before .before .before .before .before .before .before .before .before .before .before .before .before .fill-sizes .ensures (length-replicate {A = ℕ} 2000 (a .p .chunks))) in
+    let d = c .before .before .before .before .before .before .before .before .before .before .before .before .before .before .before .before .before .before .before .before .before .before .before .before .before .decide .ensures _ _ refl says in
     let e = c .before .before .before .spread .ensures in
-    sym (laid-front-long j (o .accepted) _ _ _ _ d (now (a .marks)) _ (o .marks-fit) e)
+    sym (laid-front-long _ (o .accepted) _ _ _ _ d (now (a .marks)) _ (o .marks-fit) e)
 
 count-layers-requires : tie.Need-count-layers-requires
 count-layers-requires c κs =
     let a = c .before .before .before .before .before .before .before .before .before .before .before .before .before .before .before .before .before .before .before .before .before .before .before .before .before .before .before .before .before .before .before .before .before .before .before .before .before .before .before .before .before .before .before .before .args in
-    let j = jobIn (handed (a .p) (now (a .sizes)) (now (a .size-chunks)) (now (a .size-layers)) (now (a .size-bytes)) (now (a .forecast))) in
     let o = c .before .before .before .before .before .before .before .before .before .before .before .before .before .before .before .before .before .before .before .before .before .before .before .before .before .before .before .before .before .before .before .before .before .before .before .before .before .before .before .before .before .before .before .before .pre in
-    let says = filled j (o .accepted) _ (c .before .before .before .before .before .before .before .before .before .before .before .before .before .before .before .before .before .before .before .before .before .before .before .before .before .before .before .before .before .before .before .fill-sizes .ensures (length-replicate {A = ℕ} 2000 (a .p .chunks))) in
-    let d = c .before .before .before .before .before .before .before .before .before .before .before .before .before .before .before .before .before .before .before .before .before .before .before .before .before .decide .ensures (now (a .sizes)) (overridesOf (now (a .size-chunks)) (now (a .size-layers)) (now (a .size-bytes))) refl says in
+    let says = filled _ (o .accepted) _ (c .before .before .before .before .before .before .before .before .before .before .before .before .before .before .before .before .before .before .before .before .before .before .before .before .before .before .before .before .before .before .before .fill-sizes .ensures (length-replicate {A = ℕ} 2000 (a .p .chunks))) in
+    let d = c .before .before .before .before .before .before .before .before .before .before .before .before .before .before .before .before .before .before .before .before .before .before .before .before .before .decide .ensures _ _ refl says in
     let e = c .before .before .before .spread .ensures in
-    omega (arith, laid-front-long j (o .accepted) _ _ _ _ d (now (a .marks)) _ (o .marks-fit) e, o .accepted .chunks-in .high)
+    omega (arith, laid-front-long _ (o .accepted) _ _ _ _ d (now (a .marks)) _ (o .marks-fit) e, o .accepted .chunks-in .high)
 
 same-length : tie.Need-same-length
 same-length c = search needs
@@ -100,16 +88,15 @@ same-length-5 c = search needs
 returns : tie.Need-returns
 returns c =
     let a = c .before .before .before .before .before .before .before .before .before .before .before .before .before .before .before .before .before .before .before .before .before .before .before .before .before .before .before .before .before .before .before .before .before .before .before .before .before .before .before .before .before .before .before .before .before .args in
-    let j = jobIn (handed (a .p) (now (a .sizes)) (now (a .size-chunks)) (now (a .size-layers)) (now (a .size-bytes)) (now (a .forecast))) in
     let o = c .before .before .before .before .before .before .before .before .before .before .before .before .before .before .before .before .before .before .before .before .before .before .before .before .before .before .before .before .before .before .before .before .before .before .before .before .before .before .before .before .before .before .before .before .before .pre in
-    let says = filled j (o .accepted) _ (c .before .before .before .before .before .before .before .before .before .before .before .before .before .before .before .before .before .before .before .before .before .before .before .before .before .before .before .before .before .before .before .before .fill-sizes .ensures (length-replicate {A = ℕ} 2000 (a .p .chunks))) in
-    let d = c .before .before .before .before .before .before .before .before .before .before .before .before .before .before .before .before .before .before .before .before .before .before .before .before .before .before .decide .ensures (now (a .sizes)) (overridesOf (now (a .size-chunks)) (now (a .size-layers)) (now (a .size-bytes))) refl says in
+    let says = filled _ (o .accepted) _ (c .before .before .before .before .before .before .before .before .before .before .before .before .before .before .before .before .before .before .before .before .before .before .before .before .before .before .before .before .before .before .before .before .fill-sizes .ensures (length-replicate {A = ℕ} 2000 (a .p .chunks))) in
+    let d = c .before .before .before .before .before .before .before .before .before .before .before .before .before .before .before .before .before .before .before .before .before .before .before .before .before .before .decide .ensures _ _ refl says in
     let e = c .before .before .before .before .spread .ensures in
-    let l = listed j (o .accepted) _ _ _ _ d _ says _ (now (a .slots)) (now (a .chunks)) (now (a .layers)) (now (a .bytes)) _ _ _ _ _ (c .before .before .before .before .before .before .before .before .before .before .before .before .before .before .before .before .put-all .ensures) in
+    let l = listed _ (o .accepted) _ _ _ _ d _ says _ (now (a .slots)) (now (a .chunks)) (now (a .layers)) (now (a .bytes)) _ _ _ _ _ (c .before .before .before .before .before .before .before .before .before .before .before .before .before .before .before .before .put-all .ensures) in
     record {
       rows = l .counted;
-      counts = c .count-layers .ensures ∙ ap (λ (m : List ℕ). upTo (λ n. markCount n m) 4) (laid-front j (o .accepted) _ _ _ _ d (now (a .marks)) _ (o .marks-fit) e) ∙ counts-are j;
-      marks-are = laid-marks j (o .accepted) _ _ _ _ d (now (a .marks)) _ (o .marks-fit) e;
+      counts = laid-counts _ (o .accepted) _ _ _ _ d (now (a .marks)) _ (o .marks-fit) e _ (c .count-layers .ensures);
+      marks-are = laid-marks _ (o .accepted) _ _ _ _ d (now (a .marks)) _ (o .marks-fit) e;
       slots-are = l .slots;
       chunks-are = l .chunks-are;
       layers-are = l .layers-are;

@@ -1,5 +1,4 @@
 -- `lay_tight` meets its contract: what is laid out aside is the plan, and is copied if it fits.
-use mathlib.Core.Path.{sym, _∙_}
 use Prim.Native.Nat.{ℕ}
 use native.Mathlib.Omega.{arith}
 use lib.ListN.{length-replicate}
@@ -52,25 +51,25 @@ slice-aggregate-copy16 : tie.Need-slice-aggregate-copy16
 slice-aggregate-copy16 c = search needs
 
 copy16-requires : tie.Need-copy16-requires
-copy16-requires c κs = (slots-aside _ (c .before .before .before .before .before .before .before .before .before .before .before .before .before .before .before .before .before .before .before .before .before .before .before .before .before .before .before .before .before .before .before .pre .0) (c .before .before .before .before .before .before .before .before .before .before .before .before .before .before .before .lay-out .ensures) (length-replicate {A = ℕ} 5599 0), four-hold _ _ _ _ _ (sym (c .before .before .before .before .before .before .before .before .before .all-hold .ensures) ∙ c .before .before .before .before .before .before .before .before .if1 .taken) .0)
+copy16-requires c κs = (slots-aside _ (c .before .before .before .before .before .before .before .before .before .before .before .before .before .before .before .before .before .before .before .before .before .before .before .before .before .before .before .before .before .before .before .pre .0) (c .before .before .before .before .before .before .before .before .before .before .before .before .before .before .before .lay-out .ensures) (length-replicate {A = ℕ} 5599 0), four-hold _ _ _ _ _ (c .before .before .before .before .before .before .before .before .before .all-hold .ensures) (c .before .before .before .before .before .before .before .before .if1 .taken) .0)
 
 slice-aggregate-copy16-2 : tie.Need-slice-aggregate-copy16-2
 slice-aggregate-copy16-2 c = search needs
 
 copy16-requires-2 : tie.Need-copy16-requires-2
-copy16-requires-2 c κs = (chunks-aside _ (c .before .before .before .before .before .before .before .before .before .before .before .before .before .before .before .before .before .before .before .before .before .before .before .before .before .before .before .before .before .before .before .before .before .before .before .before .pre .0) (c .before .before .before .before .before .before .before .before .before .before .before .before .before .before .before .before .before .before .before .before .lay-out .ensures) (length-replicate {A = ℕ} 5599 0), four-hold _ _ _ _ _ (sym (c .before .before .before .before .before .before .before .before .before .before .before .before .before .before .all-hold .ensures) ∙ c .before .before .before .before .before .before .before .before .before .before .before .before .before .if1 .taken) .1)
+copy16-requires-2 c κs = (chunks-aside _ (c .before .before .before .before .before .before .before .before .before .before .before .before .before .before .before .before .before .before .before .before .before .before .before .before .before .before .before .before .before .before .before .before .before .before .before .before .pre .0) (c .before .before .before .before .before .before .before .before .before .before .before .before .before .before .before .before .before .before .before .before .lay-out .ensures) (length-replicate {A = ℕ} 5599 0), four-hold _ _ _ _ _ (c .before .before .before .before .before .before .before .before .before .before .before .before .before .before .all-hold .ensures) (c .before .before .before .before .before .before .before .before .before .before .before .before .before .if1 .taken) .1)
 
 slice-aggregate-copy8-2 : tie.Need-slice-aggregate-copy8-2
 slice-aggregate-copy8-2 c = search needs
 
 copy8-requires-2 : tie.Need-copy8-requires-2
-copy8-requires-2 c κs = (layers-aside _ (c .before .before .before .before .before .before .before .before .before .before .before .before .before .before .before .before .before .before .before .before .before .before .before .before .before .before .before .before .before .before .before .before .before .before .before .before .before .before .before .before .before .pre .0) (c .before .before .before .before .before .before .before .before .before .before .before .before .before .before .before .before .before .before .before .before .before .before .before .before .before .lay-out .ensures) (length-replicate {A = ℕ} 5599 0), four-hold _ _ _ _ _ (sym (c .before .before .before .before .before .before .before .before .before .before .before .before .before .before .before .before .before .before .before .all-hold .ensures) ∙ c .before .before .before .before .before .before .before .before .before .before .before .before .before .before .before .before .before .before .if1 .taken) .2)
+copy8-requires-2 c κs = (layers-aside _ (c .before .before .before .before .before .before .before .before .before .before .before .before .before .before .before .before .before .before .before .before .before .before .before .before .before .before .before .before .before .before .before .before .before .before .before .before .before .before .before .before .before .pre .0) (c .before .before .before .before .before .before .before .before .before .before .before .before .before .before .before .before .before .before .before .before .before .before .before .before .before .lay-out .ensures) (length-replicate {A = ℕ} 5599 0), four-hold _ _ _ _ _ (c .before .before .before .before .before .before .before .before .before .before .before .before .before .before .before .before .before .before .before .all-hold .ensures) (c .before .before .before .before .before .before .before .before .before .before .before .before .before .before .before .before .before .before .if1 .taken) .2)
 
 slice-aggregate-copy32 : tie.Need-slice-aggregate-copy32
 slice-aggregate-copy32 c = search needs
 
 copy32-requires : tie.Need-copy32-requires
-copy32-requires c κs = (bytes-aside _ (c .before .before .before .before .before .before .before .before .before .before .before .before .before .before .before .before .before .before .before .before .before .before .before .before .before .before .before .before .before .before .before .before .before .before .before .before .before .before .before .before .before .before .before .before .before .before .pre .0) (c .before .before .before .before .before .before .before .before .before .before .before .before .before .before .before .before .before .before .before .before .before .before .before .before .before .before .before .before .before .before .lay-out .ensures) (length-replicate {A = ℕ} 5599 0), four-hold _ _ _ _ _ (sym (c .before .before .before .before .before .before .before .before .before .before .before .before .before .before .before .before .before .before .before .before .before .before .before .before .all-hold .ensures) ∙ c .before .before .before .before .before .before .before .before .before .before .before .before .before .before .before .before .before .before .before .before .before .before .before .if1 .taken) .3)
+copy32-requires c κs = (bytes-aside _ (c .before .before .before .before .before .before .before .before .before .before .before .before .before .before .before .before .before .before .before .before .before .before .before .before .before .before .before .before .before .before .before .before .before .before .before .before .before .before .before .before .before .before .before .before .before .before .pre .0) (c .before .before .before .before .before .before .before .before .before .before .before .before .before .before .before .before .before .before .before .before .before .before .before .before .before .before .before .before .before .before .lay-out .ensures) (length-replicate {A = ℕ} 5599 0), four-hold _ _ _ _ _ (c .before .before .before .before .before .before .before .before .before .before .before .before .before .before .before .before .before .before .before .before .before .before .before .before .all-hold .ensures) (c .before .before .before .before .before .before .before .before .before .before .before .before .before .before .before .before .before .before .before .before .before .before .before .if1 .taken) .3)
 
 handed-requires : tie.Need-handed-requires
 handed-requires c κs = search needs
@@ -96,10 +95,10 @@ same-length-5 c = search needs
 returns : tie.Need-returns
 returns c =
     let o = c .before .before .before .before .before .before .before .before .before .before .before .before .before .before .before .before .before .before .before .before .before .before .before .before .before .before .before .before .before .before .before .before .before .before .before .before .before .before .before .before .before .before .before .before .before .before .before .before .before .before .pre in
-    tight-plan _ (o .0) (c .before .before .before .before .before .before .before .before .before .before .before .before .before .before .before .before .before .before .before .before .before .before .before .before .before .before .before .before .before .before .before .before .before .before .lay-out .ensures) _ _ _ _ _ (o .1) _ (sym (c .before .before .before .before .before .before .before .before .before .before .before .before .before .before .before .before .before .before .before .before .before .before .before .before .before .before .before .before .all-hold .ensures) ∙ c .before .before .before .before .before .before .before .before .before .before .before .before .before .before .before .before .before .before .before .before .before .before .before .before .before .before .before .if1 .taken) (c .handed .ensures) (c .before .before .before .before .before .before .before .before .before .before .before .before .before .before .before .before .before .before .before .before .before .before .before .copy8 .ensures) (c .before .before .before .before .before .before .before .before .before .before .before .before .before .before .before .before .before .before .copy16 .ensures) (c .before .before .before .before .before .before .before .before .before .before .before .before .before .copy162 .ensures) (c .before .before .before .before .before .before .before .before .copy82 .ensures) (c .before .before .before .copy32 .ensures)
+    tight-plan _ (o .0) (c .before .before .before .before .before .before .before .before .before .before .before .before .before .before .before .before .before .before .before .before .before .before .before .before .before .before .before .before .before .before .before .before .before .before .lay-out .ensures) _ _ _ _ _ (o .1) _ (c .before .before .before .before .before .before .before .before .before .before .before .before .before .before .before .before .before .before .before .before .before .before .before .before .before .before .before .before .all-hold .ensures) (c .before .before .before .before .before .before .before .before .before .before .before .before .before .before .before .before .before .before .before .before .before .before .before .before .before .before .before .if1 .taken) (c .handed .ensures) (c .before .before .before .before .before .before .before .before .before .before .before .before .before .before .before .before .before .before .before .before .before .before .before .copy8 .ensures) (c .before .before .before .before .before .before .before .before .before .before .before .before .before .before .before .before .before .before .copy16 .ensures) (c .before .before .before .before .before .before .before .before .before .before .before .before .before .copy162 .ensures) (c .before .before .before .before .before .before .before .before .copy82 .ensures) (c .before .before .before .copy32 .ensures)
 
 returns-2 : tie.Need-returns-2
-returns-2 c = let o = c .before .before .before .before .before .before .before .before .before .before .before .before .before .before .before .before .before .before .before .before .before .before .before .before .pre in tight-short _ (o .0) (c .before .before .before .before .before .before .before .before .lay-out .ensures) _ _ _ _ _ (o .1) _ (sym (c .before .before .all-hold .ensures) ∙ c .before .if1 .left) (c .refused .ensures)
+returns-2 c = let o = c .before .before .before .before .before .before .before .before .before .before .before .before .before .before .before .before .before .before .before .before .before .before .before .before .pre in tight-short _ (o .0) (c .before .before .before .before .before .before .before .before .lay-out .ensures) _ _ _ _ _ (o .1) _ (c .before .before .all-hold .ensures) (c .before .if1 .left) (c .refused .ensures)
 
 pub lay-tight-spec : {M : Type 1} → statement M
 lay-tight-spec =

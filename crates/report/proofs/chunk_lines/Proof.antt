@@ -20,39 +20,39 @@ abbrev μ-loop : tie.MeasureT-loop
 
 loop-holds : tie.Need-loop-holds Inv-loop μ-loop
 loop-holds c =
-    let a = c .before .before .args in
+    let a = c .before .args in
     putting-start (piece (now (a .sizes)) (now (a .table)) (a .depth)) (a .count) (now (a .out)) (a .at)
 
 add-k : tie.Need-add-k Inv-loop μ-loop
 add-k c = omega arith
 
 chunk-of-requires : tie.Need-chunk-of-requires Inv-loop μ-loop
-chunk-of-requires c κs = omega arith
+chunk-of-requires c κs = (omega arith, omega arith, omega arith, c .before .before .before .pre .3)
 
 cast-chunk-line : tie.Need-cast-chunk-line Inv-loop μ-loop
 cast-chunk-line c = omega arith
 
 chunk-line-requires : tie.Need-chunk-line-requires Inv-loop μ-loop
 chunk-line-requires c κs =
-    let a = c .before .before .before .before .before .before .args in
+    let a = c .before .before .before .before .before .args in
     rw (c .before .chunk-of .ensures .layers, c .before .chunk-of .ensures .bytes)
-    (putting-room (piece (now (a .sizes)) (now (a .table)) (a .depth)) (a .count) (now (a .out)) (a .at) (c .before .before .before .before .before .before .pre .2) (c .before .before .loop-test .taken) (c .before .before .before .loop .inv))
+    (putting-room (piece (now (a .sizes)) (now (a .table)) (a .depth)) (a .count) (now (a .out)) (a .at) (c .before .before .before .before .before .pre .2) (c .before .before .loop-test .taken) (c .before .before .before .loop .inv))
 
 loop-less : tie.Need-loop-less Inv-loop μ-loop
 loop-less c = omega arith
 
 loop-again : tie.Need-loop-again Inv-loop μ-loop
 loop-again c =
-    let a = c .before .before .before .before .before .before .before .before .before .args in
+    let a = c .before .before .before .before .before .before .before .before .args in
     let p = rw (c .before .before .before .before .chunk-of .ensures .layers, c .before .before .before .before .chunk-of .ensures .bytes) at (c .before .before .chunk-line .ensures) in
-    putting-more (piece (now (a .sizes)) (now (a .table)) (a .depth)) (a .count) (now (a .out)) (a .at) (c .before .before .before .before .before .before .before .before .before .pre .2) (c .before .before .before .before .before .loop-test .taken) (c .before .before .before .before .before .before .loop .inv) p
+    putting-more (piece (now (a .sizes)) (now (a .table)) (a .depth)) (a .count) (now (a .out)) (a .at) (c .before .before .before .before .before .before .before .before .pre .2) (c .before .before .before .before .before .loop-test .taken) (c .before .before .before .before .before .before .loop .inv) p
 
 same-length : tie.Need-same-length Inv-loop μ-loop
 same-length c = put-length (c .before .loop .inv .put)
 
 returns : tie.Need-returns Inv-loop μ-loop
 returns c =
-    let a = c .before .before .before .before .args in
+    let a = c .before .before .before .args in
     putting-end (piece (now (a .sizes)) (now (a .table)) (a .depth)) (a .count) (now (a .out)) (a .at) (c .loop-test .left) (c .before .loop .inv)
 
 pub chunk-lines-spec : {M : Type 1} → statement M

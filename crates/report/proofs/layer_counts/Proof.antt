@@ -21,7 +21,7 @@ abbrev μ-loop : tie.MeasureT-loop
 
 loop-holds : tie.Need-loop-holds Inv-loop μ-loop
 loop-holds c =
-    let a = c .before .before .args in
+    let a = c .before .args in
     putting-start (piece (now (a .sizes)) (now (a .table)) (a .count)) (a .depth) (now (a .out)) (a .at)
 
 layer-count-requires : tie.Need-layer-count-requires Inv-loop μ-loop
@@ -29,9 +29,9 @@ layer-count-requires c κs = omega arith
 
 put-next-requires : tie.Need-put-next-requires Inv-loop μ-loop
 put-next-requires c κs =
-    let a = c .before .before .before .before .before .before .args in
+    let a = c .before .before .before .before .before .args in
     rw (c .before .layer-count .ensures)
-    (putting-room (piece (now (a .sizes)) (now (a .table)) (a .count)) (a .depth) (now (a .out)) (a .at) (c .before .before .before .before .before .before .pre .2) (c .before .before .loop-test .taken) (c .before .before .before .loop .inv))
+    (putting-room (piece (now (a .sizes)) (now (a .table)) (a .count)) (a .depth) (now (a .out)) (a .at) (c .before .before .before .before .before .pre .2) (c .before .before .loop-test .taken) (c .before .before .before .loop .inv))
 
 add-n : tie.Need-add-n Inv-loop μ-loop
 add-n c = omega arith
@@ -41,16 +41,16 @@ loop-less c = omega arith
 
 loop-again : tie.Need-loop-again Inv-loop μ-loop
 loop-again c =
-    let a = c .before .before .before .before .before .before .before .before .before .args in
+    let a = c .before .before .before .before .before .before .before .before .args in
     let p = rw (c .before .before .before .before .layer-count .ensures) at (c .before .before .put-next .ensures) in
-    putting-more (piece (now (a .sizes)) (now (a .table)) (a .count)) (a .depth) (now (a .out)) (a .at) (c .before .before .before .before .before .before .before .before .before .pre .2) (c .before .before .before .before .before .loop-test .taken) (c .before .before .before .before .before .before .loop .inv) p
+    putting-more (piece (now (a .sizes)) (now (a .table)) (a .count)) (a .depth) (now (a .out)) (a .at) (c .before .before .before .before .before .before .before .before .pre .2) (c .before .before .before .before .before .loop-test .taken) (c .before .before .before .before .before .before .loop .inv) p
 
 same-length : tie.Need-same-length Inv-loop μ-loop
 same-length c = put-length (c .before .loop .inv .put)
 
 returns : tie.Need-returns Inv-loop μ-loop
 returns c =
-    let a = c .before .before .before .before .args in
+    let a = c .before .before .before .args in
     putting-end (piece (now (a .sizes)) (now (a .table)) (a .count)) (a .depth) (now (a .out)) (a .at) (c .loop-test .left) (c .before .loop .inv)
 
 pub layer-counts-spec : {M : Type 1} → statement M

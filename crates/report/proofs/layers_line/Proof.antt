@@ -34,17 +34,17 @@ add-from c = search needs
 
 layer-counts-requires : tie.Need-layer-counts-requires
 layer-counts-requires c κs =
-    let a = c .before .before .before .before .before .before .before .before .args in
+    let a = c .before .before .before .before .before .before .before .args in
     let t = counts (now (a .sizes)) (now (a .table)) (a .count) (a .depth) in
-    let h = room (now (a .sizes)) (now (a .table)) (now (a .out)) (a .count) (a .depth) (a .at) (c .before .before .before .before .before .before .before .before .pre .2) in
+    let h = room (now (a .sizes)) (now (a .table)) (now (a .out)) (a .count) (a .depth) (a .at) (c .before .before .before .before .before .before .before .pre .2) in
     let p : Put (now (a .out)) (a .at) (ascii "layers") _ (a .at + 6) = record { buffer = c .before .before .before .put .ensures; place = refl } in
-    (c .before .before .before .before .before .before .before .before .pre .0, c .before .before .before .before .before .before .before .before .pre .1, room-first (a .at + 6) t end (put-room (ascii "layers") (t ++ end) h p))
+    (c .before .before .before .before .before .before .before .pre .0, c .before .before .before .before .before .before .before .pre .1, room-first (a .at + 6) t end (put-room (ascii "layers") (t ++ end) h p))
 
 put-end-requires : tie.Need-put-end-requires
 put-end-requires c κs =
-    let a = c .before .before .before .before .before .before .before .before .before .before .before .before .args in
+    let a = c .before .before .before .before .before .before .before .before .before .before .before .args in
     let t = counts (now (a .sizes)) (now (a .table)) (a .count) (a .depth) in
-    let h = room (now (a .sizes)) (now (a .table)) (now (a .out)) (a .count) (a .depth) (a .at) (c .before .before .before .before .before .before .before .before .before .before .before .before .pre .2) in
+    let h = room (now (a .sizes)) (now (a .table)) (now (a .out)) (a .count) (a .depth) (a .at) (c .before .before .before .before .before .before .before .before .before .before .before .pre .2) in
     let p : Put (now (a .out)) (a .at) (ascii "layers") _ (a .at + 6) = record { buffer = c .before .before .before .before .before .before .before .put .ensures; place = refl } in
     put-room t end (put-room (ascii "layers") (t ++ end) h p) (c .before .before .before .layer-counts .ensures)
 
@@ -53,9 +53,9 @@ same-length c = search needs
 
 returns : tie.Need-returns
 returns c =
-    let a = c .before .before .before .before .before .before .before .before .before .before .before .before .before .before .before .args in
+    let a = c .before .before .before .before .before .before .before .before .before .before .before .before .before .before .args in
     let t = counts (now (a .sizes)) (now (a .table)) (a .count) (a .depth) in
-    let h = room (now (a .sizes)) (now (a .table)) (now (a .out)) (a .count) (a .depth) (a .at) (c .before .before .before .before .before .before .before .before .before .before .before .before .before .before .before .pre .2) in
+    let h = room (now (a .sizes)) (now (a .table)) (now (a .out)) (a .count) (a .depth) (a .at) (c .before .before .before .before .before .before .before .before .before .before .before .before .before .before .pre .2) in
     let p : Put (now (a .out)) (a .at) (ascii "layers") _ (a .at + 6) = record { buffer = c .before .before .before .before .before .before .before .before .before .before .put .ensures; place = refl } in
     rw (ended-text (λ n. digits (countBy (now (a .sizes)) (now (a .table)) (a .count) n)) (a .depth))
     (put-then (ascii "layers") (t ++ end) h p (put-then t end (put-room (ascii "layers") (t ++ end) h p) (c .before .before .before .before .before .before .layer-counts .ensures) (c .before .before .put-end .ensures)))

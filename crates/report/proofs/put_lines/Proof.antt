@@ -94,32 +94,32 @@ cast-slots-line c = search needs
 
 slots-line-requires : tie.Need-slots-line-requires
 slots-line-requires c κs =
-    let a = c .before .before .before .before .before .before .before .args in
-    let o = c .before .before .before .before .before .before .before .pre in
+    let a = c .before .before .before .before .before .before .args in
+    let o = c .before .before .before .before .before .before .pre in
     room-one (a .p) (now (a .sizes)) (now (a .table)) (now (a .out)) (a .depth) (a .spent) (a .left) (o .4) (c .before .before .before .before .film-slots .ensures) (c .before .before .before .last-due .ensures) (c .before .before .held-most .ensures) (c .before .switch-sum .ensures)
 
 chunk-lines-requires : tie.Need-chunk-lines-requires
 chunk-lines-requires c κs =
-    let a = c .before .before .before .before .before .before .before .before .before .before .before .args in
-    let o = c .before .before .before .before .before .before .before .before .before .before .before .pre in
-    (o .0, o .2, room-two (a .p) (now (a .sizes)) (now (a .table)) (now (a .out)) (a .depth) (a .spent) (a .left) (o .4) (c .before .before .before .before .before .before .before .before .film-slots .ensures) (c .before .before .before .before .before .before .before .last-due .ensures) (c .before .before .before .before .before .before .held-most .ensures) (c .before .before .before .before .before .switch-sum .ensures) (c .before .before .before .slots-line .ensures))
+    let a = c .before .before .before .before .before .before .before .before .before .before .args in
+    let o = c .before .before .before .before .before .before .before .before .before .before .pre in
+    (o .0, o .2, room-two (a .p) (now (a .sizes)) (now (a .table)) (now (a .out)) (a .depth) (a .spent) (a .left) (o .4) (c .before .before .before .before .before .before .before .before .film-slots .ensures) (c .before .before .before .before .before .before .before .last-due .ensures) (c .before .before .before .before .before .before .held-most .ensures) (c .before .before .before .before .before .switch-sum .ensures) (c .before .before .before .slots-line .ensures), o .5)
 
 layers-line-requires : tie.Need-layers-line-requires
 layers-line-requires c κs =
-    let a = c .before .before .before .before .before .before .before .before .before .before .before .before .before .before .before .args in
-    let o = c .before .before .before .before .before .before .before .before .before .before .before .before .before .before .before .pre in
+    let a = c .before .before .before .before .before .before .before .before .before .before .before .before .before .before .args in
+    let o = c .before .before .before .before .before .before .before .before .before .before .before .before .before .before .pre in
     (o .0, o .2, room-three (a .p) (now (a .sizes)) (now (a .table)) (now (a .out)) (a .depth) (a .spent) (a .left) (o .4) (c .before .before .before .before .before .before .before .before .before .before .before .before .film-slots .ensures) (c .before .before .before .before .before .before .before .before .before .before .before .last-due .ensures) (c .before .before .before .before .before .before .before .before .before .before .held-most .ensures) (c .before .before .before .before .before .before .before .before .before .switch-sum .ensures) (c .before .before .before .before .before .before .before .slots-line .ensures) (c .before .before .before .chunk-lines .ensures))
 
 bytes-line-requires : tie.Need-bytes-line-requires
 bytes-line-requires c κs =
-    let a = c .before .before .before .before .before .before .before .before .before .before .before .before .before .before .before .before .before .before .before .args in
-    let o = c .before .before .before .before .before .before .before .before .before .before .before .before .before .before .before .before .before .before .before .pre in
+    let a = c .before .before .before .before .before .before .before .before .before .before .before .before .before .before .before .before .before .before .args in
+    let o = c .before .before .before .before .before .before .before .before .before .before .before .before .before .before .before .before .before .before .pre in
     room-four (a .p) (now (a .sizes)) (now (a .table)) (now (a .out)) (a .depth) (a .spent) (a .left) (o .4) (c .before .before .before .before .before .before .before .before .before .before .before .before .before .before .before .before .film-slots .ensures) (c .before .before .before .before .before .before .before .before .before .before .before .before .before .before .before .last-due .ensures) (c .before .before .before .before .before .before .before .before .before .before .before .before .before .before .held-most .ensures) (c .before .before .before .before .before .before .before .before .before .before .before .before .before .switch-sum .ensures) (c .before .before .before .before .before .before .before .before .before .before .before .slots-line .ensures) (c .before .before .before .before .before .before .before .chunk-lines .ensures) (c .before .before .before .layers-line .ensures)
 
 switch-lines-requires : tie.Need-switch-lines-requires
 switch-lines-requires c κs =
-    let a = c .before .before .before .before .before .before .before .before .before .before .before .before .before .before .before .before .before .before .before .before .before .before .before .args in
-    let o = c .before .before .before .before .before .before .before .before .before .before .before .before .before .before .before .before .before .before .before .before .before .before .before .pre in
+    let a = c .before .before .before .before .before .before .before .before .before .before .before .before .before .before .before .before .before .before .before .before .before .before .args in
+    let o = c .before .before .before .before .before .before .before .before .before .before .before .before .before .before .before .before .before .before .before .before .before .before .pre in
     (rw (c .before .before .before .before .before .before .before .before .before .before .before .before .before .before .before .before .before .before .before .before .film-slots .ensures) (one-le-mul (o .1) (o .3)), room-five (a .p) (now (a .sizes)) (now (a .table)) (now (a .out)) (a .depth) (a .spent) (a .left) (o .4) (c .before .before .before .before .before .before .before .before .before .before .before .before .before .before .before .before .before .before .before .before .film-slots .ensures) (c .before .before .before .before .before .before .before .before .before .before .before .before .before .before .before .before .before .before .before .last-due .ensures) (c .before .before .before .before .before .before .before .before .before .before .before .before .before .before .before .before .before .before .held-most .ensures) (c .before .before .before .before .before .before .before .before .before .before .before .before .before .before .before .before .before .switch-sum .ensures) (c .before .before .before .before .before .before .before .before .before .before .before .before .before .before .before .slots-line .ensures) (c .before .before .before .before .before .before .before .before .before .before .before .chunk-lines .ensures) (c .before .before .before .before .before .before .before .layers-line .ensures) (c .before .before .before .bytes-line .ensures))
 
 same-length : tie.Need-same-length
@@ -127,8 +127,8 @@ same-length c = search needs
 
 returns : tie.Need-returns
 returns c =
-    let a = c .before .before .before .before .before .before .before .before .before .before .before .before .before .before .before .before .before .before .before .before .before .before .before .before .before .before .args in
-    let o = c .before .before .before .before .before .before .before .before .before .before .before .before .before .before .before .before .before .before .before .before .before .before .before .before .before .before .pre in
+    let a = c .before .before .before .before .before .before .before .before .before .before .before .before .before .before .before .before .before .before .before .before .before .before .before .before .before .args in
+    let o = c .before .before .before .before .before .before .before .before .before .before .before .before .before .before .before .before .before .before .before .before .before .before .before .before .before .pre in
     whole (a .p) (now (a .sizes)) (now (a .table)) (now (a .out)) (a .depth) (a .spent) (a .left) (o .4) (c .before .before .before .before .before .before .before .before .before .before .before .before .before .before .before .before .before .before .before .before .before .before .before .film-slots .ensures) (c .before .before .before .before .before .before .before .before .before .before .before .before .before .before .before .before .before .before .before .before .before .before .last-due .ensures) (c .before .before .before .before .before .before .before .before .before .before .before .before .before .before .before .before .before .before .before .before .before .held-most .ensures) (c .before .before .before .before .before .before .before .before .before .before .before .before .before .before .before .before .before .before .before .before .switch-sum .ensures) (c .before .before .before .before .before .before .before .before .before .before .before .before .before .before .before .before .before .before .slots-line .ensures) (c .before .before .before .before .before .before .before .before .before .before .before .before .before .before .chunk-lines .ensures) (c .before .before .before .before .before .before .before .before .before .before .layers-line .ensures) (c .before .before .before .before .before .before .bytes-line .ensures) (c .before .before .switch-lines .ensures)
 
 pub put-lines-spec : {M : Type 1} → statement M

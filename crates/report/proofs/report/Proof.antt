@@ -2,42 +2,64 @@
 use borrow.Author.Needs.{needs}
 use Rattle.report.proofs.report.Statement.{statement}
 use Rattle.report.proofs.report.Tie as tie
-use mathlib.Core.Path.{_≡_, sym, _∙_}
-use borrow.Author.Tests.{ne-eqb}
-use denote.Ref.{now}
-use Rattle.basics.specs.lemmas.Refusals.{orElse-some, orElse-none}
-use Rattle.job.specs.Job.{jobOf}
-use Rattle.job.specs.Refusal.{refusal, accepted-iff}
-use Rattle.report.specs.Answer.{planReport, roomRefusal, reportRefusal}
+use Prim.Native.Nat.{ℕ, _-_}
+use mathlib.Core.Path.{ap, _∙_}
+use lib.ListN.{length-replicate}
+use Rattle.report.proofs.Reports.{forecast-few, lines-asked, refused, reported}
 
-refusal-requires : tie.Need-refusal-requires
-refusal-requires c κs = search needs
+plan-table-requires : tie.Need-plan-table-requires
+plan-table-requires c κs = search needs
+
+enum-known-made : tie.Need-enum-known-made
+enum-known-made c = search needs
+
+enum-known-made-2 : tie.Need-enum-known-made-2
+enum-known-made-2 c = search needs
+
+sum-of-requires : tie.Need-sum-of-requires
+sum-of-requires c κs = forecast-few (c .before .before .before .plan-table .ensures) (c .before .made2 .given .1)
+
+less-requires : tie.Need-less-requires
+less-requires c κs = search needs
+
+cast-unset : tie.Need-cast-unset
+cast-unset c = search needs
+
+fill-sizes-requires : tie.Need-fill-sizes-requires
+fill-sizes-requires c κs = search needs
+
+hand-lines-requires : tie.Need-hand-lines-requires
+hand-lines-requires c κs =
+    let e = c .before .before .before .before .before .before .before .before .before .made2 .given .1 in
+    let stored = c .before .before .before .fill-sizes .ensures (length-replicate 2000 (c .before .before .before .before .before .before .before .before .before .before .before .before .before .before .before .before .before .before .before .args .p .chunks)) in
+    let left = c .before .before .before .before .before .before .less .ensures ∙ ap (λ (t : ℕ). t - c .before .before .before .before .before .before .before .before .before .made2 .given .0 .0) (c .before .before .before .before .before .before .before .sum-of .ensures) in
+    lines-asked (c .before .before .before .before .before .before .before .before .before .before .before .plan-table .ensures) e stored left
 
 returns : tie.Need-returns
-returns c =
-    let a = c .before .before .before .before .before .args in
-    let j = jobOf (a .p) (now (a .sizes)) (now (a .forecast)) in
-    let e = c .before .refusal .ensures in
-    let n : refusal j ≡ 0 → ⊥ = λ z. c .if1 .taken (e ∙ z) in
-    let f : reportRefusal j (now (a .out)) ≡ refusal j = orElse-some (refusal j) (roomRefusal (planReport j) (now (a .out))) n in
-    record { result = rw (f, ne-eqb (refusal j) 0 n, e); buffer = rw (f, ne-eqb (refusal j) 0 n) }
-
-report-plan-requires : tie.Need-report-plan-requires
-report-plan-requires c κs =
-    let a = c .before .before .before .before .before .before .args in
-    accepted-iff (jobOf (a .p) (now (a .sizes)) (now (a .forecast))) .0 (sym (c .before .before .refusal .ensures) ∙ c .before .if1 .left)
+returns c = refused (c .before .before .before .plan-table .ensures) (c .before .made .given .1)
 
 same-length : tie.Need-same-length
 same-length c = search needs
 
 returns-2 : tie.Need-returns-2
 returns-2 c =
-    let a = c .before .before .before .before .before .before .before .before .before .args in
-    let j = jobOf (a .p) (now (a .sizes)) (now (a .forecast)) in
-    let z : refusal j ≡ 0 = sym (c .before .before .before .before .before .refusal .ensures) ∙ c .before .before .before .before .if1 .left in
-    let f : reportRefusal j (now (a .out)) ≡ roomRefusal (planReport j) (now (a .out)) = orElse-none (refusal j) (roomRefusal (planReport j) (now (a .out))) z in
-    record { result = rw f (c .before .before .report-plan .ensures .result); buffer = rw f (c .before .before .report-plan .ensures .buffer) }
+    let e = c .before .before .before .before .before .before .before .before .before .before .before .before .made2 .given .1 in
+    let stored = c .before .before .before .before .before .before .fill-sizes .ensures (length-replicate 2000 (c .before .before .before .before .before .before .before .before .before .before .before .before .before .before .before .before .before .before .before .before .before .before .args .p .chunks)) in
+    let left = c .before .before .before .before .before .before .before .before .before .less .ensures ∙ ap (λ (t : ℕ). t - c .before .before .before .before .before .before .before .before .before .before .before .before .made2 .given .0 .0) (c .before .before .before .before .before .before .before .before .before .before .sum-of .ensures) in
+    reported (c .before .before .before .before .before .before .before .before .before .before .before .before .before .before .plan-table .ensures) e stored left (c .before .before .hand-lines .ensures)
 
 pub report-spec : {M : Type 1} → statement M
 report-spec =
-    tie.close (tie.spec refusal-requires returns report-plan-requires same-length returns-2)
+    tie.close
+    (tie.spec
+    plan-table-requires
+    enum-known-made
+    enum-known-made-2
+    sum-of-requires
+    less-requires
+    cast-unset
+    fill-sizes-requires
+    hand-lines-requires
+    returns
+    same-length
+    returns-2)

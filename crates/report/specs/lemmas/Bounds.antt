@@ -1,16 +1,15 @@
 -- Lemmas. How large a sum can be, and all rows of a list as those of its slots and of its chunks. Assumes nothing.
-use Prim.Native.Nat.{ℕ, zero, suc, _≤_}
+use Prim.Native.Nat.{ℕ, _≤_}
 use mathlib.Core.Path.{_≡_, sym, _∙_}
 use mathlib.Core.Bool.{true, cond}
 use mathlib.Core.List.{List, [], _∷_}
 use native.Mathlib.Omega.{arith}
-use lib.ListN.{getD}
 use lib.Dec.{eqb, eqb→eq}
 use Rattle.basics.specs.Tests.{All}
 use Rattle.basics.specs.lemmas.Tests.{all-map, by-cond}
 use Rattle.basics.specs.Sums.{pre, sum}
 use Rattle.basics.specs.lemmas.Ranges.{pre-add, pre-step, point, point-in, pre-cong, pre-zero}
-use Rattle.job.specs.Job.{Job, Within, chunks, layers, forecast, lastSlot}
+use Rattle.job.specs.Job.{Job, chunks, layers, forecast, lastSlot}
 use Rattle.fetch.specs.Rows.{Row, bytesInSlot, bytesOfLayer}
 use Rattle.fetch.specs.Rules.{InRange, WithinForecast}
 use Rattle.schedule.specs.lemmas.Words.{bytesOfChunk}
@@ -25,11 +24,6 @@ equal-most x y most h = by-cond (λ (z : ℕ). z ≤ most) (eqb x y) (λ t. omeg
 
 pub apart-most : (a b most : ℕ) → a ≤ most → b ≤ most → apart a b ≤ most
 apart-most a b most u v = omega arith
-
-pub all-most : (lo most : ℕ) (l : List ℕ) → All (Within lo most) l → (k : ℕ) → getD l k 0 ≤ most
-all-most lo most [] a k = omega arith
-all-most lo most (x ∷ xs) a zero = a .0 .high
-all-most lo most (x ∷ xs) a (suc k) = all-most lo most xs (a .1) k
 
 -- ---- all rows, by slot and by chunk
 

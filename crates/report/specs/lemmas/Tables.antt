@@ -6,17 +6,18 @@ use mathlib.Core.Bool.{Bool, cond}
 use mathlib.Core.List.{List, [], _∷_, _++_}
 use lib.ListN.{length, getD}
 use lib.Dec.{eqb}
-use Rattle.basics.specs.Tests.{All}
 use Rattle.basics.specs.Sums.{sum, count}
 use Rattle.basics.specs.Lists.{upTo}
 use Rattle.job.specs.declared.Programme.{Programme}
-use Rattle.job.specs.Job.{Job, sizeIn, layers, lastDue, Accepted}
-use Rattle.fetch.specs.Rows.{Row, rowsOf, bytesOfLayer}
-use Rattle.fetch.specs.Rules.{InRange}
-use Rattle.planner.specs.declared.Answer.{Answer}
-use Rattle.planner.specs.declared.Answer.the-variants.{Rows as made, Refused as refused}
+use Rattle.job.specs.Handed.{HandedJob, jobIn, jobRefusal}
+use Rattle.job.specs.Job.{lastDue}
+use Rattle.job.specs.Table.{tableAt}
+use Rattle.fetch.specs.Rows.{Row, bytesOfLayer}
+use Rattle.planner.specs.Answer.{planRows}
 use Rattle.basics.specs.Text.{ascii, digits, line, text}
-use Rattle.report.specs.Report.{apart, differences, those}
+use Rattle.report.specs.Report.{apart, bytesInRows, differences, those}
+use Rattle.report.specs.declared.table.Spent.{Spent}
+use Rattle.report.specs.declared.table.Spent.the-variants.{Bytes as sent, Refused as refused}
 use Rattle.report.specs.declared.table.Chunk.{Chunk}
 use Rattle.report.specs.declared.table.Picture.{Picture}
 use Rattle.report.specs.declared.table.Picture.the-variants.{Nothing, Bytes}
@@ -31,16 +32,6 @@ pub record Rows (slots chunks layers′ bytes : List ℕ) : Type 0 where
   pub chunk-high : (k : ℕ) → k < length slots → getD chunks k 0 ≤ 500
   pub layer-in : (k : ℕ) → k < length slots → getD layers′ k 0 < 4
 
--- The rows of an accepted job, each in range.
-pub record Listed (j : Job) (depth : ℕ) (slots chunks layers′ bytes : List ℕ) : Type 0 where
-  pub accepted : Accepted j
-  pub depth-is : depth ≡ layers j
-  pub chunk-each : length slots ≡ length chunks
-  pub layer-each : length slots ≡ length layers′
-  pub bytes-each : length slots ≡ length bytes
-  pub few : length slots ≤ 5599
-  pub in-range : All (InRange j) (rowsOf slots chunks layers′ bytes)
-
 -- The bytes of layer n of chunk i, by the table.
 abbrev pub bytesAt : List ℕ → ℕ → ℕ → ℕ
 bytesAt table i n = getD table (4 * (i - 1) + n) 0
@@ -50,8 +41,21 @@ pub record Summed (rows : List Row) (table : List ℕ) : Type 0 where
   pub by-layer : (i n : ℕ) → 1 ≤ i → i ≤ 500 → n < 4 → bytesAt table i n ≡ bytesOfLayer rows i n
   pub long : length table ≡ 2000
 
+-- The bytes of the plan's rows and their table, or the job's refusal.
+abbrev pub spentOf : HandedJob → Spent
+spentOf h = cond (eqb (jobRefusal h) 0) (sent (bytesInRows (planRows (jobIn h)))) (refused (jobRefusal h))
+
+pub record Tabled (h : HandedJob) (table : List ℕ) (r : Spent) : Type 0 where
+  pub spent : r ≡ spentOf h
+  pub by-rows : jobRefusal h ≡ 0 → Summed (planRows (jobIn h)) table
+
+-- A table of all sizes, each in range.
+abbrev pub SizesIn : List ℕ → Type 0
+SizesIn sizes = (i n : ℕ) → tableAt sizes i n ≤ 16777216
+
+-- Layer n of chunk i is carried.
 abbrev pub carriedBy : List ℕ → List ℕ → ℕ → ℕ → Bool
-carriedBy sizes table i n = eqb (bytesAt table i n) (sizeIn sizes i n)
+carriedBy sizes table i n = eqb (bytesAt table i n) (tableAt sizes i n)
 
 abbrev pub layersBy : List ℕ → List ℕ → ℕ → ℕ → ℕ
 layersBy sizes table depth i = sum (λ n. cond (carriedBy sizes table i n) 1 0) depth
@@ -110,8 +114,3 @@ linesBy p sizes depth table spent left =
     ++ (line (ascii "layers") (upTo (λ n. digits (countBy sizes table (p .chunks) n)) depth)
     ++ (line (ascii "bytes") (digits spent ∷ ascii "left" ∷ digits left ∷ [])
     ++ switchLines (switchBy sizes table depth (p .chunks)) (p .chunks * p .span))))
-
--- How many rows an answer of the planner says there are.
-abbrev pub rowsIn : Answer → ℕ
-rowsIn (made n) = n
-rowsIn (refused m) = 0

@@ -12,7 +12,8 @@ use Rattle.basics.specs.Text.{ascii, digits, ended, line, text}
 use Rattle.basics.specs.lemmas.Digits.{digits-few}
 use Rattle.text.specs.lemmas.Texts.{text-most, ended-text}
 use Rattle.basics.specs.lemmas.Ranges.{sum-most, pre-most, cond-most}
-use Rattle.report.specs.lemmas.Bounds.{equal-most, all-most}
+use Rattle.job.specs.lemmas.Within.{all-most, size-most}
+use Rattle.report.specs.lemmas.Bounds.{equal-most}
 use Rattle.report.specs.lemmas.Switches.{differences-most}
 use Rattle.report.specs.Report.{slotsLine, layersCarried, bytesCarried, chunkLine, chunkLines, layersLine, bytesInRows, forecastSum, left, bytesLine, switchSum, switchLine, filmSlots, rateLine}
 
@@ -48,7 +49,7 @@ module _ (j : Job) (rows : List Row) (ok : Accepted j) where
   bytes-most i =
       omega (
         arith,
-        sum-most _ 16777216 (layers j) (λ n. equal-most (bytesOfLayer rows i n) (size j i n) 16777216 (all-most 1 16777216 (j .sizes) (ok .sizes-in) n)),
+        sum-most _ 16777216 (layers j) (λ n. equal-most (bytesOfLayer rows i n) (size j i n) 16777216 (size-most j ok i n)),
         ok .layers-in .high,
       )
 

@@ -93,13 +93,13 @@ after-at w s t =
 
 -- The bases of all chunks are kept in the job with s: one pass over the chunks.
 unfoldable pub keptWith : Film → ℕ → Bool
-keptWith w s = keepsAll (λ k. sizeIn (w .sizes) k 0) (dueSlot (programmeAt w s)) (left w s) (w .limit / w .span) 0 (w .chunks)
+keptWith w s = keepsAll (λ k. sizeIn (w .sizes) (w .overrides) k 0) (dueSlot (programmeAt w s)) (left w s) (w .limit / w .span) 0 (w .chunks)
 
 pub kept-with-iff : (w : Film) (s : ℕ) → T (keptWith w s) ↔ AllFit (jobAt w s)
 unfolding keptWith
 kept-with-iff w s =
     let j = jobAt w s in
-    let base : ℕ → ℕ = λ k. sizeIn (w .sizes) k 0 in
+    let base : ℕ → ℕ = λ k. sizeIn (w .sizes) (w .overrides) k 0 in
     let k = keeps-all-iff base (due j) (left w s) (heldMost j) 0 (w .chunks) in
     let e : after j ≡ left w s = fun-ext (λ x. after-at w s x) in
     let fit : (ℕ → ℕ) → Type 0 = λ A. Feas base (due j) A (heldMost j) (from 0 (w .chunks)) in

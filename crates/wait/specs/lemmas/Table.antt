@@ -4,7 +4,7 @@ use mathlib.Core.Path.{_≡_}
 use mathlib.Core.Bool.{Bool}
 use mathlib.Core.List.{List}
 use lib.ListN.{length, getD}
-use Rattle.job.specs.Job.{sizeIn}
+use Rattle.job.specs.Table.{tableAt}
 use Rattle.wait.specs.lemmas.Scan.{brought, keepsAll}
 
 -- What the forecast brings up to each of its slots.
@@ -12,9 +12,9 @@ pub record SumTable (f sums : List ℕ) : Type 0 where
   pub long : length sums ≡ 3601
   pub is : (t : ℕ) → t ≤ length f → getD sums t 0 ≡ brought f t
 
--- The base's bytes of each chunk.
+-- The base's bytes of each chunk, by the table of all sizes.
 abbrev pub BaseTable : ℕ → List ℕ → List ℕ → Type 0
-BaseTable chunks sizes bases = (i : ℕ) → 1 ≤ i → i ≤ chunks → getD bases (i - 1) 0 ≡ sizeIn sizes i 0
+BaseTable chunks table bases = (i : ℕ) → 1 ≤ i → i ≤ chunks → getD bases (i - 1) 0 ≡ tableAt table i 0
 
 -- By the tables: the bytes of chunk i, its due slot, and what comes after slot t up to the last due slot.
 abbrev pub sizeAt : List ℕ → ℕ → ℕ

@@ -7,7 +7,6 @@ use mathlib.Core.Bool.{Bool, cond}
 use borrow.Author.Needs.{needs}
 use native.Mathlib.Omega.{arith}
 use native.Mathlib.Numerals.{add-one}
-use lib.ListN.{getD}
 use denote.Ref.{now}
 use Rattle.report.specs.lemmas.Tables.{carriedBy, layersBy, bytesBy}
 use Rattle.basics.specs.lemmas.Ranges.{sum-most, cond-most}
@@ -31,7 +30,7 @@ only-if-requires c κs = search needs
 
 add-layers : tie.Need-add-layers Inv-loop μ-loop
 add-layers c =
-    let a = c .before .before .before .before .before .args in
+    let a = c .before .before .before .before .args in
     let l = c .before .before .before .loop in
     let b : ℕ → Bool = λ n. carriedBy (now (a .sizes)) (now (a .table)) (a .i) n in
     omega (
@@ -50,12 +49,12 @@ only-if-requires-2 c κs = search needs
 
 add-bytes : tie.Need-add-bytes Inv-loop μ-loop
 add-bytes c =
-    let a = c .before .before .before .before .before .before .before .args in
+    let a = c .before .before .before .before .before .before .args in
     let l = c .before .before .before .before .before .loop in
-    let h : (n : ℕ) → getD (now (a .sizes)) n 0 ≤ 4294967295 = λ n. omega (arith, c .before .before .before .before .before .before .shared-slice-known .given n) in
-    let e : c .only-if2 .result ≤ 4294967295 =
-    rw (c .only-if2 .ensures, c .before .bytes-at .ensures, c .before .before .before .is-carried .ensures) (carried-most (now (a .sizes)) (now (a .table)) 4294967295 h (a .i) (l .n)) in
-    omega (arith, l .inv .2, bytes-most (now (a .sizes)) (now (a .table)) 4294967295 h (l .n) (a .i))
+    let h = c .before .before .before .before .before .before .pre .3 in
+    let e : c .only-if2 .result ≤ 16777216 =
+    rw (c .only-if2 .ensures, c .before .bytes-at .ensures, c .before .before .before .is-carried .ensures) (carried-most (now (a .sizes)) (now (a .table)) h (a .i) (l .n)) in
+    omega (arith, l .inv .2, bytes-most (now (a .sizes)) (now (a .table)) h (l .n) (a .i))
 
 add-n : tie.Need-add-n Inv-loop μ-loop
 add-n c = omega arith
@@ -74,7 +73,7 @@ loop-again c =
 returns : tie.Need-returns Inv-loop μ-loop
 returns c =
     let l = c .before .loop in
-    let e : l .n ≡ c .before .before .before .args .depth = omega arith in
+    let e : l .n ≡ c .before .before .args .depth = omega arith in
     record { layers = rw e at (l .inv .1); bytes = rw e at (l .inv .2) }
 
 pub chunk-of-spec : {M : Type 1} → statement M

@@ -6,14 +6,14 @@ use Rattle.report.proofs.table.is_carried.Tie as tie
 bytes-at-requires : tie.Need-bytes-at-requires
 bytes-at-requires c κs = search needs
 
-size-of-requires : tie.Need-size-of-requires
-size-of-requires c κs = search needs
+size-at-requires : tie.Need-size-at-requires
+size-at-requires c κs = search needs
 
 same-requires : tie.Need-same-requires
 same-requires c κs = search needs
 
 returns : tie.Need-returns
-returns c = rw (c .same .ensures, c .before .size-of .ensures, c .before .before .bytes-at .ensures)
+returns c = rw (c .same .ensures, c .before .size-at .ensures, c .before .before .bytes-at .ensures)
 
 pub is-carried-spec : {M : Type 1} → statement M
-is-carried-spec = tie.close (tie.spec bytes-at-requires size-of-requires same-requires returns)
+is-carried-spec = tie.close (tie.spec bytes-at-requires size-at-requires same-requires returns)

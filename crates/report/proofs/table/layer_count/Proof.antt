@@ -31,7 +31,7 @@ only-if-requires c κs = search needs
 
 add-carry : tie.Need-add-carry Inv-loop μ-loop
 add-carry c =
-    let a = c .before .before .before .before .before .args in
+    let a = c .before .before .before .before .args in
     let l = c .before .before .before .loop in
     let b : ℕ → Bool = λ i. carriedBy (now (a .sizes)) (now (a .table)) i (a .n) in
     omega (
@@ -55,7 +55,7 @@ loop-again c =
 returns : tie.Need-returns Inv-loop μ-loop
 returns c =
     let l = c .before .loop in
-    let e : l .i ≡ c .before .before .before .args .count = omega arith in
+    let e : l .i ≡ c .before .before .args .count = omega arith in
     rw e at (l .inv .1)
 
 pub layer-count-spec : {M : Type 1} → statement M
