@@ -32,8 +32,9 @@ static int refused(const struct job *j)
 
 static void fill_sizes(const struct job *j)
 {
-    for (int i = 0; i < j->chunks; i++)
-        for (size_t n = 0; n < j->layers; n++) size_of[i][n] = j->sizes[n];
+    uint32_t own[4] = {0};
+    for (size_t n = 0; n < j->layers; n++) own[n] = j->sizes[n];
+    for (int i = 0; i < j->chunks; i++) memcpy(size_of[i], own, sizeof own);
     for (size_t k = 0; k < j->overrides; k++) size_of[j->size_chunks[k] - 1][j->size_layers[k]] = j->size_bytes[k];
 }
 

@@ -15,16 +15,14 @@ use Rattle.basics.specs.Lists.{upTo}
 use Rattle.basics.specs.lemmas.Lists.{length-upTo, getD-upTo}
 use Rattle.job.specs.declared.Programme.{Programme}
 use Rattle.job.specs.Job.{Job, Accepted, jobOf, dueSlot, lastDue, chunks, layers, size}
-use Rattle.job.specs.Handed.{HandedJob, jobIn}
-use Rattle.job.specs.Table.{sizesTable, tableAt}
-use Rattle.job.specs.Uneven.{table-is}
+use Rattle.job.specs.Table.{tableAt}
 use Rattle.job.specs.lemmas.Within.{all-most, size-most}
 use Rattle.fetch.specs.Rows.{Row, begun, held, heldCount, carried, markByte, bytesInSlot, bytesOfLayer}
 use Rattle.fetch.specs.lemmas.Marks.{mark-cong}
 use Rattle.fetch.specs.Verdict.{rule1, rule2, rule3, rule4, rule6, rule7, lowerCarried, same, same-iff, lowest, verdict}
 use Rattle.checker.specs.declared.Pass.{Pass}
 use Rattle.checker.specs.declared.Layers.{Layers}
-use Rattle.checker.specs.lemmas.Tables.{cap, firstOf, Tallied, Passed, carriedBy, wholeBy, under, lowerBy, SeenAll, heldBy, Shown, Judged}
+use Rattle.checker.specs.lemmas.Tables.{cap, firstOf, Tallied, Passed, carriedBy, wholeBy, under, lowerBy, SeenAll, heldBy, Judged}
 use Rattle.basics.specs.lemmas.Ranges.{count-cong}
 
 -- ---- a sum that stops at the cap
@@ -138,13 +136,15 @@ module _ (p : Programme) (table : List ℕ) (depth : ℕ) (forecast marks : List
       → SeenAll (tableAt table) L marks depth (p .chunks) m
       → room ≡ allTo (length forecast) (λ u. leb (getD S u 0) (getD forecast (u - 1) 0))
       → few ≡ allTo last (λ u. leb (heldBy p F u) (p .limit / p .span))
-      → Judged p table depth forecast marks rows (lowest 2 (m .whole ∷ m .lower ∷ room ∷ r .timely ∷ few ∷ m .said ∷ []))
+      → (v : ℕ) → v ≡ lowest 2 (m .whole ∷ m .lower ∷ room ∷ r .timely ∷ few ∷ m .said ∷ [])
+      → Judged p table depth forecast marks rows v
   unfolding verdict
-  judged g e m room few s q f sizes os w =
+  judged g e m room few s q f v x sizes os w =
       let j = jobOf p sizes os forecast in
       let t = a .tables g in
       let s′ = rw (w .sizes-are, w .depth-is) at s in
-      rw (
+      x
+      ∙ rw (
         sym (one-is j refl (w .depth-is)) ∙ g,
         s′ .whole ∙ rule2-is j rows S L F (w .accepted) t,
         s′ .lower ∙ rule3-is j rows S L F (w .accepted) t,
@@ -153,8 +153,3 @@ module _ (p : Programme) (table : List ℕ) (depth : ℕ) (forecast marks : List
         (rw d at f) ∙ rule6-is j rows S L F (w .accepted) t,
         s′ .said ∙ rule7-is j rows S L F (w .accepted) t marks e,
       )
-
--- ---- the table of a handed job's sizes
-
-pub shown : (h : HandedJob) (table : List ℕ) → Accepted (jobIn h) → table ≡ sizesTable (h .sizes) (jobIn h .overrides) → Shown table (length (h .sizes)) (jobIn h)
-shown h table ok e = record { accepted = ok; sizes-are = ap tableAt e ∙ table-is (jobIn h) ok; depth-is = refl }

@@ -2,3 +2,4 @@ mod Rows
 mod Held
 mod Seeing
 mod Exact
+mod Answer

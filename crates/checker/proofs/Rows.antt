@@ -114,14 +114,14 @@ module _ (l : List Row) (T L F : List ℕ) (s c n b : ℕ) (h : Tallied l T L F)
   }
 
 -- What rule 1 of a row says of its places in the tables.
-pub record Places (x : Row) : Type 0 where
-  pub slot-low : 1 ≤ x .slot
-  pub slot-high : x .slot ≤ 3600
-  pub chunk-low : 1 ≤ x .chunk
-  pub chunk-high : x .chunk ≤ 500
-  pub layer-in : x .layer < 4
+record Places (x : Row) : Type 0 where
+  slot-low : 1 ≤ x .slot
+  slot-high : x .slot ≤ 3600
+  chunk-low : 1 ≤ x .chunk
+  chunk-high : x .chunk ≤ 500
+  layer-in : x .layer < 4
 
-pub places : (D C K : ℕ) (x : Row) → inRange D C K x ≡ true → D ≤ 3600 → C ≤ 500 → K ≤ 4 → Places x
+places : (D C K : ℕ) (x : Row) → inRange D C K x ≡ true → D ≤ 3600 → C ≤ 500 → K ≤ 4 → Places x
 places D C K x e d c k =
     let u = simp tests at (true-T (inRange D C K x) e) in
     omega arith
@@ -151,29 +151,41 @@ module _ (p : Programme) (D K : ℕ) (ss cs ls bs : List ℕ) where
           tables = λ _. rw e at (t .tables);
         }
 
-    pub tallying-stop : i < length ss → inRange D (p .chunks) K now-row ≡ false → Passed p D K (rowsOf ss cs ls bs) (record { ranged = false; timely = false }) T L F
-    tallying-stop h e =
-        record {
-          ranged = sym (all-not (inRange D (p .chunks) K) (rowAt ss cs ls bs) i (length ss) h e);
-          timely = λ q. absurd (let z : _≡_ {A = ℕ} 0 1 = cc in omega arith);
-          tables = λ q. absurd (let z : _≡_ {A = ℕ} 0 1 = cc in omega arith);
-        }
+    -- by the test of the row for rule 1
+    module _ (h : i < length ss) (b : Bool) (s : b ≡ inRange D (p .chunks) K now-row) where
+      pub tallying-stop : b ≡ false → Passed p D K (rowsOf ss cs ls bs) (record { ranged = false; timely = false }) T L F
+      tallying-stop e =
+          record {
+            ranged = sym (all-not (inRange D (p .chunks) K) (rowAt ss cs ls bs) i (length ss) h (sym s ∙ e));
+            timely = λ q. absurd (let z : _≡_ {A = ℕ} 0 1 = cc in omega arith);
+            tables = λ q. absurd (let z : _≡_ {A = ℕ} 0 1 = cc in omega arith);
+          }
 
-    -- What `add_row` asks: a sum in a table is capped.
-    pub tallying-small : Places now-row → (getD T (now-row .slot) 0 ≤ cap) × (getD L (4 * (now-row .chunk - 1) + now-row .layer) 0 ≤ cap)
-    tallying-small f = (
-      omega (arith, t .tables .by-slot (now-row .slot) (f .slot-high)),
-      omega (arith, t .tables .by-layer (now-row .chunk) (now-row .layer) (f .chunk-low) (f .chunk-high) (f .layer-in)),
-    )
+      module _ (e : b ≡ true) (d : D ≤ 3600) (c : p .chunks ≤ 500) (k : K ≤ 4) where
+        f : Places now-row
+        f = places D (p .chunks) K now-row (sym s ∙ e) d c k
 
-    pub tallying-more : i < length ss → Places now-row → inRange D (p .chunks) K now-row ≡ true
-        → Tallying p D K ss cs ls bs (set T (now-row .slot) (min cap (getD T (now-row .slot) 0 + now-row .bytes)))
-        (set L (4 * (now-row .chunk - 1) + now-row .layer) (min cap (getD L (4 * (now-row .chunk - 1) + now-row .layer) 0 + now-row .bytes)))
-        (set F (now-row .chunk) (min (getD F (now-row .chunk) 0) (now-row .slot))) (timely && onTime p now-row) (i + 1)
-    tallying-more h f e =
-        rw add-one (record {
-          within = omega arith;
-          tables = tallied-more (upTo (rowAt ss cs ls bs) i) T L F (now-row .slot) (now-row .chunk) (now-row .layer) (now-row .bytes) (t .tables) (f .slot-high) (f .slot-low) (f .chunk-low) (f .chunk-high) (f .layer-in);
-          ranged = all-snoc (inRange D (p .chunks) K) (upTo (rowAt ss cs ls bs) i) now-row ∙ rw (t .ranged, e);
-          timed = ap (λ (b : Bool). b && onTime p now-row) (t .timed) ∙ sym (all-snoc (onTime p) (upTo (rowAt ss cs ls bs) i) now-row);
-        })
+        -- What `add_row` asks: places in the tables, and sums that are capped.
+        pub tallying-asks : (now-row .slot ≤ 3600) × (1 ≤ now-row .chunk) × (now-row .chunk ≤ 500) × (now-row .layer < 4) × (getD T (now-row .slot) 0 ≤ cap) × (getD L (4 * (now-row .chunk - 1) + now-row .layer) 0 ≤ cap)
+        tallying-asks = (
+          f .slot-high,
+          f .chunk-low,
+          f .chunk-high,
+          f .layer-in,
+          omega (arith, t .tables .by-slot (now-row .slot) (f .slot-high)),
+          omega (arith, t .tables .by-layer (now-row .chunk) (now-row .layer) (f .chunk-low) (f .chunk-high) (f .layer-in)),
+        )
+
+        pub tallying-more : (T' L' F' : List ℕ) (timely' : Bool)
+            → T' ≡ set T (now-row .slot) (min cap (getD T (now-row .slot) 0 + now-row .bytes))
+            → L' ≡ set L (4 * (now-row .chunk - 1) + now-row .layer) (min cap (getD L (4 * (now-row .chunk - 1) + now-row .layer) 0 + now-row .bytes))
+            → F' ≡ set F (now-row .chunk) (min (getD F (now-row .chunk) 0) (now-row .slot))
+            → timely' ≡ timely && onTime p now-row
+            → Tallying p D K ss cs ls bs T' L' F' timely' (i + 1)
+        tallying-more T' L' F' timely' x y z w =
+            rw (add-one, x, y, z, w) (record {
+              within = omega arith;
+              tables = tallied-more (upTo (rowAt ss cs ls bs) i) T L F (now-row .slot) (now-row .chunk) (now-row .layer) (now-row .bytes) (t .tables) (f .slot-high) (f .slot-low) (f .chunk-low) (f .chunk-high) (f .layer-in);
+              ranged = all-snoc (inRange D (p .chunks) K) (upTo (rowAt ss cs ls bs) i) now-row ∙ rw (t .ranged, sym s ∙ e);
+              timed = ap (λ (b : Bool). b && onTime p now-row) (t .timed) ∙ sym (all-snoc (onTime p) (upTo (rowAt ss cs ls bs) i) now-row);
+            })

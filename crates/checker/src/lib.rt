@@ -2,11 +2,11 @@
 // first slots; one pass over the chunks and two over the slots read them.
 use job::Programme;
 ghost use mathlib.Core.Path.{_≡_};
-ghost use mathlib.Core.Bool.{true, not, cond, _&&_, _||_};
+ghost use mathlib.Core.Bool.{_&&_};
 ghost use mathlib.Core.List.{[], _∷_};
 ghost use Prim.Native.Nat.{ℕ, _+_, _*_, _-_, _/_, _<_, _≤_, min};
 ghost use lib.ListN.{length, getD, set, replicate};
-ghost use lib.Dec.{leb, eqb};
+ghost use lib.Dec.{leb};
 ghost use Rattle.basics.specs.Tests.{allTo};
 ghost use Rattle.job.specs.Job.{dueSlot, lastDue};
 ghost use Rattle.job.specs.Handed.{handed};
@@ -14,7 +14,6 @@ ghost use Rattle.job.specs.Table.{tableAt};
 ghost use Rattle.fetch.specs.Rows.{rowsOf};
 ghost use Rattle.fetch.specs.Handed.{Whole};
 ghost use Rattle.fetch.specs.Verdict.{lowest};
-ghost use Rattle.fetch.specs.Marks.{withLayer};
 ghost use Rattle.checker.specs.Checked.{checked};
 ghost use Rattle.checker.specs.lemmas.Tables.{cap, inRange, Passed, SeenChunk, SeenAll, heldBy, Marked, Judged};
 
@@ -53,16 +52,6 @@ fn both(a: bool, b: bool) -> bool
         return b;
     }
     false
-}
-
-// If a, then b.
-fn only_if(a: bool, b: bool) -> bool
-    ensures { λ r. ⌜ r ≡ not a || b ⌝ }
-{
-    if a {
-        return b;
-    }
-    true
 }
 
 // Saturates: a direct call may hand more rows than 64 bits can sum, and any sum above CAP breaks rule 2 or 4 alike.
@@ -114,13 +103,6 @@ fn in_range(last: usize, count: u16, depth: usize, s: u16, c: u16, l: u8, b: u32
     1 <= b
 }
 
-// Rule 5 of one row.
-fn on_time(p: Programme, s: u16, c: u16) -> bool
-    ensures { λ r. ⌜ r ≡ leb s (dueSlot p c) ⌝ }
-{
-    wide(s) <= job::due_slot(p, c)
-}
-
 // A row goes into the tables.
 fn add_row(
     slotsum: &mut [u64; 3601],
@@ -166,7 +148,7 @@ fn tally(
         let l = layers[i];
         let b = bytes[i];
         if in_range(last, p.chunks, depth, s, c, l, b) {
-            timely = both(timely, on_time(p, s, c));
+            timely = both(timely, wide(s) <= job::due_slot(p, c));
             add_row(slotsum, layersum, first, s, c, l, b);
             i = i + 1;
         } else {
@@ -180,33 +162,6 @@ fn tally(
         ranged: true,
         timely,
     }
-}
-
-fn same(sum: u64, size: u32) -> bool
-    ensures { λ r. ⌜ r ≡ eqb sum size ⌝ }
-{
-    sum == (size as u64)
-}
-
-// Rule 2 of one layer: its sum is 0, or it is carried.
-fn none_or(sum: u64, carried: bool) -> bool
-    ensures { λ r. ⌜ r ≡ eqb sum 0 || carried ⌝ }
-{
-    if sum == 0 {
-        return true;
-    }
-    carried
-}
-
-// The mark byte with layer n set if it is carried.
-fn marked(mark: u8, n: usize, carried: bool) -> u8
-    requires { ⌜ n < 4 ⌝ }
-    ensures { λ r. ⌜ r ≡ cond carried (withLayer mark n) mark ⌝ }
-{
-    if carried {
-        return fetch::with(mark, n as u8);
-    }
-    mark
 }
 
 // The layers of chunk i, from the base up.
@@ -223,12 +178,17 @@ fn see_chunk(table: &[u32; 2000], depth: usize, layersum: &[u64; 2000], i: u16) 
     while n < depth {
         let at = from + n;
         let sum = layersum[at];
-        let carried = same(sum, job::size_at(table, i, n));
-        whole = both(none_or(sum, carried), whole);
-        lower = both(only_if(carried, below), lower);
-        mark = marked(mark, n, carried);
-        below = carried;
-        n = n + 1;
+        let size = job::size_at(table, i, n) as u64;
+        if sum == size {
+            mark = fetch::with(mark, n as u8);
+            lower = both(below, lower);
+            below = true;
+            n = n + 1;
+        } else {
+            whole = both(sum == 0, whole);
+            below = false;
+            n = n + 1;
+        }
     }
     Seen { mark, whole, lower }
 }
@@ -303,16 +263,16 @@ fn sweep(p: Programme, last: usize, first: &[u16; 501]) -> bool
     requires { ⌜ (p .chunks ≤ 500) × (last ≤ 3600) × ((i : ℕ) → i ≤ p .chunks → dueSlot p i ≤ 3600) × ((i : ℕ) → 1 ≤ i → i ≤ 500 → 1 ≤ getD (now first) i 0) ⌝ }
     ensures { λ r. ⌜ r ≡ allTo last (λ t. leb (heldBy p (now (first .entry)) t) (p .limit / p .span)) ⌝ }
 {
-    let most = wide(job::held_most(p));
+    let most = job::held_most(p);
     let mut begins = [0u16; 3601];
     let mut ends = [0u16; 3601];
     mark_times(p, first, &mut begins, &mut ends);
-    let mut held: usize = 0;
+    let mut held: u16 = 0;
     let mut t: usize = 0;
     while t < last {
         let u = t + 1;
-        let more = held + wide(begins[u]);
-        held = more - wide(ends[u]);
+        let more = held + begins[u];
+        held = more - ends[u];
         if most < held {
             return false;
         }

@@ -3,7 +3,7 @@
 -- and `jobFile` what that of `jobfile::write_job` does.
 use Prim.Native.Nat.{ℕ}
 use mathlib.Core.Path.{_≡_, ap, _∙_}
-use mathlib.Core.List.{List}
+use mathlib.Core.List.{List, []}
 use Rattle.records.specs.Fields.{Bytes}
 use Rattle.jobrecords.specs.Refusal.{oneSequence, mixed, refusalOf, jobOfFile}
 use Rattle.jobrecords.specs.Theorems.{file-accepted, also-mixed}
@@ -24,10 +24,11 @@ converts s e =
     let a = file-accepted mixed s e in
     record { taken = never-refused (jobOfFile mixed s) a; same = reads-back (jobOfFile mixed s) a }
 
--- The program reads both: a file in one sequence is not refused, and stays as it is, byte for byte.
+-- The program reads both: a file in one sequence without SZ is not refused, and stays as it is, byte for byte. "The program of request 6
+-- stays as it is": to it an SZ is an unknown mark (jobrecords, `unknown-mark`).
 pub record Stays (s : List ℕ) : Type 0 where
   pub read : refusalOf mixed s ≡ 0
   pub unchanged : converted s ≡ s
 
-pub stays : (s : List ℕ) → Bytes s → refusalOf oneSequence s ≡ 0 → Stays s
-stays s b e = let m = also-mixed s e in record { read = m .taken; unchanged = ap jobFile (m .same) ∙ single-file s b e }
+pub stays : (s : List ℕ) → Bytes s → refusalOf oneSequence s ≡ 0 → jobOfFile oneSequence s .overrides ≡ [] → Stays s
+stays s b e none = let m = also-mixed s e none in record { read = m .taken; unchanged = ap jobFile (m .same) ∙ single-file s b e }

@@ -1,5 +1,5 @@
 // Reads a job file of either form on standard input and writes it in one sequence to standard output; on a refusal, `refused n`. It reads by
-// document 01's reader alone: a file in one sequence is a mixed file too.
+// document 01's reader alone: a file in one sequence is a mixed file too, if it has no SZ. One with an SZ has an unknown mark, 2.
 use job::Programme;
 use jobfile::Written;
 use jobrecords::JobRead;
@@ -16,10 +16,10 @@ fn write_first(out: &[u8; 28836], n: usize) {
     io::write_all(STDOUT_FILENO, parts::bytes(out, n));
 }
 
-// Room for any job's file.
+// Room for the file of any job without SZ.
 fn write_job(p: Programme, sizes: &[u32], forecast: &[u32]) {
     let mut out = [0u8; 28836];
-    match jobfile::write_job(p, sizes, forecast, &mut out) {
+    match jobfile::write_job(p, sizes, &[], &[], &[], forecast, &mut out) {
         Written::Refused(n) => refused(n),
         Written::Bytes(n) => write_first(&out, n),
     }
@@ -33,6 +33,7 @@ fn job_file(file: &[u8; 65537], n: usize) {
         JobRead::Job {
             programme,
             layers,
+            overrides: _,
             slots,
         } => write_job(
             programme,

@@ -1,1 +1,1 @@
-// Specs alone: document 01's worked rows marked †, as one proved table.
+// Specs alone: document 01's worked rows marked †, as one proved table, and rows of uneven film.

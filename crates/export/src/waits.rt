@@ -2,8 +2,7 @@
 use wait::Answer;
 ghost use mathlib.Core.Path.{_≡_};
 ghost use Rattle.export.specs.Waits.{waitNumber};
-ghost use Rattle.wait.specs.Answer.{answerOf};
-ghost use Rattle.wait.specs.Wait.{filmOf};
+ghost use Rattle.wait.specs.Answer.{answerOf, handedFilm};
 
 fn delay_number(answer: Answer) -> usize
     ensures { λ r. ⌜ r ≡ waitNumber answer ⌝ }
@@ -20,9 +19,21 @@ pub extern "C" fn wait_film(
     span: u16,
     limit: u16,
     sizes: &[u32],
+    size_chunks: &[u16],
+    size_layers: &[u8],
+    size_bytes: &[u32],
     forecast: &[u32],
 ) -> usize
-    ensures { λ r. ⌜ r ≡ waitNumber (answerOf (filmOf chunks span limit (now (sizes .entry)) (now (forecast .entry)))) ⌝ }
+    ensures { λ r. ⌜ r ≡ waitNumber (answerOf (handedFilm chunks span limit (now (sizes .entry)) (now («size_chunks» .entry)) (now («size_layers» .entry)) (now («size_bytes» .entry)) (now (forecast .entry)))) ⌝ }
 {
-    delay_number(wait::wait(chunks, span, limit, sizes, forecast))
+    delay_number(wait::wait(
+        chunks,
+        span,
+        limit,
+        sizes,
+        size_chunks,
+        size_layers,
+        size_bytes,
+        forecast,
+    ))
 }

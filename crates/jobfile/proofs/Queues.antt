@@ -2,13 +2,16 @@
 use Prim.Native.Nat.{ℕ, _+_, _-_, _≤_, _<_}
 use mathlib.Core.Path.{_≡_, ap}
 use mathlib.Core.List.{List, [], _∷_, map}
+use native.Mathlib.Omega.{arith}
 use native.Mathlib.Numerals.{add-one}
 use lib.ListN.{length, getD, drop, drop-of-length-le}
 use lib.Seq.{drop-cons}
+use Rattle.job.specs.Handed.{WholeSizes}
+use Rattle.job.specs.lemmas.Run.{from, from-end, from-more}
 use Rattle.jobrecords.specs.declared.Record.{Record}
-use Rattle.jobrecords.specs.declared.Record.the-variants.{Ly, Bw}
+use Rattle.jobrecords.specs.declared.Record.the-variants.{Ly, Sz, Bw}
 use Rattle.jobrecords.specs.Records.{encode}
-use Rattle.jobfile.specs.Writer.{runs, layerRecord, runRecord}
+use Rattle.jobfile.specs.Writer.{runs, layerRecord, overrideRecord, runRecord}
 use Rattle.jobfile.specs.lemmas.Runs.{runEnd, run-at}
 use Rattle.jobfile.specs.lemmas.Puts.{Puts, bytesOf, Underway, underway-fits, underway-more, underway-end}
 
@@ -24,6 +27,18 @@ layers-next sizes n h = rw (drop-cons sizes n 0 h, add-one)
 
 layers-none : (sizes : List ℕ) (n : ℕ) → length sizes ≤ n → layersFrom sizes n ≡ []
 layers-none sizes n h = rw (drop-of-length-le sizes {i = n} h)
+
+-- The SZs from place i on.
+abbrev pub overridesFrom : List ℕ → List ℕ → List ℕ → ℕ → List Record
+overridesFrom cs ls bs i = map overrideRecord (from i cs ls bs)
+
+overrides-next :
+    (cs ls bs : List ℕ) (i : ℕ) → WholeSizes cs ls bs → i < length cs →
+    overridesFrom cs ls bs i ≡ Sz (getD cs i 0) (getD ls i 0) (getD bs i 0) ∷ overridesFrom cs ls bs (i + 1)
+overrides-next cs ls bs i w h = ap (map overrideRecord) (from-more i cs ls bs (omega (arith, w .layer-each, w .bytes-each)))
+
+overrides-none : (cs ls bs : List ℕ) (i : ℕ) → length cs ≤ i → overridesFrom cs ls bs i ≡ []
+overrides-none cs ls bs i h = ap (map overrideRecord) (from-end i cs ls bs (omega arith))
 
 runs-next : (f : List ℕ) (i : ℕ) → i < length f → runsFrom f i ≡ Bw (runEnd f i - i) (getD f i 0) ∷ runsFrom f (runEnd f i)
 runs-next f i h = ap (map runRecord) (run-at f i h)
@@ -64,3 +79,17 @@ module _ (out : List ℕ) (at : ℕ) (f : List ℕ) (fits : at + length (bytesOf
         rw e
         (next-more out at (map runRecord (runs f)) fits (runsFrom f i) (Bw (runEnd f i - i) (getD f i 0)) (runsFrom f (runEnd f i)) (runs-next f i h) out′ here u out″ next
         (rw e at p))
+
+module _ (out : List ℕ) (at : ℕ) (cs ls bs : List ℕ) (w : WholeSizes cs ls bs) (fits : at + length (bytesOf (overridesFrom cs ls bs 0)) ≤ length out) (i : ℕ) (out′ : List ℕ) (here : ℕ) (u : Underway out at (overridesFrom cs ls bs 0) (overridesFrom cs ls bs i) out′ here) where
+  pub overrides-end : length cs ≤ i → Puts out at (bytesOf (overridesFrom cs ls bs 0)) out′ here
+  overrides-end h = underway-end out at (overridesFrom cs ls bs 0) out′ here (rw (overrides-none cs ls bs i h) at u)
+
+  module _ (h : i < length cs) where
+    abbrev sz : Record
+    sz = Sz (getD cs i 0) (getD ls i 0) (getD bs i 0)
+
+    pub override-fits : here + 9 ≤ length out′
+    override-fits = next-fits out at (overridesFrom cs ls bs 0) fits (overridesFrom cs ls bs i) sz (overridesFrom cs ls bs (i + 1)) (overrides-next cs ls bs i w h) out′ here u
+
+    pub override-more : (out″ : List ℕ) (next : ℕ) → Puts out′ here (encode sz) out″ next → Underway out at (overridesFrom cs ls bs 0) (overridesFrom cs ls bs (i + 1)) out″ next
+    override-more = next-more out at (overridesFrom cs ls bs 0) fits (overridesFrom cs ls bs i) sz (overridesFrom cs ls bs (i + 1)) (overrides-next cs ls bs i w h) out′ here u

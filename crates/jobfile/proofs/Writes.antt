@@ -1,45 +1,65 @@
 -- Lemmas. The answer of the writer and the lent buffer afterwards. Assumes nothing.
-use Prim.Native.Nat.{ℕ, _+_, _≤_, _<_}
-use mathlib.Core.Path.{_≡_, sym, ap, _∙_}
-use mathlib.Core.List.{List, _∷_, _++_, map}
+use Prim.Native.Nat.{ℕ, suc, _+_, _*_, _≤_, _<_}
+use mathlib.Core.Path.{_≡_, refl, sym, ap, _∙_}
+use mathlib.Core.List.{List, [], _∷_, _++_, map, append-assoc}
 use native.Mathlib.Omega.{arith}
 use lib.ListN.{length, length-append}
 use borrow.Author.Tests.{ne-eqb, le-leb, lt-leb}
 use Rattle.basics.specs.Refusals.{_orElse_}
 use Rattle.basics.specs.lemmas.Refusals.{orElse-none, orElse-some}
 use Rattle.job.specs.Job.{Job, Accepted}
-use Rattle.job.specs.Refusal.{refusal, accepted-iff}
+use Rattle.job.specs.Handed.{HandedJob, WholeSizes, jobIn, jobRefusal, handed-iff, overridesOf}
 use Rattle.jobrecords.specs.declared.Record.the-variants.{Pg}
 use Rattle.jobfile.specs.declared.Written.{Written}
 use Rattle.jobfile.specs.declared.Written.the-variants.{Bytes, Refused}
 use Rattle.jobrecords.specs.Records.{EN, encode}
-use Rattle.jobfile.specs.Writer.{runs, layerRecord, runRecord, jobFile, longRefusal, shortRefusal, writeRefusal, writeAnswer, fileWritten}
+use Rattle.jobfile.specs.Writer.{runs, layerRecord, overrideRecord, runRecord, jobFile, longRefusal, shortRefusal, writeRefusal, writeAnswer, fileWritten}
 use Rattle.jobfile.specs.lemmas.Puts.{Puts, bytesOf, bytes-append, puts-then, length-puts}
 use Rattle.records.specs.lemmas.Puts.{written-fits}
-use Rattle.jobfile.specs.lemmas.FileLength.{short-file}
+use Rattle.jobfile.specs.lemmas.FileLength.{file-length, short-file}
 
-module _ (j : Job) (out : List ℕ) where
+-- As many SZs as each slice has.
+pub overrides-long : (cs ls bs : List ℕ) → length ls ≡ length cs → length bs ≡ length cs → length (overridesOf cs ls bs) ≡ length cs
+overrides-long [] ls bs e f = refl
+overrides-long (c ∷ cs) [] bs e f = absurd (omega arith)
+overrides-long (c ∷ cs) (l ∷ ls) [] e f = absurd (omega arith)
+overrides-long (c ∷ cs) (l ∷ ls) (b ∷ bs) e f = ap suc (overrides-long cs ls bs (omega arith) (omega arith))
+
+module _ (h : HandedJob) (out : List ℕ) where
+  abbrev j : Job
+  j = jobIn h
+
   -- What the writer hands over.
   pub record Handed (r : Written) (out′ : List ℕ) : Type 0 where
-    pub answer : r ≡ writeAnswer j (length out)
-    pub buffer : out′ ≡ fileWritten j out
+    pub answer : r ≡ writeAnswer h (length out)
+    pub buffer : out′ ≡ fileWritten h out
 
-  refused : (n : ℕ) → writeRefusal j (length out) ≡ n → (n ≡ 0 → ⊥) → Handed (Refused n) out
+  refused : (n : ℕ) → writeRefusal h (length out) ≡ n → (n ≡ 0 → ⊥) → Handed (Refused n) out
   unfolding writeAnswer fileWritten
   refused n e some = record { answer = rw (e, ne-eqb n 0 some); buffer = rw (e, ne-eqb n 0 some) }
 
-  -- 5, 6 or 7.
-  pub handed-wrong : (n : ℕ) → n ≡ refusal j → (n ≡ 0 → ⊥) → Handed (Refused n) out
-  handed-wrong n e some = refused n (orElse-some (refusal j) (longRefusal j orElse shortRefusal j (length out)) (λ y. some (e ∙ y)) ∙ sym e) some
+  -- 5, 6, 18 or 7.
+  pub handed-wrong : (n : ℕ) → n ≡ jobRefusal h → (n ≡ 0 → ⊥) → Handed (Refused n) out
+  handed-wrong n e some = refused n (orElse-some (jobRefusal h) (longRefusal j orElse shortRefusal j (length out)) (λ y. some (e ∙ y)) ∙ sym e) some
 
-  module _ (none : refusal j ≡ 0) where
+  module _ (none : jobRefusal h ≡ 0) where
+    pub whole : WholeSizes (h .size-chunks) (h .size-layers) (h .size-bytes)
+    whole = handed-iff h .0 none .0
+
+    -- As many bytes as the lengths of the slices and the number of runs say.
+    pub bytes-count : length (jobFile j) ≡ 12 + 6 * length (h .sizes) + 9 * length (h .size-chunks) + 8 * length (runs (h .forecast))
+    bytes-count = omega (arith, file-length j, overrides-long (h .size-chunks) (h .size-layers) (h .size-bytes) (whole .layer-each) (whole .bytes-each))
+
     pub good : Accepted j
-    good = accepted-iff j .0 none
+    good = handed-iff h .0 none .1
+
+    pub few-bytes : 12 + 6 * length (h .sizes) + 9 * length (h .size-chunks) + 8 * length (runs (h .forecast)) ≤ 46800
+    few-bytes = omega (arith, bytes-count, short-file j good)
 
     -- An accepted job is never refused by 9.
-    by-room : writeRefusal j (length out) ≡ shortRefusal j (length out)
+    by-room : writeRefusal h (length out) ≡ shortRefusal j (length out)
     by-room =
-        orElse-none (refusal j) (longRefusal j orElse shortRefusal j (length out)) none
+        orElse-none (jobRefusal h) (longRefusal j orElse shortRefusal j (length out)) none
         ∙ orElse-none (longRefusal j) (shortRefusal j (length out)) (rw (le-leb (length (jobFile j)) 65536 (omega (arith, short-file j good))))
 
     pub handed-short : length out < length (jobFile j) → Handed (Refused 11) out
@@ -48,7 +68,7 @@ module _ (j : Job) (out : List ℕ) where
     pub handed-file : length (jobFile j) ≤ length out → (out′ : List ℕ) (next : ℕ) → Puts out 0 (jobFile j) out′ next → Handed (Bytes next) out′
     unfolding writeAnswer fileWritten
     handed-file l out′ next p =
-        let e : writeRefusal j (length out) ≡ 0 = by-room ∙ rw (le-leb (length (jobFile j)) (length out) l) in
+        let e : writeRefusal h (length out) ≡ 0 = by-room ∙ rw (le-leb (length (jobFile j)) (length out) l) in
         let n : 0 + length (jobFile j) ≡ length (jobFile j) = omega arith in
         record {
           answer = rw (e, p .next-is, n);
@@ -57,14 +77,21 @@ module _ (j : Job) (out : List ℕ) where
 
 -- ---- the whole file, a part at a time
 
--- PG, the layers, the runs, EN.
-pub file-parts : (j : Job) → jobFile j ≡ encode (Pg (j .programme)) ++ bytesOf (map layerRecord (j .sizes)) ++ bytesOf (map runRecord (runs (j .forecast))) ++ EN
+-- PG, the layers, the SZs, the runs, EN.
+pub file-parts :
+    (j : Job) → jobFile j ≡ encode (Pg (j .programme)) ++ bytesOf (map layerRecord (j .sizes)) ++ bytesOf (map overrideRecord (j .overrides)) ++ bytesOf (map runRecord (runs (j .forecast))) ++ EN
 unfolding jobFile
-file-parts j = ap (λ (l : List ℕ). l ++ EN) (bytes-append (Pg (j .programme) ∷ map layerRecord (j .sizes)) (map runRecord (runs (j .forecast))))
+file-parts j =
+    let a = map layerRecord (j .sizes) in
+    let b = map overrideRecord (j .overrides) in
+    let c = map runRecord (runs (j .forecast)) in
+    let pg = encode (Pg (j .programme)) in
+    ap (λ (l : List ℕ). (pg ++ l) ++ EN) (bytes-append a (b ++ c) ∙ ap (λ (l : List ℕ). bytesOf a ++ l) (bytes-append b c) ∙ sym (append-assoc (bytesOf a) (bytesOf b) (bytesOf c)))
+    ∙ ap (λ (l : List ℕ). l ++ EN) (sym (append-assoc pg (bytesOf a ++ bytesOf b) (bytesOf c)) ∙ ap (λ (l : List ℕ). l ++ bytesOf c) (sym (append-assoc pg (bytesOf a) (bytesOf b))))
 
--- Four parts, one after the other from the start of a buffer that has room for them.
-module _ (whole a b d e : List ℕ) (is : whole ≡ a ++ b ++ d ++ e) (out : List ℕ) (fits : length whole ≤ length out) where
-  lengths : length whole ≡ length a + length b + length d + length e
+-- Five parts, one after the other from the start of a buffer that has room for them.
+module _ (whole a b c d e : List ℕ) (is : whole ≡ a ++ b ++ c ++ d ++ e) (out : List ℕ) (fits : length whole ≤ length out) where
+  lengths : length whole ≡ length a + length b + length c + length d + length e
   lengths = ap length is ∙ simp length-append
 
   pub first-room : 0 + length a ≤ length out
@@ -78,18 +105,28 @@ module _ (whole a b d e : List ℕ) (is : whole ≡ a ++ b ++ d ++ e) (out : Lis
       two : Puts out 0 (a ++ b) out₂ n₂
       two = puts-then out 0 a out₁ n₁ p₁ b out₂ n₂ p₂ (omega (arith, lengths))
 
-      pub third-room : n₂ + length d ≤ length out₂
+      pub third-room : n₂ + length c ≤ length out₂
       third-room = omega (arith, lengths, two .next-is, length-append a b, length-puts out 0 (a ++ b) out₂ n₂ two)
 
-      module _ (out₃ : List ℕ) (n₃ : ℕ) (p₃ : Puts out₂ n₂ d out₃ n₃) where
-        three : Puts out 0 (a ++ b ++ d) out₃ n₃
-        three = puts-then out 0 (a ++ b) out₂ n₂ two d out₃ n₃ p₃ (omega (arith, lengths, length-append a b))
+      module _ (out₃ : List ℕ) (n₃ : ℕ) (p₃ : Puts out₂ n₂ c out₃ n₃) where
+        three : Puts out 0 (a ++ b ++ c) out₃ n₃
+        three = puts-then out 0 (a ++ b) out₂ n₂ two c out₃ n₃ p₃ (omega (arith, lengths, length-append a b))
 
-        three-length : length (a ++ b ++ d) ≡ length a + length b + length d
+        three-length : length (a ++ b ++ c) ≡ length a + length b + length c
         three-length = simp length-append
 
-        pub last-room : n₃ + length e ≤ length out₃
-        last-room = omega (arith, lengths, three .next-is, three-length, length-puts out 0 (a ++ b ++ d) out₃ n₃ three)
+        pub fourth-room : n₃ + length d ≤ length out₃
+        fourth-room = omega (arith, lengths, three .next-is, three-length, length-puts out 0 (a ++ b ++ c) out₃ n₃ three)
 
-        pub all-parts : (out₄ : List ℕ) (n₄ : ℕ) → Puts out₃ n₃ e out₄ n₄ → Puts out 0 whole out₄ n₄
-        all-parts out₄ n₄ p₄ = rw is (puts-then out 0 (a ++ b ++ d) out₃ n₃ three e out₄ n₄ p₄ (omega (arith, lengths, three-length)))
+        module _ (out₄ : List ℕ) (n₄ : ℕ) (p₄ : Puts out₃ n₃ d out₄ n₄) where
+          four : Puts out 0 (a ++ b ++ c ++ d) out₄ n₄
+          four = puts-then out 0 (a ++ b ++ c) out₃ n₃ three d out₄ n₄ p₄ (omega (arith, lengths, three-length))
+
+          four-length : length (a ++ b ++ c ++ d) ≡ length a + length b + length c + length d
+          four-length = simp length-append
+
+          pub last-room : n₄ + length e ≤ length out₄
+          last-room = omega (arith, lengths, four .next-is, four-length, length-puts out 0 (a ++ b ++ c ++ d) out₄ n₄ four)
+
+          pub all-parts : (out₅ : List ℕ) (n₅ : ℕ) → Puts out₄ n₄ e out₅ n₅ → Puts out 0 whole out₅ n₅
+          all-parts out₅ n₅ p₅ = rw is (puts-then out 0 (a ++ b ++ c ++ d) out₄ n₄ four e out₅ n₅ p₅ (omega (arith, lengths, four-length)))

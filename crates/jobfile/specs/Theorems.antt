@@ -5,19 +5,19 @@ use mathlib.Core.Path.{_≡_, refl, sym, ap, subst, _∙_}
 use mathlib.Core.List.{List, _++_}
 use mathlib.Core.Logic.{_↔_}
 use native.Mathlib.Omega.{arith}
-use lib.ListN.{length, drop}
+use lib.ListN.{length}
 use borrow.Author.Tests.{le-leb}
 use Rattle.basics.specs.lemmas.Refusals.{orElse-none}
 use Rattle.records.specs.Fields.{Bytes}
 use Rattle.records.specs.File.{split, encodeAll}
 use Rattle.records.specs.lemmas.Written.{split-written, refusal-written}
 use Rattle.records.specs.lemmas.Exact.{split-exact, none-end}
-use Rattle.job.specs.Job.{Job, Accepted, layers}
+use Rattle.job.specs.Job.{Job, Accepted}
 use Rattle.jobrecords.specs.declared.Record.{Record}
 use Rattle.jobrecords.specs.declared.Record.the-variants.{En}
 use Rattle.jobrecords.specs.Records.{encode}
 use Rattle.jobrecords.specs.Refusal.{oneSequence, format, refusalOf, jobOfFile}
-use Rattle.jobrecords.specs.Reader.{roomRefusal, jobAnswer, readRefusal, readAnswer, sizesRead, forecastRead}
+use Rattle.jobrecords.specs.Reader.{Buffers, roomRefusal, jobAnswer, readRefusal, readAnswer, lentBy, lentRead}
 use Rattle.jobrecords.specs.Theorems.{file-accepted}
 use Rattle.jobrecords.specs.lemmas.Clean.{taken}
 use Rattle.jobrecords.specs.lemmas.Exact.{exact, file-bytes}
@@ -41,34 +41,28 @@ pub reads-back : (j : Job) → Accepted j → jobOfFile oneSequence (jobFile j) 
 unfolding jobFile
 reads-back j a = rw (split-written (format oneSequence) encode En end-back refl (recordsOf j) (records-back j a)) (job-back j)
 
--- So the reader, lent enough room, answers with the job that was written, and its sizes and forecast stand in the buffers.
-pub record ReadAgain (j : Job) (sizes forecast : List ℕ) : Type 0 where
-  pub answer : readAnswer oneSequence (jobFile j) (length sizes) (length forecast) ≡ jobAnswer j
-  pub sizes-are : sizesRead oneSequence (jobFile j) sizes forecast ≡ j .sizes ++ drop (layers j) sizes
-  pub forecast-is : forecastRead oneSequence (jobFile j) sizes forecast ≡ j .forecast ++ drop (length (j .forecast)) forecast
+-- So the reader, lent enough room, answers with the job that was written, and its sizes, SZs and forecast stand in the buffers.
+pub record ReadAgain (j : Job) (lent : Buffers) : Type 0 where
+  pub answer : readAnswer oneSequence (jobFile j) lent ≡ jobAnswer j
+  pub buffers-are : lentRead oneSequence (jobFile j) lent ≡ lentBy 0 j lent
 
-pub read-again : (j : Job) (sizes forecast : List ℕ) → Accepted j → layers j ≤ length sizes → length (j .forecast) ≤ length forecast → ReadAgain j sizes forecast
-unfolding readAnswer sizesRead forecastRead
-read-again j sizes forecast a h k =
+pub read-again : (j : Job) (lent : Buffers) → Accepted j → roomRefusal j lent ≡ 0 → ReadAgain j lent
+unfolding readAnswer lentRead
+read-again j lent a room =
     let back = reads-back j a in
-    let room : roomRefusal j (length sizes) (length forecast) ≡ 0 = rw (le-leb (layers j) (length sizes) h, le-leb (length (j .forecast)) (length forecast) k) in
-    let none : readRefusal oneSequence (jobFile j) (length sizes) (length forecast) ≡ 0 =
-    orElse-none (refusalOf oneSequence (jobFile j)) (roomRefusal (jobOfFile oneSequence (jobFile j)) (length sizes) (length forecast)) (never-refused j a)
-    ∙ ap (λ (i : Job). roomRefusal i (length sizes) (length forecast)) back
+    let none : readRefusal oneSequence (jobFile j) lent ≡ 0 =
+    orElse-none (refusalOf oneSequence (jobFile j)) (roomRefusal (jobOfFile oneSequence (jobFile j)) lent) (never-refused j a)
+    ∙ ap (λ (i : Job). roomRefusal i lent) back
     ∙ room in
-    record {
-      answer = rw none (ap jobAnswer back);
-      sizes-are = rw none (ap (λ (i : Job). i .sizes ++ drop (layers i) sizes) back);
-      forecast-is = rw none (ap (λ (i : Job). i .forecast ++ drop (length (i .forecast)) forecast) back);
-    }
+    record { answer = rw none (ap jobAnswer back); buffers-are = rw none (ap (λ (i : Job). lentBy 0 i lent) back) }
 
 -- Two accepted jobs with the same file are the same job.
 pub same-file : (j k : Job) → Accepted j → Accepted k → jobFile j ≡ jobFile k → j ≡ k
 same-file j k a b e = sym (reads-back j a) ∙ ap (jobOfFile oneSequence) e ∙ reads-back k b
 
--- ---- "A file above 65,536 bytes, read or to be written": a job file never is.
+-- ---- "A file above 65,536 bytes, read or to be written": a job file never is, with every SZ.
 
-pub file-short : (j : Job) → Accepted j → length (jobFile j) ≤ 28836
+pub file-short : (j : Job) → Accepted j → length (jobFile j) ≤ 46800
 file-short j a = short-file j a
 
 pub never-long : (j : Job) → Accepted j → longRefusal j ≡ 0

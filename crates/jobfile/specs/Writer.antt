@@ -1,5 +1,6 @@
 -- Meaning. The job file that the writer puts, its answer and the lent buffer afterwards: document 01, "The job writer puts PG, the LYs,
--- then one BW per longest run", and the refusals of direct calls, "5, 6, 7, .. and a writer then 9", then 11.
+-- then one BW per longest run", document 02, "`SZ` records stand between the `LY` and the `BW` ones", and the refusals of direct calls,
+-- "5, 6, 7, .. and a writer then 9", with 18 after 6, then 11.
 use Prim.Native.Nat.{ℕ, suc, _≤_}
 use mathlib.Core.Path.{_≡_}
 use mathlib.Core.Bool.{cond}
@@ -10,10 +11,10 @@ use Rattle.basics.specs.Lent.{lentAfter}
 use Rattle.basics.specs.Tests.{All}
 use Rattle.basics.specs.Refusals.{unless, _orElse_}
 use Rattle.records.specs.File.{encodeAll}
-use Rattle.job.specs.Job.{Job}
-use Rattle.job.specs.Refusal.{refusal}
+use Rattle.job.specs.Job.{Job, Override}
+use Rattle.job.specs.Handed.{HandedJob, jobIn, jobRefusal}
 use Rattle.jobrecords.specs.declared.Record.{Record}
-use Rattle.jobrecords.specs.declared.Record.the-variants.{Pg, Ly, Bw, En}
+use Rattle.jobrecords.specs.declared.Record.the-variants.{Pg, Ly, Sz, Bw, En}
 use Rattle.jobfile.specs.declared.Written.{Written}
 use Rattle.jobfile.specs.declared.Written.the-variants.{Bytes, Refused}
 use Rattle.jobrecords.specs.Records.{encode}
@@ -48,12 +49,19 @@ pub record Longest (rs : List Run) : Type 0 where
 abbrev pub layerRecord : ℕ → Record
 layerRecord size = Ly size
 
+abbrev pub overrideRecord : Override → Record
+overrideRecord o = Sz (o .chunk) (o .layer) (o .bytes)
+
 abbrev pub runRecord : Run → Record
 runRecord r = Bw (r .count) (r .bytes)
 
--- PG, the LYs, one BW per longest run.
+-- The LYs, the SZs, one BW per longest run.
+abbrev pub bodyOf : List ℕ → List Override → List ℕ → List Record
+bodyOf sizes overrides forecast = map layerRecord sizes ++ (map overrideRecord overrides ++ map runRecord (runs forecast))
+
+-- PG and these.
 abbrev pub recordsOf : Job → List Record
-recordsOf j = Pg (j .programme) ∷ map layerRecord (j .sizes) ++ map runRecord (runs (j .forecast))
+recordsOf j = Pg (j .programme) ∷ bodyOf (j .sizes) (j .overrides) (j .forecast)
 
 -- Those records and EN.
 unfoldable pub jobFile : Job → List ℕ
@@ -67,13 +75,13 @@ longRefusal j = unless 9 (leb (length (jobFile j)) 65536)
 abbrev pub shortRefusal : Job → ℕ → ℕ
 shortRefusal j room = unless 11 (leb (length (jobFile j)) room)
 
--- The refusal of a job to be written into a buffer of so many bytes: 5, 6, 7, 9, 11.
-abbrev pub writeRefusal : Job → ℕ → ℕ
-writeRefusal j room = refusal j orElse longRefusal j orElse shortRefusal j room
+-- The refusal of a job as handed, to be written into a buffer of so many bytes: 5, 6, 18, 7, 9, 11.
+abbrev pub writeRefusal : HandedJob → ℕ → ℕ
+writeRefusal h room = jobRefusal h orElse longRefusal (jobIn h) orElse shortRefusal (jobIn h) room
 
 -- The answer, and the buffer afterwards.
-unfoldable pub writeAnswer : Job → ℕ → Written
-writeAnswer j room = cond (eqb (writeRefusal j room) 0) (Bytes (length (jobFile j))) (Refused (writeRefusal j room))
+unfoldable pub writeAnswer : HandedJob → ℕ → Written
+writeAnswer h room = cond (eqb (writeRefusal h room) 0) (Bytes (length (jobFile (jobIn h)))) (Refused (writeRefusal h room))
 
-unfoldable pub fileWritten : Job → List ℕ → List ℕ
-fileWritten j out = lentAfter (writeRefusal j (length out)) (jobFile j) out
+unfoldable pub fileWritten : HandedJob → List ℕ → List ℕ
+fileWritten h out = lentAfter (writeRefusal h (length out)) (jobFile (jobIn h)) out

@@ -5,13 +5,13 @@ ghost use Prim.Native.Nat.{_+_, _≤_, _<_};
 ghost use mathlib.Core.List.{map};
 ghost use lib.ListN.{length};
 ghost use Rattle.records.specs.Fields.{h, w};
-ghost use Rattle.job.specs.Job.{jobOf};
-ghost use Rattle.jobrecords.specs.declared.Record.the-variants.{Pg, Ly, Bw};
-ghost use Rattle.jobrecords.specs.Records.{encode};
+ghost use Rattle.job.specs.Handed.{WholeSizes, handed, jobIn, overridesOf};
+ghost use Rattle.jobrecords.specs.declared.Record.the-variants.{Pg, Ly, Sz, Bw};
+ghost use Rattle.jobrecords.specs.Records.{b, encode};
 ghost use Rattle.jobrecords.specs.Refusal.{oneSequence};
-ghost use Rattle.jobrecords.specs.Reader.{readAnswer, sizesRead, forecastRead};
+ghost use Rattle.jobrecords.specs.Reader.{buffers, readAnswer, lentRead};
 ghost use Rattle.jobfile.specs.lemmas.Puts.{Puts, bytesOf};
-ghost use Rattle.jobfile.specs.Writer.{runs, layerRecord, runRecord, jobFile, writeAnswer, fileWritten};
+ghost use Rattle.jobfile.specs.Writer.{runs, layerRecord, overrideRecord, runRecord, jobFile, writeAnswer, fileWritten};
 ghost use Rattle.jobfile.specs.lemmas.Runs.{runEnd};
 use job::Programme;
 use jobrecords::JobRead;
@@ -22,14 +22,32 @@ pub enum Written {
     Refused(u8),
 }
 
-// Reads a job file in one sequence into the lent sizes and forecast. Refusals: 9, then record by record, 17 between 4 and the ranges, at EN
-// 3, 4, 6, 7; then 11 where a buffer is shorter than the job's sizes or slots. On a refusal both buffers stay as they are.
-pub fn read_job(file: &[u8], sizes: &mut [u32], forecast: &mut [u32]) -> JobRead
-    ensures answer { λ r. ⌜ r ≡ readAnswer oneSequence (now (file .entry)) (length (now (sizes .entry))) (length (now (forecast .entry))) ⌝ }
-    ensures sizes { λ r. ⌜ now (sizes .exit) ≡ sizesRead oneSequence (now (file .entry)) (now (sizes .entry)) (now (forecast .entry)) ⌝ }
-    ensures forecast { λ r. ⌜ now (forecast .exit) ≡ forecastRead oneSequence (now (file .entry)) (now (sizes .entry)) (now (forecast .entry)) ⌝ }
+// Reads a job file in one sequence into the lent sizes, SZs and forecast. Refusals: 9, then record by record, 17 between 4 and the ranges, at
+// EN 3, 4, 6, 18, 7; then 11 where a buffer is shorter than the job's sizes, SZs or slots. On a refusal every buffer stays as it is.
+pub fn read_job(
+    file: &[u8],
+    sizes: &mut [u32],
+    size_chunks: &mut [u16],
+    size_layers: &mut [u8],
+    size_bytes: &mut [u32],
+    forecast: &mut [u32],
+) -> JobRead
+    ensures answer { λ r. ⌜ r ≡ readAnswer oneSequence (now (file .entry)) (buffers (now (sizes .entry)) (now («size_chunks» .entry)) (now («size_layers» .entry)) (now («size_bytes» .entry)) (now (forecast .entry))) ⌝ }
+    ensures sizes { λ r. ⌜ now (sizes .exit) ≡ lentRead oneSequence (now (file .entry)) (buffers (now (sizes .entry)) (now («size_chunks» .entry)) (now («size_layers» .entry)) (now («size_bytes» .entry)) (now (forecast .entry))) .sizes ⌝ }
+    ensures chunks { λ r. ⌜ now («size_chunks» .exit) ≡ lentRead oneSequence (now (file .entry)) (buffers (now (sizes .entry)) (now («size_chunks» .entry)) (now («size_layers» .entry)) (now («size_bytes» .entry)) (now (forecast .entry))) .size-chunks ⌝ }
+    ensures layers { λ r. ⌜ now («size_layers» .exit) ≡ lentRead oneSequence (now (file .entry)) (buffers (now (sizes .entry)) (now («size_chunks» .entry)) (now («size_layers» .entry)) (now («size_bytes» .entry)) (now (forecast .entry))) .size-layers ⌝ }
+    ensures bytes { λ r. ⌜ now («size_bytes» .exit) ≡ lentRead oneSequence (now (file .entry)) (buffers (now (sizes .entry)) (now («size_chunks» .entry)) (now («size_layers» .entry)) (now («size_bytes» .entry)) (now (forecast .entry))) .size-bytes ⌝ }
+    ensures forecast { λ r. ⌜ now (forecast .exit) ≡ lentRead oneSequence (now (file .entry)) (buffers (now (sizes .entry)) (now («size_chunks» .entry)) (now («size_layers» .entry)) (now («size_bytes» .entry)) (now (forecast .entry))) .forecast ⌝ }
 {
-    jobrecords::read_job(true, file, sizes, forecast)
+    jobrecords::read_job(
+        true,
+        file,
+        sizes,
+        size_chunks,
+        size_layers,
+        size_bytes,
+        forecast,
+    )
 }
 
 // Bytes go to a place of a buffer; the answer is the place after them.
@@ -64,6 +82,15 @@ fn put_w(out: &mut [u8], at: usize, x: u32) -> usize
     put_bytes(out, at, &field)
 }
 
+// A field b.
+fn put_b(out: &mut [u8], at: usize, x: u8) -> usize
+    requires { ⌜ at + 1 ≤ length (now out) ⌝ }
+    ensures { λ r. ⌜ Puts (now (out .entry)) at (b x) (now (out .exit)) r ⌝ }
+{
+    let field = [x];
+    put_bytes(out, at, &field)
+}
+
 // A PG record: its mark, then its fields.
 fn put_programme(out: &mut [u8], at: usize, p: Programme) -> usize
     requires { ⌜ at + 10 ≤ length (now out) ⌝ }
@@ -83,6 +110,17 @@ fn put_layer(out: &mut [u8], at: usize, size: u32) -> usize
 {
     let field = put_bytes(out, at, b"LY");
     put_w(out, field, size)
+}
+
+// An SZ record.
+fn put_override(out: &mut [u8], at: usize, chunk: u16, layer: u8, size: u32) -> usize
+    requires { ⌜ at + 9 ≤ length (now out) ⌝ }
+    ensures { λ r. ⌜ Puts (now (out .entry)) at (encode (Sz chunk layer size)) (now (out .exit)) r ⌝ }
+{
+    let field = put_bytes(out, at, b"SZ");
+    let second = put_h(out, field, chunk);
+    let last = put_b(out, second, layer);
+    put_w(out, last, size)
 }
 
 // A BW record.
@@ -138,6 +176,21 @@ fn put_layers(out: &mut [u8], at: usize, sizes: &[u32]) -> usize
     next
 }
 
+// The SZs, handed whole.
+fn put_overrides(out: &mut [u8], at: usize, cs: &[u16], ls: &[u8], bs: &[u32]) -> usize
+    requires { ⌜ WholeSizes (now cs) (now ls) (now bs) ⌝ }
+    requires { ⌜ at + length (bytesOf (map overrideRecord (overridesOf (now cs) (now ls) (now bs)))) ≤ length (now out) ⌝ }
+    ensures { λ r. ⌜ Puts (now (out .entry)) at (bytesOf (map overrideRecord (overridesOf (now (cs .entry)) (now (ls .entry)) (now (bs .entry))))) (now (out .exit)) r ⌝ }
+{
+    let mut next = at;
+    let mut i: usize = 0;
+    while i < cs.len() {
+        next = put_override(out, next, cs[i], ls[i], bs[i]);
+        i += 1;
+    }
+    next
+}
+
 // One BW per longest run.
 fn put_runs(out: &mut [u8], at: usize, forecast: &[u32]) -> usize
     requires { ⌜ at + length (bytesOf (map runRecord (runs (now forecast)))) ≤ length (now out) ⌝ }
@@ -156,31 +209,58 @@ fn put_runs(out: &mut [u8], at: usize, forecast: &[u32]) -> usize
 }
 
 // The whole file of a job, where it fits.
-fn put_job(p: Programme, sizes: &[u32], forecast: &[u32], out: &mut [u8]) -> usize
-    requires { ⌜ length (jobFile (jobOf p (now sizes) (now forecast))) ≤ length (now out) ⌝ }
+fn put_job(
+    p: Programme,
+    sizes: &[u32],
+    size_chunks: &[u16],
+    size_layers: &[u8],
+    size_bytes: &[u32],
+    forecast: &[u32],
+    out: &mut [u8],
+) -> usize
+    requires { ⌜ WholeSizes (now «size_chunks») (now «size_layers») (now «size_bytes») ⌝ }
+    requires { ⌜ length (jobFile (jobIn (handed p (now sizes) (now «size_chunks») (now «size_layers») (now «size_bytes») (now forecast)))) ≤ length (now out) ⌝ }
     requires { ⌜ length (now forecast) < 65536 ⌝ }
-    ensures { λ r. ⌜ Puts (now (out .entry)) 0 (jobFile (jobOf p (now (sizes .entry)) (now (forecast .entry)))) (now (out .exit)) r ⌝ }
+    ensures { λ r. ⌜ Puts (now (out .entry)) 0 (jobFile (jobIn (handed p (now (sizes .entry)) (now («size_chunks» .entry)) (now («size_layers» .entry)) (now («size_bytes» .entry)) (now (forecast .entry))))) (now (out .exit)) r ⌝ }
 {
     let layers = put_programme(out, 0, p);
-    let runs = put_layers(out, layers, sizes);
+    let overrides = put_layers(out, layers, sizes);
+    let runs = put_overrides(out, overrides, size_chunks, size_layers, size_bytes);
     let end = put_runs(out, runs, forecast);
     put_bytes(out, end, b"EN")
 }
 
-// Writes the file of a job into a lent buffer. Refusals: 5, 6, 7, then 11 where the buffer is shorter than the file; 9 can't happen to
-// an accepted job, whose file has at most 28,836 bytes. On a refusal the buffer stays as it is.
-pub fn write_job(p: Programme, sizes: &[u32], forecast: &[u32], out: &mut [u8]) -> Written
-    ensures answer { λ r. ⌜ r ≡ writeAnswer (jobOf p (now (sizes .entry)) (now (forecast .entry))) (length (now (out .entry))) ⌝ }
-    ensures buffer { λ r. ⌜ now (out .exit) ≡ fileWritten (jobOf p (now (sizes .entry)) (now (forecast .entry))) (now (out .entry)) ⌝ }
+// Writes the file of a job into a lent buffer. Refusals: 5, 6, 18, 7, then 11 where the buffer is shorter than the file; 9 can't happen to
+// an accepted job, whose file has at most 46,800 bytes. On a refusal the buffer stays as it is.
+pub fn write_job(
+    p: Programme,
+    sizes: &[u32],
+    size_chunks: &[u16],
+    size_layers: &[u8],
+    size_bytes: &[u32],
+    forecast: &[u32],
+    out: &mut [u8],
+) -> Written
+    ensures answer { λ r. ⌜ r ≡ writeAnswer (handed p (now (sizes .entry)) (now («size_chunks» .entry)) (now («size_layers» .entry)) (now («size_bytes» .entry)) (now (forecast .entry))) (length (now (out .entry))) ⌝ }
+    ensures buffer { λ r. ⌜ now (out .exit) ≡ fileWritten (handed p (now (sizes .entry)) (now («size_chunks» .entry)) (now («size_layers» .entry)) (now («size_bytes» .entry)) (now (forecast .entry))) (now (out .entry)) ⌝ }
 {
-    let n = job::refusal(p, sizes, forecast);
+    let n = job::refusal(p, sizes, size_chunks, size_layers, size_bytes, forecast);
     if n != 0 {
         return Written::Refused(n);
     }
     let layer_bytes = 6 * sizes.len();
+    let override_bytes = 9 * size_chunks.len();
     let run_bytes = 8 * count_runs(forecast);
-    if out.len() < 12 + layer_bytes + run_bytes {
+    if out.len() < 12 + layer_bytes + override_bytes + run_bytes {
         return Written::Refused(11);
     }
-    Written::Bytes(put_job(p, sizes, forecast, out))
+    Written::Bytes(put_job(
+        p,
+        sizes,
+        size_chunks,
+        size_layers,
+        size_bytes,
+        forecast,
+        out,
+    ))
 }

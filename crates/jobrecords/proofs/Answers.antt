@@ -1,19 +1,19 @@
 -- Lemmas. The answer of the reader and the lent buffers afterwards, by what the loop found. Assumes nothing.
 use Prim.Native.Nat.{ℕ, _+_, _*_, _-_, _≤_, _<_}
-use mathlib.Core.Path.{_≡_, refl, sym, ap, subst, _∙_}
+use mathlib.Core.Path.{_≡_, sym, ap, _∙_}
 use mathlib.Core.Bool.{Bool, _&&_}
 use mathlib.Core.List.{List}
 use native.Mathlib.Omega.{arith}
 use lib.ListN.{length, take}
 use lib.Seq.{length-take-le}
-use lib.Dec.{T, leb}
+use lib.Dec.{leb}
 use borrow.Author.Tests.{ne-eqb, le-leb, lt-leb}
 use Rattle.basics.specs.Lent.{over}
 use Rattle.basics.specs.Refusals.{unless}
 use Rattle.basics.specs.lemmas.Tests.{and-T, leb-iff}
 use Rattle.basics.specs.lemmas.Refusals.{unless-iff, orElse-none, orElse-some}
 use Rattle.records.specs.File.{recordsRefusal, fileRefusal}
-use Rattle.job.specs.Job.{Job, layers}
+use Rattle.job.specs.Job.{Job}
 use Rattle.job.specs.Handed.{chunksOf, layersOf, bytesOf}
 use Rattle.jobrecords.specs.declared.JobRead.{JobRead}
 use Rattle.jobrecords.specs.declared.JobRead.the-variants as jobRead
@@ -21,75 +21,26 @@ use Rattle.jobrecords.specs.declared.Sofar.{Sofar}
 use Rattle.jobrecords.specs.declared.Ending.{Ending}
 use Rattle.jobrecords.specs.declared.Ending.the-variants.{Whole, Broken}
 use Rattle.jobrecords.specs.Refusal.{format, refusalOf, jobOfFile}
-use Rattle.jobrecords.specs.Reader.{Buffers, buffers, roomRefusal, readRefusal, readAnswer, lentRead}
-use Rattle.jobrecords.specs.lemmas.Reading.{counted, jobFrom, Room, Complete, Refuses, Ended, Handed}
+use Rattle.jobrecords.specs.Reader.{Buffers, buffers, roomRefusal, jobAnswer, lentBy, readRefusal, readAnswer, lentRead}
+use Rattle.jobrecords.specs.lemmas.Reading.{counted, jobFrom, Inside, Complete, Refuses, Ended, roomBy}
 use Rattle.jobrecords.proofs.Uneven.{how-many}
 
--- ---- a job handed over to the lent buffers
+-- The lengths of lent buffers hold a job.
+pub record Holds (layers overrides slots sizes cs ls bs forecast : ℕ) : Type 0 where
+  pub for-sizes : layers ≤ sizes
+  pub for-chunks : overrides ≤ cs
+  pub for-layers : overrides ≤ ls
+  pub for-bytes : overrides ≤ bs
+  pub for-forecast : slots ≤ forecast
 
--- 11 unless each buffer holds what the state has for it.
-abbrev pub roomBy : Sofar → Buffers → ℕ
-roomBy j lent =
-    unless 11
-    (leb (j .layers) (length (lent .sizes))
-    && (leb (j .overrides) (length (lent .size-chunks))
-    && (leb (j .overrides) (length (lent .size-layers))
-    && (leb (j .overrides) (length (lent .size-bytes))
-    && leb (j .slots) (length (lent .forecast))))))
-
-pub record Holds (j : Sofar) (lent : Buffers) : Type 0 where
-  pub sizes : j .layers ≤ length (lent .sizes)
-  pub size-chunks : j .overrides ≤ length (lent .size-chunks)
-  pub size-layers : j .overrides ≤ length (lent .size-layers)
-  pub size-bytes : j .overrides ≤ length (lent .size-bytes)
-  pub forecast : j .slots ≤ length (lent .forecast)
-
-pub holds : (j : Sofar) (lent : Buffers) (n : ℕ) → n ≡ roomBy j lent → n ≡ 0 → Holds j lent
-holds j lent n is none =
-    let a = leb (j .layers) (length (lent .sizes)) in
-    let b = leb (j .overrides) (length (lent .size-chunks)) in
-    let c = leb (j .overrides) (length (lent .size-layers)) in
-    let d = leb (j .overrides) (length (lent .size-bytes)) in
-    let e = leb (j .slots) (length (lent .forecast)) in
-    let t = and-T a (b && (c && (d && e))) (unless-iff 11 (a && (b && (c && (d && e)))) (omega arith) .0 (sym is ∙ none)) in
-    let u = and-T b (c && (d && e)) (t .1) in
-    let v = and-T c (d && e) (u .1) in
-    let w = and-T d e (v .1) in
-    record {
-      sizes = leb-iff (j .layers) (length (lent .sizes)) .0 (t .0);
-      size-chunks = leb-iff (j .overrides) (length (lent .size-chunks)) .0 (u .0);
-      size-layers = leb-iff (j .overrides) (length (lent .size-layers)) .0 (v .0);
-      size-bytes = leb-iff (j .overrides) (length (lent .size-bytes)) .0 (w .0);
-      forecast = leb-iff (j .slots) (length (lent .forecast)) .0 (w .1);
-    }
-
-module _ (s : List ℕ) (j : Sofar) (z f : List ℕ) (room : Room j z f) where
-  -- The job's sizes and slots lie in the tables.
-  pub layers-inside : j .layers ≤ length z
-  layers-inside = omega (arith, room .sized .layers-in, room .sized .sizes-room)
-
-  pub slots-inside : j .slots ≤ length f
-  slots-inside = omega (arith, room .slots-in, room .slots-room)
-
-  module _ (lent : Buffers) (n : ℕ) (is : n ≡ roomBy j lent) where
-    room-is : roomRefusal (jobFrom s j z f) lent ≡ n
-    room-is = rw (length-take-le (j .layers) z layers-inside, how-many s (j .ends - 9 * j .overrides) (j .overrides), length-take-le (j .slots) f slots-inside) (sym is)
-
-    pub handed-short : (n ≡ 0 → ⊥) → Handed (jobFrom s j z f) lent (jobRead.Refused n) lent
-    handed-short some = record { answer = rw (room-is, ne-eqb n 0 some); lent-is = rw (room-is, ne-eqb n 0 some) }
-
-    pub handed-whole :
-        n ≡ 0 → (a b c d e : List ℕ) → a ≡ over (take (j .layers) z) (lent .sizes) → b ≡ over (chunksOf (counted s j)) (lent .size-chunks) → c ≡ over (layersOf (counted s j)) (lent .size-layers) →
-        d ≡ over (bytesOf (counted s j)) (lent .size-bytes) → e ≡ over (take (j .slots) f) (lent .forecast) →
-        Handed (jobFrom s j z f) lent (jobRead.Job (j .programme) (j .layers) (j .overrides) (j .slots)) (buffers a b c d e)
-    handed-whole none a b c d e ea eb ec ed ee =
-        let zero = room-is ∙ none in
-        record {
-          answer = rw (zero, length-take-le (j .layers) z layers-inside, how-many s (j .ends - 9 * j .overrides) (j .overrides), length-take-le (j .slots) f slots-inside);
-          lent-is = rw (zero, ea, eb, ec, ed, ee);
-        }
-
--- ---- a file
+holds : (layers overrides slots sizes cs ls bs forecast : ℕ) → roomBy layers overrides slots sizes cs ls bs forecast ≡ 0 → Holds layers overrides slots sizes cs ls bs forecast
+holds n k m a b c d e none =
+    let rest : Bool = leb k d && leb m e in
+    let t = and-T (leb n a) (leb k b && (leb k c && rest)) (unless-iff 11 (leb n a && (leb k b && (leb k c && rest))) (omega arith) .0 none) in
+    let u = and-T (leb k b) (leb k c && rest) (t .1) in
+    let v = and-T (leb k c) rest (u .1) in
+    let w = and-T (leb k d) (leb m e) (v .1) in
+    record { for-sizes = leb-iff n a .0 (t .0); for-chunks = leb-iff k b .0 (u .0); for-layers = leb-iff k c .0 (v .0); for-bytes = leb-iff k d .0 (w .0); for-forecast = leb-iff m e .0 (w .1) }
 
 module _ (q : Bool) (s : List ℕ) (lent : Buffers) where
   -- What the reader answers and leaves.
@@ -112,12 +63,13 @@ module _ (q : Bool) (s : List ℕ) (lent : Buffers) where
         forecast = ap (λ (b : Buffers). b .forecast) e;
       }
 
+  refused : (n : ℕ) → readRefusal q s lent ≡ n → (n ≡ 0 → ⊥) → ReadInto (jobRead.Refused n) lent
+  unfolding readAnswer lentRead
+  refused n e some = read-into (jobRead.Refused n) lent (rw (e, ne-eqb n 0 some)) (rw (e, ne-eqb n 0 some))
+
   -- Input refusals come first.
   by-file : (n : ℕ) → refusalOf q s ≡ n → (n ≡ 0 → ⊥) → ReadInto (jobRead.Refused n) lent
-  unfolding readAnswer lentRead
-  by-file n e some =
-      let is : readRefusal q s lent ≡ n = orElse-some (refusalOf q s) (roomRefusal (jobOfFile q s) lent) (λ y. some (sym e ∙ y)) ∙ e in
-      read-into (jobRead.Refused n) lent (rw (is, ne-eqb n 0 some)) (rw (is, ne-eqb n 0 some))
+  by-file n e some = refused n (orElse-some (refusalOf q s) (roomRefusal (jobOfFile q s) lent) (λ y. some (sym e ∙ y)) ∙ e) some
 
   pub read-long : 65536 < length s → ReadInto (jobRead.Refused 9) lent
   unfolding fileRefusal
@@ -131,13 +83,43 @@ module _ (q : Bool) (s : List ℕ) (lent : Buffers) where
     pub read-broken : (n : ℕ) → x ≡ Broken n → ReadInto (jobRead.Refused n) lent
     read-broken n e = let u : Refuses q s n = rw e at h in by-file n (by-records ∙ u .is) (u .some)
 
+    -- A whole job, with sizes and slots in the tables and the SZs in the file.
     module _ (j : Sofar) (e : x ≡ Whole j) where
-      pub complete : Complete q s j z f
+      complete : Complete q s j z f
       complete = rw e at h
 
-      pub read-whole : (r : JobRead) (lent′ : Buffers) → Handed (jobFrom s j z f) lent r lent′ → ReadInto r lent′
-      unfolding readAnswer lentRead
-      read-whole r lent′ given =
-          let handed = subst (λ (k : Job). Handed k lent r lent′) (complete .job-is) given in
-          let is : readRefusal q s lent ≡ roomRefusal (jobOfFile q s) lent = orElse-none (refusalOf q s) (roomRefusal (jobOfFile q s) lent) (by-records ∙ complete .none) in
-          read-into r lent′ (handed .answer ∙ rw is) (handed .lent-is ∙ rw is)
+      pub layers-inside : j .layers ≤ length z
+      layers-inside = omega (arith, complete .room .sized .layers-in, complete .room .sized .sizes-room)
+
+      pub slots-inside : j .slots ≤ length f
+      slots-inside = omega (arith, complete .room .slots-in, complete .room .slots-room)
+
+      pub overrides-inside : Inside s j
+      overrides-inside = complete .inside
+
+      -- By how much there is, 11 or none.
+      module _ (n : ℕ) (is : n ≡ roomBy (j .layers) (j .overrides) (j .slots) (length (lent .sizes)) (length (lent .size-chunks)) (length (lent .size-layers)) (length (lent .size-bytes)) (length (lent .forecast))) where
+        room-is : readRefusal q s lent ≡ n
+        room-is =
+            orElse-none (refusalOf q s) (roomRefusal (jobOfFile q s) lent) (by-records ∙ complete .none)
+            ∙ ap (λ (k : Job). roomRefusal k lent) (sym (complete .job-is))
+            ∙ rw (length-take-le (j .layers) z layers-inside, how-many s (j .ends - 9 * j .overrides) (j .overrides), length-take-le (j .slots) f slots-inside) (sym is)
+
+        pub read-short : (n ≡ 0 → ⊥) → ReadInto (jobRead.Refused n) lent
+        read-short some = refused n room-is some
+
+        module _ (none : n ≡ 0) where
+          pub read-holds : Holds (j .layers) (j .overrides) (j .slots) (length (lent .sizes)) (length (lent .size-chunks)) (length (lent .size-layers)) (length (lent .size-bytes)) (length (lent .forecast))
+          read-holds = holds (j .layers) (j .overrides) (j .slots) (length (lent .sizes)) (length (lent .size-chunks)) (length (lent .size-layers)) (length (lent .size-bytes)) (length (lent .forecast)) (sym is ∙ none)
+
+          pub read-job :
+              (a b c d e : List ℕ) → a ≡ over (take (j .layers) z) (lent .sizes) → b ≡ over (chunksOf (counted s j)) (lent .size-chunks) → c ≡ over (layersOf (counted s j)) (lent .size-layers) →
+              d ≡ over (bytesOf (counted s j)) (lent .size-bytes) → e ≡ over (take (j .slots) f) (lent .forecast) →
+              ReadInto (jobRead.Job (j .programme) (j .layers) (j .overrides) (j .slots)) (buffers a b c d e)
+          unfolding readAnswer lentRead
+          read-job a b c d e ea eb ec ed ee =
+              let zero = room-is ∙ none in
+              let r : JobRead = jobRead.Job (j .programme) (j .layers) (j .overrides) (j .slots) in
+              let answer : r ≡ jobAnswer (jobFrom s j z f) = rw (length-take-le (j .layers) z layers-inside, how-many s (j .ends - 9 * j .overrides) (j .overrides), length-take-le (j .slots) f slots-inside) in
+              let left : buffers a b c d e ≡ lentBy 0 (jobFrom s j z f) lent = rw (ea, eb, ec, ed, ee) in
+              read-into r (buffers a b c d e) (rw zero (answer ∙ ap jobAnswer (complete .job-is))) (rw zero (left ∙ ap (λ (k : Job). lentBy 0 k lent) (complete .job-is)))

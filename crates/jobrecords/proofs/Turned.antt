@@ -17,16 +17,14 @@ use Rattle.jobrecords.specs.declared.Record.{Record}
 use Rattle.jobrecords.specs.declared.Record.the-variants.{Pg, Ly, Sz, Bw, En}
 use Rattle.jobrecords.specs.declared.Read.the-variants.{Got, Refused}
 use Rattle.jobrecords.specs.declared.Sofar.{Sofar}
-use Rattle.jobrecords.specs.declared.Ending.{Ending}
-use Rattle.jobrecords.specs.declared.Ending.the-variants.{Whole, Broken}
 use Rattle.jobrecords.specs.declared.Turn.{Turn}
-use Rattle.jobrecords.specs.declared.Turn.the-variants.{On, Over}
+use Rattle.jobrecords.specs.declared.Turn.the-variants.{On, Done, Stop}
 use Rattle.jobrecords.specs.Records.{front, isEnd}
 use Rattle.jobrecords.specs.lemmas.Sound.{front-sound}
 use Rattle.jobrecords.specs.Says.{programmeIn, sizesIn, overridesIn, forecastIn, jobIn}
 use Rattle.jobrecords.specs.Refusal.{mixed, secondRefusal, previous, rangeFault, fault, lacking, format}
 use Rattle.jobrecords.specs.Reader.{readFront, readAt}
-use Rattle.jobrecords.specs.lemmas.Reading.{noRecords, sequenceAt, sequence-at, faultAfter, counted, jobFrom, endRefusal, endCode, endedBy, Inside, Fine, StandsFor, Counts, endsAfter, Takes, Going, Refuses, Ended, Turned}
+use Rattle.jobrecords.specs.lemmas.Reading.{noRecords, sequenceAt, sequence-at, faultAfter, counted, jobFrom, endRefusal, endCode, endedBy, Inside, Fine, StandsFor, Counts, endsAfter, Takes, Going, Complete, Refuses, Turned}
 use Rattle.jobrecords.proofs.Counting.{counts-start, counts-more, mixed-free}
 
 -- ---- what stands in front
@@ -109,7 +107,7 @@ module _ (q : Bool) (s : List ℕ) (at : ℕ) (j : Sofar) (z f : List ℕ) (g : 
     turn-inside = omega (arith, stands-here .next-is, stands-here .fits, length-drop at s, g .reads .inside)
 
     -- EN.
-    pub turn-end : (x : Ending) → isEnd r ≡ true → x ≡ endedBy s j (length s - next) z → Ended q s z f x
+    pub turn-end : (x : Turn) → isEnd r ≡ true → x ≡ endedBy s j (length s - next) z → Turned q s at z f x
     turn-end x b y =
         let h = stands-here in
         let ends = reads-end (format q) s at (g .before) (g .reads) r (h .size) (h .front-is) b in
@@ -117,7 +115,7 @@ module _ (q : Bool) (s : List ℕ) (at : ℕ) (j : Sofar) (z f : List ℕ) (g : 
         let code : recordsRefusal (format q) s ≡ endCode s j (length s - next) z = ends .refusal-is ∙ rw (after, end-is j z f (g .before) (g .stands) s at (g .counts)) in
         rw y (by-code (endCode s j (length s - next) z) code (sym (ends .records-are)) (eqb (endCode s j (length s - next) z) 0) refl)
       where
-        by-code : (n : ℕ) → recordsRefusal (format q) s ≡ n → g .before ≡ split (format q) s .records → (b : Bool) → eqb n 0 ≡ b → Ended q s z f (cond (eqb n 0) (Whole j) (Broken n))
+        by-code : (n : ℕ) → recordsRefusal (format q) s ≡ n → g .before ≡ split (format q) s .records → (b : Bool) → eqb n 0 ≡ b → Turned q s at z f (cond (eqb n 0) (Done j) (Stop n))
         by-code n c rs true t = rw t (record { none = c ∙ eqb-true n 0 t; room = g .stands .room; inside = turn-counted; job-is = job-is j z f (g .before) (g .stands) s at (g .counts) ∙ ap jobIn rs })
         by-code n c rs false t = rw t (record { is = c; some = eqb-false n 0 t })
 
@@ -156,5 +154,8 @@ module _ (q : Bool) (s : List ℕ) (at : ℕ) (z f : List ℕ) (t : Turn) (h : T
   pub turned-on : (j : Sofar) (next : ℕ) → t ≡ On j next → (at < next) × Going q s next j z f
   turned-on j next e = rw e at h
 
-  pub turned-over : (x : Ending) → t ≡ Over x → Ended q s z f x
-  turned-over x e = rw e at h
+  pub turned-done : (j : Sofar) → t ≡ Done j → Complete q s j z f
+  turned-done j e = rw e at h
+
+  pub turned-stop : (n : ℕ) → t ≡ Stop n → Refuses q s n
+  turned-stop n e = rw e at h

@@ -5,15 +5,14 @@ ghost use mathlib.Core.Path.{_≡_};
 ghost use Prim.Native.Nat.{_+_, _*_, _≤_, _<_};
 ghost use lib.ListN.{length, replicate, take};
 ghost use lib.Seq.{paste};
-ghost use mathlib.Core.Bool.{not, _&&_, _||_};
-ghost use lib.Dec.{leb};
+ghost use mathlib.Core.Bool.{not, _||_};
 ghost use Rattle.basics.specs.Lent.{over};
 ghost use Rattle.basics.specs.Refusals.{unless};
 ghost use Rattle.job.specs.Refusal.{within, overridesRefusal};
 ghost use Rattle.job.specs.Handed.{chunksOf, layersOf, bytesOf};
 ghost use Rattle.jobrecords.specs.Records.{front, isEnd};
 ghost use Rattle.jobrecords.specs.Refusal.{layerFault, runFault};
-ghost use Rattle.jobrecords.specs.lemmas.Reading.{noRecords, readWhole, lastMark, runFollows, faultAfter, overridesOn, jobFrom, endRefusal, endedBy, readRefusalOf, endRefusalOf, Inside, Sized, Room, Fine, Takes, Going, Turned, Ended, Handed};
+ghost use Rattle.jobrecords.specs.lemmas.Reading.{noRecords, readWhole, lastMark, runFollows, faultAfter, overridesOn, endRefusal, endedBy, readRefusalOf, endRefusalOf, Inside, Sized, Room, Fine, Takes, Going, Turned, Ended, roomBy};
 ghost use Rattle.jobrecords.specs.Reader.{readFront, readAt, buffers, readAnswer, lentRead};
 use job::Programme;
 
@@ -62,10 +61,11 @@ enum Ending {
     Broken(u8),
 }
 
-// What a record does: on from a place, or the end.
+// What a record does: on from a place, a whole job, or a refusal.
 enum Turn {
     On(Sofar, usize),
-    Over(Ending),
+    Done(Sofar),
+    Stop(u8),
 }
 
 // The record of n bytes, where so many are left from at.
@@ -348,16 +348,16 @@ fn is_end(record: Record) -> bool
 }
 
 // EN with so many bytes after it.
-fn ended(file: &[u8], j: Sofar, after: usize, sizes: &[u32]) -> Ending
+fn ended(file: &[u8], j: Sofar, after: usize, sizes: &[u32]) -> Turn
     requires { ⌜ Inside (now file) j × Sized j (now sizes) ⌝ }
     ensures { λ r. ⌜ r ≡ endedBy (now (file .entry)) j after (now (sizes .entry)) ⌝ }
 {
     let lacking = end_refusal(file, j, sizes);
     let n = job::or_else(job::refuse_unless(3, after == 0), lacking);
     if n == 0 {
-        return Ending::Whole(j);
+        return Turn::Done(j);
     }
-    Ending::Broken(n)
+    Turn::Stop(n)
 }
 
 // So many numbers from a place on become v.
@@ -478,15 +478,15 @@ fn one_turn(
 {
     let read = record_at(sequenced, file, at);
     let Read::Got(record, next) = read else {
-        return Turn::Over(Ending::Broken(refusal_of(read)));
+        return Turn::Stop(refusal_of(read));
     };
     if is_end(record) {
         let after = file.len() - next;
-        return Turn::Over(ended(file, j, after, sizes));
+        return ended(file, j, after, sizes);
     }
     let n = fault_of(sequenced, j, record);
     if n != 0 {
-        return Turn::Over(Ending::Broken(n));
+        return Turn::Stop(n);
     }
     Turn::On(take_record(j, record, next, sizes, slots), next)
 }
@@ -526,7 +526,8 @@ fn read_all(sequenced: bool, file: &[u8], sizes: &mut [u32], slots: &mut [u32]) 
                 j = more;
                 at = next;
             }
-            Turn::Over(end) => return end,
+            Turn::Done(whole) => return Ending::Whole(whole),
+            Turn::Stop(n) => return Ending::Broken(n),
         }
     }
 }
@@ -552,61 +553,35 @@ fn refusal_at(end: Ending) -> u8
     }
 }
 
-// 11 unless each of five buffers holds what the state has for it.
-fn room_refusal(j: Sofar, sizes: usize, cs: usize, ls: usize, bs: usize, slots: usize) -> u8
-    ensures { λ r. ⌜ r ≡ unless 11 (leb (j .layers) sizes && (leb (j .overrides) cs && (leb (j .overrides) ls && (leb (j .overrides) bs && leb (j .slots) slots)))) ⌝ }
+// 11 unless five buffers of these lengths hold so many layers, SZs and slots.
+fn room_refusal(
+    layers: usize,
+    overrides: usize,
+    slots: usize,
+    sizes: usize,
+    cs: usize,
+    ls: usize,
+    bs: usize,
+    forecast: usize,
+) -> u8
+    ensures { λ r. ⌜ r ≡ roomBy layers overrides slots sizes cs ls bs forecast ⌝ }
 {
-    let n = j.overrides;
-    if sizes < j.layers {
+    if sizes < layers {
         return 11;
     }
-    if cs < n {
+    if cs < overrides {
         return 11;
     }
-    if ls < n {
+    if ls < overrides {
         return 11;
     }
-    if bs < n {
+    if bs < overrides {
         return 11;
     }
-    if slots < j.slots {
+    if forecast < slots {
         return 11;
     }
     0
-}
-
-// The job of a whole file, with its sizes and slots in tables, goes to the lent buffers, if they hold it.
-fn hand_over(
-    file: &[u8],
-    j: Sofar,
-    zs: &[u32],
-    fs: &[u32],
-    sizes: &mut [u32],
-    cs: &mut [u16],
-    ls: &mut [u8],
-    bs: &mut [u32],
-    forecast: &mut [u32],
-) -> JobRead
-    requires { ⌜ Inside (now file) j × Room j (now zs) (now fs) ⌝ }
-    ensures { λ r. ⌜ Handed (jobFrom (now (file .entry)) j (now (zs .entry)) (now (fs .entry))) (buffers (now (sizes .entry)) (now (cs .entry)) (now (ls .entry)) (now (bs .entry)) (now (forecast .entry))) r (buffers (now (sizes .exit)) (now (cs .exit)) (now (ls .exit)) (now (bs .exit)) (now (forecast .exit))) ⌝ }
-{
-    let room = room_refusal(j, sizes.len(), cs.len(), ls.len(), bs.len(), forecast.len());
-    if room != 0 {
-        return JobRead::Refused(room);
-    }
-    let programme = j.programme;
-    let layers = j.layers;
-    let overrides = j.overrides;
-    let slots = j.slots;
-    copy(zs, sizes, layers);
-    gather(file, j.ends - 9 * overrides, overrides, cs, ls, bs);
-    copy(fs, forecast, slots);
-    JobRead::Job {
-        programme,
-        layers,
-        overrides,
-        slots,
-    }
 }
 
 // Reads a job file, in one sequence or mixed, into the lent sizes, SZs and forecast. Refusals: 9, then record by record, 17 where one
@@ -637,15 +612,31 @@ pub fn read_job(
     let Ending::Whole(j) = end else {
         return JobRead::Refused(refusal_at(end));
     };
-    hand_over(
-        file,
-        j,
-        &layer_table,
-        &slot_table,
-        sizes,
-        size_chunks,
-        size_layers,
-        size_bytes,
-        forecast,
-    )
+    let layers = j.layers;
+    let overrides = j.overrides;
+    let slots = j.slots;
+    let from = j.ends - 9 * overrides;
+    let room = room_refusal(
+        layers,
+        overrides,
+        slots,
+        sizes.len(),
+        size_chunks.len(),
+        size_layers.len(),
+        size_bytes.len(),
+        forecast.len(),
+    );
+    if room != 0 {
+        return JobRead::Refused(room);
+    }
+    copy(&layer_table, sizes, layers);
+    gather(file, from, overrides, size_chunks, size_layers, size_bytes);
+    copy(&slot_table, forecast, slots);
+    let programme = j.programme;
+    JobRead::Job {
+        programme,
+        layers,
+        overrides,
+        slots,
+    }
 }

@@ -1,57 +1,70 @@
--- Lemmas. What stands in front of some bytes, by its mark, as the record reader answers it. Assumes nothing.
-use Prim.Native.Nat.{ℕ, _-_, _≤_, _<_}
-use mathlib.Core.Path.{_≡_, refl, sym, _∙_}
+-- Lemmas. What the record reader answers at a place of a file, by the mark that stands there. Assumes nothing.
+use Prim.Native.Nat.{ℕ, _+_, _-_, _≤_, _<_}
+use mathlib.Core.Path.{_≡_, sym, ap, _∙_}
 use mathlib.Core.Bool.{Bool, true, false}
 use mathlib.Core.List.{List}
 use native.Mathlib.Omega.{arith}
-use lib.ListN.{length, getD, take, drop, length-drop, drop-of-length-le}
+use lib.ListN.{length, getD, take, drop, length-drop}
 use lib.Seq.{take-all}
 use lib.Dec.{leb}
 use borrow.Author.Tests.{le-leb, lt-leb}
 use Rattle.records.specs.Fields.{hAt, wAt, marked}
-use Rattle.planfile.specs.Records.{kp, ft, en, whole, front, readOf, readAt}
-use Rattle.planfile.specs.lemmas.Scan.{readWhole}
-use Rattle.planfile.specs.declared.Record.{Record}
+use Rattle.planfile.specs.Records.{kp, ft, en, front, readAt}
 use Rattle.planfile.specs.declared.Record.the-variants.{Kp, Ft, En}
-use Rattle.planfile.specs.declared.Read.the-variants.{Refused}
+use Rattle.planfile.specs.declared.Read.the-variants.{Got, Refused}
 
 -- What a test on a call's result says of what the call ensures.
 pub known : {r x b : Bool} → r ≡ x → r ≡ b → x ≡ b
 known e t = sym e ∙ t
 
--- Past the end nothing is left.
-pub past-end : (s : List ℕ) (at : ℕ) → length s < at → Refused 1 ≡ readAt s at
-unfolding front
-past-end s at l = rw (drop-of-length-le s {i = at} (omega arith))
+module _ (file : List ℕ) (at : ℕ) where
+  -- The bytes from a place on, and how many.
+  abbrev rest : List ℕ
+  rest = take (length file - at) (drop at file)
 
--- The part of a file from a place on.
-pub from-here : (s : List ℕ) (at : ℕ) → take (length s - at) (drop at s) ≡ drop at s
-from-here s at = take-all (length s - at) (drop at s) (omega (arith, length-drop at s))
+  abbrev left : ℕ
+  left = length rest
 
-module _ (s : List ℕ) (at : ℕ) where
-  pub no-mark : length s < 2 → Refused 1 ≡ readOf at (front s)
+  rest-is : rest ≡ drop at file
+  rest-is = take-all (length file - at) (drop at file) (omega (arith, length-drop at file))
+
+  there : (n : ℕ) → n ≤ left → leb n (length (drop at file)) ≡ true
+  there n l = rw rest-is at (le-leb n left l)
+
+  cut : (n : ℕ) → left < n → leb n (length (drop at file)) ≡ false
+  cut n l = rw rest-is at (lt-leb n left l)
+
+  pub no-mark : left < 2 → Refused 1 ≡ readAt file at
   unfolding front
-  no-mark l = rw (lt-leb 2 (length s) l)
+  no-mark l = rw (cut 2 l)
 
-  read-whole : (n : ℕ) (r : Record) (b : Bool) → leb n (length s) ≡ b → readWhole (length s) n r at ≡ readOf at (whole s n r)
-  read-whole n r true e = rw e
-  read-whole n r false e = rw e
+  -- Past the end.
+  pub past-end : length file < at → Refused 1 ≡ readAt file at
+  past-end l = no-mark (omega (arith, ap length rest-is, length-drop at file))
 
-  module _ (l : 2 ≤ length s) where
-    pub kp-read : marked kp s ≡ true → (chunk marks : ℕ) → chunk ≡ hAt s 2 → marks ≡ getD s 4 0 → readWhole (length s) 5 (Kp chunk marks) at ≡ readOf at (front s)
+  module _ (l : 2 ≤ left) where
+    pub kp-cut : marked kp rest ≡ true → left < 5 → Refused 1 ≡ readAt file at
     unfolding front
-    kp-read k chunk marks a b = rw (le-leb 2 (length s) l, k, a, b) (read-whole 5 (Kp (hAt s 2) (getD s 4 0)) (leb 5 (length s)) refl)
+    kp-cut k c = rw (there 2 l, rw rest-is at k, cut 5 c)
 
-    module _ (k : marked kp s ≡ false) where
-      pub ft-read : marked ft s ≡ true → (slot chunk layer bytes : ℕ) → slot ≡ hAt s 2 → chunk ≡ hAt s 4 → layer ≡ getD s 6 0 → bytes ≡ wAt s 7 → readWhole (length s) 11 (Ft slot chunk layer bytes) at ≡ readOf at (front s)
+    pub kp-got : marked kp rest ≡ true → 5 ≤ left → (chunk marks : ℕ) → chunk ≡ hAt rest 2 → marks ≡ getD rest 4 0 → Got (Kp chunk marks) (at + 5) ≡ readAt file at
+    unfolding front
+    kp-got k e chunk marks a b = rw (there 2 l, rw rest-is at k, there 5 e, rw rest-is at a, rw rest-is at b)
+
+    module _ (k : marked kp rest ≡ false) where
+      pub ft-cut : marked ft rest ≡ true → left < 11 → Refused 1 ≡ readAt file at
       unfolding front
-      ft-read f slot chunk layer bytes a b c d = rw (le-leb 2 (length s) l, k, f, a, b, c, d) (read-whole 11 (Ft (hAt s 2) (hAt s 4) (getD s 6 0) (wAt s 7)) (leb 11 (length s)) refl)
+      ft-cut f c = rw (there 2 l, rw rest-is at k, rw rest-is at f, cut 11 c)
 
-      module _ (f : marked ft s ≡ false) where
-        pub en-read : marked en s ≡ true → readWhole (length s) 2 En at ≡ readOf at (front s)
-        unfolding front
-        en-read e = rw (le-leb 2 (length s) l, k, f, e)
+      pub ft-got : marked ft rest ≡ true → 11 ≤ left → (slot chunk layer bytes : ℕ) → slot ≡ hAt rest 2 → chunk ≡ hAt rest 4 → layer ≡ getD rest 6 0 → bytes ≡ wAt rest 7 → Got (Ft slot chunk layer bytes) (at + 11) ≡ readAt file at
+      unfolding front
+      ft-got f e slot chunk layer bytes a b c d = rw (there 2 l, rw rest-is at k, rw rest-is at f, there 11 e, rw rest-is at a, rw rest-is at b, rw rest-is at c, rw rest-is at d)
 
-        pub unknown-read : marked en s ≡ false → Refused 2 ≡ readOf at (front s)
+      module _ (f : marked ft rest ≡ false) where
+        pub en-got : marked en rest ≡ true → Got En (at + 2) ≡ readAt file at
         unfolding front
-        unknown-read e = rw (le-leb 2 (length s) l, k, f, e)
+        en-got e = rw (there 2 l, rw rest-is at k, rw rest-is at f, rw rest-is at e)
+
+        pub unknown : marked en rest ≡ false → Refused 2 ≡ readAt file at
+        unfolding front
+        unknown e = rw (there 2 l, rw rest-is at k, rw rest-is at f, rw rest-is at e)

@@ -1,7 +1,7 @@
 -- What the plan reader hands over, by where it stops: the job's refusal, the file's, 11, or the plan. Assumes nothing.
 use Prim.Native.Nat.{ℕ, _+_, _*_, _≤_}
 use mathlib.Core.Path.{_≡_, sym, ap, _∙_}
-use mathlib.Core.Bool.{true, false}
+use mathlib.Core.Bool.{Bool, true, false}
 use mathlib.Core.List.{List, _++_, map}
 use mathlib.Core.Logic.{⊎-elim}
 use native.Mathlib.Omega.{arith}
@@ -12,13 +12,13 @@ use Rattle.basics.specs.lemmas.Tests.{test, not-T-false, T-true, true-T, tests}
 use Rattle.basics.specs.Lists.{upTo}
 use Rattle.basics.specs.lemmas.Lists.{length-upTo}
 use Rattle.basics.specs.Refusals.{unless, _orElse_}
-use Rattle.basics.specs.lemmas.Refusals.{orElse-some, orElse-none}
+use Rattle.basics.specs.lemmas.Refusals.{orElse-some}
 use Rattle.records.specs.File.{fileRefusal}
 use Rattle.job.specs.Job.{chunks}
 use Rattle.job.specs.Handed.{HandedJob, jobIn, jobRefusal}
 use Rattle.fetch.specs.Rows.{Row}
 use Rattle.planfile.specs.PlanFile.{format, planIn}
-use Rattle.planfile.specs.Calls.{Slices, slicesOf, room, readInput, readRefusal, readAnswer, readLent}
+use Rattle.planfile.specs.Calls.{Slices, slicesOf, room, readRefusal, readAnswer, readLent}
 use Rattle.planfile.specs.lemmas.Scan.{answerOf, markOn, rowOn, Laid, Done, filled}
 use Rattle.planfile.specs.lemmas.Writing.{map-upTo}
 use Rattle.planfile.specs.declared.PlanRead.{PlanRead}
@@ -70,70 +70,66 @@ pub record MayCopy (count rows : ℕ) (file : List ℕ) (lent : Slices) : Type 0
 abbrev pub HandsOver : HandedJob → List ℕ → Slices → PlanRead → Slices → Type 0
 HandsOver h file lent a after = (a ≡ readAnswer h file lent) × (after ≡ readLent h file lent)
 
--- ---- the input
-
-module _ (h : HandedJob) (file : List ℕ) (r : ℕ) (e : r ≡ jobRefusal h) where
-  pub job-refused : (r ≡ 0 → ⊥) → Done (chunks (jobIn h)) file (readInput h file) (Refused r)
-  unfolding readInput
-  job-refused n =
-      let is : readInput h file ≡ r = rw (← e) (orElse-some r (fileRefusal (format (chunks (jobIn h))) file) n) in
-      record { answer = rw (is, ne-eqb r 0 n); laid = λ z. absurd (n (sym is ∙ z)) }
-
-  pub job-accepted : r ≡ 0 → (a : PlanRead) → Done (chunks (jobIn h)) file (fileRefusal (format (chunks (jobIn h))) file) a → Done (chunks (jobIn h)) file (readInput h file) a
-  unfolding readInput
-  job-accepted z a d = rw (orElse-none (jobRefusal h) (fileRefusal (format (chunks (jobIn h))) file) (sym e ∙ z)) d
-
--- ---- the lent slices
-
-module _ (h : HandedJob) (file : List ℕ) (lent : Slices) (a : PlanRead) (d : Done (chunks (jobIn h)) file (readInput h file) a) where
+module _ (h : HandedJob) (file : List ℕ) (lent : Slices) (r : ℕ) (e : r ≡ jobRefusal h) where
   abbrev count : ℕ
   count = chunks (jobIn h)
 
-  refuses : (r : ℕ) → (r ≡ 0 → ⊥) → readRefusal h file lent ≡ r → HandsOver h file lent (Refused r) lent
-  refuses r n e = (rw (e, ne-eqb r 0 n), rw (e, ne-eqb r 0 n))
+  refuses : (n : ℕ) → (n ≡ 0 → ⊥) → readRefusal h file lent ≡ n → HandsOver h file lent (Refused n) lent
+  refuses n p q = (rw (q, ne-eqb n 0 p), rw (q, ne-eqb n 0 p))
 
-  pub input-refused : (n : ℕ) → a ≡ Refused n → HandsOver h file lent a lent
+  pub job-refused : (r ≡ 0 → ⊥) → HandsOver h file lent (Refused r) lent
   unfolding readRefusal
-  input-refused n q =
-      let u = answer-refused (readInput h file) (length (planIn count file .rows)) n (sym q ∙ d .answer) in
-      rw q (refuses n (λ w. u .1 (u .0 ∙ w)) (orElse-some (readInput h file) (unless 11 (room lent count (length (planIn count file .rows)))) (u .1) ∙ u .0))
+  job-refused n = refuses r n (rw (← e) (orElse-some r (fileRefusal (format count) file orElse unless 11 (room lent count (length (planIn count file .rows)))) n))
 
-  module _ (n : ℕ) (q : a ≡ Rows n) where
-    accepted : (readInput h file ≡ 0) × (n ≡ length (planIn count file .rows))
-    accepted = answer-rows (readInput h file) (length (planIn count file .rows)) n (sym q ∙ d .answer)
-
-    only-room : readRefusal h file lent ≡ unless 11 (room lent count n)
+  module _ (z : r ≡ 0) (a : PlanRead) (d : Done count file (fileRefusal (format count) file) a) where
+    from-file : readRefusal h file lent ≡ fileRefusal (format count) file orElse unless 11 (room lent count (length (planIn count file .rows)))
     unfolding readRefusal
-    only-room = rw (accepted .0, ← accepted .1)
+    from-file = rw (← e, z)
 
-    laid : Laid count file
-    laid = d .laid (accepted .0)
+    pub file-refused : (n : ℕ) → a ≡ Refused n → HandsOver h file lent a lent
+    file-refused n q =
+        let f = fileRefusal (format count) file in
+        let u = answer-refused f (length (planIn count file .rows)) n (sym q ∙ d .answer) in
+        rw q (refuses n (λ w. u .1 (u .0 ∙ w)) (from-file ∙ orElse-some f (unless 11 (room lent count (length (planIn count file .rows)))) (u .1) ∙ u .0))
 
-    pub may-copy : room lent count n ≡ true → MayCopy count n file lent
-    may-copy e =
-        let t = simp tests at (true-T (room lent count n) e) in
-        record {
-          for-marks = t .0;
-          for-slots = t .1 .0;
-          for-chunks = t .1 .1 .0;
-          for-layers = t .1 .1 .1 .0;
-          for-bytes = t .1 .1 .1 .1;
-          inside = rw (accepted .1) (laid .inside);
-        }
+    module _ (n : ℕ) (q : a ≡ Rows n) where
+      accepted : (fileRefusal (format count) file ≡ 0) × (n ≡ length (planIn count file .rows))
+      accepted = answer-rows (fileRefusal (format count) file) (length (planIn count file .rows)) n (sym q ∙ d .answer)
 
-    pub short : room lent count n ≡ false → HandsOver h file lent (Refused 11) lent
-    short t = refuses 11 (λ w. omega arith) (only-room ∙ rw t)
+      only-room : readRefusal h file lent ≡ unless 11 (room lent count n)
+      only-room = from-file ∙ rw (accepted .0, ← accepted .1)
 
-    pub whole : room lent count n ≡ true → HandsOver h file lent (Rows n) (filledAll count file n lent)
-    whole t =
-        let e : readRefusal h file lent ≡ 0 = only-room ∙ rw t in
-        let plan = planIn count file in
-        let rows : plan .rows ≡ upTo (rowOn file count) n = rw (accepted .1) (laid .rows-are) in (
-          rw (e, ← accepted .1),
-          rw e (same-slices
-              (over (markOn file) count (plan .marks) (lent .marks) (laid .marks-are))
-              (over (λ i. rowOn file count i .slot) n (map (λ x. x .slot) (plan .rows)) (lent .slots) (ap (map (λ (x : Row). x .slot)) rows ∙ map-upTo (λ x. x .slot) (rowOn file count) n))
-              (over (λ i. rowOn file count i .chunk) n (map (λ x. x .chunk) (plan .rows)) (lent .chunks) (ap (map (λ (x : Row). x .chunk)) rows ∙ map-upTo (λ x. x .chunk) (rowOn file count) n))
-              (over (λ i. rowOn file count i .layer) n (map (λ x. x .layer) (plan .rows)) (lent .layers) (ap (map (λ (x : Row). x .layer)) rows ∙ map-upTo (λ x. x .layer) (rowOn file count) n))
-              (over (λ i. rowOn file count i .bytes) n (map (λ x. x .bytes) (plan .rows)) (lent .bytes) (ap (map (λ (x : Row). x .bytes)) rows ∙ map-upTo (λ x. x .bytes) (rowOn file count) n))),
-        )
+      laid : Laid count file
+      laid = d .laid (accepted .0)
+
+      -- by the test for room
+      module _ (b : Bool) (s : b ≡ room lent count n) where
+        pub may-copy : b ≡ true → MayCopy count n file lent
+        may-copy t =
+            let u = simp tests at (true-T (room lent count n) (sym s ∙ t)) in
+            record {
+              for-marks = u .0;
+              for-slots = u .1 .0;
+              for-chunks = u .1 .1 .0;
+              for-layers = u .1 .1 .1 .0;
+              for-bytes = u .1 .1 .1 .1;
+              inside = rw (accepted .1) (laid .inside);
+            }
+
+        pub short : b ≡ false → HandsOver h file lent (Refused 11) lent
+        short t = refuses 11 (λ w. omega arith) (only-room ∙ rw (sym s ∙ t))
+
+        pub whole : b ≡ true → (after : Slices) → after ≡ filledAll count file n lent → HandsOver h file lent (Rows n) after
+        whole t after filled-is =
+            let none : readRefusal h file lent ≡ 0 = only-room ∙ rw (sym s ∙ t) in
+            let plan = planIn count file in
+            let rows : plan .rows ≡ upTo (rowOn file count) n = rw (accepted .1) (laid .rows-are) in (
+              rw (none, ← accepted .1),
+              filled-is
+                  ∙ rw none (same-slices
+                  (over (markOn file) count (plan .marks) (lent .marks) (laid .marks-are))
+                  (over (λ i. rowOn file count i .slot) n (map (λ x. x .slot) (plan .rows)) (lent .slots) (ap (map (λ (x : Row). x .slot)) rows ∙ map-upTo (λ x. x .slot) (rowOn file count) n))
+                  (over (λ i. rowOn file count i .chunk) n (map (λ x. x .chunk) (plan .rows)) (lent .chunks) (ap (map (λ (x : Row). x .chunk)) rows ∙ map-upTo (λ x. x .chunk) (rowOn file count) n))
+                  (over (λ i. rowOn file count i .layer) n (map (λ x. x .layer) (plan .rows)) (lent .layers) (ap (map (λ (x : Row). x .layer)) rows ∙ map-upTo (λ x. x .layer) (rowOn file count) n))
+                  (over (λ i. rowOn file count i .bytes) n (map (λ x. x .bytes) (plan .rows)) (lent .bytes) (ap (map (λ (x : Row). x .bytes)) rows ∙ map-upTo (λ x. x .bytes) (rowOn file count) n))),
+            )

@@ -4,12 +4,12 @@ use mathlib.Core.Path.{_≡_, sym, ap, _∙_}
 use mathlib.Core.List.{List, _++_, map}
 use native.Mathlib.Omega.{arith}
 use lib.ListN.{length, drop, length-append}
-use lib.Dec.{leb, leb→le}
+use lib.Dec.{leb}
 use borrow.Author.Tests.{ne-eqb, le-leb, lt-leb}
 use Rattle.basics.specs.lemmas.Lists.{length-upTo}
 use Rattle.basics.specs.Lent.{lentAfter}
 use Rattle.basics.specs.Refusals.{unless, _orElse_}
-use Rattle.basics.specs.lemmas.Refusals.{unless-iff, orElse-iff, orElse-some, orElse-none}
+use Rattle.basics.specs.lemmas.Refusals.{orElse-some, orElse-none}
 use Rattle.records.specs.Fields.{written}
 use Rattle.job.specs.Job.{chunks}
 use Rattle.job.specs.Handed.{HandedJob, jobIn, jobRefusal}
@@ -17,7 +17,7 @@ use Rattle.fetch.specs.Rows.{rowAt, rowsOf}
 use Rattle.fetch.specs.Handed.{Whole, handedRefusal, handed-iff}
 use Rattle.planfile.specs.Records.{en}
 use Rattle.planfile.specs.PlanFile.{kps, ftOf, fileOf}
-use Rattle.planfile.specs.Calls.{Slices, planOf, rowsRefusal, writeRest, writeRefusal, writtenBy}
+use Rattle.planfile.specs.Calls.{Slices, planOf, writeRest, writeRefusal, writtenBy}
 use Rattle.planfile.specs.lemmas.Writing.{bytesOf, file-parts, length-file, length-kps, length-fts, two-puts}
 use Rattle.records.specs.lemmas.Puts.{written-whole}
 use Rattle.planfile.specs.declared.Written.{Written}
@@ -30,11 +30,6 @@ sizeOf s = 5 * length (s .marks) + 11 * length (s .slots) + 2
 length-planOf : (s : Slices) → length (fileOf (planOf s)) ≡ sizeOf s
 length-planOf s = omega (arith, length-file (planOf s), length-upTo (rowAt (s .slots) (s .chunks) (s .layers) (s .bytes)) (length (s .slots)))
 
--- 8 and 9 as the code finds them.
-pub rows-refused : (count : ℕ) (s : Slices) → (handedRefusal count (s .marks) (s .slots) (s .chunks) (s .layers) (s .bytes) orElse unless 9 (leb (sizeOf s) 65536)) ≡ rowsRefusal count s
-unfolding rowsRefusal
-rows-refused count s = rw (length-planOf s)
-
 -- The answer and the buffer afterwards, by the refusal.
 abbrev pub Writes : ℕ → Slices → List ℕ → Written → List ℕ → Type 0
 Writes refused s out a after = (a ≡ writtenBy refused s) × (after ≡ lentAfter refused (fileOf (planOf s)) out)
@@ -44,35 +39,32 @@ refuses s out refused r n e = (rw (e, ne-eqb r 0 n), rw (e, ne-eqb r 0 n))
 
 -- ---- for so many chunks
 
-module _ (count : ℕ) (s : Slices) (out : List ℕ) (r : ℕ) (e : r ≡ rowsRefusal count s) where
+module _ (count : ℕ) (s : Slices) (out : List ℕ) (r : ℕ) (e : r ≡ handedRefusal count (s .marks) (s .slots) (s .chunks) (s .layers) (s .bytes)) where
   abbrev refused : ℕ
   refused = writeRest count s out
 
-  in-two : refused ≡ (r orElse unless 11 (leb (sizeOf s) (length out)))
+  in-three : refused ≡ (r orElse unless 9 (leb (sizeOf s) 65536) orElse unless 11 (leb (sizeOf s) (length out)))
   unfolding writeRest
-  in-two = rw (length-planOf s, e)
+  in-three = rw (length-planOf s, e)
 
-  pub input-refused : (r ≡ 0 → ⊥) → Writes refused s out (Refused r) out
-  input-refused n = refuses s out refused r n (in-two ∙ orElse-some r (unless 11 (leb (sizeOf s) (length out))) n)
+  pub not-whole : (r ≡ 0 → ⊥) → Writes refused s out (Refused r) out
+  not-whole n = refuses s out refused r n (in-three ∙ orElse-some r (unless 9 (leb (sizeOf s) 65536) orElse unless 11 (leb (sizeOf s) (length out))) n)
 
   module _ (z : r ≡ 0) where
-    parts : (handedRefusal count (s .marks) (s .slots) (s .chunks) (s .layers) (s .bytes) ≡ 0) × (unless 9 (leb (sizeOf s) 65536) ≡ 0)
-    parts = orElse-iff (handedRefusal count (s .marks) (s .slots) (s .chunks) (s .layers) (s .bytes)) (unless 9 (leb (sizeOf s) 65536)) .0 (rows-refused count s ∙ sym e ∙ z)
-
     pub whole-rows : Whole count (s .marks) (s .slots) (s .chunks) (s .layers) (s .bytes)
-    whole-rows = handed-iff count (s .marks) (s .slots) (s .chunks) (s .layers) (s .bytes) .0 (parts .0)
+    whole-rows = handed-iff count (s .marks) (s .slots) (s .chunks) (s .layers) (s .bytes) .0 (sym e ∙ z)
 
-    pub in-file : sizeOf s ≤ 65536
-    in-file = leb→le (sizeOf s) 65536 (unless-iff 9 (leb (sizeOf s) 65536) (omega arith) .0 (parts .1))
+    pub too-large : 65536 < sizeOf s → Writes refused s out (Refused 9) out
+    too-large l = refuses s out refused 9 (λ w. omega arith) (in-three ∙ rw (z, lt-leb (sizeOf s) 65536 l))
 
-    only-room : refused ≡ unless 11 (leb (sizeOf s) (length out))
-    only-room = in-two ∙ rw z
+    only-room : sizeOf s ≤ 65536 → refused ≡ unless 11 (leb (sizeOf s) (length out))
+    only-room l = in-three ∙ rw (z, le-leb (sizeOf s) 65536 l)
 
-    pub short : length out < sizeOf s → Writes refused s out (Refused 11) out
-    short l = refuses s out refused 11 (λ w. omega arith) (only-room ∙ rw (lt-leb (sizeOf s) (length out) l))
+    pub short : sizeOf s ≤ 65536 → length out < sizeOf s → Writes refused s out (Refused 11) out
+    short f l = refuses s out refused 11 (λ w. omega arith) (only-room f ∙ rw (lt-leb (sizeOf s) (length out) l))
 
-    pub wrote : sizeOf s ≤ length out → (a b c : List ℕ) → a ≡ written out 0 (bytesOf (kps (s .marks))) → b ≡ written a (5 * length (s .marks)) (bytesOf (map ftOf (rowsOf (s .slots) (s .chunks) (s .layers) (s .bytes)))) → c ≡ written b (5 * length (s .marks) + 11 * length (s .slots)) en → Writes refused s out (Bytes (sizeOf s)) c
-    wrote l a b c p q t =
+    pub wrote : sizeOf s ≤ 65536 → sizeOf s ≤ length out → (a b c : List ℕ) → a ≡ written out 0 (bytesOf (kps (s .marks))) → b ≡ written a (5 * length (s .marks)) (bytesOf (map ftOf (rowsOf (s .slots) (s .chunks) (s .layers) (s .bytes)))) → c ≡ written b (5 * length (s .marks) + 11 * length (s .slots)) en → Writes refused s out (Bytes (sizeOf s)) c
+    wrote m l a b c p q t =
         let k = bytesOf (kps (s .marks)) in
         let f = bytesOf (map ftOf (planOf s .rows)) in
         let file = fileOf (planOf s) in
@@ -83,7 +75,7 @@ module _ (count : ℕ) (s : Slices) (out : List ℕ) (r : ℕ) (e : r ≡ rowsRe
         let both : b ≡ written out 0 (k ++ f) = two-puts out 0 k f p (q ∙ ap (λ (n : ℕ). written a n f) first) (omega (arith, length-append k f)) in
         let all : c ≡ written out 0 ((k ++ f) ++ en) = two-puts out 0 (k ++ f) en both (t ∙ ap (λ (n : ℕ). written b n en) then) (omega arith) in
         let after : c ≡ file ++ drop (length file) out = all ∙ ap (written out 0) (sym (file-parts (planOf s))) ∙ written-whole out file (omega (arith, size)) in
-        let none : refused ≡ 0 = only-room ∙ rw (le-leb (sizeOf s) (length out) l) in
+        let none : refused ≡ 0 = only-room m ∙ rw (le-leb (sizeOf s) (length out) l) in
         (rw (none, size), rw none after)
 
 -- ---- for a handed job

@@ -37,13 +37,12 @@ abbrev pub room : Slices → ℕ → ℕ → Bool
 room lent marks rows =
     leb marks (length (lent .marks)) && (leb rows (length (lent .slots)) && (leb rows (length (lent .chunks)) && (leb rows (length (lent .layers)) && leb rows (length (lent .bytes)))))
 
--- The handed job's 5, 6, 18, 7 before its file's refusal.
-unfoldable pub readInput : HandedJob → List ℕ → ℕ
-readInput h file = jobRefusal h orElse fileRefusal (format (chunks (jobIn h))) file
-
--- The refusals that come from the input, then 11.
+-- The handed job's 5, 6, 18, 7, then the file's refusal, then 11.
 unfoldable pub readRefusal : HandedJob → List ℕ → Slices → ℕ
-readRefusal h file lent = readInput h file orElse unless 11 (room lent (chunks (jobIn h)) (length (planIn (chunks (jobIn h)) file .rows)))
+readRefusal h file lent =
+    jobRefusal h
+    orElse fileRefusal (format (chunks (jobIn h))) file
+    orElse unless 11 (room lent (chunks (jobIn h)) (length (planIn (chunks (jobIn h)) file .rows)))
 
 -- The number of rows, or the refusal.
 abbrev pub readAnswer : HandedJob → List ℕ → Slices → PlanRead
@@ -69,15 +68,12 @@ readLent h file lent =
 abbrev pub planOf : Slices → Plan
 planOf s = record { marks = s .marks; rows = rowsOf (s .slots) (s .chunks) (s .layers) (s .bytes) }
 
--- 8, then 9 for a file above 65,536 bytes.
-unfoldable pub rowsRefusal : ℕ → Slices → ℕ
-rowsRefusal count s =
+-- After the job's: 8, then 9 for a file above 65,536 bytes, then 11.
+unfoldable pub writeRest : ℕ → Slices → List ℕ → ℕ
+writeRest count s out =
     handedRefusal count (s .marks) (s .slots) (s .chunks) (s .layers) (s .bytes)
     orElse unless 9 (leb (length (fileOf (planOf s))) 65536)
-
--- After the job's: 8, 9, then 11.
-unfoldable pub writeRest : ℕ → Slices → List ℕ → ℕ
-writeRest count s out = rowsRefusal count s orElse unless 11 (leb (length (fileOf (planOf s))) (length out))
+    orElse unless 11 (leb (length (fileOf (planOf s))) (length out))
 
 -- The handed job's 5, 6, 18, 7 before them.
 unfoldable pub writeRefusal : HandedJob → Slices → List ℕ → ℕ

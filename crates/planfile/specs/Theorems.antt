@@ -14,7 +14,7 @@ use Rattle.job.specs.Handed.{HandedJob, jobIn, jobRefusal}
 use Rattle.fetch.specs.Rows.{rowAt}
 use Rattle.fetch.specs.Handed.{Whole, handed-iff}
 use Rattle.planfile.specs.PlanFile.{format, Plan, InWidth, InOrder, planIn, fileOf}
-use Rattle.planfile.specs.Calls.{Slices, slicesOf, room, readRefusal, readAnswer, readLent, planOf, rowsRefusal, writeRest, writeRefusal}
+use Rattle.planfile.specs.Calls.{Slices, slicesOf, room, readRefusal, readAnswer, readLent, planOf, writeRest, writeRefusal}
 use Rattle.planfile.specs.lemmas.Writing.{length-file}
 use Rattle.planfile.specs.lemmas.Back.{file-accepted, file-says, accepts, field, not-short, nine-by-size}
 use Rattle.planfile.specs.lemmas.Order.{in-order-accepted, accepted-in-order, none-or-eight}
@@ -73,7 +73,7 @@ accepted-iff-in-order count file l e = (in-order-accepted count file l e, accept
 
 -- 9 exactly if 5 bytes a chunk, 11 a row and 2 for EN are more than 65,536, after 5 to 8.
 pub nine-iff : (h : HandedJob) (s : Slices) (out : List ℕ) → jobRefusal h ≡ 0 → Whole (chunks (jobIn h)) (s .marks) (s .slots) (s .chunks) (s .layers) (s .bytes) → (writeRefusal h s out ≡ 9) ↔ (65536 < 5 * chunks (jobIn h) + 11 * length (s .slots) + 2)
-unfolding writeRefusal writeRest rowsRefusal
+unfolding writeRefusal writeRest
 nine-iff h s out z w =
     let handed = handed-iff (chunks (jobIn h)) (s .marks) (s .slots) (s .chunks) (s .layers) (s .bytes) .1 w in
     let long : length (fileOf (planOf s)) ≡ 5 * chunks (jobIn h) + 11 * length (s .slots) + 2 = omega (arith, length-file (planOf s), length-upTo (rowAt (s .slots) (s .chunks) (s .layers) (s .bytes)) (length (s .slots)), w .byte-each) in

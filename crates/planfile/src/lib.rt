@@ -6,16 +6,15 @@ ghost use Prim.Native.Nat.{_+_, _*_, _≤_, _<_};
 ghost use lib.ListN.{length};
 ghost use lib.Dec.{leb};
 ghost use Rattle.job.specs.Handed.{handed};
-ghost use Rattle.records.specs.File.{recordsRefusal, fileRefusal};
-ghost use Rattle.basics.specs.Refusals.{unless};
+ghost use Rattle.records.specs.File.{fileRefusal};
 ghost use Rattle.basics.specs.Lent.{lentAfter};
 ghost use Rattle.records.specs.Fields.{written};
 ghost use Rattle.fetch.specs.Rows.{rowsOf};
-ghost use Rattle.planfile.specs.Records.{encode, front, readOf, readAt};
+ghost use Rattle.planfile.specs.Records.{encode, readAt};
 ghost use Rattle.planfile.specs.PlanFile.{format, kps, ftOf, fileOf};
-ghost use Rattle.planfile.specs.Calls.{slicesOf, readInput, readAnswer, readLent, planOf, rowsRefusal, writeRest, writtenBy, writeAnswer, writeLent};
+ghost use Rattle.planfile.specs.Calls.{slicesOf, readAnswer, readLent, planOf, writeRest, writtenBy, writeAnswer, writeLent};
 ghost use Rattle.planfile.specs.lemmas.Writing.{bytesOf};
-ghost use Rattle.planfile.specs.lemmas.Scan.{readWhole, refusalOf, endOf, inTurn, answerOf, turnOf, Done, markOn, rowOn, filled};
+ghost use Rattle.planfile.specs.lemmas.Scan.{refusalOf, inTurn, Done, markOn, rowOn, filled};
 use job::Programme;
 
 // A record without its mark.
@@ -51,63 +50,48 @@ pub enum Written {
     Refused(u8),
 }
 
-// What a turn makes of a record: the next place with the KPs and FTs taken so far, or the end.
-enum Turn {
-    More(usize, u16, usize),
-    End(PlanRead),
-}
-
-// The record of n bytes, where so many are left from at.
-fn whole(left: usize, n: usize, record: Record, at: usize) -> Read
-    requires { ⌜ at + left < 18446744073709551616 ⌝ }
-    ensures { λ r. ⌜ r ≡ readWhole left n «record» at ⌝ }
-{
-    if left < n {
-        return Read::Refused(1);
-    }
-    let next = at + n;
-    Read::Got(record, next)
-}
-
-// The record in front of the bytes that start at a place: 1 where they end before its mark or within it, 2 for an unknown mark.
-fn record_in(rest: &[u8], at: usize) -> Read
-    requires { ⌜ at + length (now rest) < 18446744073709551616 ⌝ }
-    ensures { λ r. ⌜ r ≡ readOf at (front (now (rest .entry))) ⌝ }
-{
-    let left = rest.len();
-    if left < 2 {
-        return Read::Refused(1);
-    }
-    if records::is_mark(rest, 0, b"KP") {
-        let kp = Record::Kp {
-            chunk: records::h_at(rest, 2),
-            marks: records::byte_at(rest, 4),
-        };
-        return whole(left, 5, kp, at);
-    }
-    if records::is_mark(rest, 0, b"FT") {
-        let ft = Record::Ft {
-            slot: records::h_at(rest, 2),
-            chunk: records::h_at(rest, 4),
-            layer: records::byte_at(rest, 6),
-            bytes: records::w_at(rest, 7),
-        };
-        return whole(left, 11, ft, at);
-    }
-    if records::is_mark(rest, 0, b"EN") {
-        return whole(left, 2, Record::En, at);
-    }
-    Read::Refused(2)
-}
-
-// The record at a place.
+// The record at a place: 1 where the file ends before its mark or within it, 2 for an unknown mark.
 fn record_at(file: &[u8], at: usize) -> Read
     ensures { λ r. ⌜ r ≡ readAt (now (file .entry)) at ⌝ }
 {
     if file.len() < at {
         return Read::Refused(1);
     }
-    record_in(&file[at..], at)
+    let rest = &file[at..];
+    let left = rest.len();
+    if left < 2 {
+        return Read::Refused(1);
+    }
+    if records::is_mark(rest, 0, b"KP") {
+        if left < 5 {
+            return Read::Refused(1);
+        }
+        let chunk = records::h_at(rest, 2);
+        let marks = records::byte_at(rest, 4);
+        return Read::Got(Record::Kp { chunk, marks }, at + 5);
+    }
+    if records::is_mark(rest, 0, b"FT") {
+        if left < 11 {
+            return Read::Refused(1);
+        }
+        let slot = records::h_at(rest, 2);
+        let chunk = records::h_at(rest, 4);
+        let layer = records::byte_at(rest, 6);
+        let bytes = records::w_at(rest, 7);
+        return Read::Got(
+            Record::Ft {
+                slot,
+                chunk,
+                layer,
+                bytes,
+            },
+            at + 11,
+        );
+    }
+    if records::is_mark(rest, 0, b"EN") {
+        return Read::Got(Record::En, at + 2);
+    }
+    Read::Refused(2)
 }
 
 fn refusal_of(read: Read) -> u8
@@ -135,83 +119,50 @@ fn in_turn(count: u16, kept: u16, rows: usize, chunk: u16) -> bool
     rows == 0
 }
 
-fn answer(refused: u8, rows: usize) -> PlanRead
-    ensures { λ r. ⌜ r ≡ answerOf refused rows ⌝ }
-{
-    if refused == 0 {
-        return PlanRead::Rows(rows);
-    }
-    PlanRead::Refused(refused)
-}
-
-// One record taken, after so many KPs and FTs.
-fn one_turn(count: u16, file: &[u8], at: usize, kept: u16, rows: usize) -> Turn
-    requires { ⌜ 11 * rows ≤ length (now file) ⌝ }
-    ensures { λ r. ⌜ r ≡ turnOf count (now (file .entry)) at kept rows ⌝ }
-{
-    let read = record_at(file, at);
-    let Read::Got(record, next) = read else {
-        return Turn::End(PlanRead::Refused(refusal_of(read)));
-    };
-    match record {
-        Record::Kp { chunk, marks: _ } => {
-            if in_turn(count, kept, rows, chunk) {
-                return Turn::More(next, chunk, rows);
-            }
-            return Turn::End(PlanRead::Refused(8));
-        }
-        Record::Ft {
-            slot: _,
-            chunk: _,
-            layer: _,
-            bytes: _,
-        } => {
-            let more = rows + 1;
-            return Turn::More(next, kept, more);
-        }
-        Record::En => {
-            let after = job::refuse_unless(3, file.len() == next);
-            let lacking = job::refuse_unless(8, kept == count);
-            return Turn::End(answer(job::or_else(after, lacking), rows));
-        }
-    }
-}
-
-fn end_of(turn: Turn) -> PlanRead
-    ensures { λ r. ⌜ r ≡ endOf turn ⌝ }
-{
-    match turn {
-        Turn::End(a) => a,
-        Turn::More(_, _, _) => PlanRead::Refused(0),
-    }
-}
-
-// The records of a file, one a turn.
-fn all_turns(count: u16, file: &[u8]) -> PlanRead
-    ensures { λ r. ⌜ Done count (now (file .entry)) (recordsRefusal (format count) (now (file .entry))) r ⌝ }
-{
-    let mut at: usize = 0;
-    let mut kept: u16 = 0;
-    let mut rows: usize = 0;
-    loop {
-        let turn = one_turn(count, file, at, kept, rows);
-        let Turn::More(next, chunk, more) = turn else {
-            return end_of(turn);
-        };
-        at = next;
-        kept = chunk;
-        rows = more;
-    }
-}
-
-// The rows of a file, or its refusal.
+// The rows of a file, or its refusal: 9 first, then record by record.
 fn file_rows(count: u16, file: &[u8]) -> PlanRead
     ensures { λ r. ⌜ Done count (now (file .entry)) (fileRefusal (format count) (now (file .entry))) r ⌝ }
 {
     if 65536 < file.len() {
         return PlanRead::Refused(9);
     }
-    all_turns(count, file)
+    let mut at: usize = 0;
+    let mut kept: u16 = 0;
+    let mut rows: usize = 0;
+    loop {
+        let read = record_at(file, at);
+        let Read::Got(record, next) = read else {
+            return PlanRead::Refused(refusal_of(read));
+        };
+        match record {
+            Record::Kp { chunk, marks: _ } => {
+                if in_turn(count, kept, rows, chunk) {
+                    kept = chunk;
+                    at = next;
+                } else {
+                    return PlanRead::Refused(8);
+                }
+            }
+            Record::Ft {
+                slot: _,
+                chunk: _,
+                layer: _,
+                bytes: _,
+            } => {
+                rows = rows + 1;
+                at = next;
+            }
+            Record::En => {
+                if file.len() != next {
+                    return PlanRead::Refused(3);
+                }
+                if kept != count {
+                    return PlanRead::Refused(8);
+                }
+                return PlanRead::Rows(rows);
+            }
+        }
+    }
 }
 
 // Whether the lent slices hold the marks of count chunks and so many rows.
@@ -285,25 +236,6 @@ fn copy_rows(
     }
 }
 
-// The handed job's refusal, then its file's; else how many rows the file has.
-fn read_input(
-    p: Programme,
-    sizes: &[u32],
-    size_chunks: &[u16],
-    size_layers: &[u8],
-    size_bytes: &[u32],
-    forecast: &[u32],
-    file: &[u8],
-) -> PlanRead
-    ensures { λ r. ⌜ Done (p .chunks) (now (file .entry)) (readInput (handed p (now (sizes .entry)) (now («size_chunks» .entry)) (now («size_layers» .entry)) (now («size_bytes» .entry)) (now (forecast .entry))) (now (file .entry))) r ⌝ }
-{
-    let refused = job::refusal(p, sizes, size_chunks, size_layers, size_bytes, forecast);
-    if refused != 0 {
-        return PlanRead::Refused(refused);
-    }
-    file_rows(p.chunks, file)
-}
-
 // A plan file's marks and rows into the lent slices: how many rows, or the refusal.
 pub fn read_plan(
     p: Programme,
@@ -322,15 +254,11 @@ pub fn read_plan(
     ensures answer { λ r. ⌜ r ≡ readAnswer (handed p (now (sizes .entry)) (now («size_chunks» .entry)) (now («size_layers» .entry)) (now («size_bytes» .entry)) (now (forecast .entry))) (now (file .entry)) (slicesOf (now (marks .entry)) (now (slots .entry)) (now (chunks .entry)) (now (layers .entry)) (now (bytes .entry))) ⌝ }
     ensures lent { λ _. ⌜ slicesOf (now (marks .exit)) (now (slots .exit)) (now (chunks .exit)) (now (layers .exit)) (now (bytes .exit)) ≡ readLent (handed p (now (sizes .entry)) (now («size_chunks» .entry)) (now («size_layers» .entry)) (now («size_bytes» .entry)) (now (forecast .entry))) (now (file .entry)) (slicesOf (now (marks .entry)) (now (slots .entry)) (now (chunks .entry)) (now (layers .entry)) (now (bytes .entry))) ⌝ }
 {
-    let read = read_input(
-        p,
-        sizes,
-        size_chunks,
-        size_layers,
-        size_bytes,
-        forecast,
-        file,
-    );
+    let refused = job::refusal(p, sizes, size_chunks, size_layers, size_bytes, forecast);
+    if refused != 0 {
+        return PlanRead::Refused(refused);
+    }
+    let read = file_rows(p.chunks, file);
     let PlanRead::Rows(rows) = read else {
         return read;
     };
@@ -349,20 +277,6 @@ pub fn read_plan(
         return read;
     }
     PlanRead::Refused(11)
-}
-
-// 9: a file above 65,536 bytes. So many marks or rows are too many for any file, so the sum doesn't wrap.
-fn size_refusal(marks: usize, rows: usize) -> u8
-    ensures { λ r. ⌜ r ≡ unless 9 (leb (5 * marks + 11 * rows + 2) 65536) ⌝ }
-{
-    if 65535 < marks {
-        return 9;
-    }
-    if 65535 < rows {
-        return 9;
-    }
-    let size = 5 * marks + 11 * rows + 2;
-    job::refuse_unless(9, size <= 65536)
 }
 
 fn put_kp(out: &mut [u8], at: usize, chunk: u16, marks: u8)
@@ -422,23 +336,8 @@ fn put_fts(out: &mut [u8], from: usize, slots: &[u16], chunks: &[u16], layers: &
     }
 }
 
-// 8, then 9, of a plan to be written.
-fn rows_refusal(
-    count: u16,
-    marks: &[u8],
-    slots: &[u16],
-    chunks: &[u16],
-    layers: &[u8],
-    bytes: &[u32],
-) -> u8
-    ensures { λ r. ⌜ r ≡ rowsRefusal count (slicesOf (now (marks .entry)) (now (slots .entry)) (now (chunks .entry)) (now (layers .entry)) (now (bytes .entry))) ⌝ }
-{
-    let nine = size_refusal(marks.len(), slots.len());
-    let eight = fetch::handed_refusal(count, marks, slots, chunks, layers, bytes);
-    job::or_else(eight, nine)
-}
-
-// The file of a plan for a job with count chunks, into the lent buffer.
+// The file of a plan for a job with count chunks, into the lent buffer: 8, 9, then 11. So many rows are too many for any file, so that
+// its size doesn't wrap.
 fn write_file(
     count: u16,
     marks: &[u8],
@@ -451,13 +350,20 @@ fn write_file(
     ensures answer { λ r. ⌜ r ≡ writtenBy (writeRest count (slicesOf (now (marks .entry)) (now (slots .entry)) (now (chunks .entry)) (now (layers .entry)) (now (bytes .entry))) (now (out .entry))) (slicesOf (now (marks .entry)) (now (slots .entry)) (now (chunks .entry)) (now (layers .entry)) (now (bytes .entry))) ⌝ }
     ensures lent { λ _. ⌜ now (out .exit) ≡ lentAfter (writeRest count (slicesOf (now (marks .entry)) (now (slots .entry)) (now (chunks .entry)) (now (layers .entry)) (now (bytes .entry))) (now (out .entry))) (fileOf (planOf (slicesOf (now (marks .entry)) (now (slots .entry)) (now (chunks .entry)) (now (layers .entry)) (now (bytes .entry))))) (now (out .entry)) ⌝ }
 {
-    let refused = rows_refusal(count, marks, slots, chunks, layers, bytes);
+    let refused = fetch::handed_refusal(count, marks, slots, chunks, layers, bytes);
     if refused != 0 {
         return Written::Refused(refused);
     }
+    let rows = slots.len();
+    if 65535 < rows {
+        return Written::Refused(9);
+    }
     let from = 5 * marks.len();
-    let last = from + 11 * slots.len();
+    let last = from + 11 * rows;
     let end = last + 2;
+    if 65536 < end {
+        return Written::Refused(9);
+    }
     if out.len() < end {
         return Written::Refused(11);
     }
@@ -485,9 +391,9 @@ pub fn write_plan(
     ensures answer { λ r. ⌜ r ≡ writeAnswer (handed p (now (sizes .entry)) (now («size_chunks» .entry)) (now («size_layers» .entry)) (now («size_bytes» .entry)) (now (forecast .entry))) (slicesOf (now (marks .entry)) (now (slots .entry)) (now (chunks .entry)) (now (layers .entry)) (now (bytes .entry))) (now (out .entry)) ⌝ }
     ensures lent { λ _. ⌜ now (out .exit) ≡ writeLent (handed p (now (sizes .entry)) (now («size_chunks» .entry)) (now («size_layers» .entry)) (now («size_bytes» .entry)) (now (forecast .entry))) (slicesOf (now (marks .entry)) (now (slots .entry)) (now (chunks .entry)) (now (layers .entry)) (now (bytes .entry))) (now (out .entry)) ⌝ }
 {
-    let refused = job::refusal(p, sizes, size_chunks, size_layers, size_bytes, forecast);
-    if refused != 0 {
-        return Written::Refused(refused);
+    let job = job::refusal(p, sizes, size_chunks, size_layers, size_bytes, forecast);
+    if job != 0 {
+        return Written::Refused(job);
     }
     write_file(p.chunks, marks, slots, chunks, layers, bytes, out)
 }

@@ -157,8 +157,8 @@ fn hand_lines(
     hand_over(&text[..n], out)
 }
 
-// The plan's rows, made into local slices that have room for any plan: their bytes go into the table. The bytes of all of them, or the
-// refusal of the job.
+// The plan's rows, made into local slices with room for any plan, so that the planner refuses by the job alone. Their bytes go into the
+// table; the answer is the sum of them, or that refusal.
 fn plan_table(
     p: Programme,
     sizes: &[u32],

@@ -1,7 +1,7 @@
 // Internal. Which layers of which chunks are carried, in time linear in slots + chunks x layers. The kept chunks stand at the end of
 // tables of 500 places, in playing order, from a first place on. The passes serve any ascending set of kept chunks, over a part of the
 // forecast that starts at any slot: sum_after and keep_bases for the base, then, for kept chunks with their due slots and bytes
-// however they were found, set_releases and settle_layers.
+// however they were found, set_releases and settle_layers. Sizes are those of the table that job's fill_sizes fills.
 use job::Programme;
 ghost use mathlib.Core.Path.{_≡_};
 ghost use mathlib.Core.Bool.{cond, _&&_};

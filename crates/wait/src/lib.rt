@@ -176,8 +176,9 @@ fn shortest_delay(
     requires { ⌜ (p .delay ≡ 1) × InRange (filmIn (handedFilm (p .chunks) (p .span) (p .limit) (now sizes) (now «size_chunks») (now «size_layers») (now «size_bytes») (now forecast))) ⌝ }
     ensures { λ r. ⌜ (r ≡ shortest (filmIn (handedFilm (p .chunks) (p .span) (p .limit) (now (sizes .entry)) (now («size_chunks» .entry)) (now («size_layers» .entry)) (now («size_bytes» .entry)) (now (forecast .entry))))) × (r ≤ 3600) ⌝ }
 {
-    let mut sums = [0u64; 3601];
-    let mut bases = [0u32; 500];
+    let unset = p.chunks as u32;
+    let mut sums = [wide(unset); 3601];
+    let mut bases = [unset; 500];
     let mut begins = [60397977600u64; 1000];
     add_up(forecast, &mut sums);
     set_bases(

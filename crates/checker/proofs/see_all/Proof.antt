@@ -49,8 +49,10 @@ loop-less c = omega (arith, c .before .before .before .before .before .before .l
 loop-again : tie.Need-loop-again Inv-loop μ-loop
 loop-again c =
     let a = c .before .before .before .before .before .before .before .before .before .args in
-    let l = c .before .before .before .before .before .before .before .loop in
-    (omega (arith, c .before .before .before .before .before .before .loop-test .taken), rw (c .before .before .before .before .both .ensures, c .before .before .before .both2 .ensures, c .both3 .ensures) (seen-more (tableAt (now (a .table))) (now (a .layersum)) (now (a .marks)) (a .depth) (l .i) (record { whole = l .whole; lower = l .lower; said = l .said }) (c .before .before .before .before .before .see-chunk .result) (l .inv .1) (c .before .before .before .before .before .see-chunk .ensures)))
+    let l = c .before .before .before .before .before .before .before .loop in (
+      omega (arith, c .before .before .before .before .before .before .loop-test .taken),
+      seen-more (tableAt (now (a .table))) (now (a .layersum)) (now (a .marks)) (a .depth) (l .i) (record { whole = l .whole; lower = l .lower; said = l .said }) (c .before .before .before .before .before .see-chunk .result) (l .inv .1) (c .before .before .before .before .before .see-chunk .ensures) (c .before .before .before .before .both .result) (c .before .before .before .both2 .result) (c .both3 .result) (c .before .before .before .before .both .ensures) (c .before .before .before .both2 .ensures) (c .both3 .ensures),
+    )
 
 returns : tie.Need-returns Inv-loop μ-loop
 returns c =

@@ -1,12 +1,14 @@
 -- The layers of a chunk: below n the mark byte and rules 2 and 3 are known.
 use Rattle.checker.proofs.see_chunk.Statement.{statement}
 use Rattle.checker.proofs.see_chunk.Tie as tie
-use Prim.Native.Nat.{_-_}
+use Prim.Native.Nat.{ℕ, _+_, _*_, _-_}
+use mathlib.Core.Path.{ap}
 use native.Mathlib.Omega.{arith}
-use denote.Ref.{now}
 use borrow.Author.Needs.{needs}
+use lib.ListN.{getD}
+use denote.Ref.{now}
 use Rattle.job.specs.Table.{tableAt}
-use Rattle.checker.proofs.Seeing.{Seeing, seeing-start, seeing-more, seeing-end}
+use Rattle.checker.proofs.Seeing.{Seeing, seeing-start, seeing-carried, seeing-missing, seeing-end}
 
 abbrev Inv-loop : tie.InvT-loop
 Inv-loop table depth layersum i from mark₀ whole₀ lower₀ below₀ n₀ mark whole lower below n =
@@ -41,36 +43,44 @@ element-copy-out-sum c = omega (arith, c .before .before .wide .ensures, c .befo
 size-at-requires : tie.Need-size-at-requires Inv-loop μ-loop
 size-at-requires c κs = search needs
 
-same-requires : tie.Need-same-requires Inv-loop μ-loop
-same-requires c κs = search needs
+cast-size : tie.Need-cast-size Inv-loop μ-loop
+cast-size c = search needs
 
-none-or-requires : tie.Need-none-or-requires Inv-loop μ-loop
-none-or-requires c κs = search needs
+cast-with : tie.Need-cast-with Inv-loop μ-loop
+cast-with c = omega (arith, c .before .before .before .loop-test .taken, c .before .before .before .before .before .before .pre)
+
+with-requires : tie.Need-with-requires Inv-loop μ-loop
+with-requires c κs = search needs
 
 both-requires : tie.Need-both-requires Inv-loop μ-loop
 both-requires c κs = search needs
 
-only-if-requires : tie.Need-only-if-requires Inv-loop μ-loop
-only-if-requires c κs = search needs
+add-n : tie.Need-add-n Inv-loop μ-loop
+add-n c = omega (arith, c .before .before .before .before .before .loop-test .taken, c .before .before .before .before .before .before .before .before .pre)
+
+loop-less : tie.Need-loop-less Inv-loop μ-loop
+loop-less c = omega (arith, c .before .before .before .before .before .loop-test .taken)
+
+loop-again : tie.Need-loop-again Inv-loop μ-loop
+loop-again c =
+    let a = c .before .before .before .before .before .before .before .before .args in
+    let l = c .before .before .before .before .before .before .loop in
+    seeing-carried (tableAt (now (a .table))) (now (a .layersum)) (a .depth) (a .i) (l .mark) (l .whole) (l .lower) (l .below) (l .n) (l .inv) (c .before .before .before .before .before .before .before .before .pre .0) (c .before .before .before .before .before .loop-test .taken) _ (c .before .before .before .size-at .result) (ap (λ (k : ℕ). getD (now (a .layersum)) (4 * (k - 1) + l .n) 0) (c .before .before .before .before .before .before .before .wide .ensures)) (c .before .before .before .size-at .ensures) (c .before .before .if1 .taken) (c .before .with .result) (c .both .result) (c .before .with .ensures) (c .both .ensures)
 
 both-requires-2 : tie.Need-both-requires-2 Inv-loop μ-loop
 both-requires-2 c κs = search needs
 
-marked-requires : tie.Need-marked-requires Inv-loop μ-loop
-marked-requires c κs = omega (arith, c .before .before .before .before .before .before .before .loop-test .taken, c .before .before .before .before .before .before .before .before .before .before .pre)
+add-n-2 : tie.Need-add-n-2 Inv-loop μ-loop
+add-n-2 c = omega (arith, c .before .before .before .before .loop-test .taken, c .before .before .before .before .before .before .before .pre)
 
-add-n : tie.Need-add-n Inv-loop μ-loop
-add-n c = omega (arith, c .before .before .before .before .before .before .before .before .loop-test .taken, c .before .before .before .before .before .before .before .before .before .before .before .pre)
+loop-less-2 : tie.Need-loop-less-2 Inv-loop μ-loop
+loop-less-2 c = omega (arith, c .before .before .before .before .loop-test .taken)
 
-loop-less : tie.Need-loop-less Inv-loop μ-loop
-loop-less c = omega (arith, c .before .before .before .before .before .before .before .before .loop-test .taken)
-
-loop-again : tie.Need-loop-again Inv-loop μ-loop
-loop-again c =
-    let a = c .before .before .before .before .before .before .before .before .before .before .before .args in
-    let l = c .before .before .before .before .before .before .before .before .before .loop in
-    rw (c .marked .ensures, c .before .before .before .both .ensures, c .before .before .before .before .none-or .ensures, c .before .both2 .ensures, c .before .before .only-if .ensures, c .before .before .before .before .before .same .ensures, c .before .before .before .before .before .before .size-at .ensures, c .before .before .before .before .before .before .before .before .before .before .wide .ensures)
-    (seeing-more (tableAt (now (a .table))) (now (a .layersum)) (a .depth) (a .i) (l .mark) (l .whole) (l .lower) (l .below) (l .n) (l .inv) (c .before .before .before .before .before .before .before .before .before .before .before .pre .0) (c .before .before .before .before .before .before .before .before .loop-test .taken))
+loop-again-2 : tie.Need-loop-again-2 Inv-loop μ-loop
+loop-again-2 c =
+    let a = c .before .before .before .before .before .before .before .args in
+    let l = c .before .before .before .before .before .loop in
+    seeing-missing (tableAt (now (a .table))) (now (a .layersum)) (a .depth) (a .i) (l .mark) (l .whole) (l .lower) (l .below) (l .n) (l .inv) (c .before .before .before .before .before .before .before .pre .0) (c .before .before .before .before .loop-test .taken) _ (c .before .before .size-at .result) (ap (λ (k : ℕ). getD (now (a .layersum)) (4 * (k - 1) + l .n) 0) (c .before .before .before .before .before .before .wide .ensures)) (c .before .before .size-at .ensures) (c .before .if1 .left) (c .both2 .result) (c .both2 .ensures)
 
 returns : tie.Need-returns Inv-loop μ-loop
 returns c =
@@ -92,13 +102,15 @@ see-chunk-spec =
     mul-sum
     element-copy-out-sum
     size-at-requires
-    same-requires
-    none-or-requires
+    cast-size
+    cast-with
+    with-requires
     both-requires
-    only-if-requires
-    both-requires-2
-    marked-requires
     add-n
     loop-less
     loop-again
+    both-requires-2
+    add-n-2
+    loop-less-2
+    loop-again-2
     returns)

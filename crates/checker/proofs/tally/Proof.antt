@@ -1,14 +1,15 @@
 -- The pass over the rows: after i rows the tables hold the first i, and rules 1 and 5 are known of them.
 use Rattle.checker.proofs.tally.Statement.{statement}
 use Rattle.checker.proofs.tally.Tie as tie
-use Prim.Native.Nat.{_-_}
-use mathlib.Core.Path.{sym, _∙_}
+use Prim.Native.Nat.{ℕ, _-_}
+use mathlib.Core.Path.{ap₂, _∙_}
+use mathlib.Core.Bool.{_&&_}
 use native.Mathlib.Omega.{arith}
-use lib.ListN.{length}
-use denote.Ref.{now}
 use borrow.Author.Needs.{needs}
-use Rattle.fetch.specs.Rows.{rowAt}
-use Rattle.checker.proofs.Rows.{Tallying, tallying-start, tallying-end, tallying-stop, tallying-small, tallying-more, places}
+use lib.ListN.{length}
+use lib.Dec.{leb}
+use denote.Ref.{now}
+use Rattle.checker.proofs.Rows.{Tallying, tallying-start, tallying-end, tallying-stop, tallying-asks, tallying-more}
 
 abbrev Inv-loop : tie.InvT-loop
 Inv-loop p last depth slots chunks layers bytes slotsum₀ layersum₀ first₀ timely₀ i₀ slotsum layersum first timely i =
@@ -48,21 +49,21 @@ shared-slice-read-b c = omega arith
 in-range-requires : tie.Need-in-range-requires Inv-loop μ-loop
 in-range-requires c κs = search needs
 
-on-time-requires : tie.Need-on-time-requires Inv-loop μ-loop
-on-time-requires c κs = search needs
+wide-requires : tie.Need-wide-requires Inv-loop μ-loop
+wide-requires c κs = search needs
+
+due-slot-requires : tie.Need-due-slot-requires Inv-loop μ-loop
+due-slot-requires c κs = search needs
 
 both-requires : tie.Need-both-requires Inv-loop μ-loop
 both-requires c κs = search needs
 
 add-row-requires : tie.Need-add-row-requires Inv-loop μ-loop
 add-row-requires c κs =
-    let a = c .before .before .before .before .before .before .before .before .before .before .before .before .before .before .before .before .before .args in
-    let o = c .before .before .before .before .before .before .before .before .before .before .before .before .before .before .before .before .before .pre in
-    let l = c .before .before .before .before .before .before .before .before .before .before .before .before .loop in
-    let x = rowAt (now (a .slots)) (now (a .chunks)) (now (a .layers)) (now (a .bytes)) (l .i) in
-    let f = places (a .last) (a .p .chunks) (a .depth) x (sym (c .before .before .before .before .before .before .in-range .ensures) ∙ c .before .before .before .before .before .if1 .taken) (o .0) (o .1) (o .2) in
-    let s = tallying-small (a .p) (a .last) (a .depth) (now (a .slots)) (now (a .chunks)) (now (a .layers)) (now (a .bytes)) (l .slotsum) (l .layersum) (l .first) (l .timely) (l .i) (l .inv) f in
-    (f .slot-high, f .chunk-low, f .chunk-high, f .layer-in, s .0, s .1)
+    let a = c .before .before .before .before .before .before .before .before .before .before .before .before .before .before .before .before .before .before .args in
+    let o = c .before .before .before .before .before .before .before .before .before .before .before .before .before .before .before .before .before .before .pre in
+    let l = c .before .before .before .before .before .before .before .before .before .before .before .before .before .loop in
+    tallying-asks (a .p) (a .last) (a .depth) (now (a .slots)) (now (a .chunks)) (now (a .layers)) (now (a .bytes)) (l .slotsum) (l .layersum) (l .first) (l .timely) (l .i) (l .inv) (c .before .before .before .before .before .before .before .before .before .before .before .before .loop-test .taken) (c .before .before .before .before .before .before .before .in-range .result) (c .before .before .before .before .before .before .before .in-range .ensures) (c .before .before .before .before .before .before .if1 .taken) (o .0) (o .1) (o .2)
 
 add-i : tie.Need-add-i Inv-loop μ-loop
 add-i c = omega arith
@@ -72,21 +73,17 @@ loop-less c = omega arith
 
 loop-again : tie.Need-loop-again Inv-loop μ-loop
 loop-again c =
-    let a = c .before .before .before .before .before .before .before .before .before .before .before .before .before .before .before .before .before .before .args in
-    let o = c .before .before .before .before .before .before .before .before .before .before .before .before .before .before .before .before .before .before .pre in
-    let l = c .before .before .before .before .before .before .before .before .before .before .before .before .before .loop in
+    let a = c .before .before .before .before .before .before .before .before .before .before .before .before .before .before .before .before .before .before .before .args in
+    let o = c .before .before .before .before .before .before .before .before .before .before .before .before .before .before .before .before .before .before .before .pre in
+    let l = c .before .before .before .before .before .before .before .before .before .before .before .before .before .before .loop in
     let e = c .add-row .ensures in
-    let x = rowAt (now (a .slots)) (now (a .chunks)) (now (a .layers)) (now (a .bytes)) (l .i) in
-    let r = sym (c .before .before .before .before .before .before .before .in-range .ensures) ∙ c .before .before .before .before .before .before .if1 .taken in
-    let f = places (a .last) (a .p .chunks) (a .depth) x r (o .0) (o .1) (o .2) in
-    rw (e .0, e .1, e .2, c .before .before .before .before .both .ensures, c .before .before .before .before .before .on-time .ensures)
-    (tallying-more (a .p) (a .last) (a .depth) (now (a .slots)) (now (a .chunks)) (now (a .layers)) (now (a .bytes)) (l .slotsum) (l .layersum) (l .first) (l .timely) (l .i) (l .inv) (c .before .before .before .before .before .before .before .before .before .before .before .before .loop-test .taken) f r)
+    tallying-more (a .p) (a .last) (a .depth) (now (a .slots)) (now (a .chunks)) (now (a .layers)) (now (a .bytes)) (l .slotsum) (l .layersum) (l .first) (l .timely) (l .i) (l .inv) (c .before .before .before .before .before .before .before .before .before .before .before .before .before .loop-test .taken) (c .before .before .before .before .before .before .before .before .in-range .result) (c .before .before .before .before .before .before .before .before .in-range .ensures) (c .before .before .before .before .before .before .before .if1 .taken) (o .0) (o .1) (o .2) _ _ _ (c .before .before .before .before .both .result) (e .0) (e .1) (e .2) (c .before .before .before .before .both .ensures ∙ ap₂ (λ (s d : ℕ). l .timely && leb s d) (c .before .before .before .before .before .before .wide .ensures) (c .before .before .before .before .before .due-slot .ensures))
 
 returns : tie.Need-returns Inv-loop μ-loop
 returns c =
     let a = c .before .before .before .before .before .before .before .before .before .before .before .before .args in
     let l = c .before .before .before .before .before .before .before .loop in
-    tallying-stop (a .p) (a .last) (a .depth) (now (a .slots)) (now (a .chunks)) (now (a .layers)) (now (a .bytes)) (l .slotsum) (l .layersum) (l .first) (l .timely) (l .i) (l .inv) (c .before .before .before .before .before .before .loop-test .taken) (sym (c .before .in-range .ensures) ∙ c .if1 .left)
+    tallying-stop (a .p) (a .last) (a .depth) (now (a .slots)) (now (a .chunks)) (now (a .layers)) (now (a .bytes)) (l .slotsum) (l .layersum) (l .first) (l .timely) (l .i) (l .inv) (c .before .before .before .before .before .before .loop-test .taken) (c .before .in-range .result) (c .before .in-range .ensures) (c .if1 .left)
 
 returns-2 : tie.Need-returns-2 Inv-loop μ-loop
 returns-2 c =
@@ -109,7 +106,8 @@ tally-spec =
     mul-b
     shared-slice-read-b
     in-range-requires
-    on-time-requires
+    wide-requires
+    due-slot-requires
     both-requires
     add-row-requires
     add-i

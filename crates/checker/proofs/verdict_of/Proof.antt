@@ -2,7 +2,7 @@
 use borrow.Author.Needs.{needs}
 use Rattle.checker.proofs.verdict_of.Statement.{statement}
 use Rattle.checker.proofs.verdict_of.Tie as tie
-use mathlib.Core.Path.{refl, _∙_}
+use mathlib.Core.Path.{refl}
 use native.Mathlib.Omega.{arith}
 use denote.Ref.{now}
 use Rattle.fetch.specs.Rows.{rowsOf}
@@ -46,19 +46,18 @@ lowest-broken-requires : tie.Need-lowest-broken-requires
 lowest-broken-requires c κs = search needs
 
 returns : tie.Need-returns
-returns c sizes os w =
+returns c =
     let a = c .before .before .before .before .before .before .before .before .before .before .before .before .before .before .before .before .before .before .before .args in
     let o = c .before .before .before .before .before .before .before .before .before .before .before .before .before .before .before .before .before .before .before .pre in
-    c .lowest-broken .ensures
-    ∙ judged (a .p) (now (a .table)) (a .depth) (now (a .forecast)) (now (a .marks)) (rowsOf (now (a .slots)) (now (a .chunks)) (now (a .layers)) (now (a .bytes)))
-    _ (c .before .before .before .before .before .before .before .before .before .before .before .before .last-due .ensures) (c .before .before .before .before .before .before .before .before .tally .result) _ _ _ (c .before .before .before .before .before .before .before .before .tally .ensures) (c .before .before .before .before .before .before .before .if1 .taken) (o .4 .byte-each)
-    (c .before .before .before .before .before .see-all .result) (c .before .before .before .within .result) (c .before .sweep .result) (c .before .before .before .before .before .see-all .ensures) (c .before .before .before .within .ensures) (c .before .sweep .ensures) sizes os w
+    judged (a .p) (now (a .table)) (a .depth) (now (a .forecast)) (now (a .marks)) (rowsOf (now (a .slots)) (now (a .chunks)) (now (a .layers)) (now (a .bytes)))
+    (c .before .before .before .before .before .before .before .before .before .before .before .before .last-due .result) (c .before .before .before .before .before .before .before .before .before .before .before .before .last-due .ensures) (c .before .before .before .before .before .before .before .before .tally .result) _ _ _ (c .before .before .before .before .before .before .before .before .tally .ensures) (c .before .before .before .before .before .before .before .if1 .taken) (o .4 .byte-each)
+    (c .before .before .before .before .before .see-all .result) (c .before .before .before .within .result) (c .before .sweep .result) (c .before .before .before .before .before .see-all .ensures) (c .before .before .before .within .ensures) (c .before .sweep .ensures) (c .lowest-broken .result) (c .lowest-broken .ensures)
 
 returns-2 : tie.Need-returns-2
-returns-2 c sizes os w =
+returns-2 c =
     let a = c .before .before .before .before .before .before .before .before .before .before .before .before .args in
     judged-one (a .p) (now (a .table)) (a .depth) (now (a .forecast)) (now (a .marks)) (rowsOf (now (a .slots)) (now (a .chunks)) (now (a .layers)) (now (a .bytes)))
-    _ (c .before .before .before .before .before .last-due .ensures) (c .before .tally .result) _ _ _ (c .before .tally .ensures) (c .if1 .left) sizes os w
+    _ (c .before .before .before .before .before .last-due .ensures) (c .before .tally .result) _ _ _ (c .before .tally .ensures) (c .if1 .left)
 
 pub verdict-of-spec : {M : Type 1} → statement M
 verdict-of-spec =

@@ -6,27 +6,43 @@ use native.Mathlib.Omega.{arith}
 use lib.ListN.{length, length-append}
 use lib.Dec.{eqb}
 use Rattle.basics.specs.lemmas.Tests.{by-cond}
-use Rattle.job.specs.Job.{Job, layers, Accepted}
+use Rattle.job.specs.Job.{Job, Override, layers, Accepted}
+use Rattle.job.specs.Uneven.{overrides-few}
 use Rattle.jobrecords.specs.declared.Record.the-variants.{Pg, En}
 use Rattle.jobrecords.specs.Records.{encode}
-use Rattle.jobfile.specs.Writer.{Run, inFront, runs, layerRecord, runRecord, jobFile}
+use Rattle.jobfile.specs.Writer.{Run, inFront, runs, layerRecord, overrideRecord, runRecord, jobFile}
 use Rattle.jobfile.specs.lemmas.Puts.{bytesOf, bytes-append}
 
 layers-length : (l : List ℕ) → length (bytesOf (map layerRecord l)) ≡ 6 * length l
 layers-length [] = refl
 layers-length (x ∷ l) = omega (arith, layers-length l)
 
+overrides-length : (l : List Override) → length (bytesOf (map overrideRecord l)) ≡ 9 * length l
+overrides-length [] = refl
+overrides-length (o ∷ l) = omega (arith, overrides-length l)
+
 runs-length : (l : List Run) → length (bytesOf (map runRecord l)) ≡ 8 * length l
 runs-length [] = refl
 runs-length (r ∷ l) = omega (arith, runs-length l)
 
--- PG, the layers, the runs, EN.
-pub file-length : (j : Job) → length (jobFile j) ≡ 12 + 6 * layers j + 8 * length (runs (j .forecast))
+-- PG, the layers, the SZs, the runs, EN.
+pub file-length : (j : Job) → length (jobFile j) ≡ 12 + 6 * layers j + 9 * length (j .overrides) + 8 * length (runs (j .forecast))
 unfolding jobFile
 file-length j =
-    let front = Pg (j .programme) ∷ map layerRecord (j .sizes) in
-    let back = map runRecord (runs (j .forecast)) in
-    omega (arith, length-append (bytesOf (front ++ back)) (encode En), ap length (bytes-append front back), length-append (bytesOf front) (bytesOf back), layers-length (j .sizes), runs-length (runs (j .forecast)))
+    let a = map layerRecord (j .sizes) in
+    let b = map overrideRecord (j .overrides) in
+    let c = map runRecord (runs (j .forecast)) in
+    omega (
+      arith,
+      length-append (bytesOf (Pg (j .programme) ∷ a ++ (b ++ c))) (encode En),
+      ap length (bytes-append a (b ++ c)),
+      ap length (bytes-append b c),
+      length-append (bytesOf a) (bytesOf (b ++ c)),
+      length-append (bytesOf b) (bytesOf c),
+      layers-length (j .sizes),
+      overrides-length (j .overrides),
+      runs-length (runs (j .forecast)),
+    )
 
 front-length : (x : ℕ) (rs : List Run) → length (inFront x rs) ≤ suc (length rs)
 front-length x [] = omega arith
@@ -37,6 +53,6 @@ pub few-runs : (l : List ℕ) → length (runs l) ≤ length l
 few-runs [] = omega arith
 few-runs (x ∷ l) = omega (arith, front-length x (runs l), few-runs l)
 
--- At most 10 + 4 × 6 + 3,600 × 8 + 2 bytes.
-pub short-file : (j : Job) → Accepted j → length (jobFile j) ≤ 28836
-short-file j a = omega (arith, file-length j, few-runs (j .forecast), a .layers-in .high, a .slots-in, a .last-in)
+-- At most 10 + 4 × 6 + 1,996 × 9 + 3,600 × 8 + 2 bytes.
+pub short-file : (j : Job) → Accepted j → length (jobFile j) ≤ 46800
+short-file j a = omega (arith, file-length j, few-runs (j .forecast), overrides-few j a, a .layers-in .high, a .slots-in, a .last-in)

@@ -13,13 +13,13 @@ use Rattle.basics.specs.Refusals.{_orElse_}
 use Rattle.basics.specs.lemmas.Refusals.{unless-iff, orElse-iff}
 use Rattle.records.specs.File.{firstFault}
 use Rattle.records.specs.lemmas.Exact.{NoEnd}
-use Rattle.job.specs.Refusal.{within-iff, slotsRefusal}
+use Rattle.job.specs.Refusal.{within-iff, overridesRefusal, slotsRefusal}
 use Rattle.jobrecords.specs.declared.Record.{Record}
-use Rattle.jobrecords.specs.declared.Record.the-variants.{Pg, Ly, Bw, En}
-use Rattle.jobrecords.specs.Says.{hasProgramme, programmeIn, sizesIn, forecastIn, jobIn}
+use Rattle.jobrecords.specs.declared.Record.the-variants.{Pg, Ly, Sz, Bw, En}
+use Rattle.jobrecords.specs.Says.{hasProgramme, programmeIn, sizesIn, overridesIn, forecastIn, jobIn}
 use Rattle.jobrecords.specs.Refusal.{oneSequence, place, missingRefusal, bareRefusal, lacking, format}
 use Rattle.jobrecords.specs.lemmas.Sequence.{Sequence, Filled, in-sequence}
-use Rattle.jobfile.specs.Writer.{Run, inFront, runs, layerRecord, runRecord, recordsOf}
+use Rattle.jobfile.specs.Writer.{Run, inFront, runs, runRecord, bodyOf, recordsOf}
 
 -- ---- the runs of a forecast that some runs give are these, if neighbours differ
 
@@ -42,30 +42,46 @@ runs-more (suc n) b f h a = runs-replicate n b f a
 
 apart : (count b : ℕ) (l : List Run) → Sequence (Bw count b) (map runRecord l) → Apart b l
 apart count b [] s = tt
-apart count b (r ∷ l) s = and-T (leb 1 3) (not (eqb b (r .bytes))) (s .0) .1
+apart count b (r ∷ l) s = and-T (leb 1 4) (not (eqb b (r .bytes))) (s .0) .1
 
--- ---- LYs, then BWs
+-- ---- LYs, SZs, BWs
 
--- After q: no LY from a BW on, and the records are those of the sizes and the forecast that they give.
+-- After q: no LY from an SZ on, no SZ from a BW on, and the records are those of the sizes and the forecast that they give.
 record Body (q : Record) (rs : List Record) : Type 0 where
   no-sizes : 3 ≤ place q → sizesIn rs ≡ []
-  body-is : rs ≡ map layerRecord (sizesIn rs) ++ map runRecord (runs (forecastIn rs))
+  no-overrides : 4 ≤ place q → overridesIn rs ≡ []
+  body-is : rs ≡ bodyOf (sizesIn rs) (overridesIn rs) (forecastIn rs)
 
 body : (q : Record) (rs : List Record) → 1 ≤ place q → Sequence q rs → All Filled rs → NoEnd (format oneSequence) rs → Body q rs
-body q [] h s f n = record { no-sizes = λ l. refl; body-is = refl }
+body q [] h s f n = record { no-sizes = λ l. refl; no-overrides = λ l. refl; body-is = refl }
 body q (Pg p ∷ rs) h s f n = absurd (omega (arith, eqb→eq (place q) 0 (s .0)))
 body q (Ly size ∷ rs) h s f n =
     let i = within-iff 1 2 (place q) .0 (s .0) in
     let more = body (Ly size) rs (omega arith) (s .1) (f .1) (n .1) in
-    record { no-sizes = λ l. absurd (omega (arith, i .high)); body-is = ap (λ (l : List Record). Ly size ∷ l) (more .body-is) }
+    record {
+      no-sizes = λ l. absurd (omega (arith, i .high));
+      no-overrides = λ l. absurd (omega (arith, i .high));
+      body-is = ap (λ (l : List Record). Ly size ∷ l) (more .body-is);
+    }
+body q (Sz chunk layer bytes ∷ rs) h s f n =
+    let i = within-iff 1 3 (place q) .0 (s .0) in
+    let more = body (Sz chunk layer bytes) rs (omega arith) (s .1) (f .1) (n .1) in
+    let no = more .no-sizes (omega arith) in
+    record {
+      no-sizes = λ l. no;
+      no-overrides = λ l. absurd (omega (arith, i .high));
+      body-is = rw no (ap (λ (l : List Record). Sz chunk layer bytes ∷ l) (rw no at (more .body-is)));
+    }
 body q (Bw count bytes ∷ rs) h s f n =
     let more = body (Bw count bytes) rs (omega arith) (s .1) (f .1) (n .1) in
     let none = more .no-sizes (omega arith) in
-    let are : rs ≡ map runRecord (runs (forecastIn rs)) = rw none at (more .body-is) in
+    let no = more .no-overrides (omega arith) in
+    let are : rs ≡ map runRecord (runs (forecastIn rs)) = rw (none, no) at (more .body-is) in
     let other : Apart bytes (runs (forecastIn rs)) = apart count bytes (runs (forecastIn rs)) (subst (λ (l : List Record). Sequence (Bw count bytes) l) are (s .1)) in
     record {
       no-sizes = λ l. none;
-      body-is = rw (none, runs-more count bytes (forecastIn rs) (f .0) other) (ap (λ (l : List Record). Bw count bytes ∷ l) are);
+      no-overrides = λ l. no;
+      body-is = rw (none, no, runs-more count bytes (forecastIn rs) (f .0) other) (ap (λ (l : List Record). Bw count bytes ∷ l) are);
     }
 body q (En ∷ rs) h s f n = let e : true ≡ false = n .0 in absurd (let z : _≡_ {A = ℕ} 0 1 = cc in omega arith)
 
@@ -75,13 +91,14 @@ first : (rs : List Record) → hasProgramme rs ≡ true → Sequence En rs → A
 first [] t s f n = absurd (let z : _≡_ {A = ℕ} 0 1 = cc in omega arith)
 first (Pg p ∷ rs) t s f n = ap (λ (l : List Record). Pg p ∷ l) (sym (body (Pg p) rs (omega arith) (s .1) (f .1) (n .1) .body-is))
 first (Ly size ∷ rs) t s f n = absurd (s .0)
+first (Sz chunk layer bytes ∷ rs) t s f n = absurd (s .0)
 first (Bw count bytes ∷ rs) t s f n = absurd (s .0)
 first (En ∷ rs) t s f n = let e : true ≡ false = n .0 in absurd (let z : _≡_ {A = ℕ} 0 1 = cc in omega arith)
 
 -- Records without a fault, to which nothing is lacking at EN, are those of the job that they say.
 pub records-of : (rs : List Record) → firstFault (format oneSequence) [] rs ≡ 0 → lacking rs ≡ 0 → NoEnd (format oneSequence) rs → recordsOf (jobIn rs) ≡ rs
 records-of rs e l n =
-    let rest : ℕ = bareRefusal rs orElse slotsRefusal (programmeIn rs) (forecastIn rs) in
+    let rest : ℕ = bareRefusal rs orElse overridesRefusal (programmeIn rs) (sizesIn rs) (overridesIn rs) orElse slotsRefusal (programmeIn rs) (forecastIn rs) in
     let has = T-true (hasProgramme rs) (unless-iff 4 (hasProgramme rs) (omega arith) .0 (orElse-iff (missingRefusal rs) rest .0 l .0)) in
     let s = in-sequence [] rs e in
     first rs has (s .0) (s .1) n

@@ -8,7 +8,7 @@ use lib.ListN.{length}
 use denote.Ref.{now}
 use borrow.Author.Needs.{needs}
 use Rattle.jobrecords.specs.lemmas.Reading.{Going}
-use Rattle.jobrecords.proofs.Turned.{going-start, turned-on, turned-over}
+use Rattle.jobrecords.proofs.Turned.{going-start, turned-on, turned-done, turned-stop}
 
 abbrev Inv-loop : tie.InvT-loop
 Inv-loop sequenced file sizes₀ slots₀ j₀ at₀ sizes slots j at = Going sequenced file at j sizes slots
@@ -36,8 +36,8 @@ loop-less c =
 loop-again : tie.Need-loop-again Inv-loop μ-loop
 loop-again c = turned-on (c .before .before .before .before .before .before .before .before .before .before .before .before .before .before .before .args .sequenced) (now (c .before .before .before .before .before .before .before .before .before .before .before .before .before .before .before .args .file)) (c .before .before .before .before .before .before .before .before .before .before .loop .at) _ _ (c .before .before .before .before .before .before .before .one-turn .result) (c .before .before .before .before .before .before .before .one-turn .ensures) (c .before .more .given .0 .0) (c .before .more .given .0 .1 .0) (c .before .more .given .1) .1
 
-enum-known-end : tie.Need-enum-known-end Inv-loop μ-loop
-enum-known-end c = search needs
+enum-known-whole : tie.Need-enum-known-whole Inv-loop μ-loop
+enum-known-whole c = search needs
 
 same-length : tie.Need-same-length Inv-loop μ-loop
 same-length c = c .before .before .before .before .before .before .before .one-turn .kept .1 .1 .1 .1 .0 ∙ c .before .before .before .before .before .before .before .before .before .before .loop .inv .stands .room .sized .sizes-room ∙ sym (c .before .before .before .before .before .before .before .before .before .before .before .before .before .before .before .pre .0)
@@ -46,7 +46,19 @@ same-length-2 : tie.Need-same-length-2 Inv-loop μ-loop
 same-length-2 c = c .before .before .before .before .before .before .before .one-turn .kept .1 .1 .1 .1 .1 .0 ∙ c .before .before .before .before .before .before .before .before .before .before .loop .inv .stands .room .slots-room ∙ sym (c .before .before .before .before .before .before .before .before .before .before .before .before .before .before .before .pre .1)
 
 returns : tie.Need-returns Inv-loop μ-loop
-returns c = turned-over (c .before .before .before .before .before .before .before .before .before .before .before .before .before .before .before .args .sequenced) (now (c .before .before .before .before .before .before .before .before .before .before .before .before .before .before .before .args .file)) (c .before .before .before .before .before .before .before .before .before .before .loop .at) _ _ (c .before .before .before .before .before .before .before .one-turn .result) (c .before .before .before .before .before .before .before .one-turn .ensures) (c .before .end .given .0 .0) (c .before .end .given .1)
+returns c = turned-done (c .before .before .before .before .before .before .before .before .before .before .before .before .before .before .before .args .sequenced) (now (c .before .before .before .before .before .before .before .before .before .before .before .before .before .before .before .args .file)) (c .before .before .before .before .before .before .before .before .before .before .loop .at) _ _ (c .before .before .before .before .before .before .before .one-turn .result) (c .before .before .before .before .before .before .before .one-turn .ensures) (c .before .whole .given .0 .0) (c .before .whole .given .1)
+
+enum-known-n : tie.Need-enum-known-n Inv-loop μ-loop
+enum-known-n c = search needs
+
+same-length-3 : tie.Need-same-length-3 Inv-loop μ-loop
+same-length-3 c = c .before .before .before .before .before .before .before .one-turn .kept .1 .1 .1 .1 .0 ∙ c .before .before .before .before .before .before .before .before .before .before .loop .inv .stands .room .sized .sizes-room ∙ sym (c .before .before .before .before .before .before .before .before .before .before .before .before .before .before .before .pre .0)
+
+same-length-4 : tie.Need-same-length-4 Inv-loop μ-loop
+same-length-4 c = c .before .before .before .before .before .before .before .one-turn .kept .1 .1 .1 .1 .1 .0 ∙ c .before .before .before .before .before .before .before .before .before .before .loop .inv .stands .room .slots-room ∙ sym (c .before .before .before .before .before .before .before .before .before .before .before .before .before .before .before .pre .1)
+
+returns-2 : tie.Need-returns-2 Inv-loop μ-loop
+returns-2 c = turned-stop (c .before .before .before .before .before .before .before .before .before .before .before .before .before .before .before .args .sequenced) (now (c .before .before .before .before .before .before .before .before .before .before .before .before .before .before .before .args .file)) (c .before .before .before .before .before .before .before .before .before .before .loop .at) _ _ (c .before .before .before .before .before .before .before .one-turn .result) (c .before .before .before .before .before .before .before .one-turn .ensures) (c .before .n .given .0 .0) (c .before .n .given .1)
 
 pub read-all-spec : {M : Type 1} → statement M
 read-all-spec =
@@ -60,7 +72,11 @@ read-all-spec =
     enum-known-more
     loop-less
     loop-again
-    enum-known-end
+    enum-known-whole
     same-length
     same-length-2
-    returns)
+    returns
+    enum-known-n
+    same-length-3
+    same-length-4
+    returns-2)

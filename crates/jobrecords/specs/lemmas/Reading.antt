@@ -23,13 +23,10 @@ use Rattle.jobrecords.specs.declared.Sofar.{Sofar}
 use Rattle.jobrecords.specs.declared.Ending.{Ending}
 use Rattle.jobrecords.specs.declared.Ending.the-variants.{Whole, Broken}
 use Rattle.jobrecords.specs.declared.Turn.{Turn}
-use Rattle.jobrecords.specs.declared.Turn.the-variants.{On, Over}
-use Rattle.jobrecords.specs.declared.JobRead.{JobRead}
-use Rattle.jobrecords.specs.declared.JobRead.the-variants as jobRead
+use Rattle.jobrecords.specs.declared.Turn.the-variants.{On, Done, Stop}
 use Rattle.jobrecords.specs.Records.{SZ, whole, overrideAt}
 use Rattle.jobrecords.specs.Says.{hasProgramme, noProgramme, programmeIn, sizesIn, overridesIn, forecastIn}
 use Rattle.jobrecords.specs.Refusal.{secondRefusal, previous, place, isRunOf, follows, sequenceRefusal, rangeFault, format, jobOfFile}
-use Rattle.jobrecords.specs.Reader.{Buffers, roomRefusal, jobAnswer, lentBy}
 
 abbrev pub noRecords : Sofar
 noRecords = record { place = 0; bytes = 0; seen = false; programme = noProgramme; layers = 0; overrides = 0; ends = 0; slots = 0 }
@@ -139,8 +136,8 @@ endRefusal s j z =
 abbrev pub endCode : List ℕ → Sofar → ℕ → List ℕ → ℕ
 endCode s j after z = unless 3 (eqb after 0) orElse endRefusal s j z
 
-abbrev pub endedBy : List ℕ → Sofar → ℕ → List ℕ → Ending
-endedBy s j after z = cond (eqb (endCode s j after z) 0) (Whole j) (Broken (endCode s j after z))
+abbrev pub endedBy : List ℕ → Sofar → ℕ → List ℕ → Turn
+endedBy s j after z = cond (eqb (endCode s j after z) 0) (Done j) (Stop (endCode s j after z))
 
 -- ---- what the state stands for
 
@@ -206,7 +203,8 @@ module _ (sequenced : Bool) where
   -- What a turn leaves.
   abbrev pub Turned : List ℕ → ℕ → List ℕ → List ℕ → Turn → Type 0
   Turned s at z f (On j next) = (at < next) × Going s next j z f
-  Turned s at z f (Over e) = Ended s z f e
+  Turned s at z f (Done j) = Complete s j z f
+  Turned s at z f (Stop n) = Refuses s n
 
 -- How many SZs there are, and the place after the last, with a record more that ends at a place.
 abbrev pub moreOverrides : ℕ → Record → ℕ
@@ -229,7 +227,7 @@ pub record Takes (j : Sofar) (z f : List ℕ) (r : Record) (next : ℕ) (j′ : 
   pub overrides-are : j′ .overrides ≡ moreOverrides (j .overrides) r
   pub ends-are : j′ .ends ≡ endsAfter (j .ends) next r
 
--- A job that is handed over to lent buffers, if they hold it.
-pub record Handed (j : Job) (lent : Buffers) (r : JobRead) (lent′ : Buffers) : Type 0 where
-  pub answer : r ≡ cond (eqb (roomRefusal j lent) 0) (jobAnswer j) (jobRead.Refused (roomRefusal j lent))
-  pub lent-is : lent′ ≡ lentBy (roomRefusal j lent) j lent
+-- 11 unless five buffers of these lengths hold so many layers, SZs and slots.
+abbrev pub roomBy : (layers overrides slots sizes cs ls bs forecast : ℕ) → ℕ
+roomBy layers overrides slots sizes cs ls bs forecast =
+    unless 11 (leb layers sizes && (leb overrides cs && (leb overrides ls && (leb overrides bs && leb slots forecast))))

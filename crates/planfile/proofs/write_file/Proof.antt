@@ -1,86 +1,95 @@
+-- Each way out of `write_file` is one of the laws of `Writer`. Assumes nothing.
 use borrow.Author.Needs.{needs}
 use Rattle.planfile.proofs.write_file.Statement.{statement}
 use Rattle.planfile.proofs.write_file.Tie as tie
-use Rattle.planfile.proofs.write_file.Reads as reads
-use Rattle.planfile.proofs.write_file.Lts as lts
-use Rattle.planfile.proofs.put_fts.Reads as put-fts-reads
-use Rattle.planfile.proofs.put_kps.Reads as put-kps-reads
-use Rattle.planfile.proofs.rows_refusal.Reads as rows-refusal-reads
-use Rattle.records.proofs.put.Reads as put-reads
 use native.Mathlib.Omega.{arith}
 use denote.Ref.{now}
-use Rattle.planfile.proofs.Writer.{input-refused, whole-rows, in-file, short, wrote}
+use Rattle.planfile.specs.Calls.{slicesOf}
+use Rattle.planfile.proofs.Writer.{not-whole, whole-rows, too-large, short, wrote}
 
--- src/lib.rt:440:9
-rows-refusal-requires : tie.Need-rows-refusal-requires
-rows-refusal-requires c κs = search needs
+handed-refusal-requires : tie.Need-handed-refusal-requires
+handed-refusal-requires c κs = search needs
 
--- src/lib.rt:442:9
 returns : tie.Need-returns
-returns c = input-refused _ _ (now (c .before .before .before .before .before .before .before .before .args .out)) (c .before .rows-refusal .result) (c .before .rows-refusal .ensures) (c .if1 .taken)
+returns c =
+    let a = c .before .before .before .before .before .before .before .before .args in
+    not-whole (a .count) (slicesOf (now (a .marks)) (now (a .slots)) (now (a .chunks)) (now (a .layers)) (now (a .bytes))) (now (a .out)) (c .before .handed-refusal .result) (c .before .handed-refusal .ensures) (c .if1 .taken)
 
--- src/lib.rt:444:16
-mul-from : tie.Need-mul-from
-mul-from c = omega (arith, in-file _ _ (now (c .before .before .before .before .before .before .before .before .args .out)) (c .before .rows-refusal .result) (c .before .rows-refusal .ensures) (c .if1 .left))
-
--- src/lib.rt:445:23
-mul-last : tie.Need-mul-last
-mul-last c = omega (arith, in-file _ _ (now (c .before .before .before .before .before .before .before .before .args .out)) (c .before .rows-refusal .result) (c .before .rows-refusal .ensures) (c .if1 .left))
-
--- src/lib.rt:445:16
-add-last : tie.Need-add-last
-add-last c = omega (arith, in-file _ _ (now (c .before .before .before .before .before .before .before .before .args .out)) (c .before .rows-refusal .result) (c .before .rows-refusal .ensures) (c .if1 .left))
-
--- src/lib.rt:446:15
-add-end : tie.Need-add-end
-add-end c = omega (arith, in-file _ _ (now (c .before .before .before .before .before .before .before .before .args .out)) (c .before .rows-refusal .result) (c .before .rows-refusal .ensures) (c .if1 .left))
-
--- src/lib.rt:448:9
 returns-2 : tie.Need-returns-2
-returns-2 c = short _ _ (now (c .before .before .before .before .before .before .before .before .before .args .out)) (c .before .before .rows-refusal .result) (c .before .before .rows-refusal .ensures) (c .before .if1 .left) (omega arith)
+returns-2 c =
+    let a = c .before .before .before .before .before .before .before .before .before .args in
+    too-large (a .count) (slicesOf (now (a .marks)) (now (a .slots)) (now (a .chunks)) (now (a .layers)) (now (a .bytes))) (now (a .out)) (c .before .before .handed-refusal .result) (c .before .before .handed-refusal .ensures) (c .before .if1 .left) (omega (arith, c .if2 .taken))
 
--- src/lib.rt:450:5
+mul-from : tie.Need-mul-from
+mul-from c =
+    let a = c .before .before .before .before .before .before .before .before .before .args in
+    let w = whole-rows (a .count) (slicesOf (now (a .marks)) (now (a .slots)) (now (a .chunks)) (now (a .layers)) (now (a .bytes))) (now (a .out)) (c .before .before .handed-refusal .result) (c .before .before .handed-refusal .ensures) (c .before .if1 .left) in
+    omega (arith, w .byte-each, c .before .before .before .before .before .before .before .before .before .fits)
+
+mul-last : tie.Need-mul-last
+mul-last c = search needs
+
+add-last : tie.Need-add-last
+add-last c =
+    let a = c .before .before .before .before .before .before .before .before .before .args in
+    let w = whole-rows (a .count) (slicesOf (now (a .marks)) (now (a .slots)) (now (a .chunks)) (now (a .layers)) (now (a .bytes))) (now (a .out)) (c .before .before .handed-refusal .result) (c .before .before .handed-refusal .ensures) (c .before .if1 .left) in
+    omega (arith, w .byte-each, c .before .before .before .before .before .before .before .before .before .fits)
+
+add-end : tie.Need-add-end
+add-end c =
+    let a = c .before .before .before .before .before .before .before .before .before .args in
+    let w = whole-rows (a .count) (slicesOf (now (a .marks)) (now (a .slots)) (now (a .chunks)) (now (a .layers)) (now (a .bytes))) (now (a .out)) (c .before .before .handed-refusal .result) (c .before .before .handed-refusal .ensures) (c .before .if1 .left) in
+    omega (arith, w .byte-each, c .before .before .before .before .before .before .before .before .before .fits)
+
+returns-3 : tie.Need-returns-3
+returns-3 c =
+    let a = c .before .before .before .before .before .before .before .before .before .before .args in
+    too-large (a .count) (slicesOf (now (a .marks)) (now (a .slots)) (now (a .chunks)) (now (a .layers)) (now (a .bytes))) (now (a .out)) (c .before .before .before .handed-refusal .result) (c .before .before .before .handed-refusal .ensures) (c .before .before .if1 .left) (omega (arith, c .if3 .taken))
+
+returns-4 : tie.Need-returns-4
+returns-4 c =
+    let a = c .before .before .before .before .before .before .before .before .before .before .before .args in
+    short (a .count) (slicesOf (now (a .marks)) (now (a .slots)) (now (a .chunks)) (now (a .layers)) (now (a .bytes))) (now (a .out)) (c .before .before .before .before .handed-refusal .result) (c .before .before .before .before .handed-refusal .ensures) (c .before .before .before .if1 .left) (c .before .if3 .left) (c .if4 .taken)
+
 put-kps-requires : tie.Need-put-kps-requires
-put-kps-requires c κs =
-    let small = in-file _ _ (now (c .before .before .before .before .before .before .before .before .before .before .args .out)) (c .before .before .before .rows-refusal .result) (c .before .before .before .rows-refusal .ensures) (c .before .before .if1 .left) in
-    (omega arith, omega arith)
+put-kps-requires c κs = (omega (arith, c .before .if4 .left), omega (arith, c .before .before .if3 .left))
 
--- src/lib.rt:451:5
 put-fts-requires : tie.Need-put-fts-requires
 put-fts-requires c κs =
-    let w = whole-rows _ _ (now (c .before .before .before .before .before .before .before .before .before .before .before .before .before .before .args .out)) (c .before .before .before .before .before .before .before .rows-refusal .result) (c .before .before .before .before .before .before .before .rows-refusal .ensures) (c .before .before .before .before .before .before .if1 .left) in
+    let a = c .before .before .before .before .before .before .before .before .before .before .before .before .before .before .before .before .args in
+    let w = whole-rows (a .count) (slicesOf (now (a .marks)) (now (a .slots)) (now (a .chunks)) (now (a .layers)) (now (a .bytes))) (now (a .out)) (c .before .before .before .before .before .before .before .before .before .handed-refusal .result) (c .before .before .before .before .before .before .before .before .before .handed-refusal .ensures) (c .before .before .before .before .before .before .before .before .if1 .left) in
     (w .chunk-each, w .layer-each, w .bytes-each, omega (arith, c .before .before .before .put-kps .kept .0))
 
--- src/lib.rt:452:29
 slice-aggregate-put : tie.Need-slice-aggregate-put
 slice-aggregate-put c = search needs
 
--- src/lib.rt:452:5
 put-requires : tie.Need-put-requires
 put-requires c κs = search needs
 
--- src/lib.rt:428:1
 same-length : tie.Need-same-length
 same-length c = search needs
 
--- src/lib.rt:428:1
-returns-3 : tie.Need-returns-3
-returns-3 c = wrote _ _ (now (c .before .before .before .before .before .before .before .before .before .before .before .before .before .before .before .before .before .before .before .before .before .before .args .out)) (c .before .before .before .before .before .before .before .before .before .before .before .before .before .before .before .rows-refusal .result) (c .before .before .before .before .before .before .before .before .before .before .before .before .before .before .before .rows-refusal .ensures) (c .before .before .before .before .before .before .before .before .before .before .before .before .before .before .if1 .left) (omega arith) _ _ _ (c .before .before .before .before .before .before .before .before .before .before .before .put-kps .ensures) (c .before .before .before .before .before .before .before .put-fts .ensures) (c .before .before .put .ensures)
+returns-5 : tie.Need-returns-5
+returns-5 c =
+    let a = c .before .before .before .before .before .before .before .before .before .before .before .before .before .before .before .before .before .before .before .before .before .before .before .before .args in
+    wrote (a .count) (slicesOf (now (a .marks)) (now (a .slots)) (now (a .chunks)) (now (a .layers)) (now (a .bytes))) (now (a .out)) (c .before .before .before .before .before .before .before .before .before .before .before .before .before .before .before .before .before .handed-refusal .result) (c .before .before .before .before .before .before .before .before .before .before .before .before .before .before .before .before .before .handed-refusal .ensures) (c .before .before .before .before .before .before .before .before .before .before .before .before .before .before .before .before .if1 .left) (c .before .before .before .before .before .before .before .before .before .before .before .before .before .before .if3 .left) (c .before .before .before .before .before .before .before .before .before .before .before .before .before .if4 .left) _ _ _ (c .before .before .before .before .before .before .before .before .before .before .before .put-kps .ensures) (c .before .before .before .before .before .before .before .put-fts .ensures) (c .before .before .put .ensures)
 
 pub write-file-spec : {M : Type 1} → statement M
 write-file-spec =
     tie.close
     (tie.spec
-    rows-refusal-requires
+    handed-refusal-requires
     returns
+    returns-2
     mul-from
     mul-last
     add-last
     add-end
-    returns-2
+    returns-3
+    returns-4
     put-kps-requires
     put-fts-requires
     slice-aggregate-put
     put-requires
     same-length
-    returns-3)
+    returns-5)

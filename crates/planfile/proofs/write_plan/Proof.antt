@@ -1,34 +1,26 @@
+-- The job's refusal, or what `write_file` does. Assumes nothing.
 use borrow.Author.Needs.{needs}
 use Rattle.planfile.proofs.write_plan.Statement.{statement}
 use Rattle.planfile.proofs.write_plan.Tie as tie
-use Rattle.planfile.proofs.write_plan.Reads as reads
-use Rattle.planfile.proofs.write_plan.Lts as lts
-use Rattle.job.proofs.refusal.Reads as refusal-reads
-use Rattle.planfile.proofs.write_file.Reads as write-file-reads
 use denote.Ref.{now}
 use Rattle.job.specs.Handed.{handed}
 use Rattle.planfile.specs.Calls.{slicesOf}
 use Rattle.planfile.proofs.Writer.{job-refused, job-accepted}
 
--- src/lib.rt:474:9
 refusal-requires : tie.Need-refusal-requires
 refusal-requires c κs = search needs
 
--- src/lib.rt:476:9
 returns : tie.Need-returns
 returns c =
     let a = c .before .before .before .before .before .before .before .before .before .before .before .before .before .args in
     job-refused (handed (a .p) (now (a .sizes)) (now (a .size-chunks)) (now (a .size-layers)) (now (a .size-bytes)) (now (a .forecast))) (slicesOf (now (a .marks)) (now (a .slots)) (now (a .chunks)) (now (a .layers)) (now (a .bytes))) (now (a .out)) (c .before .refusal .result) (c .before .refusal .ensures) (c .if1 .taken)
 
--- src/lib.rt:478:5
 write-file-requires : tie.Need-write-file-requires
 write-file-requires c κs = search needs
 
--- src/lib.rt:457:1
 same-length : tie.Need-same-length
 same-length c = search needs
 
--- src/lib.rt:457:1
 returns-2 : tie.Need-returns-2
 returns-2 c =
     let a = c .before .before .before .before .before .before .before .before .before .before .before .before .before .before .before .before .before .args in

@@ -23,7 +23,7 @@ use Rattle.fetch.specs.Rows.{Row, rowAt}
 use Rattle.fetch.specs.Handed.{Whole, handedRefusal, handed-iff}
 use Rattle.planfile.specs.Records.{encode, front}
 use Rattle.planfile.specs.PlanFile.{marksIn, rowsIn, fault, lacking, format, Plan, RowInWidth, InWidth, planIn, kps, ftOf, recordsOf, fileOf}
-use Rattle.planfile.specs.Calls.{Slices, room, readInput, readRefusal, planOf, rowsRefusal, writeRest, writeRefusal}
+use Rattle.planfile.specs.Calls.{Slices, room, readRefusal, planOf, writeRest, writeRefusal}
 use Rattle.planfile.specs.lemmas.Scan.{marks-append, rows-append}
 use Rattle.planfile.specs.lemmas.Writing.{bytes-all, all-upTo, map-upTo, length-file}
 use Rattle.planfile.specs.declared.Record.{Record}
@@ -167,17 +167,18 @@ pub record Accepts (h : HandedJob) (s : Slices) : Type 0 where
   pub fits : length (fileOf (planOf s)) ≤ 65536
 
 pub accepts : (h : HandedJob) (s : Slices) (out : List ℕ) → writeRefusal h s out ≡ 0 → Accepts h s
-unfolding writeRefusal writeRest rowsRefusal
+unfolding writeRefusal writeRest
 accepts h s out e =
     let handed = handedRefusal (chunks (jobIn h)) (s .marks) (s .slots) (s .chunks) (s .layers) (s .bytes) in
     let long = length (fileOf (planOf s)) in
     let nine = unless 9 (leb long 65536) in
-    let a = orElse-iff (jobRefusal h) ((handed orElse nine) orElse unless 11 (leb long (length out))) .0 e in
-    let b = orElse-iff handed nine .0 (orElse-iff (handed orElse nine) (unless 11 (leb long (length out))) .0 (a .1) .0) in
+    let eleven = unless 11 (leb long (length out)) in
+    let a = orElse-iff (jobRefusal h) (handed orElse nine orElse eleven) .0 e in
+    let b = orElse-iff handed (nine orElse eleven) .0 (a .1) in
     record {
       job-in = a .0;
       whole = handed-iff (chunks (jobIn h)) (s .marks) (s .slots) (s .chunks) (s .layers) (s .bytes) .0 (b .0);
-      fits = leb→le long 65536 (unless-iff 9 (leb long 65536) (omega arith) .0 (b .1));
+      fits = leb→le long 65536 (unless-iff 9 (leb long 65536) (omega arith) .0 (orElse-iff nine eleven .0 (b .1) .0));
     }
 
 -- The fields of the rows that four slices of one length hand over are those slices.
@@ -189,7 +190,7 @@ field f s l h e =
 
 -- A file that is accepted, says that plan and has room isn't refused.
 pub not-short : (h : HandedJob) (s lent : Slices) → jobRefusal h ≡ 0 → fileRefusal (format (chunks (jobIn h))) (fileOf (planOf s)) ≡ 0 → planIn (chunks (jobIn h)) (fileOf (planOf s)) ≡ planOf s → length (planOf s .rows) ≡ length (s .slots) → T (room lent (chunks (jobIn h)) (length (s .slots))) → readRefusal h (fileOf (planOf s)) lent ≡ 0
-unfolding readRefusal readInput
+unfolding readRefusal
 not-short h s lent z f p n t = rw (z, f, p, n, T-true (room lent (chunks (jobIn h)) (length (s .slots))) t)
 
 -- 9 by the size alone, whatever the room.

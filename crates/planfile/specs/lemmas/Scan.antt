@@ -25,8 +25,6 @@ use Rattle.planfile.specs.declared.Record.{Record}
 use Rattle.planfile.specs.declared.Record.the-variants.{Kp, Ft, En}
 use Rattle.planfile.specs.declared.Read.{Read}
 use Rattle.planfile.specs.declared.Read.the-variants as read
-use Rattle.planfile.specs.declared.Turn.{Turn}
-use Rattle.planfile.specs.declared.Turn.the-variants.{More, End}
 use Rattle.planfile.specs.declared.PlanRead.{PlanRead}
 use Rattle.planfile.specs.declared.PlanRead.the-variants.{Rows, Refused}
 
@@ -68,22 +66,19 @@ stands s =
 
 -- ---- a turn
 
--- A record of n bytes at a place with so many left.
-abbrev pub readWhole : ℕ → ℕ → Record → ℕ → Read
-readWhole left n r at = cond (leb n left) (read.Got r (at + n)) (read.Refused 1)
+-- What a turn makes of a record: the next place with the KPs and FTs taken so far, or the end.
+pub data Turn : Type 0 where
+  More : ℕ → ℕ → ℕ → Turn
+  End : PlanRead → Turn
 
 -- The number of rows, or a refusal.
 abbrev pub answerOf : ℕ → ℕ → PlanRead
 answerOf refused rows = cond (eqb refused 0) (Rows rows) (Refused refused)
 
--- What the cases that go on leave out.
+-- The refusal, or 0 for a record.
 abbrev pub refusalOf : Read → ℕ
 refusalOf (read.Got r n) = 0
 refusalOf (read.Refused n) = n
-
-abbrev pub endOf : Turn → PlanRead
-endOf (More next kept rows) = Refused 0
-endOf (End a) = a
 
 -- A KP for the next chunk, up to C, before every FT.
 abbrev pub inTurn : ℕ → ℕ → ℕ → ℕ → Bool
