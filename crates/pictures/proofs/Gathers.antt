@@ -13,12 +13,11 @@ use Rattle.basics.specs.lemmas.Tests.{T-true}
 use Rattle.basics.specs.lemmas.Tables.{set-before}
 use Rattle.job.specs.declared.Programme.{Programme}
 use Rattle.job.specs.Job.{dueSlot}
-use Rattle.schedule.specs.Bases.{keptAfter}
 use Rattle.schedule.specs.Plan.{picked}
 use Rattle.schedule.specs.lemmas.Kept.{picked-asc, picked-cong, picked-each, picked-has}
 use Rattle.schedule.specs.lemmas.Parts.{at}
 use Rattle.schedule.specs.lemmas.Walk.{kept-asc}
-use Rattle.pictures.specs.lemmas.Walking.{Fit, GatherFrom, Gathered, Keeps, Long, Walked, roomIn, stands}
+use Rattle.pictures.specs.lemmas.Walking.{Fit, GatherFrom, Gathered, KeptIn, Long, Walked, roomIn, stands, walkedIn}
 
 module _ (p : Programme) (tree : List ℕ) where
   -- The bytes of a leaf.
@@ -109,12 +108,12 @@ map-picked f g (k ∷ ks) a = rw (a .0, map-picked f g ks (a .1))
 -- What is gathered of the walk's table is what the walk keeps.
 pub keeps :
     (p : Programme) (size : ℕ → ℕ → ℕ) (after tree : List ℕ) (first : ℕ) (ids dues bytes : List ℕ) → Fit p size after →
-    Walked p size after tree → Gathered p tree first ids dues bytes → Keeps p size after first ids dues bytes
+    Walked p size after tree → Gathered p tree first ids dues bytes → KeptIn p size (walkedIn p size (at after)) first ids dues bytes
 keeps p size after tree first ids dues bytes fit w g =
     let s : ℕ → ℕ = λ k. size k 0 in
-    let ks = keptAfter s (roomIn p after) (p .chunks) in
+    let ks = walkedIn p size (at after) in
     let is : (i : ℕ) → 0 < i → i ≤ p .chunks + 0 → stands tree i ≡ has ks i = λ i u v. ap (ltb 0) (w .leaf i (omega (arith, fit .few))) ∙ stands-is (has ks i) (s i) (fit .bases i u (omega arith) .low) in
-    let all : picked (stands tree) 0 (p .chunks) ≡ ks = picked-cong (stands tree) (has ks) 0 (p .chunks) is ∙ picked-has 0 (p .chunks) (p .chunks) ks (omega arith) (kept-asc s (roomIn p after) (p .chunks)) in
+    let all : picked (stands tree) 0 (p .chunks) ≡ ks = picked-cong (stands tree) (has ks) 0 (p .chunks) is ∙ picked-has 0 (p .chunks) (p .chunks) ks (omega arith) (kept-asc s (roomIn p (at after)) (p .chunks)) in
     record {
       within = g .within;
       kept = g .kept ∙ all;
@@ -124,5 +123,5 @@ keeps p size after tree first ids dues bytes fit w g =
       long = g .long;
     }
   where
-    bytes-are : (i : ℕ) → 0 < i → i ≤ p .chunks + 0 → T (has (keptAfter (λ k. size k 0) (roomIn p after) (p .chunks)) i) → at tree (512 + i) ≡ size i 0
-    bytes-are i u v t = w .leaf i (omega (arith, fit .few)) ∙ ap (λ (b : Bool). cond b (size i 0) 0) (T-true (has (keptAfter (λ k. size k 0) (roomIn p after) (p .chunks)) i) t)
+    bytes-are : (i : ℕ) → 0 < i → i ≤ p .chunks + 0 → T (has (walkedIn p size (at after)) i) → at tree (512 + i) ≡ size i 0
+    bytes-are i u v t = w .leaf i (omega (arith, fit .few)) ∙ ap (λ (b : Bool). cond b (size i 0) 0) (T-true (has (walkedIn p size (at after)) i) t)

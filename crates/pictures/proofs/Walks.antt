@@ -131,8 +131,8 @@ module _ (s room : ℕ → ℕ) (n : ℕ) (few : suc n < 512) (one : (k : ℕ) �
 pub record Walking (p : Programme) (s : ℕ → ℕ) (after tree : List ℕ) (sum n : ℕ) : Type 0 where
   pub left : n ≤ p .chunks
   pub small : sum ≤ n * 16777216
-  pub bytes : sum ≡ keptBytes s (keptAfter s (roomIn p after) n)
-  pub shows : Shows s tree (keptAfter s (roomIn p after) n)
+  pub bytes : sum ≡ keptBytes s (keptAfter s (roomIn p (at after)) n)
+  pub shows : Shows s tree (keptAfter s (roomIn p (at after)) n)
 
 pub walking-start : (p : Programme) (size : ℕ → ℕ → ℕ) (after tree : List ℕ) → WalkFrom p size after tree → Walking p (λ k. size k 0) after tree 0 0
 walking-start p size after tree o =
@@ -145,7 +145,7 @@ module _
   s k = size k 0
 
   abbrev room : ℕ → ℕ
-  room = roomIn p after
+  room = roomIn p (at after)
 
   few : suc n < 512
   few = omega (arith, fit .few)

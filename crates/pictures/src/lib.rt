@@ -8,7 +8,7 @@ ghost use mathlib.Core.Bool.{not};
 ghost use Prim.Native.Nat.{_≤_, max};
 ghost use Rattle.job.specs.Table.{tableAt};
 ghost use Rattle.schedule.specs.lemmas.Parts.{at};
-ghost use Rattle.pictures.specs.lemmas.Walking.{Maxima, InTree, Stored, LargestLeaf, WalkFrom, Walked, GatherFrom, Gathered, KeepFrom, Keeps, equalIn, walksIn};
+ghost use Rattle.pictures.specs.lemmas.Walking.{Maxima, InTree, Stored, LargestLeaf, WalkFrom, Walked, GatherFrom, Gathered, KeepFrom, KeptIn, equalIn, walkedIn, walksIn};
 
 fn larger(a: u32, b: u32) -> u32
     ensures { λ r. ⌜ r ≡ max a b ⌝ }
@@ -174,7 +174,7 @@ pub fn keep_most(
     bytes: &mut [u32; 500],
 ) -> usize
     requires { ⌜ KeepFrom p (tableAt (now table)) (now after) (now ids) (now dues) (now bytes) ⌝ }
-    ensures { λ r. ⌜ Keeps p (tableAt (now (table .entry))) (now (after .entry)) r (now (ids .exit)) (now (dues .exit)) (now (bytes .exit)) ⌝ }
+    ensures { λ r. ⌜ KeptIn p (tableAt (now (table .entry))) (walkedIn p (tableAt (now (table .entry))) (at (now (after .entry)))) r (now (ids .exit)) (now (dues .exit)) (now (bytes .exit)) ⌝ }
 {
     let mut tree = [0u32; 1024];
     walk(p, table, after, &mut tree);

@@ -60,9 +60,13 @@ pub record Shows (s : ℕ → ℕ) (t ks : List ℕ) : Type 0 where
 
 -- ---- the walk
 
--- What the bases due by chunk i's due slot may sum to, from the table of what is forecast after each slot.
-abbrev pub roomIn : Programme → List ℕ → ℕ → ℕ
-roomIn p after i = at after 0 - at after (dueSlot p i)
+-- What the bases due by chunk i's due slot may sum to; A t: what is forecast after slot t.
+abbrev pub roomIn : Programme → (ℕ → ℕ) → ℕ → ℕ
+roomIn p A i = A 0 - A (dueSlot p i)
+
+-- The chunks that the walk keeps: `keptAtEnd` of a job, over its programme, sizes and sums (schedule, Walked, `kept-by-after`).
+abbrev pub walkedIn : Programme → (ℕ → ℕ → ℕ) → (ℕ → ℕ) → List ℕ
+walkedIn p size A = keptAfter (λ k. size k 0) (roomIn p A) (p .chunks)
 
 -- What is asked of the programme, the bases and the sums of the forecast.
 pub record Fit (p : Programme) (size : ℕ → ℕ → ℕ) (after : List ℕ) : Type 0 where
@@ -77,7 +81,7 @@ pub record WalkFrom (p : Programme) (size : ℕ → ℕ → ℕ) (after tree : L
   pub zeros : tree ≡ replicate 1024 0
 
 abbrev pub Walked : Programme → (ℕ → ℕ → ℕ) → List ℕ → List ℕ → Type 0
-Walked p size after tree = Shows (λ k. size k 0) tree (keptAfter (λ k. size k 0) (roomIn p after) (p .chunks))
+Walked p size after tree = Shows (λ k. size k 0) tree (walkedIn p size (at after))
 
 -- ---- the kept chunks, at the end of the tables
 
@@ -107,10 +111,10 @@ pub record KeepFrom (p : Programme) (size : ℕ → ℕ → ℕ) (after ids dues
   pub fit : Fit p size after
   pub long : Long ids dues bytes
 
--- The kept chunks are those of the walk.
-pub record Keeps (p : Programme) (size : ℕ → ℕ → ℕ) (after : List ℕ) (first : ℕ) (ids dues bytes : List ℕ) : Type 0 where
+-- The kept chunks ks stand at the end of the tables, in playing order, each with its due slot and its base's bytes.
+pub record KeptIn (p : Programme) (size : ℕ → ℕ → ℕ) (ks : List ℕ) (first : ℕ) (ids dues bytes : List ℕ) : Type 0 where
   pub within : first ≤ 500
-  pub kept : drop first ids ≡ keptAfter (λ k. size k 0) (roomIn p after) (p .chunks)
+  pub kept : drop first ids ≡ ks
   pub due-slots : drop first dues ≡ map (dueSlot p) (drop first ids)
   pub base-bytes : drop first bytes ≡ map (λ k. size k 0) (drop first ids)
   pub ascending : Asc 1 (p .chunks) (drop first ids)

@@ -22,7 +22,7 @@ use Rattle.schedule.specs.Plan.{byWalk, bytes, kept, picked, need, plan,
 use Rattle.schedule.specs.lemmas.Kept.{feas-mono, need-mono, picked-cong, picked-each, picked-has}
 use Rattle.schedule.specs.lemmas.Necessity.{Each, after}
 use Rattle.schedule.specs.lemmas.Need.{Feas, Tails}
-use Rattle.schedule.specs.lemmas.Plan.{TakesFitting, by-walk-iff, either-way, plan-bases, plan-choice, plan-fits, plan-takes, plan-tried, tried-kept, trials-choice, trials-fit, trials-take}
+use Rattle.schedule.specs.lemmas.Plan.{TakesFitting, by-walk-iff, either-way, plan-bases, plan-choice, plan-fits, plan-takes, plan-elsewhere, tried-kept, trials-choice, trials-fit, trials-take}
 use Rattle.schedule.specs.Statement.{BasesWalked, Choice, tried}
 use Rattle.schedule.specs.lemmas.Sufficiency.{RelOk, each, feas-relok, ones, releases}
 use Rattle.schedule.specs.lemmas.Trials.{Stack, candidate, keeps, push, bases, levelMark, Kept, rooms, Tried, tryOne, back, bytesOf, keptAt, onLayer, onLayers, based, stacked, keptBases, decidedOn, decided}
@@ -392,7 +392,7 @@ pub bases-kept : (j : Job) → 0 < layers j → keptBases j ≡ kept j (plan j)
 bases-kept j h =
     either-way j (keptBases j ≡ kept j (plan j))
     (λ w. rw (T-true (byWalk j) (by-walk-iff j .1 w)) (walked-kept j (plan j) (plan-bases j h w)))
-    (λ n. rw (not-T-false (byWalk j) (not-T (byWalk j) (λ t. n (by-walk-iff j .0 t))), plan-tried j n) (stacked-kept j h))
+    (λ n. rw (not-T-false (byWalk j) (not-T (byWalk j) (λ t. n (by-walk-iff j .0 t))), plan-elsewhere j n) (stacked-kept j h))
 
 -- and the passes decide the plan: its chunks, each with the plan's layers.
 pub decided-is : (j : Job) → 0 < layers j → layers j ≤ 8 → decided j ≡ map (keptAt j (plan j)) (kept j (plan j))

@@ -302,35 +302,35 @@ either-way j P f g = ⊎-elim (λ t. f (by-walk-iff j .0 t)) (λ t. g (λ w. T-n
 pub walked-le : (j : Job) (k : ℕ) → basesWalked j k ≤ 1
 walked-le j k = by-cond (λ (m : ℕ). m ≤ 1) (isKept j k) (λ t. omega arith) (λ t. omega arith)
 
-pub plan-walked : (j : Job) → ByWalk j → plan j ≡ planOn j (basesWalked j)
+pub plan-by-walk : (j : Job) → ByWalk j → plan j ≡ planOn j (basesWalked j)
 unfolding plan
-plan-walked j w = rw (T-true (byWalk j) (by-walk-iff j .1 w))
+plan-by-walk j w = rw (T-true (byWalk j) (by-walk-iff j .1 w))
 
-pub plan-tried : (j : Job) → (ByWalk j → ⊥) → plan j ≡ planByTrials j
+pub plan-elsewhere : (j : Job) → (ByWalk j → ⊥) → plan j ≡ planByTrials j
 unfolding plan planByTrials
-plan-tried j n = rw (not-T-false (byWalk j) (not-T (byWalk j) (λ t. n (by-walk-iff j .0 t))))
+plan-elsewhere j n = rw (not-T-false (byWalk j) (not-T (byWalk j) (λ t. n (by-walk-iff j .0 t))))
 
 pub plan-choice : (j : Job) → Choice j (plan j)
 plan-choice j =
     either-way j (Choice j (plan j))
-    (λ w. rw (plan-walked j w) (on-choice j (basesWalked j) (walked-le j)))
-    (λ n. rw (plan-tried j n) (trials-choice j))
+    (λ w. rw (plan-by-walk j w) (on-choice j (basesWalked j) (walked-le j)))
+    (λ n. rw (plan-elsewhere j n) (trials-choice j))
 
 pub plan-fits : (j : Job) → Fits j (plan j)
 plan-fits j =
     either-way j (Fits j (plan j))
-    (λ w. rw (plan-walked j w) (planTo-fits j (basesWalked j) (walked-fits j (w .0)) (layers j)))
-    (λ n. rw (plan-tried j n) (trials-fit j))
+    (λ w. rw (plan-by-walk j w) (planTo-fits j (basesWalked j) (walked-fits j (w .0)) (layers j)))
+    (λ n. rw (plan-elsewhere j n) (trials-fit j))
 
 pub plan-takes : (j : Job) (n : ℕ) → TakesFitting j (plan j) (suc n)
 plan-takes j n =
     either-way j (TakesFitting j (plan j) (suc n))
-    (λ w. rw (plan-walked j w) (on-upper j (basesWalked j) (walked-le j) n))
-    (λ o. rw (plan-tried j o) (trials-take j (suc n)))
+    (λ w. rw (plan-by-walk j w) (on-upper j (basesWalked j) (walked-le j) n))
+    (λ o. rw (plan-elsewhere j o) (trials-take j (suc n)))
 
 -- Its bases are the ones that the walk keeps.
 pub plan-bases : (j : Job) → 0 < layers j → ByWalk j → BasesWalked j (plan j)
-plan-bases j some w i u v = rw (plan-walked j w) (kept-as (planOn j (basesWalked j) i) (isKept j i) (on-min j (basesWalked j) (walked-le j) 1 i some)) where
+plan-bases j some w i u v = rw (plan-by-walk j w) (kept-as (planOn j (basesWalked j) i) (isKept j i) (on-min j (basesWalked j) (walked-le j) 1 i some)) where
   kept-as : (a : ℕ) (b : Bool) → min a 1 ≡ cond b 1 0 → (0 < a) ↔ T b
   kept-as a true e = (λ l. tt, λ t. omega arith)
   kept-as a false e = (λ l. absurd (omega arith), λ t. absurd t)
@@ -340,6 +340,6 @@ plan-is-plan j sized some =
     record {
       choice = plan-choice j;
       walked = plan-bases j some;
-      elsewhere = λ n. rw (plan-tried j n) (trials-settled j sized .decided 0);
+      elsewhere = λ n. rw (plan-elsewhere j n) (trials-settled j sized .decided 0);
       upper = λ n. settles-iff j sized (plan j) (plan-choice j) (suc n) .1 (plan-takes j n);
     }

@@ -165,6 +165,13 @@ module _ (s : ℕ → ℕ) where
   dropped lo hi (k ∷ ks) x a t =
       (largest s k ks, record { in-list = largest-in k ks; top = largest-top k ks; first = λ i u e. largest-first lo hi k ks i a u e }, refl)
 
+-- ---- the walk
+
+-- What is kept after n chunks depends on their rooms alone.
+pub kept-cong : (s room room′ : ℕ → ℕ) (n : ℕ) → ((i : ℕ) → i ≤ n → room i ≡ room′ i) → keptAfter s room n ≡ keptAfter s room′ n
+kept-cong s room room′ zero f = refl
+kept-cong s room room′ (suc n) f = rw (f (suc n) (omega arith), kept-cong s room room′ n (λ i h. f i (omega arith)))
+
 -- ---- one chunk of the walk
 
 module _ (s room : ℕ → ℕ) where

@@ -1,7 +1,7 @@
 -- Lemmas. The bases that request 9's walk keeps, of a job: they fit where the limit holds the programme, and no passing list, in any
 -- order, carries more. Section 5 (d) of the argument has the prefixes.
 use Prim.Native.Nat.{ℕ, suc, _+_, _-_, _≤_, _<_}
-use mathlib.Core.Path.{_≡_, refl, _∙_}
+use mathlib.Core.Path.{_≡_, refl, sym, _∙_}
 use mathlib.Core.Bool.{Bool, true, false, cond, not}
 use mathlib.Core.List.{List, [], _∷_}
 use mathlib.Core.Logic.{⊎-elim}
@@ -22,7 +22,7 @@ use Rattle.schedule.specs.lemmas.Exchange.{matched, matched-count}
 use Rattle.schedule.specs.lemmas.Level.{count-carried, level, level-choice, level-exactly}
 use Rattle.schedule.specs.lemmas.Prefixes.{Prefixes, list-prefixes, prefixes-fit}
 use Rattle.schedule.specs.lemmas.Totals.{more, total, total-list, total-mono, total-more}
-use Rattle.schedule.specs.lemmas.Walk.{kept-asc, kept-earlier, kept-fits}
+use Rattle.schedule.specs.lemmas.Walk.{kept-asc, kept-cong, kept-earlier, kept-fits}
 use Rattle.schedule.specs.lemmas.Words.{due-mono}
 
 module _ (j : Job) where
@@ -32,9 +32,12 @@ module _ (j : Job) where
   forecast-within : (b : ℕ) → b ≤ chunks j → forecastBy j b ≤ pre (forecast j) (lastSlot j)
   forecast-within b h = pre-mono (forecast j) (due j b) (lastSlot j) (due-mono j b (chunks j) h)
 
-  -- What may be spent by the due slot of chunk i, from the sums of what is forecast after each slot.
-  pub forecast-by-after : (i : ℕ) → i ≤ chunks j → forecastBy j i ≡ after j 0 - after j (due j i)
+  -- What may be spent by the due slot of chunk i, from the sums of what is forecast after each slot; and the walk with it.
+  forecast-by-after : (i : ℕ) → i ≤ chunks j → forecastBy j i ≡ after j 0 - after j (due j i)
   forecast-by-after i h = omega (arith, forecast-within i h)
+
+  pub kept-by-after : keptAfter (baseSize j) (λ i. after j 0 - after j (due j i)) (chunks j) ≡ keptAtEnd j
+  kept-by-after = kept-cong (baseSize j) (λ i. after j 0 - after j (due j i)) (forecastBy j) (chunks j) (λ i h. sym (forecast-by-after i h))
 
   -- After one drop the kept bases fit again.
   pub after-drop : (i : ℕ) → keptBytes (baseSize j) (keptAfter (baseSize j) (forecastBy j) i) ≤ forecastBy j i
