@@ -110,7 +110,7 @@ fn walk(p: Programme, table: &[u32; 2000], after: &[u64; 3601], tree: &mut [u32;
     while n < p.chunks {
         let i = n + 1;
         let d = job::due_slot(p, i);
-        let z = job::size_at(table, i, 0);
+        let z = sizes::size_in(table, i, 0);
         let leaf = 512 + (i as usize);
         let more = sum + (z as u64);
         if more + after[d] <= all {

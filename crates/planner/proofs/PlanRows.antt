@@ -133,7 +133,7 @@ module _ (j : Job) (ok : Accepted j) where
         some = ok .layers-in .low;
         few-layers = ok .layers-in .high;
         small = λ i n. subst (λ (z : ℕ → ℕ → ℕ). z i n ≤ 16777216) (sym says) (size-most j ok i n);
-        bases-low = λ i u v. subst (λ (z : ℕ → ℕ → ℕ). 1 ≤ z i 0) (sym says) (size-least j ok i 0 (ok .layers-in .low));
+        least = λ i u v. subst (λ (z : ℕ → ℕ → ℕ). 1 ≤ z i 0) (sym says) (size-least j ok i 0 (ok .layers-in .low));
         part-in = part-in;
         slots = omega (arith, ok .slots-in);
         long = (a, b);

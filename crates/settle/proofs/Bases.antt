@@ -13,8 +13,8 @@ use Rattle.job.specs.Job.{dueSlot}
 use Rattle.schedule.specs.lemmas.Ascending.{Asc, asc-lower}
 use Rattle.schedule.specs.lemmas.Trials.{Stack, candidate, keeps, push, bases}
 use Rattle.schedule.specs.lemmas.Parts.{at}
-use Rattle.settle.specs.lemmas.Decision.{BasesFrom, Bases, basesIn, stackIn, walkIn}
-use Rattle.pictures.specs.lemmas.Walking.{KeepFrom, Keeps, walksIn}
+use Rattle.settle.specs.lemmas.Decision.{BasesFrom, stackIn}
+use Rattle.pictures.specs.lemmas.Walking.{KeptIn}
 use Rattle.basics.specs.lemmas.Tables.{set-before}
 
 -- The chunk i is due by the last slot.
@@ -148,7 +148,7 @@ module _ (p : Programme) (size : ℕ → ℕ → ℕ) (after : List ℕ) where
     pub keep-both : cand ≤ at after 0 → getD (cand ∷ behind i .needs) held 0 ≤ at after (dueSlot p i - 1) → keep ≡ true
     keep-both g k = rw (le-leb cand (at after 0) g, le-leb _ _ k)
 
-  pub basing-end : (ids dues bytes needs : List ℕ) (last first i : ℕ) → Basing ids dues bytes needs last first i → i ≤ 0 → Bases p size (stackIn p size (at after)) first ids dues bytes
+  pub basing-end : (ids dues bytes needs : List ℕ) (last first i : ℕ) → Basing ids dues bytes needs last first i → i ≤ 0 → KeptIn p size (stackIn p size (at after)) first ids dues bytes
   basing-end ids dues bytes needs last first i b h =
       let e : i ≡ 0 = omega arith in
       let s : p .chunks - i ≡ p .chunks = omega arith in
@@ -159,39 +159,4 @@ module _ (p : Programme) (size : ℕ → ℕ → ℕ) (after : List ℕ) where
         base-bytes = b .base-bytes;
         ascending = rw e at (b .ascending);
         long = (b .long .0, b .long .1, b .long .2);
-      }
-
-  -- ---- which of the two settles the bases
-
-  pub walk-from :
-      {ids dues bytes needs : List ℕ} → BasesFrom p size after ids dues bytes needs → ((i : ℕ) → 1 ≤ i → i ≤ p .chunks → 1 ≤ size i 0) →
-      KeepFrom p size after ids dues bytes
-  walk-from o low =
-      record {
-        fit = record { few = o .few; ends = o .ends; bases = λ i u v. record { low = low i u v; high = o .small i 0 }; sums = o .sums; slots = o .long .0 };
-        long = (o .long .1, o .long .2, o .long .3);
-      }
-
-  pub by-the-walk : {first : ℕ} {ids dues bytes : List ℕ} → walksIn p size ≡ true → Keeps p size after first ids dues bytes → Bases p size (basesIn p size (at after)) first ids dues bytes
-  by-the-walk e k =
-      record {
-        within = k .within;
-        kept = k .kept ∙ sym (ap (λ (b : Bool). cond b (walkIn p size (at after)) (stackIn p size (at after))) e);
-        due-slots = k .due-slots;
-        base-bytes = k .base-bytes;
-        ascending = k .ascending;
-        long = k .long;
-      }
-
-  pub by-the-stack :
-      {first : ℕ} {ids dues bytes : List ℕ} → walksIn p size ≡ false → Bases p size (stackIn p size (at after)) first ids dues bytes →
-      Bases p size (basesIn p size (at after)) first ids dues bytes
-  by-the-stack e k =
-      record {
-        within = k .within;
-        kept = k .kept ∙ sym (ap (λ (b : Bool). cond b (walkIn p size (at after)) (stackIn p size (at after))) e);
-        due-slots = k .due-slots;
-        base-bytes = k .base-bytes;
-        ascending = k .ascending;
-        long = k .long;
       }

@@ -27,8 +27,8 @@ add-i c = omega (arith, c .before .before .before .before .pre .fit .few, c .if1
 due-slot-requires : tie.Need-due-slot-requires Inv-loop μ-loop
 due-slot-requires c κs = search needs
 
-size-at-requires : tie.Need-size-at-requires Inv-loop μ-loop
-size-at-requires c κs = search needs
+size-in-requires : tie.Need-size-in-requires Inv-loop μ-loop
+size-in-requires c κs = (record { low = omega arith; high = omega (arith, c .before .if1 .taken, c .before .before .before .before .before .pre .fit .few) }, omega arith)
 
 cast-leaf : tie.Need-cast-leaf Inv-loop μ-loop
 cast-leaf c = omega arith
@@ -40,7 +40,7 @@ cast-more : tie.Need-cast-more Inv-loop μ-loop
 cast-more c = omega arith
 
 add-more : tie.Need-add-more Inv-loop μ-loop
-add-more c = omega (arith, c .before .before .before .before .loop .inv .small, c .before .before .if1 .taken, c .before .before .before .before .before .before .pre .fit .few, c .size-at .ensures, c .before .before .before .before .before .before .pre .fit .bases (c .before .before .before .before .loop .n + 1) (omega arith) (omega (arith, c .before .before .if1 .taken)) .high)
+add-more c = omega (arith, c .before .before .before .before .loop .inv .small, c .before .before .if1 .taken, c .before .before .before .before .before .before .pre .fit .few, c .size-in .ensures, c .before .before .before .before .before .before .pre .fit .bases (c .before .before .before .before .loop .n + 1) (omega arith) (omega (arith, c .before .before .if1 .taken)) .high)
 
 mul-if2 : tie.Need-mul-if2 Inv-loop μ-loop
 mul-if2 c = omega (arith, c .before .due-slot .ensures, due-by (c .before .before .before .before .before .before .args .p) (c .before .before .before .before .loop .n + 1) (omega (arith, c .before .before .if1 .taken)), c .before .before .before .before .before .before .pre .fit .ends)
@@ -49,13 +49,13 @@ element-copy-out-if2 : tie.Need-element-copy-out-if2 Inv-loop μ-loop
 element-copy-out-if2 c = omega (arith, c .before .before .before .before .before .before .pre .fit .slots, c .before .due-slot .ensures, due-by (c .before .before .before .before .before .before .args .p) (c .before .before .before .before .loop .n + 1) (omega (arith, c .before .before .if1 .taken)), c .before .before .before .before .before .before .pre .fit .ends)
 
 add-if2 : tie.Need-add-if2 Inv-loop μ-loop
-add-if2 c = omega (arith, c .before .before .before .before .before .loop .inv .small, c .before .before .before .if1 .taken, c .before .before .before .before .before .before .before .pre .fit .few, c .before .size-at .ensures, c .before .before .before .before .before .before .before .pre .fit .bases (c .before .before .before .before .before .loop .n + 1) (omega arith) (omega (arith, c .before .before .before .if1 .taken)) .high, c .before .before .before .before .before .before .before .pre .fit .sums (c .before .before .due-slot .result))
+add-if2 c = omega (arith, c .before .before .before .before .before .loop .inv .small, c .before .before .before .if1 .taken, c .before .before .before .before .before .before .before .pre .fit .few, c .before .size-in .ensures, c .before .before .before .before .before .before .before .pre .fit .bases (c .before .before .before .before .before .loop .n + 1) (omega arith) (omega (arith, c .before .before .before .if1 .taken)) .high, c .before .before .before .before .before .before .before .pre .fit .sums (c .before .before .due-slot .result))
 
 add-leaf-requires : tie.Need-add-leaf-requires Inv-loop μ-loop
 add-leaf-requires c κs =
     let l = c .before .before .before .before .before .before .before .loop in
     let a = c .before .before .before .before .before .before .before .before .before .args in
-    (record { low = omega arith; high = omega (arith, c .before .before .before .before .before .if1 .taken, c .before .before .before .before .before .before .before .before .before .pre .fit .few); maxima = l .inv .shows .maxima }, leaf-free (a .p) (tableAt (now (a .table))) (now (a .after)) (c .before .before .before .before .before .before .before .before .before .pre .fit) (l .tree) (l .sum) (l .n) (l .inv) (c .before .before .before .before .before .if1 .taken) (c .before .before .before .size-at .result) (c .before .before .before .size-at .ensures))
+    (record { low = omega arith; high = omega (arith, c .before .before .before .before .before .if1 .taken, c .before .before .before .before .before .before .before .before .before .pre .fit .few); maxima = l .inv .shows .maxima }, leaf-free (a .p) (tableAt (now (a .table))) (now (a .after)) (c .before .before .before .before .before .before .before .before .before .pre .fit) (l .tree) (l .sum) (l .n) (l .inv) (c .before .before .before .before .before .if1 .taken) (c .before .before .before .size-in .result) (c .before .before .before .size-in .ensures))
 
 loop-less : tie.Need-loop-less Inv-loop μ-loop
 loop-less c = omega (arith, c .before .before .before .before .before .before .if1 .taken)
@@ -64,7 +64,7 @@ loop-again : tie.Need-loop-again Inv-loop μ-loop
 loop-again c =
     let l = c .before .before .before .before .before .before .before .before .loop in
     let a = c .before .before .before .before .before .before .before .before .before .before .args in
-    walking-stays (a .p) (tableAt (now (a .table))) (now (a .after)) (c .before .before .before .before .before .before .before .before .before .before .pre .fit) (l .tree) (l .sum) (l .n) (l .inv) (c .before .before .before .before .before .before .if1 .taken) (c .before .before .before .before .size-at .result) (c .before .before .before .before .size-at .ensures) _ (c .add-leaf .ensures) (rw (c .before .before .before .before .before .due-slot .ensures) at (c .before .before .if2 .taken))
+    walking-stays (a .p) (tableAt (now (a .table))) (now (a .after)) (c .before .before .before .before .before .before .before .before .before .before .pre .fit) (l .tree) (l .sum) (l .n) (l .inv) (c .before .before .before .before .before .before .if1 .taken) (c .before .before .before .before .size-in .result) (c .before .before .before .before .size-in .ensures) _ (c .add-leaf .ensures) (rw (c .before .before .before .before .before .due-slot .ensures) at (c .before .before .if2 .taken))
 
 element-copy-out-top : tie.Need-element-copy-out-top Inv-loop μ-loop
 element-copy-out-top c = omega (arith, c .before .before .before .before .before .before .loop .inv .shows .maxima .long)
@@ -76,7 +76,7 @@ loop-again-2 : tie.Need-loop-again-2 Inv-loop μ-loop
 loop-again-2 c =
     let l = c .before .before .before .before .before .before .before .before .loop in
     let a = c .before .before .before .before .before .before .before .before .before .before .args in
-    walking-passes (a .p) (tableAt (now (a .table))) (now (a .after)) (c .before .before .before .before .before .before .before .before .before .before .pre .fit) (l .tree) (l .sum) (l .n) (l .inv) (c .before .before .before .before .before .before .if1 .taken) (c .before .before .before .before .size-at .result) (c .before .before .before .before .size-at .ensures) (rw (c .before .before .before .before .before .due-slot .ensures) at (c .before .before .if2 .left)) (c .if3 .taken)
+    walking-passes (a .p) (tableAt (now (a .table))) (now (a .after)) (c .before .before .before .before .before .before .before .before .before .before .pre .fit) (l .tree) (l .sum) (l .n) (l .inv) (c .before .before .before .before .before .before .if1 .taken) (c .before .before .before .before .size-in .result) (c .before .before .before .before .size-in .ensures) (rw (c .before .before .before .before .before .due-slot .ensures) at (c .before .before .if2 .left)) (c .if3 .taken)
 
 find-largest-requires : tie.Need-find-largest-requires Inv-loop μ-loop
 find-largest-requires c κs = c .before .before .before .before .before .before .before .before .before .loop .inv .shows .maxima
@@ -85,7 +85,7 @@ add-leaf-requires-2 : tie.Need-add-leaf-requires-2 Inv-loop μ-loop
 add-leaf-requires-2 c κs =
     let l = c .before .before .before .before .before .before .before .before .before .before .before .loop in
     let a = c .before .before .before .before .before .before .before .before .before .before .before .before .before .args in
-    (record { low = omega arith; high = omega (arith, c .before .before .before .before .before .before .before .before .before .if1 .taken, c .before .before .before .before .before .before .before .before .before .before .before .before .before .pre .fit .few); maxima = l .inv .shows .maxima }, leaf-free (a .p) (tableAt (now (a .table))) (now (a .after)) (c .before .before .before .before .before .before .before .before .before .before .before .before .before .pre .fit) (l .tree) (l .sum) (l .n) (l .inv) (c .before .before .before .before .before .before .before .before .before .if1 .taken) (c .before .before .before .before .before .before .before .size-at .result) (c .before .before .before .before .before .before .before .size-at .ensures))
+    (record { low = omega arith; high = omega (arith, c .before .before .before .before .before .before .before .before .before .if1 .taken, c .before .before .before .before .before .before .before .before .before .before .before .before .before .pre .fit .few); maxima = l .inv .shows .maxima }, leaf-free (a .p) (tableAt (now (a .table))) (now (a .after)) (c .before .before .before .before .before .before .before .before .before .before .before .before .before .pre .fit) (l .tree) (l .sum) (l .n) (l .inv) (c .before .before .before .before .before .before .before .before .before .if1 .taken) (c .before .before .before .before .before .before .before .size-in .result) (c .before .before .before .before .before .before .before .size-in .ensures))
 
 clear-leaf-requires : tie.Need-clear-leaf-requires Inv-loop μ-loop
 clear-leaf-requires c κs = record { low = c .before .before .before .find-largest .ensures .low; high = c .before .before .before .find-largest .ensures .high; maxima = c .before .add-leaf2 .ensures .maxima }
@@ -94,13 +94,13 @@ cast-sum : tie.Need-cast-sum Inv-loop μ-loop
 cast-sum c =
     let l = c .before .before .before .before .before .before .before .before .before .before .before .before .before .before .loop in
     let a = c .before .before .before .before .before .before .before .before .before .before .before .before .before .before .before .before .args in
-    omega (arith, drop-within (a .p) (tableAt (now (a .table))) (now (a .after)) (c .before .before .before .before .before .before .before .before .before .before .before .before .before .before .before .before .pre .fit) (l .tree) (l .sum) (l .n) (l .inv) (c .before .before .before .before .before .before .before .before .before .before .before .before .if1 .taken) (c .before .before .before .before .before .before .before .before .before .before .size-at .result) (c .before .before .before .before .before .before .before .before .before .before .size-at .ensures) (rw (c .before .before .before .before .before .before .before .before .before .before .before .due-slot .ensures) at (c .before .before .before .before .before .before .before .before .if2 .left)) _ (c .before .before .before .before .find-largest .ensures) (c .before .before .before .before .before .before .if3 .left) .0)
+    omega (arith, drop-within (a .p) (tableAt (now (a .table))) (now (a .after)) (c .before .before .before .before .before .before .before .before .before .before .before .before .before .before .before .before .pre .fit) (l .tree) (l .sum) (l .n) (l .inv) (c .before .before .before .before .before .before .before .before .before .before .before .before .if1 .taken) (c .before .before .before .before .before .before .before .before .before .before .size-in .result) (c .before .before .before .before .before .before .before .before .before .before .size-in .ensures) (rw (c .before .before .before .before .before .before .before .before .before .before .before .due-slot .ensures) at (c .before .before .before .before .before .before .before .before .if2 .left)) _ (c .before .before .before .before .find-largest .ensures) (c .before .before .before .before .before .before .if3 .left) .0)
 
 sub-sum : tie.Need-sub-sum Inv-loop μ-loop
 sub-sum c =
     let l = c .before .before .before .before .before .before .before .before .before .before .before .before .before .before .loop in
     let a = c .before .before .before .before .before .before .before .before .before .before .before .before .before .before .before .before .args in
-    drop-within (a .p) (tableAt (now (a .table))) (now (a .after)) (c .before .before .before .before .before .before .before .before .before .before .before .before .before .before .before .before .pre .fit) (l .tree) (l .sum) (l .n) (l .inv) (c .before .before .before .before .before .before .before .before .before .before .before .before .if1 .taken) (c .before .before .before .before .before .before .before .before .before .before .size-at .result) (c .before .before .before .before .before .before .before .before .before .before .size-at .ensures) (rw (c .before .before .before .before .before .before .before .before .before .before .before .due-slot .ensures) at (c .before .before .before .before .before .before .before .before .if2 .left)) _ (c .before .before .before .before .find-largest .ensures) (c .before .before .before .before .before .before .if3 .left) .1
+    drop-within (a .p) (tableAt (now (a .table))) (now (a .after)) (c .before .before .before .before .before .before .before .before .before .before .before .before .before .before .before .before .pre .fit) (l .tree) (l .sum) (l .n) (l .inv) (c .before .before .before .before .before .before .before .before .before .before .before .before .if1 .taken) (c .before .before .before .before .before .before .before .before .before .before .size-in .result) (c .before .before .before .before .before .before .before .before .before .before .size-in .ensures) (rw (c .before .before .before .before .before .before .before .before .before .before .before .due-slot .ensures) at (c .before .before .before .before .before .before .before .before .if2 .left)) _ (c .before .before .before .before .find-largest .ensures) (c .before .before .before .before .before .before .if3 .left) .1
 
 loop-less-3 : tie.Need-loop-less-3 Inv-loop μ-loop
 loop-less-3 c = omega (arith, c .before .before .before .before .before .before .before .before .before .before .before .before .if1 .taken)
@@ -109,7 +109,7 @@ loop-again-3 : tie.Need-loop-again-3 Inv-loop μ-loop
 loop-again-3 c =
     let l = c .before .before .before .before .before .before .before .before .before .before .before .before .before .before .loop in
     let a = c .before .before .before .before .before .before .before .before .before .before .before .before .before .before .before .before .args in
-    walking-drops (a .p) (tableAt (now (a .table))) (now (a .after)) (c .before .before .before .before .before .before .before .before .before .before .before .before .before .before .before .before .pre .fit) (l .tree) (l .sum) (l .n) (l .inv) (c .before .before .before .before .before .before .before .before .before .before .before .before .if1 .taken) (c .before .before .before .before .before .before .before .before .before .before .size-at .result) (c .before .before .before .before .before .before .before .before .before .before .size-at .ensures) (rw (c .before .before .before .before .before .before .before .before .before .before .before .due-slot .ensures) at (c .before .before .before .before .before .before .before .before .if2 .left)) _ (c .before .before .before .before .find-largest .ensures) (c .before .before .before .before .before .before .if3 .left) _ _ (c .before .before .add-leaf2 .ensures) (c .clear-leaf .ensures)
+    walking-drops (a .p) (tableAt (now (a .table))) (now (a .after)) (c .before .before .before .before .before .before .before .before .before .before .before .before .before .before .before .before .pre .fit) (l .tree) (l .sum) (l .n) (l .inv) (c .before .before .before .before .before .before .before .before .before .before .before .before .if1 .taken) (c .before .before .before .before .before .before .before .before .before .before .size-in .result) (c .before .before .before .before .before .before .before .before .before .before .size-in .ensures) (rw (c .before .before .before .before .before .before .before .before .before .before .before .due-slot .ensures) at (c .before .before .before .before .before .before .before .before .if2 .left)) _ (c .before .before .before .before .find-largest .ensures) (c .before .before .before .before .before .before .if3 .left) _ _ (c .before .before .add-leaf2 .ensures) (c .clear-leaf .ensures)
 
 returns : tie.Need-returns Inv-loop μ-loop
 returns c = let l = c .before .before .loop in let a = c .before .before .before .before .args in walking-end (a .p) (tableAt (now (a .table))) (now (a .after)) (l .tree) (l .sum) (l .n) (l .inv) (omega (arith, c .if1 .left))
@@ -124,7 +124,7 @@ walk-spec =
     loop-holds
     add-i
     due-slot-requires
-    size-at-requires
+    size-in-requires
     cast-leaf
     add-leaf
     cast-more

@@ -244,8 +244,3 @@ module _ (s room : ℕ → ℕ) where
             l .top (suc i) (added-has i (suc i) .1 (inr refl)),
             rises i,
           ))
-
--- The walk asks only for the room of the chunks that it goes through.
-pub same-rooms : (s room other : ℕ → ℕ) (n : ℕ) → ((i : ℕ) → i ≤ n → room i ≡ other i) → keptAfter s room n ≡ keptAfter s other n
-same-rooms s room other zero e = refl
-same-rooms s room other (suc n) e = rw (same-rooms s room other n (λ i h. e i (omega arith)), e (suc n) (omega arith))

@@ -23,7 +23,7 @@ array-read-total c = search needs
 
 settle-bases-requires : tie.Need-settle-bases-requires
 settle-bases-requires c κs = let a = c .before .before .before .before .before .before .before .before .before .args in let o = c .before .before .before .before .before .before .before .before .before .pre in
-    (record { few = o .few; late = o .late; ends = o .ends; small = o .small; sums = sums-small (a .p) (a .layers) (tableAt (now (a .table))) (a .start) (now (a .part)) (now (a .ids)) (now (a .ready)) (now (a .mark)) o _ (c .before .before .before .before .before .sum-after .ensures); long = (c .before .before .before .before .before .sum-after .ensures .long, o .long .0, length-replicate {A = ℕ} 500 0, length-replicate {A = ℕ} 500 0, length-replicate {A = ℕ} 500 (length (now (a .part)))) }, o .bases-low)
+    record { from = record { few = o .few; late = o .late; ends = o .ends; small = o .small; sums = sums-small (a .p) (a .layers) (tableAt (now (a .table))) (a .start) (now (a .part)) (now (a .ids)) (now (a .ready)) (now (a .mark)) o _ (c .before .before .before .before .before .sum-after .ensures); long = (c .before .before .before .before .before .sum-after .ensures .long, o .long .0, length-replicate {A = ℕ} 500 0, length-replicate {A = ℕ} 500 0, length-replicate {A = ℕ} 500 (length (now (a .part)))) }; least = o .least }
 
 set-releases-requires : tie.Need-set-releases-requires
 set-releases-requires c κs = (c .before .before .settle-bases .ensures .0 .within, c .before .before .settle-bases .ensures .0 .long .1, c .before .before .before .before .before .before .before .before .before .before .before .before .pre .long .1)
