@@ -41,14 +41,27 @@ fn read_said(read: JobRead) {
     }
 }
 
+fn half(x: u16) {
+    pair(b" ", x as usize);
+}
+
+fn byte(x: u8) {
+    pair(b" ", x as usize);
+}
+
+fn long(x: u32) {
+    pair(b" ", x as usize);
+}
+
 // Numbers of the lent room after a call: of the last SZ, and past it.
 fn shown(chunks: &[u16; 3], layers: &[u8; 3], bytes: &[u32; 3]) {
-    pair(b", then ", chunks[1] as usize);
-    pair(b" ", chunks[2] as usize);
-    pair(b" ", layers[1] as usize);
-    pair(b" ", layers[2] as usize);
-    pair(b" ", bytes[1] as usize);
-    pair(b" ", bytes[2] as usize);
+    word(b", then");
+    half(chunks[1]);
+    half(chunks[2]);
+    byte(layers[1]);
+    byte(layers[2]);
+    long(bytes[1]);
+    long(bytes[2]);
     word(b"\n");
 }
 

@@ -6,10 +6,10 @@ use Prim.Native.Nat.{_≤_, _-_}
 use native.Mathlib.Omega.{arith}
 
 abbrev Inv-loop : tie.InvT-loop
-Inv-loop i₀ i = i ≤ 71
+Inv-loop i₀ i = i ≤ 100
 
 abbrev μ-loop : tie.MeasureT-loop
-μ-loop i₀ i = 71 - i
+μ-loop i₀ i = 100 - i
 
 loop-holds : tie.Need-loop-holds Inv-loop μ-loop
 loop-holds c = omega arith
