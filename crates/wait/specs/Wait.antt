@@ -38,7 +38,7 @@ pub record Tried (w : Film) (s : ℕ) : Type 0 where
   pub low : 1 ≤ s
   pub reaches : lastDue (programmeAt w s) ≤ length (w .forecast)
 
--- s works: it is tried, and the plan of its job, decided as document 01 says, skips no base layer.
+-- s works: it is tried, and the plan of its job skips no base layer.
 pub record Works (w : Film) (s : ℕ) : Type 0 where
   pub tried : Tried w s
   pub plan : ℕ → ℕ
