@@ -237,9 +237,21 @@ def own_list(job, levels):
     return rows
 
 
+def walk(job):
+    """Document 02, request 9: the chunks whose bases are kept."""
+    kept = []
+    for i in range(1, job.chunks + 1):
+        kept.append(i)
+        while sum(size(job, k, 0) for k in kept) > sum(job.forecast[:due(job, i)]):
+            kept.remove(max(kept, key=lambda k: (size(job, k, 0), -k)))
+    return kept
+
+
 def plan(job):
-    levels = [0] * job.chunks
-    for n in range(len(job.sizes)):
+    levels, settled = [0] * job.chunks, 0
+    if job.limit // job.span >= job.chunks and any(size(job, i, 0) != job.sizes[0] for i in range(2, job.chunks + 1)):
+        levels, settled = [int(i in walk(job)) for i in range(1, job.chunks + 1)], 1
+    for n in range(settled, len(job.sizes)):
         for i in range(job.chunks, 0, -1):
             if levels[i - 1] == n:
                 tried = levels[:]

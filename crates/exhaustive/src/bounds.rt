@@ -38,19 +38,21 @@ fn of_whole(f: Film, plan: u32, given: u32) -> u32 {
     0
 }
 
-// "That no list carries more is claimed only for jobs whose sizes don't vary by chunk": of the others, the lists that carry more bases.
-fn of_uneven(plan: u32, given: u32) -> u32 {
-    tally::flag(tally::LISTS)
-        | tally::flag_if(
-            tally::BEATEN,
-            marks::count(plan, 0) < marks::count(given, 0),
-        )
+// Uneven film. "No passing list, in any order, then carries more bases" where H is at least C; of the others, the lists that carry more.
+fn of_uneven(f: Film, plan: u32, given: u32) -> u32 {
+    if f.chunks <= film::held_most(f) {
+        return at_most(plan, given, 0, tally::MOST);
+    }
+    tally::flag_if(
+        tally::BEATEN,
+        marks::count(plan, 0) < marks::count(given, 0),
+    )
 }
 
 // The first is "Every fetch list that passes, in whatever order it fetches, carries the base layer of at most as many chunks as the plan".
 pub(crate) fn weigh(f: Film, plan: u32, given: u32, list: u32) -> u32 {
     if !film::is_equal(f) {
-        return of_uneven(plan, given);
+        return tally::flag(tally::LISTS) | of_uneven(f, plan, given);
     }
     let ordered = lists::in_order(given, list);
     tally::flag(tally::LISTS)

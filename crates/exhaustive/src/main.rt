@@ -11,6 +11,7 @@ mod own;
 mod planned;
 mod search;
 mod tally;
+mod walk;
 
 use crate::film::Film;
 use libc::STDOUT_FILENO;
@@ -102,6 +103,7 @@ fn flags_of(f: Film, marks: u32) -> u32 {
             (bits::nonzero(f.forecast) as usize) < film::last_due(f),
         )
         | tally::flag_if(tally::BINDING, unlimited_plan(f) != marks)
+        | tally::flag_if(tally::WALKED, walk::settles(f))
 }
 
 fn trial(f: Film, tally: &mut [u64]) {
@@ -147,14 +149,14 @@ fn say(words: &[u8], tally: &[u64], from: u16, to: u16) {
 
 fn say_all(tally: &[u64]) {
     say(
-        b"jobs; with three layers, four layers, uneven chunks, H 0, a limit no multiple of L, an empty slot, a limit that binds:",
+        b"jobs; with three layers, four layers, uneven chunks, H 0, a limit no multiple of L, an empty slot, a limit that binds, bases settled by the walk:",
         tally,
         tally::JOBS,
         tally::LISTS,
     );
-    say(b"bases, layers above, rows:", tally, tally::BASES, 25);
+    say(b"bases, layers above, rows:", tally, tally::BASES, 27);
     say(
-        b"lists that pass; bounds on bases, on layers 0 to 3 in playing order, with the whole held, for equal chunks; lists that break one; of uneven film, that carry more bases than the plan:",
+        b"lists that pass; bounds on bases, on layers 0 to 3 in playing order, with the whole held, for equal chunks; on bases of uneven film, with the whole held; lists that break one; of uneven film under a limit, that carry more bases than the plan:",
         tally,
         tally::LISTS,
         tally::SAME_MARKS,
@@ -168,7 +170,7 @@ fn say_all(tally: &[u64]) {
 }
 
 fn main() {
-    let mut tally = [0u64; 25];
+    let mut tally = [0u64; 27];
     every_job(&mut tally);
     say_all(&tally);
 }

@@ -7,6 +7,7 @@ use crate::film::Film;
 use crate::lists;
 use crate::marks;
 use crate::tally;
+use crate::walk;
 ghost use Prim.Native.Nat.{_≤_, _-_};
 
 // Whether byte k may be of a part: the forecast has it (rule 4), the chunk is due in its slot or later (rule 5), the layer lacks bytes and is
@@ -107,14 +108,22 @@ fn settle(f: Film, marks: u32, part: u16) -> u32 {
     marks
 }
 
-// "Layers are settled from 0 upward, and within a layer chunks from C down to 1": in turn k layer k / 3 of chunk 2 - k % 3. A layer or a
-// chunk that the job does not have is not carried by any list.
-pub(crate) fn plan(f: Film) -> u32 {
-    let mut marks: u32 = 0;
-    let mut k: u16 = 0;
+// "Layers are settled from 0 upward, and within a layer chunks from C down to 1": from a turn on, in turn k layer k / 3 of chunk 2 - k % 3. A
+// layer or a chunk that the job does not have is not carried by any list.
+fn settle_from(f: Film, from: u16, settled: u32) -> u32 {
+    let mut marks = settled;
+    let mut k = from;
     while k < marks::PARTS {
         marks = settle(f, marks, 4 * (2 - k % 3) + k / 3);
         k = k + 1;
     }
     marks
+}
+
+// The bases of request 9 where it settles them, else document 01's; the upper layers in its way.
+pub(crate) fn plan(f: Film) -> u32 {
+    if walk::settles(f) {
+        return settle_from(f, 3, walk::bases(f));
+    }
+    settle_from(f, 0, 0)
 }

@@ -1,4 +1,4 @@
-// What the trials count. The first 22 numbers are flags: so many jobs, lists or plans had them.
+// What the trials count. The first 24 numbers are flags: so many jobs, lists or plans had them.
 pub(crate) const JOBS: u16 = 0;
 
 pub(crate) const THREE_LAYERS: u16 = 1;
@@ -15,34 +15,38 @@ pub(crate) const EMPTY: u16 = 6;
 
 pub(crate) const BINDING: u16 = 7;
 
-pub(crate) const LISTS: u16 = 8;
+pub(crate) const WALKED: u16 = 8;
 
-pub(crate) const ANY_ORDER: u16 = 9;
+pub(crate) const LISTS: u16 = 9;
+
+pub(crate) const ANY_ORDER: u16 = 10;
 
 // Of layer 0; those of the layers above stand after it.
-pub(crate) const BY_LAYER: u16 = 10;
+pub(crate) const BY_LAYER: u16 = 11;
 
-pub(crate) const WHOLE: u16 = 14;
+pub(crate) const WHOLE: u16 = 15;
 
-pub(crate) const BROKEN: u16 = 15;
+pub(crate) const MOST: u16 = 16;
 
-pub(crate) const BEATEN: u16 = 16;
+pub(crate) const BROKEN: u16 = 17;
 
-pub(crate) const SAME_MARKS: u16 = 17;
+pub(crate) const BEATEN: u16 = 18;
 
-pub(crate) const SAME_COUNTS: u16 = 18;
+pub(crate) const SAME_MARKS: u16 = 19;
 
-pub(crate) const SAME_ROWS: u16 = 19;
+pub(crate) const SAME_COUNTS: u16 = 20;
 
-pub(crate) const PASSED: u16 = 20;
+pub(crate) const SAME_ROWS: u16 = 21;
 
-pub(crate) const ORDERED: u16 = 21;
+pub(crate) const PASSED: u16 = 22;
 
-pub(crate) const BASES: u16 = 22;
+pub(crate) const ORDERED: u16 = 23;
 
-pub(crate) const UPPERS: u16 = 23;
+pub(crate) const BASES: u16 = 24;
 
-pub(crate) const ROWS: u16 = 24;
+pub(crate) const UPPERS: u16 = 25;
+
+pub(crate) const ROWS: u16 = 26;
 
 pub(crate) fn flag(k: u16) -> u32 {
     1 << (k % 32)

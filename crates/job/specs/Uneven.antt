@@ -1,5 +1,5 @@
 -- Theorems. Film with uneven chunks: how many SZs a job can have, chunk 1's own sizes, that chunks are equal exactly if there is no SZ,
--- and that a call's table of sizes says the job's.
+-- that then their bases are, and that a call's table of sizes says the job's.
 use Prim.Native.Nat.{ℕ, _+_, _*_, _≤_}
 use mathlib.Core.Path.{_≡_, refl, sym, subst, fun-ext, _∙_}
 use mathlib.Core.List.{List, [], _∷_}
@@ -8,7 +8,7 @@ use native.Mathlib.Omega.{arith}
 use lib.ListN.{length, getD}
 use Rattle.basics.specs.Tests.{All}
 use Rattle.basics.specs.lemmas.Tests.{all-map}
-use Rattle.job.specs.Job.{Job, Override, Named, Layer, Accepted, EqualChunks, chunks, size}
+use Rattle.job.specs.Job.{Job, Override, Named, Layer, Accepted, EqualBases, EqualChunks, chunks, layers, size}
 use Rattle.job.specs.Table.{sizesTable, tableAt}
 use Rattle.job.specs.lemmas.Table.{table-says}
 use Rattle.job.specs.lemmas.Spots.{Spot, spots, few, Other, own-where, own-size, head-size}
@@ -32,6 +32,13 @@ equal-iff j a = (λ e. by-list e (j .overrides) refl, λ none i k n x y. rw none
       let one : Layer j 1 (o .layer) = record { chunk-low = omega arith; chunk-high = a .chunks-in .low; layer-in = named .layer-in } in
       let its : size j (o .chunk) (o .layer) ≡ o .bytes = rw i (head-size (j .sizes) o os) in
       absurd (named .not-own (sym its ∙ e (o .chunk) 1 (o .layer) here one ∙ size-one j a (o .layer)))
+
+-- Of equal chunks the bases are.
+pub equal-chunks-bases : (j : Job) → 1 ≤ layers j → EqualChunks j → EqualBases j
+equal-chunks-bases j some equal i k u v =
+    equal i k 0
+    (record { chunk-low = u .low; chunk-high = u .high; layer-in = some })
+    (record { chunk-low = v .low; chunk-high = v .high; layer-in = some })
 
 -- The table that a call fills has every size of an accepted job, for each chunk and layer.
 pub table-is : (j : Job) → Accepted j → tableAt (sizesTable (j .sizes) (j .overrides)) ≡ size j

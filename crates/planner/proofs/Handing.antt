@@ -17,13 +17,14 @@ use Rattle.job.specs.Job.{Job, Accepted, chunks}
 use Rattle.job.specs.Handed.{HandedJob, jobIn, jobRefusal, handed-iff}
 use Rattle.schedule.specs.Plan.{plan}
 use Rattle.schedule.specs.lemmas.Plan.{plan-choice}
-use Rattle.schedule.specs.Theorems.{own-list-rows, best, plan-exists}
+use Rattle.schedule.specs.Theorems.{own-list-rows, best, elsewhere-iff, plan-exists}
+use Rattle.schedule.specs.Pictures.{most-pictures}
 use Rattle.schedule.specs.Statement.{countsOf, marksOf}
 use Rattle.planner.specs.declared.Answer.the-variants.{Rows, Refused}
 use Rattle.planner.specs.declared.Planned.{Planned}
 use Rattle.planner.specs.declared.Filled.{Filled}
 use Rattle.planner.specs.lemmas.Handing.{LaidFrom, Laid}
-use Rattle.planner.specs.Answer.{planRows, Lent, lentOf, holds, planRefusal, given, Handed, DecidedByLists, BestOfLists}
+use Rattle.planner.specs.Answer.{planRows, Lent, lentOf, holds, planRefusal, given, Handed, DecidedByLists, PicturesOfLists, BestOfLists}
 use Rattle.basics.specs.Lent.{over}
 use Rattle.fetch.specs.Rows.{Row, rowSlot, rowChunk, rowLayer, rowBytes}
 use Rattle.basics.specs.lemmas.Lent.{over-next, over-long}
@@ -201,6 +202,13 @@ module _ (h : HandedJob) (z : jobRefusal h ≡ 0) {ms ss cs ls bs : List ℕ} {m
 
 pub decided-by-lists : (h : HandedJob) → DecidedByLists h
 decided-by-lists h z = plan-exists (jobIn h) (accepted h z)
+
+pub pictures-of-lists : (h : HandedJob) → PicturesOfLists h
+pictures-of-lists h z =
+    let j = jobIn h in
+    let a = accepted h z in
+    let is = plan-exists j a in
+    record { most = most-pictures j a (plan j) is; equal-bases = λ equal. elsewhere-iff j (λ w. w .1 equal) (plan j) .0 is }
 
 pub best-of-lists : (h : HandedJob) → BestOfLists h
 best-of-lists h z equal = let j = jobIn h in let a = accepted h z in best j a equal (plan j) (plan-exists j a)

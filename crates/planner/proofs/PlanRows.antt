@@ -17,7 +17,7 @@ use Rattle.basics.specs.lemmas.Tests.{test, by-cond}
 use Rattle.job.specs.Job.{Job, Accepted, Within, size, chunks, layers, due, forecast, heldMost, lastSlot}
 use Rattle.job.specs.Table.{sizesTable, tableAt}
 use Rattle.job.specs.Uneven.{table-is}
-use Rattle.job.specs.lemmas.Within.{all-most, size-most}
+use Rattle.job.specs.lemmas.Within.{all-most, size-least, size-most}
 use Rattle.fetch.specs.Marks.{bit}
 use Rattle.fetch.specs.Counts.{markCount}
 use Rattle.fetch.specs.lemmas.Counts.{count-up-to}
@@ -133,6 +133,7 @@ module _ (j : Job) (ok : Accepted j) where
         some = ok .layers-in .low;
         few-layers = ok .layers-in .high;
         small = λ i n. subst (λ (z : ℕ → ℕ → ℕ). z i n ≤ 16777216) (sym says) (size-most j ok i n);
+        least = λ i u v. subst (λ (z : ℕ → ℕ → ℕ). 1 ≤ z i 0) (sym says) (size-least j ok i 0 (ok .layers-in .low));
         part-in = part-in;
         slots = omega (arith, ok .slots-in);
         long = (a, b);

@@ -7,12 +7,12 @@ use mathlib.Core.List.{List, [], _∷_, map}
 use lib.ListN.{length}
 use lib.Dec.{leb, ltb, eqb}
 use Rattle.basics.specs.Refusals.{unless, _orElse_}
-use Rattle.job.specs.Job.{Job, EqualChunks, chunks}
+use Rattle.job.specs.Job.{Job, EqualChunks, chunks, EqualBases}
 use Rattle.job.specs.Handed.{HandedJob, jobIn, jobRefusal}
 use Rattle.fetch.specs.Rows.{Row, rowSlot, rowChunk, rowLayer, rowBytes}
 use Rattle.schedule.specs.Own.{ownList}
 use Rattle.schedule.specs.Plan.{plan}
-use Rattle.schedule.specs.Statement.{Best, IsPlan, countsOf, marksOf}
+use Rattle.schedule.specs.Statement.{Best, IsPlan, MostPictures, SettledByTrials, countsOf, marksOf}
 use Rattle.planner.specs.declared.Answer.{Answer}
 use Rattle.planner.specs.declared.Answer.the-variants.{Rows, Refused}
 use Rattle.planner.specs.declared.Order.{Order}
@@ -73,9 +73,18 @@ pub record Handed (h : HandedJob) (marks slots chunks layers bytes : List ℕ) (
   pub bytes-are : bytes' ≡ sliceAfter h (lentOf marks slots chunks layers bytes) (map rowBytes (planRows (jobIn h))) bytes
 
 -- "The plan carries a layer of a chunk if and only if, beside the layers already settled, some fetch list in playing order still
--- keeps them all."
+-- keeps them all"; for bases that request 9 settles, `IsPlan` has its walk instead.
 abbrev pub DecidedByLists : HandedJob → Type 0
 DecidedByLists h = jobRefusal h ≡ 0 → IsPlan (jobIn h) (plan (jobIn h))
+
+-- Request 9: where H is at least C "no passing list, in any order, then carries more bases. For equal sizes the marks are those of
+-- document 01": the plan is settled in its way.
+pub record Pictures (j : Job) (choice : ℕ → ℕ) : Type 0 where
+  pub most : MostPictures j choice
+  pub equal-bases : EqualBases j → SettledByTrials j choice
+
+abbrev pub PicturesOfLists : HandedJob → Type 0
+PicturesOfLists h = jobRefusal h ≡ 0 → Pictures (jobIn h) (plan (jobIn h))
 
 -- Demand 3: "Take any accepted job of equal chunks, whatever its layer sizes, forecast, deadlines and buffer limit."
 abbrev pub BestOfLists : HandedJob → Type 0

@@ -13,7 +13,8 @@ use Rattle.job.specs.Job.{dueSlot}
 use Rattle.schedule.specs.lemmas.Ascending.{Asc, asc-lower}
 use Rattle.schedule.specs.lemmas.Trials.{Stack, candidate, keeps, push, bases}
 use Rattle.schedule.specs.lemmas.Parts.{at}
-use Rattle.settle.specs.lemmas.Decision.{BasesFrom, Bases}
+use Rattle.settle.specs.lemmas.Decision.{BasesFrom, stackIn}
+use Rattle.pictures.specs.lemmas.Walking.{KeptIn}
 use Rattle.basics.specs.lemmas.Tables.{set-before}
 
 -- The chunk i is due by the last slot.
@@ -147,7 +148,7 @@ module _ (p : Programme) (size : ℕ → ℕ → ℕ) (after : List ℕ) where
     pub keep-both : cand ≤ at after 0 → getD (cand ∷ behind i .needs) held 0 ≤ at after (dueSlot p i - 1) → keep ≡ true
     keep-both g k = rw (le-leb cand (at after 0) g, le-leb _ _ k)
 
-  pub basing-end : (ids dues bytes needs : List ℕ) (last first i : ℕ) → Basing ids dues bytes needs last first i → i ≤ 0 → Bases p size after first ids dues bytes
+  pub basing-end : (ids dues bytes needs : List ℕ) (last first i : ℕ) → Basing ids dues bytes needs last first i → i ≤ 0 → KeptIn p size (stackIn p size (at after)) first ids dues bytes
   basing-end ids dues bytes needs last first i b h =
       let e : i ≡ 0 = omega arith in
       let s : p .chunks - i ≡ p .chunks = omega arith in

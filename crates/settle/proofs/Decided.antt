@@ -1,6 +1,6 @@
 -- Laws on the whole decision: what the tables hold at its end is the plan. Assumes nothing.
 use mathlib.Core.Path.{_≡_, refl, sym, _∙_, ap, subst, fun-ext}
-use mathlib.Core.Bool.{_&&_}
+use mathlib.Core.Bool.{cond, _&&_}
 use mathlib.Core.List.{List, [], _∷_, _++_, map}
 use Prim.Native.Nat.{ℕ, zero, suc, _+_, _-_, _/_, _≤_, _<_, min, max}
 use native.Mathlib.Omega.{arith}
@@ -13,13 +13,15 @@ use Rattle.fetch.specs.Marks.{bit}
 use Rattle.job.specs.declared.Programme.{Programme}
 use Rattle.job.specs.Job.{Job, Override, sizeIn, size, due, dueSlot, heldMost, lastDue, layers, chunks}
 use Rattle.schedule.specs.lemmas.Ascending.{Asc, asc-within}
-use Rattle.schedule.specs.Plan.{kept, plan}
+use Rattle.schedule.specs.Plan.{byWalk, kept, plan}
+use Rattle.schedule.specs.lemmas.Walked.{kept-by-after}
+use Rattle.pictures.specs.lemmas.Walking.{KeptIn}
 use Rattle.schedule.specs.lemmas.Linear.{bases-kept, decided-is, map-map}
 use Rattle.schedule.specs.lemmas.Necessity.{after}
 use Rattle.schedule.specs.lemmas.Sufficiency.{ones, releases}
-use Rattle.schedule.specs.lemmas.Trials.{Kept, Tried, bases, rooms, back, bytesOf, markOf, keptAt, onLayer, onLayers, based, keptBases}
+use Rattle.schedule.specs.lemmas.Trials.{Kept, Tried, bases, rooms, back, bytesOf, markOf, keptAt, onLayer, onLayers, based, keptBases, stacked}
 use Rattle.schedule.specs.lemmas.Parts.{at, padded, padded-long, part-small}
-use Rattle.settle.specs.lemmas.Decision.{keptOf, Sums, Slot, Bases, SumTable, LayersFrom, LayersDone, jobFrom, DecideFrom, Decides, DecidesEach}
+use Rattle.settle.specs.lemmas.Decision.{keptOf, Sums, Slot, SumTable, basesIn, LayersFrom, LayersDone, jobFrom, DecideFrom, Decides, DecidesEach}
 use Rattle.schedule.specs.lemmas.Words.{due-by}
 use Rattle.schedule.specs.lemmas.Queue.{each-is, all-ones}
 use Rattle.basics.specs.lemmas.Tables.{all-take}
@@ -91,7 +93,7 @@ module _ (p : Programme) (layers : ℕ) (size : ℕ → ℕ → ℕ) (start : �
   pub sums-small : (left : List ℕ) → SumTable start part left → Sums left
   sums-small left s k = rw (s .is k) (part-small start part (o .part-in) k)
 
-  module _ (left : List ℕ) (s : SumTable start part left) (first : ℕ) (ids dues bytes : List ℕ) (b : Bases p size left first ids dues bytes) where
+  module _ (left : List ℕ) (s : SumTable start part left) (first : ℕ) (ids dues bytes : List ℕ) (b : KeptIn p size (basesIn p size (at left)) first ids dues bytes) where
     module _ (ready : List ℕ) (lr : length ready ≡ 500) (r : drop first ready ≡ take (500 - first) (ones (p .limit / p .span) ++ drop first dues)) where
       abbrev ks : List ℕ
       ks = drop first ids
@@ -129,8 +131,9 @@ module _ (p : Programme) (layers : ℕ) (size : ℕ → ℕ → ℕ) (start : �
         kept-are : ks ≡ keptBases j
         kept-are =
             b .kept
-            ∙ ap (λ (z : ℕ → ℕ → ℕ). bases (λ k. z k 0) (dueSlot p) (at left) (p .limit / p .span) 0 (p .chunks) .chunks) says
-            ∙ ap (λ (A : ℕ → ℕ). bases (λ k. sizeIn sizes overrides k 0) (dueSlot p) A (p .limit / p .span) 0 (p .chunks) .chunks) sums-are
+            ∙ ap (λ (z : ℕ → ℕ → ℕ). basesIn p z (at left)) says
+            ∙ ap (basesIn p (sizeIn sizes overrides)) sums-are
+            ∙ ap (λ (l : List ℕ). cond (byWalk j) l (stacked j)) (kept-by-after j)
 
         released : drop first ready ≡ take (length ks) (releases (due j) (heldMost j) ks)
         released = r ∙ ap (λ (l : List ℕ). take (500 - first) (ones (p .limit / p .span) ++ l)) (b .due-slots ∙ sym (each-is (dueSlot p) ks)) ∙ ap (λ (n : ℕ). take n (releases (due j) (heldMost j) ks)) (sym many)

@@ -15,7 +15,8 @@ ghost use mathlib.Core.List.{_++_};
 ghost use Rattle.schedule.specs.lemmas.Sufficiency.{ones};
 ghost use Rattle.schedule.specs.lemmas.Trials.{rooms};
 ghost use Rattle.schedule.specs.lemmas.Parts.{at, Part};
-ghost use Rattle.settle.specs.lemmas.Decision.{Placed, SumTable, BasesFrom, Bases, Slot, LayerFrom, LayerDone, LayersFrom, LayersDone, DecideFrom, DecidesEach};
+ghost use Rattle.pictures.specs.lemmas.Walking.{KeptIn};
+ghost use Rattle.settle.specs.lemmas.Decision.{Placed, SumTable, BasesFrom, SettleFrom, stackIn, basesIn, Slot, LayerFrom, LayerDone, LayersFrom, LayersDone, DecideFrom, DecidesEach};
 
 fn larger(a: u64, b: u64) -> u64
     ensures { λ r. ⌜ r ≡ max a b ⌝ }
@@ -105,7 +106,7 @@ pub fn keep_bases(
     needs: &mut [u64; 500],
 ) -> usize
     requires { ⌜ BasesFrom p (tableAt (now table)) (now after) (now ids) (now dues) (now bytes) (now needs) ⌝ }
-    ensures { λ r. ⌜ Bases p (tableAt (now (table .entry))) (now (after .entry)) r (now (ids .exit)) (now (dues .exit)) (now (bytes .exit)) ⌝ }
+    ensures { λ r. ⌜ KeptIn p (tableAt (now (table .entry))) (stackIn p (tableAt (now (table .entry))) (at (now (after .entry)))) r (now (ids .exit)) (now (dues .exit)) (now (bytes .exit)) ⌝ }
     ensures room { λ _. ⌜ length (now (needs .exit)) ≡ 500 ⌝ }
 {
     let held = job::held_most(p) as usize;
@@ -134,6 +135,26 @@ pub fn keep_bases(
         }
     }
     first
+}
+
+// The bases of the plan: by request 9's walk where it settles them, else in document 01's way.
+fn settle_bases(
+    p: Programme,
+    table: &[u32; 2000],
+    after: &[u64; 3601],
+    ids: &mut [u16; 500],
+    dues: &mut [u16; 500],
+    bytes: &mut [u32; 500],
+    needs: &mut [u64; 500],
+) -> usize
+    requires { ⌜ SettleFrom p (tableAt (now table)) (now after) (now ids) (now dues) (now bytes) (now needs) ⌝ }
+    ensures { λ r. ⌜ KeptIn p (tableAt (now (table .entry))) (basesIn p (tableAt (now (table .entry))) (at (now (after .entry)))) r (now (ids .exit)) (now (dues .exit)) (now (bytes .exit)) ⌝ }
+    ensures room { λ _. ⌜ length (now (needs .exit)) ≡ 500 ⌝ }
+{
+    if pictures::by_walk(p, table) {
+        return pictures::keep_most(p, table, after, ids, dues, bytes);
+    }
+    keep_bases(p, table, after, ids, dues, bytes, needs)
 }
 
 // The slot from which each kept chunk may begin.
@@ -275,7 +296,7 @@ pub fn decide(
     let mut bytes = [0u32; 500];
     sum_after(part, start, &mut after);
     let total = after[0];
-    let first = keep_bases(p, table, &after, ids, &mut dues, &mut bytes, &mut room);
+    let first = settle_bases(p, table, &after, ids, &mut dues, &mut bytes, &mut room);
     set_releases(held, &dues, first, ready);
     settle_layers(
         layers,

@@ -9,6 +9,7 @@ use Rattle.job.specs.Job.{Job, Named, Override, Rising, Within, chunks, jobOf, 
 use Rattle.fetch.specs.Rows.{Row, Carried}
 use Rattle.fetch.specs.Rules.{Passes, PlayingOrder}
 use Rattle.schedule.specs.Statement.{IsPlan}
+pub use Rattle.schedule.specs.Statement.{NoSkip}
 
 -- A job without s, and a forecast of any length.
 pub record Film : Type 0 where
@@ -37,11 +38,7 @@ pub record Tried (w : Film) (s : ℕ) : Type 0 where
   pub low : 1 ≤ s
   pub reaches : lastDue (programmeAt w s) ≤ length (w .forecast)
 
--- The plan skips no base layer.
-abbrev pub NoSkip : Job → (ℕ → ℕ) → Type 0
-NoSkip j plan = (i : ℕ) → 1 ≤ i → i ≤ chunks j → 0 < plan i
-
--- s works: it is tried, and the plan of its job, decided as document 01 says, skips no base layer.
+-- s works: it is tried, and the plan of its job skips no base layer.
 pub record Works (w : Film) (s : ℕ) : Type 0 where
   pub tried : Tried w s
   pub plan : ℕ → ℕ

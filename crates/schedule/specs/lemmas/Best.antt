@@ -3,7 +3,7 @@
 use Prim.Native.Nat.{ℕ, zero, suc, _≤_, _<_, min}
 use mathlib.Core.Path.{_≡_}
 use mathlib.Core.List.{List}
-use mathlib.Core.Logic.{⊎-elim, _↔_}
+use mathlib.Core.Logic.{⊎-elim}
 use native.Mathlib.Omega.{arith}
 use lib.Dec.{ltb, ltb→lt, nltb→le, lt→ltb}
 use Rattle.basics.specs.lemmas.Tests.{test}
@@ -11,37 +11,39 @@ use Rattle.fetch.specs.Rows.{Row, layerCount}
 use Rattle.fetch.specs.Rules.{Passes, PlayingOrder}
 use Rattle.job.specs.Job.{HoldsAll, Job, Layer, chunks, layers, size}
 use Rattle.schedule.specs.lemmas.Base.{base-most}
-use Rattle.schedule.specs.lemmas.Choice.{Fits, can-carry-fits, can-carry-iff-fits}
+use Rattle.schedule.specs.lemmas.Choice.{Fits, can-carry-fits}
 use Rattle.schedule.specs.lemmas.Level.{count-carried, level, level-choice, level-exactly}
 use Rattle.basics.specs.lemmas.Ranges.{count-tight}
-use Rattle.schedule.specs.lemmas.Plan.{fits-cong, plan-fits, plan-is-plan, tried-choice}
-use Rattle.schedule.specs.Plan.{plan}
-use Rattle.schedule.specs.Statement.{CarriesBelow, IsPlan, countOf, tried}
-use Rattle.schedule.specs.lemmas.Unique.{plans-agree}
+use Rattle.schedule.specs.lemmas.Plan.{TakesFitting, base-taken-iff, fits-cong, plan-fits, plan-is-plan, settles-iff, skip-all-fits, trials-fit, trials-settled}
+use Rattle.schedule.specs.Plan.{plan, planByTrials}
+use Rattle.schedule.specs.Statement.{CarriesBelow, IsPlan, SettledByTrials, countOf}
+use Rattle.schedule.specs.lemmas.Unique.{plans-agree, trials-agree}
 use Rattle.schedule.specs.lemmas.Upper.{upper-most}
 use Rattle.schedule.specs.lemmas.Whole.{whole-most}
 use Rattle.schedule.specs.lemmas.Words.{Sized, layer-of}
 
-module _ (j : Job) (sized : Sized j) (p : ℕ → ℕ) (dec : IsPlan j p) where
-  -- A plan fits, since the computed one does and there is no other.
-  pub is-plan-fits : Fits j p
-  is-plan-fits = fits-cong j (plan j) p (plans-agree j (plan j) p (plan-is-plan j sized) dec) (plan-fits j)
+-- A plan fits, since the computed one does and there is no other.
+pub is-plan-fits : (j : Job) → Sized j → (p : ℕ → ℕ) → IsPlan j p → Fits j p
+is-plan-fits j sized p dec =
+    ⊎-elim
+    (λ t. fits-cong j (plan j) p (plans-agree j (plan j) p (plan-is-plan j sized (ltb→lt 0 (layers j) t)) dec) (plan-fits j))
+    (λ t. fits-cong j (λ k. 0) p (λ k u v. omega (arith, dec .choice k u v, nltb→le 0 (layers j) t)) (skip-all-fits j))
+    (test (ltb 0 (layers j)))
+
+-- ---- settled in document 01's way
+
+module _ (j : Job) (sized : Sized j) (p : ℕ → ℕ) (dec : SettledByTrials j p) where
+  pub by-trials-fits : Fits j p
+  by-trials-fits = fits-cong j (planByTrials j) p (trials-agree j (planByTrials j) p (trials-settled j sized) dec) (trials-fit j)
 
   -- It carries a layer exactly if the layers below are carried and the choice that is tried fits.
-  takes-iff : (i n : ℕ) → Layer j i n → (n < p i) ↔ ((n ≤ p i) × Fits j (tried p n i))
-  takes-iff i n r =
-      let d = dec .decided i n r in
-      let f = can-carry-iff-fits j sized (tried p n i) (tried-choice j p i n (dec .choice) (r .layer-in)) in
-      (λ l. let u = d .0 l in (u .0, f .0 (u .1)), λ u. d .1 (u .0, f .1 (u .1)))
-
-  -- The base, below which there is none.
-  pub base-taken-iff : 0 < layers j → (i : ℕ) → 1 ≤ i → i ≤ chunks j → (0 < p i) ↔ Fits j (tried p 0 i)
-  base-taken-iff h i u v = let a = takes-iff i 0 (layer-of j i 0 u v h) in (λ l. a .0 l .1, λ f. a .1 (omega arith, f))
+  takes-iff : (n : ℕ) → TakesFitting j p n
+  takes-iff n = settles-iff j sized p (dec .choice) n .0 (dec .decided n)
 
   module _ (z : ℕ → ℕ) (equal : (i n : ℕ) → Layer j i n → size j i n ≡ z n) where
     base-no-more : 0 < layers j → (m : List Row) → Passes j m → countOf j (level j m) 0 ≤ countOf j p 0
     base-no-more h m ok =
-        base-most j (z 0) (λ i u v. equal i 0 (layer-of j i 0 u v h)) p (base-taken-iff h) m ok
+        base-most j (z 0) (λ i u v. equal i 0 (layer-of j i 0 u v h)) p (base-taken-iff j sized p (dec .choice) (dec .decided 0) h) m ok
 
     list-count : (m : List Row) → Passes j m → (n : ℕ) → n < layers j → layerCount j m n ≡ countOf j (level j m) n
     list-count m ok = count-carried j m (level j m) (level-exactly j m ok)
@@ -71,10 +73,10 @@ module _ (j : Job) (sized : Sized j) (p : ℕ → ℕ) (dec : IsPlan j p) where
           (λ i u v. equal i (suc n) (layer-of j i (suc n) u v h))
           p
           x
-          is-plan-fits
+          by-trials-fits
           x-fits
           f
-          (λ i u v a t. takes-iff i (suc n) (layer-of j i (suc n) u v h) .1 (a, t))
+          (λ i u v a t. takes-iff (suc n) i (layer-of j i (suc n) u v h) .1 (a, t))
 
       -- A list that carries the plan's layers below n carries no others there.
       same-below :

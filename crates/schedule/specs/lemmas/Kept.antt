@@ -1,8 +1,8 @@
 -- Lemmas. The numbers of a range that pass a test, as an ascending list: the kept chunks are those.
 use Prim.Native.Nat.{ℕ, zero, suc, _+_, _≤_, _<_}
-use mathlib.Core.Path.{_≡_, refl}
+use mathlib.Core.Path.{_≡_, refl, ap, _∙_}
 use mathlib.Core.Bool.{Bool, true, false, cond}
-use mathlib.Core.List.{List, _∷_}
+use mathlib.Core.List.{List, [], _∷_}
 use mathlib.Core.Logic.{⊎-elim}
 use native.Mathlib.Omega.{arith}
 use borrow.Author.Tests.{eq-eqb, ne-eqb}
@@ -56,6 +56,31 @@ has-picked p lo (suc n) i g h =
     behind true u e = rw (ne-eqb (suc lo) i (omega arith)) e
     behind false u e = e
 
+-- What is picked depends on the test within the range alone.
+pub picked-cong : (p q : ℕ → Bool) (lo n : ℕ) → ((i : ℕ) → lo < i → i ≤ n + lo → p i ≡ q i) → picked p lo n ≡ picked q lo n
+picked-cong p q lo zero f = refl
+picked-cong p q lo (suc n) f =
+    rw (f (suc lo) (omega arith) (omega arith), picked-cong p q (suc lo) n (λ i u v. f i (omega arith) (omega arith)))
+
+-- An ascending list is what its members pick.
+pub picked-has : (lo n hi : ℕ) (ks : List ℕ) → hi ≤ n + lo → Asc (suc lo) hi ks → picked (has ks) lo n ≡ ks
+picked-has lo zero hi [] h a = refl
+picked-has lo zero hi (k ∷ ks) h a = absurd (omega (arith, a .0, a .1))
+picked-has lo (suc n) hi [] h a = picked-has (suc lo) n hi [] (omega arith) tt
+picked-has lo (suc n) hi (k ∷ ks) h a =
+    ⊎-elim
+    (λ t.
+    let e : k ≡ suc lo = omega (arith, leb→le k (suc lo) t, a .0) in
+    let r : picked (has ks) (suc lo) n ≡ ks = picked-has (suc lo) n hi ks (omega arith) (rw e at (a .2)) in
+    rw e (rw (eq-eqb (suc lo) (suc lo) refl) (ap (λ (l : List ℕ). suc lo ∷ l) (behind ks ∙ r))))
+    (λ t.
+    let b : Asc (suc (suc lo)) hi (k ∷ ks) = (nleb→lt k (suc lo) t, a .1, a .2) in
+    rw (has-low (suc (suc lo)) hi (k ∷ ks) (suc lo) b (omega arith)) (picked-has (suc lo) n hi (k ∷ ks) (omega arith) b))
+    (test (leb k (suc lo)))
+  where
+    behind : (ks : List ℕ) → picked (has (suc lo ∷ ks)) (suc lo) n ≡ picked (has ks) (suc lo) n
+    behind ks = picked-cong (has (suc lo ∷ ks)) (has ks) (suc lo) n (λ i u v. rw (ne-eqb (suc lo) i (omega arith)))
+
 -- ---- picked chunks that are lighter need less
 
 pub need-picked :
@@ -87,12 +112,6 @@ count-le-length-picked p lo (suc n) =
     one-more false = omega arith
 
 -- ---- parts of what is picked
-
--- What is picked depends on the test within the range alone.
-pub picked-cong : (p q : ℕ → Bool) (lo n : ℕ) → ((i : ℕ) → lo < i → i ≤ n + lo → p i ≡ q i) → picked p lo n ≡ picked q lo n
-picked-cong p q lo zero f = refl
-picked-cong p q lo (suc n) f =
-    rw (f (suc lo) (omega arith) (omega arith), picked-cong p q (suc lo) n (λ i u v. f i (omega arith) (omega arith)))
 
 -- Where nothing passes at the front, the front may be left out.
 pub picked-skip :

@@ -9,22 +9,25 @@ use native.Mathlib.Numerals.{add-one}
 use borrow.Author.Tests.{eq-eqb, ne-eqb, lt-leb, le-leb, lt-ltb, le-ltb}
 use lib.ListN.{getD, drop}
 use lib.Seq.{drop-drop}
-use lib.Dec.{T, T-not, leb, ltb, eqb, leb→le, nleb→lt, ltb→lt, nltb→le, lt→ltb, le→leb, eqb→eq, eqb-refl}
+use lib.Dec.{T, T-not, not-T, leb, ltb, eqb, leb→le, nleb→lt, ltb→lt, nltb→le, lt→ltb, le→leb, eqb→eq, eqb-refl}
 use Rattle.basics.specs.lemmas.Ranges.{sum-mono}
-use Rattle.basics.specs.lemmas.Tests.{by-cond, same-test, test, tests, T-and}
-use Rattle.job.specs.Job.{Job, Layer, chunks, due, heldMost, layers, size}
+use Rattle.basics.specs.lemmas.Tests.{T-and, T-true, by-cond, not-T-false, same-test, test, tests}
+use Rattle.job.specs.Job.{Job, chunks, due, heldMost, layers, size}
 use Rattle.fetch.specs.Marks.{bit, withLayer}
 use Rattle.fetch.specs.lemmas.Marks.{mark-bit, mark-high, with-next}
 use Rattle.schedule.specs.lemmas.Base.{base-picks}
 use Rattle.schedule.specs.lemmas.Choice.{Fits}
-use Rattle.schedule.specs.Plan.{bytes, kept, picked, need, plan}
-use Rattle.schedule.specs.lemmas.Kept.{feas-mono, need-mono, picked-each}
+use Rattle.schedule.specs.Bases.{baseSize, forecastBy, isKept, keptAtEnd}
+use Rattle.schedule.specs.Plan.{byWalk, bytes, kept, picked, need, plan, planByTrials}
+use Rattle.schedule.specs.lemmas.Kept.{feas-mono, need-mono, picked-cong, picked-each, picked-has}
 use Rattle.schedule.specs.lemmas.Necessity.{Each, after}
 use Rattle.schedule.specs.lemmas.Need.{Feas, Tails}
-use Rattle.schedule.specs.lemmas.Plan.{accepted, plan-choice, plan-fits, tried-kept}
-use Rattle.schedule.specs.Statement.{tried}
+use Rattle.schedule.specs.lemmas.Plan.{TakesFitting, by-walk-iff, either-way, plan-bases, plan-choice, plan-fits, plan-takes, plan-elsewhere, tried-kept, trials-choice, trials-fit, trials-take}
+use Rattle.schedule.specs.Statement.{BasesWalked, Choice, tried}
 use Rattle.schedule.specs.lemmas.Sufficiency.{RelOk, each, feas-relok, ones, releases}
-use Rattle.schedule.specs.lemmas.Trials.{Stack, candidate, keeps, push, bases, levelMark, Kept, rooms, Tried, tryOne, back, bytesOf, keptAt, onLayer, onLayers, based, keptBases, decided}
+use Rattle.schedule.specs.lemmas.Trials.{Stack, candidate, keeps, push, bases, levelMark, Kept, rooms, Tried, tryOne, back, bytesOf, keptAt, onLayer, onLayers, based, stacked, keptBases, decidedOn, decided}
+use Rattle.schedule.specs.lemmas.Walk.{kept-asc}
+use Rattle.schedule.specs.lemmas.Words.{layer-of}
 
 -- ---- the base
 
@@ -326,48 +329,71 @@ pub map-map : {A B : Type 0} (f : A → B) (g : ℕ → A) (ks : List ℕ) → m
 map-map f g [] = refl
 map-map f g (k ∷ ks) = rw (map-map f g ks)
 
-module _ (j : Job) where
-  -- What the plan carries of the layers below n.
-  abbrev planBelow : ℕ → ℕ → ℕ
-  planBelow n k = min (plan j k) n
+-- On the kept chunks of a choice that fits, whose upper layers are taken as document 01 says, the passes take its layers.
+module _ (j : Job) (p : ℕ → ℕ) (c : Choice j p) (f : Fits j p) (takes : (n : ℕ) → TakesFitting j p (suc n)) where
+  -- What it carries of the layers below n.
+  abbrev below-layer : ℕ → ℕ → ℕ
+  below-layer n k = min (p k) n
 
-  abbrev kept-plan : List ℕ
-  kept-plan = kept j (plan j)
+  same-levels : (a b : ℕ → ℕ) → ((i : ℕ) → 1 ≤ i → i ≤ chunks j → 1 ≤ p i → a i ≡ b i) → map (keptAt j a) (kept j p) ≡ map (keptAt j b) (kept j p)
+  same-levels a b e =
+      map-same (keptAt j a) (keptAt j b) (kept j p)
+      (picked-each (λ i. leb 1 (p i)) (λ k. keptAt j a k ≡ keptAt j b k) 0 (chunks j)
+      (λ i u v t. ap (λ (m : ℕ). keptAt j (λ k. m) i) (e i u (omega arith) (leb→le 1 (p i) t))))
 
-  at-layer : (i n : ℕ) → 1 ≤ i → i ≤ chunks j → n < layers j → Layer j i n
-  at-layer i n u v w = record { chunk-low = u; chunk-high = v; layer-in = w }
+  abbrev releases-of : List ℕ
+  releases-of = releases (due j) (heldMost j) (kept j p)
 
-  -- The base pass keeps the plan's chunks.
-  pub bases-kept : 0 < layers j → keptBases j ≡ kept j (plan j)
-  bases-kept h =
-      let a : (i : ℕ) → 1 ≤ i → i ≤ chunks j → (0 < plan j i) ↔ Fits j (tried (plan j) 0 i) = λ i u v. let a = accepted j i 0 (at-layer i 0 u v h) in (λ l. a .0 l .1, λ f. a .1 (omega arith, f)) in
-      ap (λ (s : Stack). s .chunks) (bases-are j (plan j) a 0 (chunks j) (omega arith))
+  -- A pass over the layers below n takes layer n.
+  pass-is :
+      (n : ℕ) → suc n < layers j → layers j ≤ 8 →
+      onLayer (size j) (after j) (after j 0) releases-of (suc n) (map (keptAt j (below-layer (suc n))) (kept j p)) ≡ map (keptAt j (below-layer (suc (suc n)))) (kept j p)
+  pass-is n h few =
+      let here : List Kept = map (keptAt j (below-layer (suc n))) (kept j p) in
+      ap (λ (ws : List ℕ). back (size j) (after j) (suc n) (rooms (after j) (after j 0) ws releases-of) here .kept) (map-map bytesOf (keptAt j (below-layer (suc n))) (kept j p))
+      ∙ ap (λ (o : Tried). o .kept) (layer-is j (suc n) (omega arith) (omega arith) p (λ i u v. takes n i (layer-of j i (suc n) u v h)) f)
 
-  same-levels : (f g : ℕ → ℕ) → ((i : ℕ) → 1 ≤ i → i ≤ chunks j → 1 ≤ plan j i → f i ≡ g i) → map (keptAt j f) kept-plan ≡ map (keptAt j g) kept-plan
-  same-levels f g e =
-      map-same (keptAt j f) (keptAt j g) kept-plan
-      (picked-each (λ i. leb 1 (plan j i)) (λ k. keptAt j f k ≡ keptAt j g k) 0 (chunks j)
-      (λ i u v t. ap (λ (m : ℕ). keptAt j (λ k. m) i) (e i u (omega arith) (leb→le 1 (plan j i) t))))
+  passes-are :
+      (n : ℕ) → n < layers j → layers j ≤ 8 →
+      onLayers (size j) (after j) (after j 0) releases-of n (based j (kept j p)) ≡ map (keptAt j (below-layer (suc n))) (kept j p)
+  passes-are zero h few = same-levels (λ k. 1) (below-layer 1) (λ i u v t. omega arith)
+  passes-are (suc n) h few = ap (onLayer (size j) (after j) (after j 0) releases-of (suc n)) (passes-are n (omega arith) few) ∙ pass-is n h few
 
-  abbrev releases-plan : List ℕ
-  releases-plan = releases (due j) (heldMost j) kept-plan
+  decided-on-is : 0 < layers j → layers j ≤ 8 → decidedOn j (kept j p) ≡ map (keptAt j p) (kept j p)
+  decided-on-is some few =
+      passes-are (layers j - 1) (omega arith) few ∙ same-levels (below-layer (suc (layers j - 1))) p (λ i u v t. omega (arith, c i u v))
 
-  -- A pass over the layers below n is the plan up to layer n.
-  pass-is : (n : ℕ) → 1 ≤ n → n < layers j → layers j ≤ 8 → onLayer (size j) (after j) (after j 0) releases-plan n (map (keptAt j (planBelow n)) kept-plan) ≡ map (keptAt j (planBelow (suc n))) kept-plan
-  pass-is n u h few =
-      let here : List Kept = map (keptAt j (planBelow n)) kept-plan in
-      ap (λ (ws : List ℕ). back (size j) (after j) n (rooms (after j) (after j 0) ws releases-plan) here .kept) (map-map bytesOf (keptAt j (planBelow n)) kept-plan)
-      ∙ ap (λ (o : Tried). o .kept) (layer-is j n u (omega arith) (plan j) (λ i u v. accepted j i n (at-layer i n u v h)) (plan-fits j))
+-- ---- document 01's way by itself
 
-  passes-are : (n : ℕ) → n < layers j → layers j ≤ 8 → onLayers (size j) (after j) (after j 0) releases-plan n (based j kept-plan) ≡ map (keptAt j (planBelow (suc n))) kept-plan
-  passes-are zero h few = same-levels (λ k. 1) (planBelow 1) (λ i u v t. omega arith)
-  passes-are (suc n) h few =
-      ap (onLayer (size j) (after j) (after j 0) releases-plan (suc n)) (passes-are n (omega arith) few) ∙ pass-is (suc n) (omega arith) h few
+-- The stack keeps its chunks,
+pub stacked-kept : (j : Job) → 0 < layers j → stacked j ≡ kept j (planByTrials j)
+stacked-kept j h =
+    let p = planByTrials j in
+    let a : (i : ℕ) → 1 ≤ i → i ≤ chunks j → (0 < p i) ↔ Fits j (tried p 0 i) = λ i u v. let t = trials-take j 0 i (layer-of j i 0 u v h) in (λ l. t .0 l .1, λ f. t .1 (omega arith, f)) in
+    ap (λ (s : Stack). s .chunks) (bases-are j p a 0 (chunks j) (omega arith))
 
-  -- The trials decide the plan: its chunks, each with the plan's layers.
-  pub decided-is : 0 < layers j → layers j ≤ 8 → decided j ≡ map (keptAt j (plan j)) (kept j (plan j))
-  decided-is some few =
-      let e : suc (layers j - 1) ≡ layers j = omega arith in
-      ap (λ (ks : List ℕ). onLayers (size j) (after j) (after j 0) (releases (due j) (heldMost j) ks) (layers j - 1) (based j ks)) (bases-kept some)
-      ∙ passes-are (layers j - 1) (omega arith) few
-      ∙ same-levels (planBelow (suc (layers j - 1))) (plan j) (λ i u v t. omega (arith, plan-choice j i u v))
+-- and the passes take its layers.
+pub trials-decided : (j : Job) → 0 < layers j → layers j ≤ 8 → decidedOn j (stacked j) ≡ map (keptAt j (planByTrials j)) (kept j (planByTrials j))
+trials-decided j some few =
+    ap (decidedOn j) (stacked-kept j some)
+    ∙ decided-on-is j (planByTrials j) (trials-choice j) (trials-fit j) (λ n. trials-take j (suc n)) some few
+
+-- ---- the plan
+
+walked-kept : (j : Job) (p : ℕ → ℕ) → BasesWalked j p → keptAtEnd j ≡ kept j p
+walked-kept j p b =
+    sym (picked-cong (λ i. leb 1 (p i)) (isKept j) 0 (chunks j) (λ i u v.
+    let k = b i u (omega arith) in
+    same-test (leb 1 (p i)) (isKept j i) (λ t. k .0 (leb→le 1 (p i) t)) (λ t. le→leb 1 (p i) (k .1 t)))
+    ∙ picked-has 0 (chunks j) (chunks j) (keptAtEnd j) (omega arith) (kept-asc (baseSize j) (forecastBy j) (chunks j)))
+
+-- The walk or the stack keeps the plan's chunks,
+pub bases-kept : (j : Job) → 0 < layers j → keptBases j ≡ kept j (plan j)
+bases-kept j h =
+    either-way j (keptBases j ≡ kept j (plan j))
+    (λ w. rw (T-true (byWalk j) (by-walk-iff j .1 w)) (walked-kept j (plan j) (plan-bases j h w)))
+    (λ n. rw (not-T-false (byWalk j) (not-T (byWalk j) (λ t. n (by-walk-iff j .0 t))), plan-elsewhere j n) (stacked-kept j h))
+
+-- and the passes decide the plan: its chunks, each with the plan's layers.
+pub decided-is : (j : Job) → 0 < layers j → layers j ≤ 8 → decided j ≡ map (keptAt j (plan j)) (kept j (plan j))
+decided-is j some few = ap (decidedOn j) (bases-kept j some) ∙ decided-on-is j (plan j) (plan-choice j) (plan-fits j) (plan-takes j) some few

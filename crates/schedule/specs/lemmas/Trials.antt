@@ -9,6 +9,8 @@ use Rattle.job.specs.Job.{Job, chunks, due, heldMost, layers, size}
 use Rattle.basics.specs.Sums.{sum}
 use Rattle.fetch.specs.Rows.{markByte}
 use Rattle.fetch.specs.Marks.{bit, withLayer}
+use Rattle.schedule.specs.Bases.{keptAtEnd}
+use Rattle.schedule.specs.Plan.{byWalk}
 use Rattle.schedule.specs.lemmas.Necessity.{after}
 use Rattle.schedule.specs.lemmas.Sufficiency.{releases}
 
@@ -104,12 +106,18 @@ onLayers size A room rs (suc n) ks = onLayer size A room rs (suc n) (onLayers si
 abbrev pub based : Job → List ℕ → List Kept
 based j ks = map (keptAt j (λ k. 1)) ks
 
--- The chunks whose base is kept.
-abbrev pub keptBases : Job → List ℕ
-keptBases j = bases (λ k. size j k 0) (due j) (after j) (heldMost j) 0 (chunks j) .chunks
+-- The chunks whose base is kept in document 01's way: the stack.
+abbrev pub stacked : Job → List ℕ
+stacked j = bases (λ k. size j k 0) (due j) (after j) (heldMost j) 0 (chunks j) .chunks
 
--- What the trials decide of a job: the kept chunks with their layers.
+-- The chunks whose base is kept: by request 9's walk where it settles them, else by the stack.
+abbrev pub keptBases : Job → List ℕ
+keptBases j = cond (byWalk j) (keptAtEnd j) (stacked j)
+
+-- What the trials of the upper layers decide of kept chunks: these, with their layers.
+abbrev pub decidedOn : Job → List ℕ → List Kept
+decidedOn j ks = onLayers (size j) (after j) (after j 0) (releases (due j) (heldMost j) ks) (layers j - 1) (based j ks)
+
+-- What is decided of a job.
 abbrev pub decided : Job → List Kept
-decided j =
-    let ks = keptBases j in
-    onLayers (size j) (after j) (after j 0) (releases (due j) (heldMost j) ks) (layers j - 1) (based j ks)
+decided j = decidedOn j (keptBases j)

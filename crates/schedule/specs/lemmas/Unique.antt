@@ -9,13 +9,14 @@ use borrow.Author.Tests.{eq-eqb, ne-eqb, lt-ltb, le-ltb}
 use lib.Dec.{T-not, ltb, eqb, ltb→lt, nltb→le, eqb→eq, eqb-refl}
 use Rattle.basics.specs.lemmas.Tests.{test}
 use Rattle.job.specs.Job.{Job, chunks, lastSlot, layers}
-use Rattle.schedule.specs.Statement.{Same, CanCarry, IsPlan, tried}
+use Rattle.schedule.specs.Statement.{BasesWalked, CanCarry, Choice, IsPlan, Same, SettledByTrials, Settles, tried}
 use Rattle.schedule.specs.Own.{Fetched, carriedTo, fetchedBy, ownList}
+use Rattle.schedule.specs.lemmas.Plan.{either-way}
 use Rattle.schedule.specs.lemmas.Words.{layer-of}
 
 -- ---- what depends on the layers of the job's chunks alone
 
-can-carry-cong : (j : Job) (p q : ℕ → ℕ) → Same j p q → CanCarry j p → CanCarry j q
+pub can-carry-cong : (j : Job) (p q : ℕ → ℕ) → Same j p q → CanCarry j p → CanCarry j q
 can-carry-cong j p q e s =
     record { rows = s .rows; passes = s .passes; in-order = s .in-order; exactly = λ i n r. rw (e i (r .chunk-low) (r .chunk-high)) at (s .exactly i n r) }
 
@@ -40,12 +41,12 @@ below p n k = min (p k) n
 module _ (j : Job) (n : ℕ) (h : n < layers j) where
   -- One trial.
   same-trial :
-      (p q : ℕ → ℕ) (i : ℕ) → IsPlan j p → IsPlan j q → Same j (below p n) (below q n) → 1 ≤ i → i ≤ chunks j →
+      (p q : ℕ → ℕ) (i : ℕ) → Settles j p n → Settles j q n → Same j (below p n) (below q n) → 1 ≤ i → i ≤ chunks j →
       ((k : ℕ) → i < k → k ≤ chunks j → below p (suc n) k ≡ below q (suc n) k) → n < p i → n < q i
   same-trial p q i dp dq s u v f l =
       let r = layer-of j i n u v h in
-      let a = dp .decided i n r .0 l in
-      dq .decided i n r .1 (
+      let a = dp i r .0 l in
+      dq i r .1 (
         omega (arith, a .0, s i u v),
         can-carry-cong j (tried p n i) (tried q n i) (λ k x y.
             ⊎-elim
@@ -58,7 +59,7 @@ module _ (j : Job) (n : ℕ) (h : n < layers j) where
 
   -- The chunks down to lo + 1.
   same-sweep :
-      (p q : ℕ → ℕ) → IsPlan j p → IsPlan j q → Same j (below p n) (below q n) → (m lo : ℕ) → lo + m ≡ chunks j → (k : ℕ) → lo < k →
+      (p q : ℕ → ℕ) → Settles j p n → Settles j q n → Same j (below p n) (below q n) → (m lo : ℕ) → lo + m ≡ chunks j → (k : ℕ) → lo < k →
       k ≤ chunks j → below p (suc n) k ≡ below q (suc n) k
   same-sweep p q dp dq s zero lo e k u v = absurd (omega arith)
   same-sweep p q dp dq s (suc m) lo e k u v =
@@ -79,10 +80,39 @@ module _ (j : Job) (n : ℕ) (h : n < layers j) where
       (test (ltb n (p (suc lo))))))
       (test (ltb (suc lo) k))
 
--- The layers below n.
-same-layers : (j : Job) (p q : ℕ → ℕ) → IsPlan j p → IsPlan j q → (n : ℕ) → n ≤ layers j → Same j (below p n) (below q n)
-same-layers j p q dp dq zero h k u v = omega arith
-same-layers j p q dp dq (suc n) h k u v = same-sweep j n h p q dp dq (same-layers j p q dp dq n (omega arith)) (chunks j) 0 (omega arith) k u v
+-- The bases, from one trial after the other,
+same-tried : (j : Job) (p q : ℕ → ℕ) → Settles j p 0 → Settles j q 0 → 0 < layers j → Same j (below p 1) (below q 1)
+same-tried j p q dp dq h k u v = same-sweep j 0 h p q dp dq (λ k u v. omega arith) (chunks j) 0 (omega arith) k u v
 
+-- or the same ones kept by the walk.
+pub same-walked : (j : Job) (p q : ℕ → ℕ) → BasesWalked j p → BasesWalked j q → Same j (below p 1) (below q 1)
+same-walked j p q dp dq k u v =
+    let a = dp k u v in
+    let b = dq k u v in
+    ⊎-elim
+    (λ t. omega (arith, ltb→lt 0 (p k) t, b .1 (a .0 (ltb→lt 0 (p k) t))))
+    (λ t. ⊎-elim (λ w. omega (arith, ltb→lt 0 (q k) w, a .1 (b .0 (ltb→lt 0 (q k) w)))) (λ w. omega (arith, nltb→le 0 (p k) t, nltb→le 0 (q k) w)) (test (ltb 0 (q k))))
+    (test (ltb 0 (p k)))
+
+-- On the same bases, the layers above them.
+module _
+    (j : Job) (p q : ℕ → ℕ) (cp : Choice j p) (cq : Choice j q) (dp : (n : ℕ) → Settles j p (suc n)) (dq : (n : ℕ) → Settles j q (suc n))
+    (bases : 0 < layers j → Same j (below p 1) (below q 1)) where
+  same-layers : (n : ℕ) → n ≤ layers j → Same j (below p n) (below q n)
+  same-layers zero h k u v = omega arith
+  same-layers (suc zero) h k u v = bases h k u v
+  same-layers (suc (suc n)) h k u v = same-sweep j (suc n) h p q (dp n) (dq n) (same-layers (suc n) (omega arith)) (chunks j) 0 (omega arith) k u v
+
+  pub same-on-bases : Same j p q
+  same-on-bases k u v = omega (arith, same-layers (layers j) (omega arith) k u v, cp k u v, cq k u v)
+
+-- Document 01's way leaves one choice,
+pub trials-agree : (j : Job) (p q : ℕ → ℕ) → SettledByTrials j p → SettledByTrials j q → Same j p q
+trials-agree j p q dp dq =
+    same-on-bases j p q (dp .choice) (dq .choice) (λ n. dp .decided (suc n)) (λ n. dq .decided (suc n)) (same-tried j p q (dp .decided 0) (dq .decided 0))
+
+-- and so do the words that say what a plan is.
 pub plans-agree : (j : Job) (p q : ℕ → ℕ) → IsPlan j p → IsPlan j q → Same j p q
-plans-agree j p q dp dq k u v = omega (arith, same-layers j p q dp dq (layers j) (omega arith) k u v, dp .choice k u v, dq .choice k u v)
+plans-agree j p q dp dq =
+    same-on-bases j p q (dp .choice) (dq .choice) (dp .upper) (dq .upper) (λ h.
+    either-way j (Same j (below p 1) (below q 1)) (λ w. same-walked j p q (dp .walked w) (dq .walked w)) (λ n. same-tried j p q (dp .elsewhere n) (dq .elsewhere n) h))

@@ -2,8 +2,8 @@
 -- layer has one size. Section 5 (d) of the argument.
 use Prim.Native.Nat.{ℕ, zero, suc, _+_, _*_, _-_, _≤_, _<_, min}
 use mathlib.Core.Path.{_≡_, refl, sym, _∙_}
-use mathlib.Core.Bool.{Bool, cond}
-use mathlib.Core.List.{List, _∷_}
+use mathlib.Core.Bool.{cond}
+use mathlib.Core.List.{List}
 use mathlib.Core.Logic.{⊎-elim}
 use native.Mathlib.Omega.{arith}
 use native.Mathlib.Nat.{mul-le-mul-right}
@@ -11,74 +11,16 @@ use borrow.Author.Tests.{eq-eqb, ne-eqb, lt-ltb, le-ltb}
 use lib.Dec.{T-not, not-T, leb, ltb, eqb, leb→le, nleb→lt, ltb→lt, nltb→le, lt→ltb, eqb→eq, eqb-refl}
 use Rattle.basics.specs.Sums.{count, pre, sum}
 use Rattle.basics.specs.lemmas.Ranges.{pre-add, pre-step, sum-mono, bit, count-mono, count-none, last-that-fails, point, point-in, point-out, point-total, pre-cong, pre-of-tests, rising-has-fewest-early, sum-below, sum-cong, sum-le, sum-swap}
-use Rattle.basics.specs.lemmas.Tests.{at-row, by-cond, test, tests}
-use Rattle.fetch.specs.Rows.{Row, bytesIf}
-use Rattle.fetch.specs.Rules.{InRange, OnTime, Passes}
-use Rattle.job.specs.Job.{HoldsAll, Job, Layer, chunks, due, heldMost, layers, size}
-use Rattle.schedule.specs.lemmas.Choice.{Fits, chunk-bytes, fits-can-carry}
-use Rattle.schedule.specs.Plan.{bytes, kept, picked, need, after}
-use Rattle.schedule.specs.lemmas.Count.{bytes-disjoint}
-use Rattle.schedule.specs.lemmas.Kept.{length-picked-le}
-use Rattle.schedule.specs.lemmas.Necessity.{within-between}
-use Rattle.schedule.specs.lemmas.Need.{tails-few}
+use Rattle.basics.specs.lemmas.Tests.{by-cond, test}
+use Rattle.fetch.specs.Rows.{Row}
+use Rattle.fetch.specs.Rules.{Passes}
+use Rattle.job.specs.Job.{HoldsAll, Job, Layer, chunks, layers, size}
+use Rattle.schedule.specs.lemmas.Choice.{fits-can-carry}
+use Rattle.schedule.specs.Plan.{bytes}
 use Rattle.schedule.specs.lemmas.Plan.{tried-choice}
-use Rattle.schedule.specs.Statement.{CarriesExactly, Choice, IsPlan, countOf, tried}
-use Rattle.schedule.specs.lemmas.Words.{Sized, bytesOfChunk, due-mono, layer-of}
-
--- ---- a choice fits exactly if each prefix of the programme does
-
--- The bytes of the chunks up to b fit into the slots up to the due slot of b.
-abbrev pub Prefixes : Job → (ℕ → ℕ) → Type 0
-Prefixes j lv = (b : ℕ) → 1 ≤ b → b ≤ chunks j → pre (bytes j lv) b + after j (due j b) ≤ after j 0
-
-rows-to-next :
-    (l : List Row) (b : ℕ) → bytesIf (λ x. leb (x .chunk) b) l + bytesOfChunk l (suc b) ≤ bytesIf (λ x. leb (x .chunk) (suc b)) l
-rows-to-next l b =
-    bytes-disjoint
-    (λ x. leb (x .chunk) b)
-    (λ x. eqb (x .chunk) (suc b))
-    (λ x. leb (x .chunk) (suc b))
-    (λ x t. let u = simp tests at t in simp tests (omega arith))
-    (λ x t. let u = simp tests at t in simp tests (omega arith))
-    (λ x t v. let u = simp tests at t in let u′ = simp tests at v in omega arith)
-    l
-
--- A passing list, in any order.
-pub list-prefixes : (j : Job) (l : List Row) (lv : ℕ → ℕ) → Passes j l → Choice j lv → CarriesExactly j l lv → Prefixes j lv
-list-prefixes j l lv ok c a b g h =
-    omega (
-      arith,
-      bytes-to b h,
-      within-between j l ok (λ x. leb (x .chunk) b) 0 (due j b) (omega arith) (due-mono j b (chunks j) h) (λ x i t.
-          let u : x .chunk ≤ b = leb→le (x .chunk) b t in
-          (at-row (InRange j) i (ok .in-range) .slot-low, omega (arith, at-row (OnTime j) i (ok .on-time), due-mono j (x .chunk) b u))),
-    )
-  where
-    bytes-to : (b : ℕ) → b ≤ chunks j → pre (bytes j lv) b ≤ bytesIf (λ x. leb (x .chunk) b) l
-    bytes-to zero h = omega arith
-    bytes-to (suc b) h = omega (arith, bytes-to b (omega arith), rows-to-next l b, chunk-bytes j l lv ok c a (suc b) (omega arith) h)
-
--- The need of the picked chunks is bounded by the prefixes.
-prefix-need :
-    (w d A : ℕ → ℕ) (p : ℕ → Bool) (x c lo m : ℕ) → c ≤ x → c ≤ pre w lo → ((b : ℕ) → lo < b → b ≤ m + lo → pre w b + A (d b) ≤ x) →
-    c + need w d A (picked p lo m) ≤ x
-prefix-need w d A p x c lo zero h g f = omega arith
-prefix-need w d A p x c lo (suc m) h g f =
-    let s = f (suc lo) (omega arith) (omega arith) in
-    by-cond
-    (λ (ks : List ℕ). c + need w d A ks ≤ x)
-    (p (suc lo))
-    {x = suc lo ∷ picked p (suc lo) m}
-    {y = picked p (suc lo) m}
-    (λ t. omega (arith, s, prefix-need w d A p x (c + w (suc lo)) (suc lo) m (omega arith) (omega arith) (λ b u v. f b (omega arith) (omega arith))))
-    (λ t. prefix-need w d A p x c (suc lo) m h (omega arith) (λ b u v. f b (omega arith) (omega arith)))
-
-pub prefixes-fit : (j : Job) (lv : ℕ → ℕ) → HoldsAll j → Prefixes j lv → Fits j lv
-prefixes-fit j lv h f =
-    record {
-      whole = omega (arith, prefix-need (bytes j lv) (due j) (after j) (λ i. leb 1 (lv i)) (after j 0) 0 0 (chunks j) (omega arith) (omega arith) (λ b u v. f b u (omega arith)));
-      tails = tails-few (bytes j lv) (due j) (after j) (heldMost j) (kept j lv) (omega (arith, length-picked-le (λ i. leb 1 (lv i)) 0 (chunks j)));
-    }
+use Rattle.schedule.specs.lemmas.Prefixes.{Prefixes, list-prefixes, prefixes-fit}
+use Rattle.schedule.specs.Statement.{CarriesExactly, Choice, SettledByTrials, countOf, tried}
+use Rattle.schedule.specs.lemmas.Words.{Sized, layer-of}
 
 -- ---- the bytes of a choice, by layers of one size each
 
@@ -106,7 +48,7 @@ module _ (j : Job) (sized : Sized j) (z : ℕ → ℕ) (equal : (i n : ℕ) → 
         sum-le (λ m. count (λ k. ltb m (y k)) b * z m) (λ m. count (λ k. ltb m (x k)) b * z m) (layers j) (λ m u. mul-le-mul-right (z m) (f m u)),
       )
 
-  module _ (p : ℕ → ℕ) (dec : IsPlan j p) (wide : HoldsAll j) where
+  module _ (p : ℕ → ℕ) (dec : SettledByTrials j p) (wide : HoldsAll j) where
     -- ---- each layer of the plan is carried from some chunk on
 
     -- Otherwise the plan carries layer n of chunk y, and of a later chunk x only the layers below.
@@ -162,10 +104,10 @@ module _ (j : Job) (sized : Sized j) (z : ℕ → ℕ) (equal : (i n : ℕ) → 
 
       no-gap-behind : ⊥
       no-gap-behind =
-          let s = dec .decided y n (layer-of j y n ry (omega arith) ln) .0 has-y .1 in
+          let s = dec .decided n y (layer-of j y n ry (omega arith) ln) .0 has-y .1 in
           let c = tried-choice j p x n (dec .choice) ln in
           let f = prefixes-fit j (tried p n x) wide (later-trial-fits (list-prefixes j (s .rows) (tried p n y) (s .passes) (tried-choice j p y n (dec .choice) ln) (s .exactly))) in
-          omega (arith, dec .decided x n (layer-of j x n (omega arith) rx ln) .1 (omega arith, fits-can-carry j sized (tried p n x) c f))
+          omega (arith, dec .decided n x (layer-of j x n (omega arith) rx ln) .1 (omega arith, fits-can-carry j sized (tried p n x) c f))
 
     -- A later chunk carries no fewer layers.
     layers-rise : (n y x : ℕ) → 1 ≤ y → y ≤ x → x ≤ chunks j → n ≤ p y → n ≤ p x
@@ -310,7 +252,7 @@ module _ (j : Job) (sized : Sized j) (z : ℕ → ℕ) (equal : (i n : ℕ) → 
         would-be-carried =
             let f = prefixes-fit j (tried p n i) wide tried-fits-by-prefixes in
             let s = fits-can-carry j sized (tried p n i) (tried-choice j p i n (dec .choice) ln) f in
-            omega (arith, dec .decided i n (layer-of j i n ri hi ln) .1 (below-carried n (omega arith), s))
+            omega (arith, dec .decided n i (layer-of j i n ri hi ln) .1 (below-carried n (omega arith), s))
 
       -- The list has no more of layer n than the plan.
       pub whole-most : countOf j x n ≤ countOf j p n

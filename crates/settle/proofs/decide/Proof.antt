@@ -21,20 +21,20 @@ sum-after-requires c κs = (c .before .before .before .pre .part-in, length-repl
 array-read-total : tie.Need-array-read-total
 array-read-total c = search needs
 
-keep-bases-requires : tie.Need-keep-bases-requires
-keep-bases-requires c κs = let a = c .before .before .before .before .before .before .before .before .before .args in let o = c .before .before .before .before .before .before .before .before .before .pre in
-    record { few = o .few; late = o .late; ends = o .ends; small = o .small; sums = sums-small (a .p) (a .layers) (tableAt (now (a .table))) (a .start) (now (a .part)) (now (a .ids)) (now (a .ready)) (now (a .mark)) o _ (c .before .before .before .before .before .sum-after .ensures); long = (c .before .before .before .before .before .sum-after .ensures .long, o .long .0, length-replicate {A = ℕ} 500 0, length-replicate {A = ℕ} 500 0, length-replicate {A = ℕ} 500 (length (now (a .part)))) }
+settle-bases-requires : tie.Need-settle-bases-requires
+settle-bases-requires c κs = let a = c .before .before .before .before .before .before .before .before .before .args in let o = c .before .before .before .before .before .before .before .before .before .pre in
+    record { from = record { few = o .few; late = o .late; ends = o .ends; small = o .small; sums = sums-small (a .p) (a .layers) (tableAt (now (a .table))) (a .start) (now (a .part)) (now (a .ids)) (now (a .ready)) (now (a .mark)) o _ (c .before .before .before .before .before .sum-after .ensures); long = (c .before .before .before .before .before .sum-after .ensures .long, o .long .0, length-replicate {A = ℕ} 500 0, length-replicate {A = ℕ} 500 0, length-replicate {A = ℕ} 500 (length (now (a .part)))) }; least = o .least }
 
 set-releases-requires : tie.Need-set-releases-requires
-set-releases-requires c κs = (c .before .before .keep-bases .ensures .0 .within, c .before .before .keep-bases .ensures .0 .long .1, c .before .before .before .before .before .before .before .before .before .before .before .before .pre .long .1)
+set-releases-requires c κs = (c .before .before .settle-bases .ensures .0 .within, c .before .before .settle-bases .ensures .0 .long .1, c .before .before .before .before .before .before .before .before .before .before .before .before .pre .long .1)
 
 settle-layers-requires : tie.Need-settle-layers-requires
 settle-layers-requires c κs = let a = c .before .before .before .before .before .before .before .before .before .before .before .before .before .before .before .before .before .before .before .before .args in let o = c .before .before .before .before .before .before .before .before .before .before .before .before .before .before .before .before .before .before .before .before .pre in
-    layers-from (a .p) (a .layers) (tableAt (now (a .table))) (a .start) (now (a .part)) (now (a .ids)) (now (a .ready)) (now (a .mark)) o _ (c .before .before .before .before .before .before .before .before .before .before .before .before .before .before .before .before .sum-after .ensures) _ _ _ _ (c .before .before .before .before .before .before .before .before .before .before .keep-bases .ensures .0) _ (c .before .before .before .before .before .before .before .set-releases .ensures .0) (rw (c .before .before .before .before .before .before .before .before .before .before .before .before .before .before .before .before .before .before .held-most .ensures) at (c .before .before .before .before .before .before .before .set-releases .ensures .1)) _ _ (c .before .before .before .before .before .before .before .before .before .before .keep-bases .ensures .1) (o .marks)
+    layers-from (a .p) (a .layers) (tableAt (now (a .table))) (a .start) (now (a .part)) (now (a .ids)) (now (a .ready)) (now (a .mark)) o _ (c .before .before .before .before .before .before .before .before .before .before .before .before .before .before .before .before .sum-after .ensures) _ _ _ _ (c .before .before .before .before .before .before .before .before .before .before .settle-bases .ensures .0) _ (c .before .before .before .before .before .before .before .set-releases .ensures .0) (rw (c .before .before .before .before .before .before .before .before .before .before .before .before .before .before .before .before .before .before .held-most .ensures) at (c .before .before .before .before .before .before .before .set-releases .ensures .1)) _ _ (c .before .before .before .before .before .before .before .before .before .before .settle-bases .ensures .1) (o .marks)
 
 returns : tie.Need-returns
 returns c = let a = c .before .before .before .before .before .before .before .before .before .before .before .before .before .before .before .before .before .before .before .before .before .args in let o = c .before .before .before .before .before .before .before .before .before .before .before .before .before .before .before .before .before .before .before .before .before .pre in
-    decides (a .p) (a .layers) (tableAt (now (a .table))) (a .start) (now (a .part)) (now (a .ids)) (now (a .ready)) (now (a .mark)) o _ (c .before .before .before .before .before .before .before .before .before .before .before .before .before .before .before .before .before .sum-after .ensures) _ _ _ _ (c .before .before .before .before .before .before .before .before .before .before .before .keep-bases .ensures .0) _ (c .before .before .before .before .before .before .before .before .set-releases .ensures .0) (rw (c .before .before .before .before .before .before .before .before .before .before .before .before .before .before .before .before .before .before .before .held-most .ensures) at (c .before .before .before .before .before .before .before .before .set-releases .ensures .1)) _ refl _ _ _ (o .marks) (c .settle-layers .ensures)
+    decides (a .p) (a .layers) (tableAt (now (a .table))) (a .start) (now (a .part)) (now (a .ids)) (now (a .ready)) (now (a .mark)) o _ (c .before .before .before .before .before .before .before .before .before .before .before .before .before .before .before .before .before .sum-after .ensures) _ _ _ _ (c .before .before .before .before .before .before .before .before .before .before .before .settle-bases .ensures .0) _ (c .before .before .before .before .before .before .before .before .set-releases .ensures .0) (rw (c .before .before .before .before .before .before .before .before .before .before .before .before .before .before .before .before .before .before .before .held-most .ensures) at (c .before .before .before .before .before .before .before .before .set-releases .ensures .1)) _ refl _ _ _ (o .marks) (c .settle-layers .ensures)
 
 pub decide-spec : {M : Type 1} → statement M
 decide-spec =
@@ -44,7 +44,7 @@ decide-spec =
     cast-held
     sum-after-requires
     array-read-total
-    keep-bases-requires
+    settle-bases-requires
     set-releases-requires
     settle-layers-requires
     returns)

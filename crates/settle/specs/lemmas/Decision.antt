@@ -9,7 +9,7 @@ use lib.Dec.{leb, ltb}
 use Rattle.basics.specs.Tests.{All}
 use Rattle.job.specs.declared.Programme.{Programme}
 use Rattle.job.specs.Job.{Job, Override, Within, jobOf, sizeIn, due, dueSlot, heldMost, lastDue}
-use Rattle.schedule.specs.lemmas.Ascending.{Asc}
+use Rattle.pictures.specs.lemmas.Walking.{walkedIn, walksIn}
 use Rattle.schedule.specs.lemmas.Sufficiency.{releases}
 use Rattle.schedule.specs.Plan.{kept, plan}
 use Rattle.schedule.specs.lemmas.Trials.{bases, levelMark, Kept, back, onLayers}
@@ -40,13 +40,18 @@ pub record BasesFrom (p : Programme) (size : ℕ → ℕ → ℕ) (after ids due
   pub sums : Sums after
   pub long : (length after ≡ 3601) × (length ids ≡ 500) × (length dues ≡ 500) × (length bytes ≡ 500) × (length needs ≡ 500)
 
-pub record Bases (p : Programme) (size : ℕ → ℕ → ℕ) (after : List ℕ) (first : ℕ) (ids dues bytes : List ℕ) : Type 0 where
-  pub within : first ≤ 500
-  pub kept : drop first ids ≡ bases (λ k. size k 0) (dueSlot p) (at after) (p .limit / p .span) 0 (p .chunks) .chunks
-  pub due-slots : drop first dues ≡ map (dueSlot p) (drop first ids)
-  pub base-bytes : drop first bytes ≡ map (λ k. size k 0) (drop first ids)
-  pub ascending : Asc 1 (p .chunks) (drop first ids)
-  pub long : (length ids ≡ 500) × (length dues ≡ 500) × (length bytes ≡ 500)
+-- The chunks that document 01's stack keeps; A t: what is forecast after slot t.
+abbrev pub stackIn : Programme → (ℕ → ℕ → ℕ) → (ℕ → ℕ) → List ℕ
+stackIn p size A = bases (λ k. size k 0) (dueSlot p) A (p .limit / p .span) 0 (p .chunks) .chunks
+
+-- The chunks whose base is kept: by the walk where it settles them, else by the stack.
+abbrev pub basesIn : Programme → (ℕ → ℕ → ℕ) → (ℕ → ℕ) → List ℕ
+basesIn p size A = cond (walksIn p size) (walkedIn p size A) (stackIn p size A)
+
+-- What both ask.
+pub record SettleFrom (p : Programme) (size : ℕ → ℕ → ℕ) (after ids dues bytes needs : List ℕ) : Type 0 where
+  pub from : BasesFrom p size after ids dues bytes needs
+  pub least : (i : ℕ) → 1 ≤ i → i ≤ p .chunks → 1 ≤ size i 0
 
 -- ---- a further layer
 
@@ -113,6 +118,7 @@ pub record DecideFrom (p : Programme) (layers : ℕ) (size : ℕ → ℕ → ℕ
   pub some : 1 ≤ layers
   pub few-layers : layers ≤ 4
   pub small : (i n : ℕ) → size i n ≤ 16777216
+  pub least : (i : ℕ) → 1 ≤ i → i ≤ p .chunks → 1 ≤ size i 0
   pub part-in : Part start part
   pub slots : start - 1 + length part ≡ lastDue p
   pub long : (length ids ≡ 500) × (length ready ≡ 500)

@@ -7,10 +7,10 @@ use Rattle.exhaustive.proofs.tally.add_flags.Statement.{statement}
 use Rattle.exhaustive.proofs.tally.add_flags.Tie as tie
 
 abbrev Inv-loop : tie.InvT-loop
-Inv-loop tally₀ flags k₀ tally k = (k ≤ 22) × (length tally ≡ length tally₀)
+Inv-loop tally₀ flags k₀ tally k = (k ≤ 24) × (length tally ≡ length tally₀)
 
 abbrev μ-loop : tie.MeasureT-loop
-μ-loop tally₀ flags k₀ tally k = 22 - k
+μ-loop tally₀ flags k₀ tally k = 24 - k
 
 loop-holds : tie.Need-loop-holds Inv-loop μ-loop
 loop-holds c = search needs

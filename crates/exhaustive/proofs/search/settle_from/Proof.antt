@@ -1,14 +1,14 @@
--- `exhaustive::search::plan` is safe and ends. Assumes nothing.
+-- `exhaustive::search::settle_from` is safe and ends. Assumes nothing.
 use borrow.Author.Needs.{needs}
 use Prim.Native.Nat.{_≤_, _-_}
-use Rattle.exhaustive.proofs.search.plan.Statement.{statement}
-use Rattle.exhaustive.proofs.search.plan.Tie as tie
+use Rattle.exhaustive.proofs.search.settle_from.Statement.{statement}
+use Rattle.exhaustive.proofs.search.settle_from.Tie as tie
 
 abbrev Inv-loop : tie.InvT-loop
-Inv-loop f marks₀ k₀ marks k = k ≤ 12
+Inv-loop f from settled marks₀ k₀ marks k = k ≤ 65535
 
 abbrev μ-loop : tie.MeasureT-loop
-μ-loop f marks₀ k₀ marks k = 12 - k
+μ-loop f from settled marks₀ k₀ marks k = 12 - k
 
 loop-holds : tie.Need-loop-holds Inv-loop μ-loop
 loop-holds c = search needs
@@ -37,8 +37,8 @@ loop-again c = search needs
 returns : tie.Need-returns Inv-loop μ-loop
 returns c = search needs
 
-pub plan-spec : {M : Type 1} → statement M
-plan-spec =
+pub settle-from-spec : {M : Type 1} → statement M
+settle-from-spec =
     tie.close
     (tie.spec
     Inv-loop
