@@ -10,6 +10,7 @@ mod marks;
 mod own;
 mod planned;
 mod search;
+mod steady;
 mod tally;
 mod walk;
 
@@ -117,6 +118,7 @@ fn trial(f: Film, tally: &mut [u64]) {
     tally::add(tally, tally::ROWS, lists::rows(own));
     tally::add_flags(tally, flags_of(f, marks) | planned::compare(f, marks, own));
     search::search(f, true, marks, lists::BYTES, 0, tally);
+    steady::trial(f, tally);
 }
 
 fn every_kind(k: u16, tally: &mut [u64]) {
@@ -162,6 +164,12 @@ fn say_all(tally: &[u64]) {
         tally::SAME_MARKS,
     );
     say(
+        b"pairs of equal chunks that differ in one slot; with more bases, as many more as can be, other than promised:",
+        tally,
+        tally::PAIRS,
+        31,
+    );
+    say(
         b"plans with the same marks, counts, rows; that pass, in playing order:",
         tally,
         tally::SAME_MARKS,
@@ -170,7 +178,7 @@ fn say_all(tally: &[u64]) {
 }
 
 fn main() {
-    let mut tally = [0u64; 27];
+    let mut tally = [0u64; 31];
     every_job(&mut tally);
     say_all(&tally);
 }

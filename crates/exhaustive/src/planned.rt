@@ -143,6 +143,40 @@ fn plan(
         )
 }
 
+// How many bases the planner carries of a job of equal chunks; 999 for a refusal.
+pub(crate) fn bases(f: Film) -> u32 {
+    let sizes = own_sizes(f);
+    let forecast = forecast_of(f);
+    let mut marks = [0u8; 3];
+    let mut slots = [0u16; 15];
+    let mut chunks = [0u16; 15];
+    let mut layers = [0u8; 15];
+    let mut bytes = [0u32; 15];
+    let plan = planner::plan(
+        film::programme(f),
+        parts::words(&sizes, film::layers(f)),
+        &[],
+        &[],
+        &[],
+        parts::words(&forecast, film::last_due(f)),
+        &mut marks,
+        &mut slots,
+        &mut chunks,
+        &mut layers,
+        &mut bytes,
+    );
+    let answer = plan.answer;
+    let counts = plan.counts;
+    if 15 < rows_of(answer) {
+        return 999;
+    }
+    half(counts[0])
+}
+
+fn half(x: u16) -> u32 {
+    x as u32
+}
+
 fn wide(x: u8) -> u32
     ensures { λ r. ⌜ r ≤ 255 ⌝ }
 {

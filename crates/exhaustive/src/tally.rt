@@ -48,6 +48,14 @@ pub(crate) const UPPERS: u16 = 25;
 
 pub(crate) const ROWS: u16 = 26;
 
+pub(crate) const PAIRS: u16 = 27;
+
+pub(crate) const RISEN: u16 = 28;
+
+pub(crate) const AT_BOUND: u16 = 29;
+
+pub(crate) const UNSTEADY: u16 = 30;
+
 pub(crate) fn flag(k: u16) -> u32 {
     1 << (k % 32)
 }

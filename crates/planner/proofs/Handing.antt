@@ -24,7 +24,8 @@ use Rattle.planner.specs.declared.Answer.the-variants.{Rows, Refused}
 use Rattle.planner.specs.declared.Planned.{Planned}
 use Rattle.planner.specs.declared.Filled.{Filled}
 use Rattle.planner.specs.lemmas.Handing.{LaidFrom, Laid}
-use Rattle.planner.specs.Answer.{planRows, Lent, lentOf, holds, planRefusal, given, Handed, DecidedByLists, PicturesOfLists, BestOfLists}
+use Rattle.planner.specs.Answer.{planRows, Lent, lentOf, holds, planRefusal, given, Handed, DecidedByLists, PicturesOfLists, BestOfLists, SteadyBases}
+use Rattle.steady.specs.Theorems.{steady}
 use Rattle.basics.specs.Lent.{over}
 use Rattle.fetch.specs.Rows.{Row, rowSlot, rowChunk, rowLayer, rowBytes}
 use Rattle.basics.specs.lemmas.Lent.{over-next, over-long}
@@ -212,3 +213,6 @@ pictures-of-lists h z =
 
 pub best-of-lists : (h : HandedJob) → BestOfLists h
 best-of-lists h z equal = let j = jobIn h in let a = accepted h z in best j a equal (plan j) (plan-exists j a)
+
+pub steady-bases : (h : HandedJob) → SteadyBases h
+steady-bases h z = steady (jobIn h) (accepted h z)

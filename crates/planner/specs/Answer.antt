@@ -13,6 +13,7 @@ use Rattle.fetch.specs.Rows.{Row, rowSlot, rowChunk, rowLayer, rowBytes}
 use Rattle.schedule.specs.Own.{ownList}
 use Rattle.schedule.specs.Plan.{plan}
 use Rattle.schedule.specs.Statement.{Best, IsPlan, MostPictures, SettledByTrials, countsOf, marksOf}
+use Rattle.steady.specs.Statement.{Steady}
 use Rattle.planner.specs.declared.Answer.{Answer}
 use Rattle.planner.specs.declared.Answer.the-variants.{Rows, Refused}
 use Rattle.planner.specs.declared.Order.{Order}
@@ -89,6 +90,10 @@ PicturesOfLists h = jobRefusal h ≡ 0 → Pictures (jobIn h) (plan (jobIn h))
 -- Demand 3: "Take any accepted job of equal chunks, whatever its layer sizes, forecast, deadlines and buffer limit."
 abbrev pub BestOfLists : HandedJob → Type 0
 BestOfLists h = jobRefusal h ≡ 0 → EqualChunks (jobIn h) → Best (jobIn h) (plan (jobIn h)) (planRows (jobIn h))
+
+-- Request 10: this job against every other accepted one that differs in one slot.
+abbrev pub SteadyBases : HandedJob → Type 0
+SteadyBases h = jobRefusal h ≡ 0 → EqualChunks (jobIn h) → Steady (jobIn h) (λ k. countsOf k (plan k))
 
 -- Counts "compared entry by entry from the base": at the first entry where they differ.
 abbrev pub compared : List ℕ → List ℕ → Order

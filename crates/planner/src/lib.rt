@@ -10,7 +10,7 @@ ghost use Rattle.basics.specs.Lists.{upTo};
 ghost use Rattle.job.specs.Handed.{handed, jobIn, jobRefusal};
 ghost use Rattle.fetch.specs.Counts.{markCount};
 ghost use Rattle.schedule.specs.lemmas.Ascending.{Asc};
-ghost use Rattle.planner.specs.Answer.{Handed, DecidedByLists, PicturesOfLists, BestOfLists, compared};
+ghost use Rattle.planner.specs.Answer.{Handed, DecidedByLists, PicturesOfLists, BestOfLists, SteadyBases, compared};
 ghost use Rattle.planner.specs.lemmas.Handing.{markIn, LaidFrom, Laid};
 ghost use Rattle.basics.specs.Lent.{over};
 
@@ -307,6 +307,7 @@ pub fn plan(
     ensures decided { λ _. ⌜ DecidedByLists (handed p (now (sizes .entry)) (now («size_chunks» .entry)) (now («size_layers» .entry)) (now («size_bytes» .entry)) (now (forecast .entry))) ⌝ }
     ensures pictures { λ _. ⌜ PicturesOfLists (handed p (now (sizes .entry)) (now («size_chunks» .entry)) (now («size_layers» .entry)) (now («size_bytes» .entry)) (now (forecast .entry))) ⌝ }
     ensures best { λ _. ⌜ BestOfLists (handed p (now (sizes .entry)) (now («size_chunks» .entry)) (now («size_layers» .entry)) (now («size_bytes» .entry)) (now (forecast .entry))) ⌝ }
+    ensures steady { λ _. ⌜ SteadyBases (handed p (now (sizes .entry)) (now («size_chunks» .entry)) (now («size_layers» .entry)) (now («size_bytes» .entry)) (now (forecast .entry))) ⌝ }
 {
     let no = job::refusal(p, sizes, size_chunks, size_layers, size_bytes, forecast);
     if 0 < no {

@@ -36,6 +36,17 @@ asc-drop lo hi [] (suc n) a = tt
 asc-drop lo hi (k ∷ ks) zero a = (omega arith, a .1, a .2)
 asc-drop lo hi (k ∷ ks) (suc n) a = asc-drop (suc k) hi ks n (a .2)
 
+-- Without its first elements it still ascends from lo.
+pub asc-without : (lo hi : ℕ) (ks : List ℕ) (n : ℕ) → Asc lo hi ks → Asc lo hi (drop n ks)
+asc-without lo hi ks zero a = a
+asc-without lo hi [] (suc n) a = tt
+asc-without lo hi (k ∷ ks) (suc n) a = asc-without lo hi ks n (asc-lower lo (suc k) hi ks (omega arith) (a .2))
+
+-- Each element lies in lo .. hi.
+pub asc-each : (lo hi : ℕ) (ks : List ℕ) → Asc lo hi ks → All (λ k. (lo ≤ k) × (k ≤ hi)) ks
+asc-each lo hi [] a = tt
+asc-each lo hi (k ∷ ks) a = ((a .0, a .1), asc-each lo hi ks (asc-lower lo (suc k) hi ks (omega arith) (a .2)))
+
 -- The elements up to the n-th count, if a test passes at each of them.
 pub count-to-nth :
     (p : ℕ → Bool) (P : ℕ → Type 0) (lo hi : ℕ) (ks : List ℕ) (n : ℕ) → n < length ks → Asc (suc lo) hi ks → All P ks →

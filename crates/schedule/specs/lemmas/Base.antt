@@ -122,6 +122,31 @@ module _
         tails = (omega (arith, need-of-later (at-most-drop h r′), f .tails .0), g .tails);
       }
 
+-- ---- the bases of a passing list
+
+-- The chunks whose base a list carries, in playing order.
+abbrev pub basesIn : Job → List Row → List ℕ
+basesIn j l = picked (λ i. ltb 0 (level j l i)) 0 (chunks j)
+
+pub bases-asc : (j : Job) (l : List Row) → Asc 1 (chunks j) (basesIn j l)
+bases-asc j l = picked-asc (λ i. ltb 0 (level j l i)) 0 (chunks j) (chunks j) (omega arith)
+
+pub bases-counted : (j : Job) (l : List Row) → countOf j (level j l) 0 ≤ length (basesIn j l)
+bases-counted j l =
+    let e : chunks j + 0 ≡ chunks j = omega arith in
+    omega (arith, rw e at (count-le-length-picked (λ i. ltb 0 (level j l i)) 0 (chunks j)))
+
+-- They fit, in whatever order the list fetches, where the chunks have one base size z.
+pub bases-fit :
+    (j : Job) (z : ℕ) → ((i : ℕ) → 1 ≤ i → i ≤ chunks j → size j i 0 ≡ z) → (l : List Row) → Passes j l →
+    Feas (λ k. z) (due j) (after j) (heldMost j) (basesIn j l)
+bases-fit j z equal l ok =
+    let x = level j l in
+    any-order-fit j l ok z (basesIn j l) (bases-asc j l)
+    (picked-each (λ i. ltb 0 (x i)) (λ e. z ≤ bytesOfChunk l e) 0 (chunks j) (λ i u v t.
+    let b = chunk-bytes j l x ok (level-choice j l) (level-exactly j l ok) i u (omega arith) in
+    omega (arith, equal i u (omega arith), b, sum-mono (size j i) 1 (x i) (ltb→lt 0 (x i) t))))
+
 -- ---- the base of a plan
 
 module _ (j : Job) (p : ℕ → ℕ) (accepts : (i : ℕ) → 1 ≤ i → i ≤ chunks j → (0 < p i) ↔ Fits j (tried p 0 i)) where
@@ -190,26 +215,16 @@ module _
   -- No passing list carries more bases than the plan.
   pub base-most : (l : List Row) → Passes j l → countOf j (level j l) 0 ≤ countOf j p 0
   base-most l ok =
-      let x = level j l in
-      let q : ℕ → Bool = λ i. ltb 0 (x i) in
-      let e : chunks j + 0 ≡ chunks j = omega arith in
-      let ks = picked q 0 (chunks j) in
-      let a = picked-asc q 0 (chunks j) (chunks j) (omega arith) in
-      let f =
-      any-order-fit j l ok z ks a
-      (picked-each q (λ e. z ≤ bytesOfChunk l e) 0 (chunks j) (λ i u v t.
-      let b = chunk-bytes j l x ok (level-choice j l) (level-exactly j l ok) i u (omega arith) in
-      omega (arith, equal i u (omega arith), b, sum-mono (size j i) 1 (x i) (ltb→lt 0 (x i) t)))) in
       let m =
       longest-picked Good (chunks j) base
       (record { whole = omega arith; tails = tt })
       (feas-tail (λ k. z) (due j) (after j) (heldMost j))
       (feas-exchange (λ k. z) (due j) (after j) (heldMost j) (λ x y h. omega arith) (due-mono j) (after-anti j))
-      good-picks ks a f in
+      good-picks (basesIn j l) (bases-asc j l) (bases-fit j z equal l ok) in
       omega (
         arith,
         m,
-        rw e at (count-le-length-picked q 0 (chunks j)),
+        bases-counted j l,
         count-all
             (λ i. ltb 0 (p i))
             0

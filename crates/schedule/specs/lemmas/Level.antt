@@ -1,6 +1,6 @@
 -- Lemmas. The choice that a passing list carries, its marks and its counts: what a list and a choice say of each other.
 use Prim.Native.Nat.{ℕ, suc, _+_, _<_, _^_}
-use mathlib.Core.Path.{_≡_, ap, sym}
+use mathlib.Core.Path.{_≡_, ap, subst, sym}
 use mathlib.Core.Bool.{Bool, cond}
 use mathlib.Core.List.{List}
 use native.Mathlib.Omega.{arith}
@@ -14,6 +14,10 @@ use Rattle.job.specs.Job.{Job, Layer, chunks, layers}
 use Rattle.basics.specs.lemmas.Ranges.{below-bits-iff, bit, bits-le, count-cong, sum-cong}
 use Rattle.schedule.specs.Statement.{CarriesExactly, Choice, countOf, marksOf}
 use Rattle.schedule.specs.lemmas.Words.{layer-of}
+
+-- A list that keeps the rules with some marks passes.
+pub keeps-passes : (j : Job) (marks : List ℕ) (l : List Row) → Keeps j marks l → Passes j l
+keeps-passes j marks l ok = subst (λ (m : List ℕ). Keeps j m l) (ok .marks-say) ok
 
 -- How many layers of chunk i the list carries.
 abbrev pub level : Job → List Row → ℕ → ℕ

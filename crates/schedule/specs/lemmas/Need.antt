@@ -1,6 +1,6 @@
 -- Lemmas. When kept chunks fit: the need of a list of chunks, first to last, and the test by suffixes. Section 1 of the argument.
 -- Throughout, w k are the bytes of chunk k, d k its due slot, A t what is forecast after slot t, and h how many chunks may be held.
-use Prim.Native.Nat.{ℕ, zero, suc, _-_, _≤_, max}
+use Prim.Native.Nat.{ℕ, zero, suc, _*_, _-_, _≤_, max}
 use mathlib.Core.List.{List, [], _∷_}
 use mathlib.Core.Logic.{_↔_}
 use native.Mathlib.Omega.{arith}
@@ -41,10 +41,20 @@ feas-iff w d A h ks =
 
 -- ---- fewer and lighter chunks need less
 
+-- Without its first n chunks, of at least z bytes each, a list needs n × z bytes less, or nothing.
+pub need-without :
+    (w d A : ℕ → ℕ) (z : ℕ) → ((k : ℕ) → z ≤ w k) → (ks : List ℕ) (n : ℕ) → need w d A (drop n ks) ≤ need w d A ks - n * z
+need-without w d A z f ks zero = omega arith
+need-without w d A z f [] (suc n) = omega arith
+need-without w d A z f (k ∷ ks) (suc n) = omega (arith, need-without w d A z f ks n, f k)
+
 pub need-drop : (w d A : ℕ → ℕ) (ks : List ℕ) (n : ℕ) → need w d A (drop n ks) ≤ need w d A ks
-need-drop w d A ks zero = omega arith
-need-drop w d A [] (suc n) = omega arith
-need-drop w d A (k ∷ ks) (suc n) = omega (arith, need-drop w d A ks n)
+need-drop w d A ks n = omega (arith, need-without w d A 0 (λ k. omega arith) ks n)
+
+pub tails-drop : (w d A : ℕ → ℕ) (h : ℕ) (ks : List ℕ) (n : ℕ) → Tails w d A h ks → Tails w d A h (drop n ks)
+tails-drop w d A h ks zero f = f
+tails-drop w d A h [] (suc n) f = tt
+tails-drop w d A h (k ∷ ks) (suc n) f = tails-drop w d A h ks n (f .1)
 
 -- What fits, fits without its first chunk.
 pub feas-tail : (w d A : ℕ → ℕ) (h k : ℕ) (ks : List ℕ) → Feas w d A h (k ∷ ks) → Feas w d A h ks

@@ -1,5 +1,5 @@
 -- Lemmas. Words of the argument that document 01 does not have, and the order of due slots and forecasts. Section 1 of the argument.
-use Prim.Native.Nat.{ℕ, _-_, _≤_, _<_}
+use Prim.Native.Nat.{ℕ, suc, _-_, _≤_, _<_}
 use mathlib.Core.Bool.{Bool}
 use mathlib.Core.List.{List}
 use native.Mathlib.Omega.{arith}
@@ -24,6 +24,9 @@ carries rows i = any (λ x. eqb (x .chunk) i) rows
 -- A later chunk is due no earlier.
 pub due-mono : (j : Job) (x y : ℕ) → x ≤ y → due j x ≤ due j y
 due-mono j x y h = let m : (x - 1) ≤ (y - 1) = omega arith in omega (arith, mul-le-mul-right (j .programme .span) m)
+
+pub due-rises : (j : Job) → 1 ≤ j .programme .span → (x y : ℕ) → 1 ≤ x → x < y → due j x < due j y
+due-rises j h x y u v = let m : suc (x - 1) ≤ y - 1 = omega arith in omega (arith, mul-le-mul-right (j .programme .span) m)
 
 -- Every chunk is due by the last slot.
 pub due-by : (p : Programme) (i : ℕ) → i ≤ p .chunks → dueSlot p i ≤ lastDue p

@@ -1,0 +1,3 @@
+pub mod Thin
+pub mod Grown
+pub mod Bases
