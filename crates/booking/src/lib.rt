@@ -1,0 +1,1 @@
+// Two films on one link.
