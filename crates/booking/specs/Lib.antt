@@ -1,3 +1,4 @@
 pub mod Booking
+pub mod Answer
 pub mod Theorems
 pub mod lemmas

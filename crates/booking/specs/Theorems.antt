@@ -1,6 +1,6 @@
 -- Theorems. Document 02, request 11, sentence by sentence.
-use Prim.Native.Nat.{ℕ, _+_, _-_, _≤_}
-use mathlib.Core.Path.{_≡_, refl, sym, subst, _∙_}
+use Prim.Native.Nat.{ℕ, _+_, _≤_}
+use mathlib.Core.Path.{_≡_, refl, sym, _∙_}
 use mathlib.Core.Bool.{Bool, _&&_}
 use mathlib.Core.List.{List, [], _∷_}
 use mathlib.Core.Logic.{_↔_}
@@ -8,17 +8,24 @@ use native.Mathlib.Omega.{arith}
 use lib.ListN.{length}
 use lib.Dec.{leb, eqb}
 use Rattle.basics.specs.Tests.{All, all, allTo}
-use Rattle.basics.specs.lemmas.Tests.{all-iff, allTo-iff, eqb-iff, leb-iff, T-and-iff, tests}
-use Rattle.basics.specs.lemmas.Refusals.{unless-as, and-as}
+use Rattle.basics.specs.lemmas.Tests.{all-iff, allTo-iff, eqb-iff, leb-iff, tests}
+use Rattle.basics.specs.Refusals.{_orElse_}
+use Rattle.basics.specs.lemmas.Refusals.{unless-as, and-as, orElse-iff}
 use Rattle.job.specs.Job.{Job, Accepted, EqualChunks, Within, lastSlot, withForecast}
-use Rattle.fetch.specs.Rows.{Row, bytesInSlot}
+use Rattle.job.specs.Handed.{HandedJob, handed-iff, jobIn, jobRefusal}
+use Rattle.fetch.specs.Rows.{Row, bytesInSlot, rowsOf}
+use Rattle.fetch.specs.Handed.{Whole, handedRefusal}
+use Rattle.fetch.specs.Handed
 use Rattle.fetch.specs.Rules.{Keeps}
 use Rattle.fetch.specs.Verdict.{verdict, verdict-iff}
 use Rattle.schedule.specs.Statement.{Best, IsPlan, marksOf}
 use Rattle.schedule.specs.Own.{ownList}
 use Rattle.schedule.specs.Theorems.{best, plan-carried}
 use Rattle.schedule.specs.lemmas.Words.{accepted-sized}
-use Rattle.booking.specs.Booking.{slotHas, takenOff, addedBack, passRefusal, slotThere, roomRefusal, SlotsThere, Releasable, Bookable, Without, Run, start, booking, releasing, rowsBooked, Balanced}
+use Rattle.booking.specs.Booking.{slotHas, takenOff, addedBack, passRefusal, slotThere, roomRefusal, SlotsThere, Releasable, Bookable, Without, Run, start, booking, Balanced}
+use Rattle.booking.specs.Booking
+use Rattle.checker.specs.Checked.{checkRefusal}
+use Rattle.booking.specs.Answer.{bookRefusal, handedOn, releaseRefusal, rowsRefusal}
 use Rattle.booking.specs.lemmas.Slots.{length-taken, length-added, taken-at, added-at, slots-equal, all-slots, bookable-within}
 use Rattle.booking.specs.lemmas.Runs.{kept, run-in-range, slots-there, without-bytes, without-all, equal-on}
 
@@ -151,3 +158,40 @@ module _ (main second : Job) (marks : List ℕ) (rows : List Row) (main-ok : Acc
 
     pub second-film-best : EqualChunks second → (p : ℕ → ℕ) → IsPlan (withForecast second left) p → Best (withForecast second left) p (ownList (withForecast second left) p)
     second-film-best equal p d = remainder-best second (main-ok .forecast-in) one-booked second-ok same-slots equal p d
+
+-- ---- the calls
+
+module _ (h : HandedJob) (marks slots chunks layers bytes : List ℕ) (fine : bookRefusal h marks slots chunks layers bytes ≡ 0) where
+  abbrev rows : List Row
+  rows = rowsOf slots chunks layers bytes
+
+  parts : (checkRefusal h marks slots chunks layers bytes ≡ 0) × (passRefusal (jobIn h) marks rows ≡ 0)
+  parts = orElse-iff (checkRefusal h marks slots chunks layers bytes) (passRefusal (jobIn h) marks rows) .0 fine
+
+  input : (jobRefusal h ≡ 0) × (handedRefusal (h .programme .chunks) marks slots chunks layers bytes ≡ 0)
+  input = orElse-iff (jobRefusal h) (handedRefusal (h .programme .chunks) marks slots chunks layers bytes) .0 (parts .0)
+
+  -- A list that `book` does not refuse is handed whole, for an accepted job, and can be booked on its forecast,
+  pub booked-accepted : Accepted (jobIn h)
+  booked-accepted = handed-iff h .0 (input .0) .1
+
+  pub booked-whole : Whole (h .programme .chunks) marks slots chunks layers bytes
+  booked-whole = Handed.handed-iff (h .programme .chunks) marks slots chunks layers bytes .0 (input .1)
+
+  pub booked-bookable : Bookable (h .forecast) rows
+  booked-bookable = passing-bookable (jobIn h) booked-accepted marks rows (nineteen-iff (jobIn h) marks rows .0 (parts .1))
+
+  -- and `release` does not refuse it on what `book` has left.
+  pub booked-released : releaseRefusal (handedOn h (takenOff (h .forecast) rows)) slots chunks layers bytes ≡ 0
+  booked-released =
+      let left : List ℕ = takenOff (h .forecast) rows in
+      let run : Run (h .forecast) left (rows ∷ []) = booking start rows booked-bookable in
+      let high = booked-accepted .forecast-in in
+      let w = booked-whole in
+      orElse-iff (jobRefusal (handedOn h left)) (rowsRefusal slots chunks layers bytes orElse roomRefusal left rows) .1 (
+        handed-iff (handedOn h left) .1 (handed-iff h .0 (input .0) .0, remainder-accepted (jobIn h) high run booked-accepted (sym (booked-accepted .slots-in))),
+        orElse-iff (rowsRefusal slots chunks layers bytes) (roomRefusal left rows) .1 (
+          Handed.handed-iff 0 [] slots chunks layers bytes .1 (record { byte-each = refl; chunk-each = w .chunk-each; layer-each = w .layer-each; bytes-each = w .bytes-each }),
+          still-booked-releasable rows high run Booking.here,
+        ),
+      )

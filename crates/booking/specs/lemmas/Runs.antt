@@ -1,15 +1,14 @@
 -- Lemmas. What holds after a run of bookings and releases, step by step. Assumes nothing.
-use Prim.Native.Nat.{ℕ, _+_, _-_, _≤_}
-use mathlib.Core.Path.{_≡_, refl, sym, subst}
-use mathlib.Core.List.{List, [], _∷_}
+use Prim.Native.Nat.{ℕ, _+_, _≤_}
+use mathlib.Core.Path.{_≡_, refl, subst}
+use mathlib.Core.List.{List}
 use native.Mathlib.Omega.{arith}
 use lib.ListN.{length}
 use lib.Dec.{eqb}
 use Rattle.basics.specs.Tests.{All}
-use Rattle.basics.specs.lemmas.Tests.{all-map}
 use Rattle.job.specs.Job.{Job, EqualChunks, Layer, Within, withForecast}
 use Rattle.fetch.specs.Rows.{Row, bytesInSlot}
-use Rattle.booking.specs.Booking.{slotHas, takenOff, addedBack, SlotsThere, Bookable, Without, Run, start, booking, releasing, rowsBooked, Balanced}
+use Rattle.booking.specs.Booking.{SlotsThere, Without, Run, start, booking, releasing, rowsBooked, Balanced}
 use Rattle.booking.specs.Booking
 use Rattle.booking.specs.lemmas.Slots.{length-taken, length-added, taken-at, added-at, all-slots, slots-all, bytes-append, bookable-within, bookable-there}
 

@@ -1,16 +1,16 @@
 -- Lemmas. A forecast changed slot by slot, and what a list that can be booked has in each slot. Assumes nothing.
-use Prim.Native.Nat.{ℕ, zero, suc, _+_, _-_, _≤_, _<_}
-use mathlib.Core.Path.{_≡_, refl, subst, ap, _∙_}
+use Prim.Native.Nat.{ℕ, suc, _+_, _-_, _≤_}
+use mathlib.Core.Path.{_≡_, subst}
 use mathlib.Core.Bool.{Bool}
 use mathlib.Core.List.{List, [], _∷_, _++_}
 use native.Mathlib.Omega.{arith}
 use lib.ListN.{length, getD}
 use lib.Seq.{ext-getD}
 use Rattle.basics.specs.Tests.{All}
-use Rattle.basics.specs.lemmas.Lists.{length-upTo, getD-upTo, upTo-cong}
+use Rattle.basics.specs.lemmas.Lists.{length-upTo, getD-upTo}
 use Rattle.basics.specs.lemmas.Tables.{all-at}
 use Rattle.basics.specs.lemmas.Tests.{all-map}
-use Rattle.job.specs.Job.{Within, lastSlot}
+use Rattle.job.specs.Job.{lastSlot}
 use Rattle.fetch.specs.Rows.{Row, bytesIf, bytesInSlot}
 use Rattle.fetch.specs.Rules.{InRange}
 use Rattle.booking.specs.Booking.{slotHas, slotBySlot, takenOff, addedBack, SlotsThere, Bookable}
@@ -18,10 +18,10 @@ use Rattle.booking.specs.Booking.{slotHas, slotBySlot, takenOff, addedBa
 -- ---- slot by slot
 
 module _ (change : ℕ → ℕ → ℕ) (f : List ℕ) (rows : List Row) where
-  length-changed : length (slotBySlot change f rows) ≡ length f
+  pub length-changed : length (slotBySlot change f rows) ≡ length f
   length-changed = length-upTo _ (length f)
 
-  changed-at : (t : ℕ) → 1 ≤ t → t ≤ length f → slotHas (slotBySlot change f rows) t ≡ change (slotHas f t) (bytesInSlot rows t)
+  pub changed-at : (t : ℕ) → 1 ≤ t → t ≤ length f → slotHas (slotBySlot change f rows) t ≡ change (slotHas f t) (bytesInSlot rows t)
   changed-at t g h =
       let e : t - 1 + 1 ≡ t = omega arith in
       rw e at (getD-upTo (λ k. change (getD f k 0) (bytesInSlot rows (k + 1))) (length f) (t - 1) 0 (omega arith))
