@@ -8,8 +8,8 @@ use native.Mathlib.Omega.{arith}
 use native.Mathlib.Numerals.{add-one}
 use lib.ListN.{length, getD, set, length-set}
 use lib.Seq.{ext-getD, getD-set-same, getD-set-other}
-use lib.Dec.{T-not, eqb, leb, eqb→eq, eqb-refl}
-use borrow.Author.Tests.{eqb-true, leb-true, leb-false}
+use lib.Dec.{T-not, eqb, leb, eqb→eq}
+use borrow.Author.Tests.{eq-eqb, eqb-true, leb-true, leb-false}
 use Rattle.basics.specs.Tests.{All}
 use Rattle.basics.specs.Lists.{upTo}
 use Rattle.basics.specs.lemmas.Lists.{getD-upTo, upTo-cong}
@@ -168,35 +168,32 @@ pub taking-start : (f slots bytes : List ℕ) (n : ℕ) → Taking f slots bytes
 taking-start f slots bytes n = record { inside = omega arith; long = refl; says = taken-none f }
 
 module _ {f slots bytes : List ℕ} {n : ℕ} {out : List ℕ} {i : ℕ} (t : Taking f slots bytes n out i) where
-  abbrev s : ℕ
-  s = getD slots i 0
-
-  abbrev b : ℕ
-  b = getD bytes i 0
-
   pub taking-end : n ≤ i → out ≡ takenOff f (bare slots bytes n)
   taking-end h = let e : i ≡ n = omega (arith, t .inside) in rw e at (t .says)
 
-  module _ (here : i < n) (c : Covered f (bare slots bytes n)) where
+  -- Row i, in slot s.
+  module _ (here : i < n) (c : Covered f (bare slots bytes n)) (s : ℕ) (is : s ≡ getD slots i 0) where
+    abbrev row : Row
+    row = rowAt slots [] [] bytes i
+
     pub taking-there : (1 ≤ s) × (s ≤ length f)
-    taking-there = all-at (λ (x : Row). (1 ≤ x .slot) × (x .slot ≤ length f)) (rowAt slots [] [] bytes) n i here (c .there)
+    taking-there = rw is (all-at (λ (x : Row). (1 ≤ x .slot) × (x .slot ≤ length f)) (rowAt slots [] [] bytes) n i here (c .there))
 
     -- What the slot has still covers the row.
-    pub taking-covers : b ≤ getD out (s - 1) 0
+    pub taking-covers : row .bytes ≤ getD out (s - 1) 0
     taking-covers =
         let h = taking-there in
         let e : getD out (s - 1) 0 ≡ slotHas f s - bytesInSlot (bare slots bytes i) s = rw (t .says) (taken-at f (bare slots bytes i) s (h .0) (h .1)) in
-        let more = bytes-with (bare slots bytes i) (rowAt slots [] [] bytes i) s in
-        let here-it : eqb s s ≡ true = T-true (eqb s s) (eqb-refl s) in
-        omega (arith, rw here-it at more, bytes-fewer (rowAt slots [] [] bytes) s (suc i) n here, c .covered s (h .0) (h .1))
+        let with-row = rw (eq-eqb (row .slot) s (sym is)) at (bytes-with (bare slots bytes i) row s) in
+        omega (arith, with-row, bytes-fewer (rowAt slots [] [] bytes) s (suc i) n here, c .covered s (h .0) (h .1))
 
-    pub taking-more : Taking f slots bytes n (set out (s - 1) (getD out (s - 1) 0 - b)) (i + 1)
+    pub taking-more : Taking f slots bytes n (set out (s - 1) (getD out (s - 1) 0 - row .bytes)) (i + 1)
     taking-more =
-        let h = taking-there in
+        let h = rw is at taking-there in
         record {
           inside = omega arith;
           long = simp length-set (t .long);
-          says = rw (add-one, t .says) (taken-next f (bare slots bytes i) (rowAt slots [] [] bytes i) (h .0) (h .1));
+          says = rw (is, add-one, t .says) (taken-next f (bare slots bytes i) row (h .0) (h .1));
         }
 
 -- ---- rows added back
@@ -217,57 +214,56 @@ adding-start f slots bytes n a =
     }
 
 module _ {f slots bytes : List ℕ} {n : ℕ} {out : List ℕ} {i : ℕ} (a : Adding f slots bytes n out i) where
-  abbrev slot : ℕ
-  slot = getD slots i 0
-
-  abbrev more : ℕ
-  more = getD bytes i 0
-
   pub adding-end : n ≤ i → Added f slots bytes n i out
   adding-end h = record { inside = a .inside; fits = a .fits; says = a .says; stops = λ l r. omega arith }
 
-  module _ (here : i < n) where
+  -- Row i, in slot s.
+  module _ (here : i < n) (s : ℕ) (is : s ≡ getD slots i 0) where
+    abbrev next : Row
+    next = rowAt slots [] [] bytes i
+
     stopped : (Releasable f (bare slots bytes n) → ⊥) → Added f slots bytes n i out
     stopped never = record { inside = a .inside; fits = a .fits; says = a .says; stops = λ l. never }
 
-    row-there : Releasable f (bare slots bytes n) → (1 ≤ slot) × (slot ≤ length f)
-    row-there r = all-at (λ (x : Row). (1 ≤ x .slot) × (x .slot ≤ length f)) (rowAt slots [] [] bytes) n i here (r .there)
+    row-there : Releasable f (bare slots bytes n) → (1 ≤ s) × (s ≤ length f)
+    row-there r = rw is (all-at (λ (x : Row). (1 ≤ x .slot) × (x .slot ≤ length f)) (rowAt slots [] [] bytes) n i here (r .there))
 
-    pub adding-low : slot < 1 → Added f slots bytes n i out
+    pub adding-low : s < 1 → Added f slots bytes n i out
     adding-low h = stopped (λ r. omega (arith, row-there r .0))
 
-    pub adding-high : length out < slot → Added f slots bytes n i out
+    pub adding-high : length out < s → Added f slots bytes n i out
     adding-high h = stopped (λ r. omega (arith, row-there r .1, a .long))
 
-    module _ (low : 1 ≤ slot) (high : slot ≤ length out) where
-      in-f : slot ≤ length f
+    module _ (low : 1 ≤ s) (high : s ≤ length out) where
+      in-f : s ≤ length f
       in-f = omega (arith, a .long)
 
-      held : getD out (slot - 1) 0 ≡ slotHas f slot + bytesInSlot (bare slots bytes i) slot
-      held = rw (a .says) (added-at f (bare slots bytes i) slot low in-f)
+      held : getD out (s - 1) 0 ≡ slotHas f s + bytesInSlot (bare slots bytes i) s
+      held = rw (a .says) (added-at f (bare slots bytes i) s low in-f)
 
-      with-row : bytesInSlot (bare slots bytes (suc i)) slot ≡ bytesInSlot (bare slots bytes i) slot + more
-      with-row =
-          let here-it : eqb slot slot ≡ true = T-true (eqb slot slot) (eqb-refl slot) in
-          rw here-it at (bytes-with (bare slots bytes i) (rowAt slots [] [] bytes i) slot)
+      with-next : bytesInSlot (bare slots bytes (suc i)) s ≡ bytesInSlot (bare slots bytes i) s + next .bytes
+      with-next = rw (eq-eqb (next .slot) s (sym is)) at (bytes-with (bare slots bytes i) next s)
 
-      pub adding-full : leb (getD out (slot - 1) 0 + more) 16777216 ≡ false → Added f slots bytes n i out
+      pub adding-full : leb (getD out (s - 1) 0 + next .bytes) 16777216 ≡ false → Added f slots bytes n i out
       adding-full e =
           stopped (λ r.
-          omega (arith, leb-false (getD out (slot - 1) 0 + more) 16777216 e, held, with-row, bytes-fewer (rowAt slots [] [] bytes) slot (suc i) n here, r .room slot low in-f))
+          omega (arith, leb-false (getD out (s - 1) 0 + next .bytes) 16777216 e, held, with-next, bytes-fewer (rowAt slots [] [] bytes) s (suc i) n here, r .room s low in-f))
 
-      pub adding-more : leb (getD out (slot - 1) 0 + more) 16777216 ≡ true → Adding f slots bytes n (set out (slot - 1) (getD out (slot - 1) 0 + more)) (i + 1)
+      pub adding-more : leb (getD out (s - 1) 0 + next .bytes) 16777216 ≡ true → Adding f slots bytes n (set out (s - 1) (getD out (s - 1) 0 + next .bytes)) (i + 1)
       adding-more e =
+          let there : (1 ≤ next .slot) × (next .slot ≤ length f) = (omega arith, omega (arith, in-f)) in
           record {
             inside = omega arith;
             long = simp length-set (a .long);
             fits = rw add-one (record {
-              there = all-append (λ (x : Row). (1 ≤ x .slot) × (x .slot ≤ length f)) (bare slots bytes i) (rowAt slots [] [] bytes i ∷ []) (a .fits .there) ((low, in-f), tt);
-              room = λ t g h. room t g h (eqb slot t) refl;
+              there = all-append (λ (x : Row). (1 ≤ x .slot) × (x .slot ≤ length f)) (bare slots bytes i) (next ∷ []) (a .fits .there) (there, tt);
+              room = λ t g h. room t g h (eqb (next .slot) t) refl;
             });
-            says = rw (add-one, a .says) (added-next f (bare slots bytes i) (rowAt slots [] [] bytes i) low in-f);
+            says = rw (is, add-one, a .says) (added-next f (bare slots bytes i) next (there .0) (there .1));
           }
         where
-          room : (t : ℕ) → 1 ≤ t → t ≤ length f → (q : Bool) → eqb slot t ≡ q → slotHas f t + bytesInSlot (bare slots bytes (suc i)) t ≤ 16777216
-          room t g h true q = let z : slot ≡ t = eqb-true slot t q in rw (sym z) (omega (arith, leb-true (getD out (slot - 1) 0 + more) 16777216 e, held, with-row))
-          room t g h false q = omega (arith, rw q at (bytes-with (bare slots bytes i) (rowAt slots [] [] bytes i) t), a .fits .room t g h)
+          room : (t : ℕ) → 1 ≤ t → t ≤ length f → (q : Bool) → eqb (next .slot) t ≡ q → slotHas f t + bytesInSlot (bare slots bytes (suc i)) t ≤ 16777216
+          room t g h true q =
+              let z : s ≡ t = is ∙ eqb-true (next .slot) t q in
+              rw (sym z) (omega (arith, leb-true (getD out (s - 1) 0 + next .bytes) 16777216 e, held, with-next))
+          room t g h false q = omega (arith, rw q at (bytes-with (bare slots bytes i) next t), a .fits .room t g h)

@@ -32,8 +32,7 @@ fn take_off(forecast: &mut [u32], slots: &[u16], bytes: &[u32], count: usize)
 {
     let mut i: usize = 0;
     while i < count {
-        let slot = wide(slots[i]);
-        let at = slot - 1;
+        let at = wide(slots[i]) - 1;
         let b = bytes[i];
         forecast[at] = forecast[at] - b;
         i = i + 1;

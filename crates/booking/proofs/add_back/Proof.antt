@@ -35,13 +35,13 @@ same-length : tie.Need-same-length Inv-loop μ-loop
 same-length c = c .before .before .before .before .loop .inv .long
 
 returns : tie.Need-returns Inv-loop μ-loop
-returns c = adding-low (c .before .before .before .before .loop .inv) (c .before .before .before .loop-test .taken) (rw (c .before .wide .ensures .0) at (c .if1 .taken))
+returns c = adding-low (c .before .before .before .before .loop .inv) (c .before .before .before .loop-test .taken) (c .before .wide .result) (c .before .wide .ensures .0) (c .if1 .taken)
 
 same-length-2 : tie.Need-same-length-2 Inv-loop μ-loop
 same-length-2 c = c .before .before .before .before .before .loop .inv .long
 
 returns-2 : tie.Need-returns-2 Inv-loop μ-loop
-returns-2 c = adding-high (c .before .before .before .before .before .loop .inv) (c .before .before .before .before .loop-test .taken) (rw (c .before .before .wide .ensures .0) at (c .if2 .taken))
+returns-2 c = adding-high (c .before .before .before .before .before .loop .inv) (c .before .before .before .before .loop-test .taken) (c .before .before .wide .result) (c .before .before .wide .ensures .0) (c .if2 .taken)
 
 mul-held : tie.Need-mul-held Inv-loop μ-loop
 mul-held c = search needs
@@ -62,7 +62,7 @@ same-length-3 : tie.Need-same-length-3 Inv-loop μ-loop
 same-length-3 c = c .before .before .before .before .before .before .before .before .before .loop .inv .long
 
 returns-3 : tie.Need-returns-3 Inv-loop μ-loop
-returns-3 c = let slot = c .before .before .before .before .before .before .wide .ensures .0 in adding-full (c .before .before .before .before .before .before .before .before .before .loop .inv) (c .before .before .before .before .before .before .before .before .loop-test .taken) (rw slot at (c .before .before .before .before .before .if1 .left)) (rw slot at (c .before .before .before .before .if2 .left)) (rw slot at (sym (c .before .has-room .ensures) ∙ not-true _ (c .if3 .taken)))
+returns-3 c = adding-full (c .before .before .before .before .before .before .before .before .before .loop .inv) (c .before .before .before .before .before .before .before .before .loop-test .taken) (c .before .before .before .before .before .before .wide .result) (c .before .before .before .before .before .before .wide .ensures .0) (c .before .before .before .before .before .if1 .left) (c .before .before .before .before .if2 .left) (sym (c .before .has-room .ensures) ∙ not-true _ (c .if3 .taken))
 
 add-forecast : tie.Need-add-forecast Inv-loop μ-loop
 add-forecast c =
@@ -80,7 +80,7 @@ loop-less : tie.Need-loop-less Inv-loop μ-loop
 loop-less c = omega (arith, c .before .before .before .before .before .before .before .before .loop-test .taken)
 
 loop-again : tie.Need-loop-again Inv-loop μ-loop
-loop-again c = let slot = c .before .before .before .before .before .before .wide .ensures .0 in rw slot (adding-more (c .before .before .before .before .before .before .before .before .before .loop .inv) (c .before .before .before .before .before .before .before .before .loop-test .taken) (rw slot at (c .before .before .before .before .before .if1 .left)) (rw slot at (c .before .before .before .before .if2 .left)) (rw slot at (sym (c .before .has-room .ensures) ∙ not-false _ (c .if3 .left))))
+loop-again c = adding-more (c .before .before .before .before .before .before .before .before .before .loop .inv) (c .before .before .before .before .before .before .before .before .loop-test .taken) (c .before .before .before .before .before .before .wide .result) (c .before .before .before .before .before .before .wide .ensures .0) (c .before .before .before .before .before .if1 .left) (c .before .before .before .before .if2 .left) (sym (c .before .has-room .ensures) ∙ not-false _ (c .if3 .left))
 
 same-length-4 : tie.Need-same-length-4 Inv-loop μ-loop
 same-length-4 c = c .before .loop .inv .long

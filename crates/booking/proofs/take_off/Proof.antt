@@ -26,7 +26,7 @@ wide-requires : tie.Need-wide-requires Inv-loop μ-loop
 wide-requires c κs = search needs
 
 sub-at : tie.Need-sub-at Inv-loop μ-loop
-sub-at c = rw (c .wide .ensures .0) (taking-there (c .before .before .before .loop .inv) (c .before .before .loop-test .taken) (c .before .before .before .before .before .before .before .pre .2) .0)
+sub-at c = omega (arith, taking-there (c .before .before .before .loop .inv) (c .before .before .loop-test .taken) (c .before .before .before .before .before .before .before .pre .2) (c .wide .result) (c .wide .ensures .0) .0)
 
 mul-b : tie.Need-mul-b Inv-loop μ-loop
 mul-b c = omega arith
@@ -38,20 +38,16 @@ mul-forecast : tie.Need-mul-forecast Inv-loop μ-loop
 mul-forecast c = omega (arith, c .before .wide .ensures .1)
 
 slice-read-forecast : tie.Need-slice-read-forecast Inv-loop μ-loop
-slice-read-forecast c =
-    let there = taking-there (c .before .before .before .before .before .loop .inv) (c .before .before .before .before .loop-test .taken) (c .before .before .before .before .before .before .before .before .before .pre .2) in
-    omega (arith, c .before .before .wide .ensures .0, there .0, there .1, c .before .before .before .before .before .loop .inv .long)
+slice-read-forecast c = let there = taking-there (c .before .before .before .before .before .loop .inv) (c .before .before .before .before .loop-test .taken) (c .before .before .before .before .before .before .before .before .before .pre .2) (c .before .before .wide .result) (c .before .before .wide .ensures .0) in omega (arith, there .0, there .1, c .before .before .before .before .before .loop .inv .long)
 
 sub-forecast : tie.Need-sub-forecast Inv-loop μ-loop
-sub-forecast c = rw (c .before .before .wide .ensures .0) (taking-covers (c .before .before .before .before .before .loop .inv) (c .before .before .before .before .loop-test .taken) (c .before .before .before .before .before .before .before .before .before .pre .2))
+sub-forecast c = taking-covers (c .before .before .before .before .before .loop .inv) (c .before .before .before .before .loop-test .taken) (c .before .before .before .before .before .before .before .before .before .pre .2) (c .before .before .wide .result) (c .before .before .wide .ensures .0)
 
 mul-forecast-2 : tie.Need-mul-forecast-2 Inv-loop μ-loop
 mul-forecast-2 c = omega (arith, c .before .before .wide .ensures .1)
 
 slice-write-forecast : tie.Need-slice-write-forecast Inv-loop μ-loop
-slice-write-forecast c =
-    let there = taking-there (c .before .before .before .before .before .loop .inv) (c .before .before .before .before .loop-test .taken) (c .before .before .before .before .before .before .before .before .before .pre .2) in
-    omega (arith, c .before .before .wide .ensures .0, there .0, there .1, c .before .before .before .before .before .loop .inv .long)
+slice-write-forecast c = let there = taking-there (c .before .before .before .before .before .loop .inv) (c .before .before .before .before .loop-test .taken) (c .before .before .before .before .before .before .before .before .before .pre .2) (c .before .before .wide .result) (c .before .before .wide .ensures .0) in omega (arith, there .0, there .1, c .before .before .before .before .before .loop .inv .long)
 
 add-i : tie.Need-add-i Inv-loop μ-loop
 add-i c = omega (arith, c .before .before .before .before .loop-test .taken)
@@ -60,7 +56,7 @@ loop-less : tie.Need-loop-less Inv-loop μ-loop
 loop-less c = omega (arith, c .before .before .before .before .loop-test .taken)
 
 loop-again : tie.Need-loop-again Inv-loop μ-loop
-loop-again c = rw (c .before .before .wide .ensures .0) (taking-more (c .before .before .before .before .before .loop .inv) (c .before .before .before .before .loop-test .taken) (c .before .before .before .before .before .before .before .before .before .pre .2))
+loop-again c = taking-more (c .before .before .before .before .before .loop .inv) (c .before .before .before .before .loop-test .taken) (c .before .before .before .before .before .before .before .before .before .pre .2) (c .before .before .wide .result) (c .before .before .wide .ensures .0)
 
 same-length : tie.Need-same-length Inv-loop μ-loop
 same-length c = c .before .loop .inv .long
