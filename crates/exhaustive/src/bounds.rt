@@ -41,7 +41,10 @@ fn of_whole(f: Film, plan: u32, given: u32) -> u32 {
 // "That no list carries more is claimed only for jobs whose sizes don't vary by chunk": of the others, the lists that carry more bases.
 fn of_uneven(plan: u32, given: u32) -> u32 {
     tally::flag(tally::LISTS)
-        | tally::flag_if(tally::BEATEN, marks::count(plan, 0) < marks::count(given, 0))
+        | tally::flag_if(
+            tally::BEATEN,
+            marks::count(plan, 0) < marks::count(given, 0),
+        )
 }
 
 // The first is "Every fetch list that passes, in whatever order it fetches, carries the base layer of at most as many chunks as the plan".

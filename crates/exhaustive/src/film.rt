@@ -82,5 +82,8 @@ fn one_if(test: bool) -> usize
 pub(crate) fn layers(f: Film) -> usize
     ensures { λ r. ⌜ r ≤ 4 ⌝ }
 {
-    one_if(0 < size(f, 0)) + one_if(0 < size(f, 1)) + one_if(0 < size(f, 2)) + one_if(0 < size(f, 3))
+    one_if(0 < size(f, 0))
+        + one_if(0 < size(f, 1))
+        + one_if(0 < size(f, 2))
+        + one_if(0 < size(f, 3))
 }

@@ -72,7 +72,15 @@ fn written(
     forecast: &[u32],
 ) {
     let mut out = [0u8; 46800];
-    match jobfile::write_job(p, sizes, size_chunks, size_layers, size_bytes, forecast, &mut out) {
+    match jobfile::write_job(
+        p,
+        sizes,
+        size_chunks,
+        size_layers,
+        size_bytes,
+        forecast,
+        &mut out,
+    ) {
         jobfile::Written::Bytes(n) => written_bytes(&out, n),
         jobfile::Written::Refused(n) => refused(n),
     }

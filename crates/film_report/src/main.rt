@@ -15,9 +15,24 @@ fn write_first(out: &[u8; 8192], n: usize) {
     io::write_all(STDOUT_FILENO, parts::bytes(out, n));
 }
 
-fn print_report(p: Programme, sizes: &[u32], size_chunks: &[u16], size_layers: &[u8], size_bytes: &[u32], forecast: &[u32]) {
+fn print_report(
+    p: Programme,
+    sizes: &[u32],
+    size_chunks: &[u16],
+    size_layers: &[u8],
+    size_bytes: &[u32],
+    forecast: &[u32],
+) {
     let mut out = [0u8; 8192];
-    match report::report(p, sizes, size_chunks, size_layers, size_bytes, forecast, &mut out) {
+    match report::report(
+        p,
+        sizes,
+        size_chunks,
+        size_layers,
+        size_bytes,
+        forecast,
+        &mut out,
+    ) {
         Written::Refused(n) => refused(n),
         Written::Bytes(n) => write_first(&out, n),
     }
@@ -29,7 +44,14 @@ fn job_file(file: &[u8; 65537], n: usize) {
     let mut size_layers = [0u8; 1996];
     let mut size_bytes = [0u32; 1996];
     let mut forecast = [0u32; 3600];
-    match jobfile::read_job(parts::bytes(file, n), &mut sizes, &mut size_chunks, &mut size_layers, &mut size_bytes, &mut forecast) {
+    match jobfile::read_job(
+        parts::bytes(file, n),
+        &mut sizes,
+        &mut size_chunks,
+        &mut size_layers,
+        &mut size_bytes,
+        &mut forecast,
+    ) {
         JobRead::Refused(r) => refused(r),
         JobRead::Job {
             programme,

@@ -30,14 +30,35 @@ fn write_plan(
     bytes: &[u32],
     out: &mut [u8; 65537],
 ) {
-    match planfile::write_plan(p, sizes, size_chunks, size_layers, size_bytes, forecast, marks, slots, chunks, layers, bytes, out) {
+    match planfile::write_plan(
+        p,
+        sizes,
+        size_chunks,
+        size_layers,
+        size_bytes,
+        forecast,
+        marks,
+        slots,
+        chunks,
+        layers,
+        bytes,
+        out,
+    ) {
         Written::Refused(n) => refused(n),
         Written::Bytes(n) => write_first(out, n),
     }
 }
 
 // Room for any plan: a mark a chunk, 5,599 rows.
-fn plan_job(p: Programme, sizes: &[u32], size_chunks: &[u16], size_layers: &[u8], size_bytes: &[u32], forecast: &[u32], out: &mut [u8; 65537]) {
+fn plan_job(
+    p: Programme,
+    sizes: &[u32],
+    size_chunks: &[u16],
+    size_layers: &[u8],
+    size_bytes: &[u32],
+    forecast: &[u32],
+    out: &mut [u8; 65537],
+) {
     let mut marks = [0u8; 500];
     let mut slots = [0u16; 5599];
     let mut chunks = [0u16; 5599];
@@ -83,7 +104,14 @@ fn job_file(file: &mut [u8; 65537], n: usize) {
     let mut size_layers = [0u8; 1996];
     let mut size_bytes = [0u32; 1996];
     let mut forecast = [0u32; 3600];
-    match jobfile::read_job(parts::bytes(file, n), &mut sizes, &mut size_chunks, &mut size_layers, &mut size_bytes, &mut forecast) {
+    match jobfile::read_job(
+        parts::bytes(file, n),
+        &mut sizes,
+        &mut size_chunks,
+        &mut size_layers,
+        &mut size_bytes,
+        &mut forecast,
+    ) {
         JobRead::Refused(r) => refused(r),
         JobRead::Job {
             programme,

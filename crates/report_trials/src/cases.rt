@@ -15,9 +15,24 @@ pub fn line(text: &[u8], n: usize) {
     word(b"\n");
 }
 
-fn print_report(p: Programme, sizes: &[u32], size_chunks: &[u16], size_layers: &[u8], size_bytes: &[u32], forecast: &[u32]) {
+fn print_report(
+    p: Programme,
+    sizes: &[u32],
+    size_chunks: &[u16],
+    size_layers: &[u8],
+    size_bytes: &[u32],
+    forecast: &[u32],
+) {
     let mut out = [0u8; 8192];
-    match report::report(p, sizes, size_chunks, size_layers, size_bytes, forecast, &mut out) {
+    match report::report(
+        p,
+        sizes,
+        size_chunks,
+        size_layers,
+        size_bytes,
+        forecast,
+        &mut out,
+    ) {
         Written::Refused(n) => line(b"refused ", n as usize),
         Written::Bytes(n) => print_first(&out, n),
     }
@@ -33,7 +48,14 @@ fn report_of(file: &[u8; 1024], n: usize) {
     let mut size_layers = [0u8; 1996];
     let mut size_bytes = [0u32; 1996];
     let mut forecast = [0u32; 3600];
-    match jobfile::read_job(parts::bytes(file, n), &mut sizes, &mut size_chunks, &mut size_layers, &mut size_bytes, &mut forecast) {
+    match jobfile::read_job(
+        parts::bytes(file, n),
+        &mut sizes,
+        &mut size_chunks,
+        &mut size_layers,
+        &mut size_bytes,
+        &mut forecast,
+    ) {
         JobRead::Refused(n) => line(b"refused ", n as usize),
         JobRead::Job {
             programme,

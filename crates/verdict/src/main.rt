@@ -36,14 +36,34 @@ fn judge(
     layers: &[u8],
     bytes: &[u32],
 ) {
-    match checker::check(p, sizes, size_chunks, size_layers, size_bytes, forecast, marks, slots, chunks, layers, bytes) {
+    match checker::check(
+        p,
+        sizes,
+        size_chunks,
+        size_layers,
+        size_bytes,
+        forecast,
+        marks,
+        slots,
+        chunks,
+        layers,
+        bytes,
+    ) {
         Checked::Verdict(v) => print(b"verdict ", v),
         Checked::Refused(r) => print(b"refused ", r),
     }
 }
 
 // Room for the longest plan file: 500 marks, 5,957 rows.
-fn plan_file(p: Programme, sizes: &[u32], size_chunks: &[u16], size_layers: &[u8], size_bytes: &[u32], forecast: &[u32], file: &[u8]) {
+fn plan_file(
+    p: Programme,
+    sizes: &[u32],
+    size_chunks: &[u16],
+    size_layers: &[u8],
+    size_bytes: &[u32],
+    forecast: &[u32],
+    file: &[u8],
+) {
     let mut marks = [0u8; 500];
     let mut slots = [0u16; 5957];
     let mut chunks = [0u16; 5957];
@@ -80,14 +100,47 @@ fn plan_file(p: Programme, sizes: &[u32], size_chunks: &[u16], size_layers: &[u8
     }
 }
 
-fn plan_for(p: Programme, sizes: &[u32], size_chunks: &[u16], size_layers: &[u8], size_bytes: &[u32], forecast: &[u32]) {
+fn plan_for(
+    p: Programme,
+    sizes: &[u32],
+    size_chunks: &[u16],
+    size_layers: &[u8],
+    size_bytes: &[u32],
+    forecast: &[u32],
+) {
     let mut file = [0u8; 65537];
     let n = read_file(b"plan", &mut file);
-    plan_part(p, sizes, size_chunks, size_layers, size_bytes, forecast, &file, n);
+    plan_part(
+        p,
+        sizes,
+        size_chunks,
+        size_layers,
+        size_bytes,
+        forecast,
+        &file,
+        n,
+    );
 }
 
-fn plan_part(p: Programme, sizes: &[u32], size_chunks: &[u16], size_layers: &[u8], size_bytes: &[u32], forecast: &[u32], file: &[u8; 65537], n: usize) {
-    plan_file(p, sizes, size_chunks, size_layers, size_bytes, forecast, parts::bytes(file, n));
+fn plan_part(
+    p: Programme,
+    sizes: &[u32],
+    size_chunks: &[u16],
+    size_layers: &[u8],
+    size_bytes: &[u32],
+    forecast: &[u32],
+    file: &[u8; 65537],
+    n: usize,
+) {
+    plan_file(
+        p,
+        sizes,
+        size_chunks,
+        size_layers,
+        size_bytes,
+        forecast,
+        parts::bytes(file, n),
+    );
 }
 
 fn job_file(file: &[u8; 65537], n: usize) {
@@ -96,7 +149,14 @@ fn job_file(file: &[u8; 65537], n: usize) {
     let mut size_layers = [0u8; 1996];
     let mut size_bytes = [0u32; 1996];
     let mut forecast = [0u32; 3600];
-    match jobfile::read_job(parts::bytes(file, n), &mut sizes, &mut size_chunks, &mut size_layers, &mut size_bytes, &mut forecast) {
+    match jobfile::read_job(
+        parts::bytes(file, n),
+        &mut sizes,
+        &mut size_chunks,
+        &mut size_layers,
+        &mut size_bytes,
+        &mut forecast,
+    ) {
         JobRead::Refused(r) => print(b"refused ", r),
         JobRead::Job {
             programme,

@@ -48,7 +48,16 @@ fn none(n: u8) -> u16 {
 }
 
 fn trial(film: Film, sizes: &[u32], forecast: &[u32], tally: &mut [u64]) {
-    let s = delay(wait::wait(film.chunks, film.span, film.limit, sizes, &[], &[], &[], forecast));
+    let s = delay(wait::wait(
+        film.chunks,
+        film.span,
+        film.limit,
+        sizes,
+        &[],
+        &[],
+        &[],
+        forecast,
+    ));
     let found = plans::try_all(film, sizes, forecast);
     note(film, s, found, tally);
 }
