@@ -88,19 +88,18 @@ def nineteen():
 
 
 def twenty():
-    released("a list never booked", OWN)
     released("no rows", [])
     released("no rule is asked", [(1, 9, 9, 0), (6, 0, 255, 5)])
+    released("a list never booked", OWN + [(6, 1, 0, 5)])
+    released("a slot that isn't there after others", OWN + [(7, 1, 0, 5)])
     released("slot 0", [(0, 1, 0, 0)])
     released("slot 7", [(7, 1, 0, 0)])
     released("slot 65535", [(65535, 1, 0, 1)])
-    released("a slot that isn't there after others", OWN + [(7, 1, 0, 1)])
     released("16777216 bytes in slot 1", [(1, 1, 0, 16777213)])
-    released("16777217 bytes in slot 1", [(1, 1, 0, 16777214)])
-    released("16777217 bytes in two rows", [(1, 1, 0, 16777213), (1, 2, 0, 1)])
+    released("a byte more", [(1, 1, 0, 16777214)])
     released("16777216 bytes in slot 2", [(2, 1, 0, 8388608), (1, 1, 0, 1), (2, 1, 0, 8388608)])
     released("a byte more", [(2, 1, 0, 8388608), (1, 1, 0, 1), (2, 1, 0, 8388609)])
-    released("more than 32 bits", [(6, 1, 0, 4294967295), (6, 1, 0, 4294967295)])
+    released("more than 32 bits", [(6, 1, 0, 4294967295), (1, 1, 0, 1), (6, 1, 0, 4294967295)])
 
 
 # ---- the order of the refusals

@@ -1,9 +1,21 @@
-// The order of the refusals: a row in slot 7, for 19 and 20, on a job A of other lengths, booked and released.
+// The order of the refusals: a row in slot 7, for 19 and 20, on job A or a part of it, booked and released.
 use crate::print::said;
 use crate::print::word;
 use job::Programme;
 
-// Job A, but of so many chunks.
+// How much is handed: chunks, layers and slots of job A, SZs of chunk 1, which it has none of, marks, and of the row its chunk, layer
+// and bytes.
+struct Part {
+    chunks: u16,
+    layers: usize,
+    uneven: usize,
+    slots: usize,
+    marks: usize,
+    chunk: usize,
+    layer: usize,
+    bytes: usize,
+}
+
 fn job_of(chunks: u16) -> Programme {
     Programme {
         chunks,
@@ -13,90 +25,92 @@ fn job_of(chunks: u16) -> Programme {
     }
 }
 
-// How much is handed: chunks, layers, SZs of chunk 1 and marks.
-struct Part {
-    chunks: u16,
-    layers: usize,
-    uneven: usize,
-    marks: usize,
+fn room(s: &mut [u32], n: usize) -> &mut [u32] {
+    if s.len() < n {
+        return s;
+    }
+    &mut s[..n]
 }
 
-fn book(part: Part, forecast: &mut [u32], chunks: &[u16], layers: &[u8], bytes: &[u32]) {
+fn book(part: Part) {
+    let mut forecast = [3u32, 0, 1, 0, 2, 0];
     said(booking::book(
         job_of(part.chunks),
         parts::words(&[2, 1], part.layers),
         parts::halves(&[1], part.uneven),
         parts::bytes(&[0], part.uneven),
         parts::words(&[1], part.uneven),
-        forecast,
+        room(&mut forecast, part.slots),
         parts::bytes(&[0, 1, 0], part.marks),
         &[7],
-        chunks,
-        layers,
-        bytes,
+        parts::halves(&[2], part.chunk),
+        parts::bytes(&[0], part.layer),
+        parts::words(&[2], part.bytes),
     ));
 }
 
-fn release(part: Part, forecast: &mut [u32], chunks: &[u16], layers: &[u8], bytes: &[u32]) {
+fn release(part: Part) {
+    let mut forecast = [3u32, 0, 1, 0, 2, 0];
     said(booking::release(
         job_of(part.chunks),
         parts::words(&[2, 1], part.layers),
         parts::halves(&[1], part.uneven),
         parts::bytes(&[0], part.uneven),
         parts::words(&[1], part.uneven),
-        forecast,
+        room(&mut forecast, part.slots),
         &[7],
-        chunks,
-        layers,
-        bytes,
+        parts::halves(&[2], part.chunk),
+        parts::bytes(&[0], part.layer),
+        parts::words(&[2], part.bytes),
     ));
 }
 
-fn both(
-    text: &[u8],
-    part: Part,
-    forecast: &mut [u32],
-    chunks: &[u16],
-    layers: &[u8],
-    bytes: &[u32],
-) {
+fn both(text: &[u8], part: Part) {
     word(text);
-    book(part, forecast, chunks, layers, bytes);
+    book(part);
     word(b", ");
-    release(part, forecast, chunks, layers, bytes);
+    release(part);
     word(b"\n");
 }
 
 // The row's chunk is not handed, and a mark too few.
-fn short(text: &[u8], chunks: u16, layers: usize, uneven: usize, forecast: &mut [u32]) {
+fn short(text: &[u8], chunks: u16, layers: usize, uneven: usize, slots: usize) {
     let part = Part {
         chunks,
         layers,
         uneven,
+        slots,
         marks: 2,
+        chunk: 0,
+        layer: 1,
+        bytes: 1,
     };
-    both(text, part, forecast, &[], &[0], &[2]);
+    both(text, part);
 }
 
 // The whole job A.
-fn whole(text: &[u8], marks: usize, layers: &[u8], bytes: &[u32]) {
+fn whole(text: &[u8], marks: usize, layer: usize, bytes: usize) {
     let part = Part {
         chunks: 3,
         layers: 2,
         uneven: 0,
+        slots: 6,
         marks,
+        chunk: 1,
+        layer,
+        bytes,
     };
-    both(text, part, &mut [3, 0, 1, 0, 2, 0], &[2], layers, bytes);
+    both(text, part);
 }
 
 pub(crate) fn order() {
-    short(b"5 first: ", 501, 0, 1, &mut [3, 0, 1, 0, 2]);
-    short(b"then 6: ", 3, 0, 1, &mut [3, 0, 1, 0, 2]);
-    short(b"then 18: ", 3, 2, 1, &mut [3, 0, 1, 0, 2]);
-    short(b"then 7: ", 3, 2, 0, &mut [3, 0, 1, 0, 2]);
-    short(b"then 8: ", 3, 2, 0, &mut [3, 0, 1, 0, 2, 0]);
-    whole(b"8 for a layer: ", 3, &[], &[2]);
-    whole(b"8 for bytes: ", 3, &[0], &[]);
-    whole(b"8 for a mark in booking alone: ", 2, &[0], &[2]);
-    whole(b"then 19 and 20: ", 3, &[0], &[2]);
+    short(b"5 first: ", 501, 0, 1, 5);
+    short(b"then 6: ", 3, 0, 1, 5);
+    short(b"then 18: ", 3, 2, 1, 5);
+    short(b"then 7: ", 3, 2, 0, 5);
+    short(b"then 8: ", 3, 2, 0, 6);
+    whole(b"8 for a layer: ", 3, 0, 1);
+    whole(b"8 for bytes: ", 3, 1, 0);
+    whole(b"8 for a mark in booking alone: ", 2, 1, 1);
+    whole(b"then 19 and 20: ", 3, 1, 1);
 }

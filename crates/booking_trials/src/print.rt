@@ -27,17 +27,18 @@ pub(crate) fn said(answer: Answer) {
     }
 }
 
-fn bytes(text: &[u8], n: u32) {
-    pair(text, n as usize);
+fn next(n: u32) {
+    pair(b" ", n as usize);
 }
 
 // The forecast after a call.
 pub(crate) fn shown(forecast: &[u32; 6]) {
-    bytes(b", then ", forecast[0]);
-    bytes(b" ", forecast[1]);
-    bytes(b" ", forecast[2]);
-    bytes(b" ", forecast[3]);
-    bytes(b" ", forecast[4]);
-    bytes(b" ", forecast[5]);
+    word(b", then");
+    next(forecast[0]);
+    next(forecast[1]);
+    next(forecast[2]);
+    next(forecast[3]);
+    next(forecast[4]);
+    next(forecast[5]);
     word(b"\n");
 }
