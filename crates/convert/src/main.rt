@@ -12,13 +12,13 @@ fn refused(n: u8) {
     io::write_all(STDOUT_FILENO, b"\n");
 }
 
-fn write_first(out: &[u8; 28836], n: usize) {
+fn write_first(out: &[u8; 46800], n: usize) {
     io::write_all(STDOUT_FILENO, parts::bytes(out, n));
 }
 
-// Room for the file of any job without SZ.
+// Room for any job's file.
 fn write_job(p: Programme, sizes: &[u32], forecast: &[u32]) {
-    let mut out = [0u8; 28836];
+    let mut out = [0u8; 46800];
     match jobfile::write_job(p, sizes, &[], &[], &[], forecast, &mut out) {
         Written::Refused(n) => refused(n),
         Written::Bytes(n) => write_first(&out, n),
