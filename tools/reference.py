@@ -1,5 +1,5 @@
 """Documents 01 and 02 once more, in plain Python and independent of the proved crates: job and plan files, the seven rules, the plan, the
-report, link traces. `cases.py` and `traces.py` compute from it what the trials programs have to print."""
+report, link traces, bookings. `cases.py` and `traces.py` compute from it what the trials programs have to print."""
 from collections import namedtuple
 
 Job = namedtuple("Job", "chunks span delay limit sizes overrides forecast")
@@ -296,3 +296,31 @@ def write_trace(forecast):
     if any(b > 1 << 24 or b % 1500 for b in forecast):
         raise Refused(15)
     return b"".join(b"%d\n" % (j * 1000) * (b // 1500) for j, b in enumerate(forecast))
+
+
+def listed(slots, chunks, layers, sizes):
+    """The rows that four columns hand over: 8 for a row not handed whole."""
+    if not len(slots) == len(chunks) == len(layers) == len(sizes):
+        raise Refused(8)
+    return [Row(*x) for x in zip(slots, chunks, layers, sizes)]
+
+
+def book(job, marks, *columns):
+    """Document 02, request 11: what booking a list leaves of its job's forecast."""
+    check_job(job)
+    rows = listed(*columns)
+    if len(marks) != job.chunks:
+        raise Refused(8)
+    if verdict(job, rows, marks):
+        raise Refused(19)
+    return [has - sum(x.bytes for x in rows if x.slot == t) for t, has in enumerate(job.forecast, 1)]
+
+
+def release(job, *columns):
+    """The job's forecast with a list's bytes added back."""
+    check_job(job)
+    rows = listed(*columns)
+    forecast = [has + sum(x.bytes for x in rows if x.slot == t) for t, has in enumerate(job.forecast, 1)]
+    if any(not 1 <= x.slot <= len(forecast) for x in rows) or max(forecast) > 1 << 24:
+        raise Refused(20)
+    return forecast

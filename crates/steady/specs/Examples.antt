@@ -9,12 +9,12 @@ use lib.Dec.{T, eqb, eqb→eq}
 use Rattle.basics.specs.Tests.{allTo}
 use Rattle.basics.specs.Division.{dividedUp}
 use Rattle.basics.specs.lemmas.Tests.{T-or-iff, allTo-at}
-use Rattle.job.specs.Job.{Accepted, EqualChunks, Job, Within, forecast, jobOf, lastSlot, sizeIn}
+use Rattle.job.specs.Job.{Accepted, EqualChunks, Job, Within, forecast, jobOf, lastSlot, sizeIn, withForecast}
 use Rattle.job.specs.Refusal.{accepted-iff, refusal}
 use Rattle.job.specs.Uneven.{equal-iff}
 use Rattle.schedule.specs.Plan.{plan}
 use Rattle.schedule.specs.Statement.{countsOf}
-use Rattle.steady.specs.Statement.{OneSlotMore, RisesLittle, Steady, baseSize, bases, withForecast}
+use Rattle.steady.specs.Statement.{OneSlotMore, RisesLittle, Steady, baseSize, bases}
 use Rattle.steady.specs.Theorems.{steady}
 
 -- How many bases the plan of a job carries.

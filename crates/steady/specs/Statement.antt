@@ -5,11 +5,7 @@ use mathlib.Core.Path.{_≡_}
 use mathlib.Core.List.{List}
 use lib.ListN.{getD}
 use Rattle.basics.specs.Division.{dividedUp}
-use Rattle.job.specs.Job.{Accepted, Job, Within, forecast, jobOf, lastSlot, size}
-
--- The job j with another forecast.
-abbrev pub withForecast : Job → List ℕ → Job
-withForecast j f = jobOf (j .programme) (j .sizes) (j .overrides) f
+use Rattle.job.specs.Job.{Accepted, Job, Within, forecast, lastSlot, size, withForecast}
 
 -- "one slot's forecast grows by b bytes and nothing else changes": k is the job j with b bytes more in slot t.
 pub record OneSlotMore (j k : Job) (t b : ℕ) : Type 0 where

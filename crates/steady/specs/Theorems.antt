@@ -6,7 +6,7 @@ use mathlib.Core.List.{List}
 use native.Mathlib.Omega.{arith}
 use Rattle.basics.specs.Division.{dividedUp}
 use Rattle.basics.specs.lemmas.Division.{divided-up-enough}
-use Rattle.job.specs.Job.{Accepted, EqualChunks, Job, chunks, layers, size}
+use Rattle.job.specs.Job.{Accepted, EqualChunks, Job, chunks, layers, size, withForecast}
 use Rattle.job.specs.Uneven.{equal-iff}
 use Rattle.job.specs.lemmas.Within.{size-least}
 use Rattle.fetch.specs.Rows.{Row}
@@ -16,7 +16,7 @@ use Rattle.schedule.specs.Statement.{Best, IsPlan, countOf, countsOf, marksOf}
 use Rattle.schedule.specs.Theorems.{best, plan-exists}
 use Rattle.schedule.specs.lemmas.Level.{keeps-passes}
 use Rattle.schedule.specs.lemmas.Words.{accepted-sized, layer-of}
-use Rattle.steady.specs.Statement.{OneSlotMore, RisesLittle, Steady, baseSize, withForecast}
+use Rattle.steady.specs.Statement.{OneSlotMore, RisesLittle, Steady, baseSize}
 use Rattle.steady.specs.lemmas.Bases.{few-fewer}
 use Rattle.steady.specs.lemmas.Grown.{passes-grown}
 

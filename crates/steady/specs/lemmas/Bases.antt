@@ -11,7 +11,7 @@ use lib.Dec.{T, eqb, eqb-refl}
 use Rattle.basics.specs.Lists.{has}
 use Rattle.basics.specs.Tests.{All}
 use Rattle.basics.specs.lemmas.Tests.{T-or-iff, T-true, all-map, eqb-iff}
-use Rattle.job.specs.Job.{Job, chunks, due, heldMost, layers, size}
+use Rattle.job.specs.Job.{Job, chunks, due, heldMost, layers, size, withForecast}
 use Rattle.fetch.specs.Rows.{Row, carried, layerCount}
 use Rattle.fetch.specs.Rules.{Passes}
 use Rattle.schedule.specs.Plan.{after}
@@ -21,7 +21,7 @@ use Rattle.schedule.specs.lemmas.Level.{count-carried, level, level-exactly}
 use Rattle.schedule.specs.lemmas.Need.{Feas, feas-mono}
 use Rattle.schedule.specs.lemmas.Sufficiency.{fetch, layer-is, sufficient, weight}
 use Rattle.schedule.specs.lemmas.Words.{Sized, due-rises}
-use Rattle.steady.specs.Statement.{OneSlotMore, withForecast}
+use Rattle.steady.specs.Statement.{OneSlotMore}
 use Rattle.steady.specs.lemmas.Grown.{after-early, after-late}
 use Rattle.steady.specs.lemmas.Thin.{thin, thin-asc, thin-feas, thin-length}
 

@@ -10,12 +10,12 @@ use lib.Dec.{T-not, eqb, eqb→eq, eqb-refl, leb, leb→le, nleb→lt}
 use Rattle.basics.specs.Sums.{pre}
 use Rattle.basics.specs.lemmas.Ranges.{point, point-in, point-out, pre-add, pre-cong, pre-mono}
 use Rattle.basics.specs.lemmas.Tests.{all-map, test}
-use Rattle.job.specs.Job.{Job, forecast, lastSlot}
+use Rattle.job.specs.Job.{Job, forecast, lastSlot, withForecast}
 use Rattle.fetch.specs.Rows.{Row}
 use Rattle.fetch.specs.Rules.{InRange, Passes}
 use Rattle.schedule.specs.Plan.{after}
 use Rattle.schedule.specs.lemmas.Words.{layer-of}
-use Rattle.steady.specs.Statement.{OneSlotMore, withForecast}
+use Rattle.steady.specs.Statement.{OneSlotMore}
 
 module _ (j : Job) (f : List ℕ) (t b : ℕ) (more : OneSlotMore j (withForecast j f) t b) where
   abbrev k : Job

@@ -1,0 +1,5 @@
+pub mod Booking
+pub mod Answer
+pub mod Theorems
+pub mod Examples
+pub mod lemmas
