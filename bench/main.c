@@ -1,5 +1,5 @@
-// Plans the largest job (500 chunks, 4 layers, 3,600 slots), of equal or of uneven chunks (1,996 SZs), by the planner named on the
-// command line and prints the number of rows and a checksum over marks and rows, so that both did the same work.
+// Plans the largest job (500 chunks, 4 layers, 3,600 slots), of equal or of uneven chunks (1,996 SZs), or of uneven ones on a lean link
+// with a limit that holds them all, so that request 9 settles the bases, by the planner named on the command line and prints the number of rows and a checksum over marks and rows, so that both did the same work.
 #include "plan.h"
 #include <stdio.h>
 
@@ -37,8 +37,11 @@ int main(int argc, char **argv)
         size_bytes[k] = own / 2 + (x >> 16) % own;
         if (size_bytes[k] == own) size_bytes[k]++;
     }
-    size_t overrides = argc > 2 && argv[2][0] == 'u' ? 1996 : 0;
-    struct job j = {500, 7, 107, 28, 4, 3600, sizes, forecast, overrides, size_chunks, size_layers, size_bytes};
+    char film = argc > 2 ? argv[2][0] : 'e';
+    size_t overrides = film == 'e' ? 0 : 1996;
+    uint16_t limit = film == 'w' ? 3500 : 28;
+    for (int t = 0; t < 3600 && film == 'w'; t++) forecast[t] /= 10;
+    struct job j = {500, 7, 107, limit, 4, 3600, sizes, forecast, overrides, size_chunks, size_layers, size_bytes};
     size_t rows = argc > 1 && argv[1][0] == 'c' ? plan_c(&j, &out) : plan_rattle(&j, &out);
     uint64_t sum = rows;
     for (int i = 0; i < 500; i++) sum = sum * 31 + out.marks[i];

@@ -1,4 +1,4 @@
-// The planner of document 01 in plain C, to measure the proved one against: the same linear decisions and one fill, no checks of
+// The planner of documents 01 and 02 in plain C, to measure the proved one against: the same linear decisions and one fill, no checks of
 // bounds, no proof.
 #include "plan.h"
 
@@ -38,6 +38,45 @@ static void fill_sizes(const struct job *j)
     for (size_t k = 0; k < j->overrides; k++) size_of[j->size_chunks[k] - 1][j->size_layers[k]] = j->size_bytes[k];
 }
 
+// Chunk i stands at place q among the kept ones.
+static void keep(const struct job *j, int q, int i)
+{
+    int due = (i - 1) * j->span + j->delay;
+    ids[q] = i;
+    behind[q] = after[due];
+    from[q] = after[due - 1];
+    bytes_of[q] = size_of[i - 1][0];
+    mark_of[q] = 1;
+}
+
+static int vary(const struct job *j)
+{
+    for (int i = 1; i < j->chunks; i++)
+        if (size_of[i][0] != size_of[0][0]) return 1;
+    return 0;
+}
+
+// Document 02, request 9: chunks from 1 to C are added, and where they exceed the forecast the largest is looked for and dropped.
+static int walk_bases(const struct job *j)
+{
+    static uint8_t kept[500];
+    uint64_t sum = 0;
+    int p = 500;
+    for (int i = 0; i < j->chunks; i++) {
+        kept[i] = 1;
+        sum += size_of[i][0];
+        if (sum + after[i * j->span + j->delay] <= after[0]) continue;
+        int largest = -1;
+        for (int k = 0; k <= i; k++)
+            if (kept[k] && (largest < 0 || size_of[largest][0] < size_of[k][0])) largest = k;
+        kept[largest] = 0;
+        sum -= size_of[largest][0];
+    }
+    for (int i = j->chunks; i >= 1; i--)
+        if (kept[i - 1]) keep(j, --p, i);
+    return p;
+}
+
 static int keep_bases(const struct job *j, int hold)
 {
     int p = 500;
@@ -48,11 +87,7 @@ static int keep_bases(const struct job *j, int hold)
         needs[q] = need;
         if (need > after[0]) continue;
         if ((q + hold < 500 ? needs[q + hold] : 0) > after[due - 1]) continue;
-        ids[q] = i;
-        behind[q] = after[due];
-        from[q] = after[due - 1];
-        bytes_of[q] = size_of[i - 1][0];
-        mark_of[q] = 1;
+        keep(j, q, i);
         last = need;
         p = q;
     }
@@ -116,7 +151,7 @@ size_t plan_c(const struct job *j, struct plan *out)
     int hold = j->limit / j->span;
     after[j->slots] = 0;
     for (size_t t = j->slots; t > 0; t--) after[t - 1] = after[t] + j->forecast[t - 1];
-    int p = keep_bases(j, hold);
+    int p = hold >= j->chunks && vary(j) ? walk_bases(j) : keep_bases(j, hold);
     out->counts[0] = 500 - p;
     for (size_t n = 1; n < j->layers; n++) out->counts[n] = try_layer(n, p, hold);
     memset(out->marks, 0, j->chunks);
