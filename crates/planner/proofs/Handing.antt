@@ -20,6 +20,7 @@ use Rattle.schedule.specs.lemmas.Plan.{plan-choice}
 use Rattle.schedule.specs.Theorems.{own-list-rows, best, elsewhere-iff, plan-exists}
 use Rattle.schedule.specs.Pictures.{most-pictures}
 use Rattle.schedule.specs.Statement.{countsOf, marksOf}
+use Rattle.handing.proofs.Laws.{copied-over, four-hold, long-aside}
 use Rattle.planner.specs.declared.Answer.the-variants.{Rows, Refused}
 use Rattle.planner.specs.declared.Planned.{Planned}
 use Rattle.planner.specs.declared.Filled.{Filled}
@@ -30,23 +31,6 @@ use Rattle.basics.specs.Lent.{over}
 use Rattle.fetch.specs.Rows.{Row, rowSlot, rowChunk, rowLayer, rowBytes}
 use Rattle.basics.specs.lemmas.Lent.{over-next, over-long}
 
--- ---- a copy
-
-pub record Copied (from old to : List ℕ) (n i : ℕ) : Type 0 where
-  pub within : i ≤ n
-  pub says : to ≡ over (take i from) old
-  pub long : length to ≡ length old
-
-pub copied-more : (from old to : List ℕ) (n i : ℕ) → Copied from old to n i → i < n → n ≤ length from → n ≤ length old → Copied from old (set to i (getD from i 0)) n (i + 1)
-copied-more from old to n i s h a b =
-    let e = length-take-le i from (omega arith) in
-    let l : i < length from = omega arith in
-    record {
-      within = omega arith;
-      says = rw (add-one, take-suc from i 0, s .says) (ap (λ (k : ℕ). set (over (take i from) old) k (getD from i 0)) (sym e) ∙ over-next (take i from) old (getD from i 0) (omega (arith, e)));
-      long = simp length-set (s .long);
-    }
-
 -- ---- what is handed
 
 -- What a refusal's number says.
@@ -55,11 +39,6 @@ none e h = omega arith
 
 accepted : (h : HandedJob) → jobRefusal h ≡ 0 → Accepted (jobIn h)
 accepted h z = handed-iff h .0 z .1
-
-pub four-hold : {holds : Bool} (n a b c d : ℕ) → holds ≡ leb n a && (leb n b && (leb n c && leb n d)) → holds ≡ true → (n ≤ a) × (n ≤ b) × (n ≤ c) × (n ≤ d)
-four-hold n a b c d e t =
-    let u = simp tests at (true-T (leb n a && (leb n b && (leb n c && leb n d))) (sym e ∙ t)) in
-    (u .0, u .1 .0, u .1 .1 .0, u .1 .1 .1)
 
 module _ (h : HandedJob) (marks slots cs layers bytes : List ℕ) where
   abbrev j : Job
@@ -143,20 +122,12 @@ module _ (h : HandedJob) (marks slots cs layers bytes : List ℕ) where
 
 -- ---- a result laid out aside
 
--- What was laid out aside, copied into a lent slice.
-copied-over : (t aside aside' to to' : List ℕ) (n : ℕ) → aside' ≡ over t aside → length t ≡ n → to' ≡ over (take n aside') to → to' ≡ over t to
-copied-over t aside aside' to to' n e f g = g ∙ ap (λ (x : List ℕ). over x to) (ap (take n) e ∙ take-at t (drop (length t) aside) n f)
-
 module _ (h : HandedJob) (z : jobRefusal h ≡ 0) {ms ss cs ls bs : List ℕ} {made : Filled} {ms' ss' cs' ls' bs' : List ℕ} (l : Laid (jobIn h) ms ss cs ls bs made ms' ss' cs' ls' bs') where
   marks-long : length (marksOf (jobIn h) (plan (jobIn h))) ≡ chunks (jobIn h)
   marks-long = length-upTo _ (chunks (jobIn h))
 
   column : (f : Row → ℕ) → length (map f (planRows (jobIn h))) ≡ made .rows
   column f = length-map (planRows (jobIn h)) f ∙ sym (l .rows)
-
-  -- What stands aside is long enough to be copied.
-  long-aside : (t old new : List ℕ) → new ≡ over t old → length t ≤ length old → length t ≤ length new
-  long-aside t old new e f = omega (arith, ap length e ∙ over-long t old f)
 
   pub marks-aside : length ms ≡ 500 → chunks (jobIn h) ≤ length ms'
   marks-aside e = omega (arith, marks-long, long-aside (marksOf (jobIn h) (plan (jobIn h))) ms ms' (l .marks-are) (omega (arith, marks-long, accepted h z .chunks-in .high)))

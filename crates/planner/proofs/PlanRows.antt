@@ -28,7 +28,7 @@ use Rattle.schedule.specs.lemmas.Choice.{fits-weight, kept-asc}
 use Rattle.schedule.specs.Plan.{kept, picked, plan, after}
 use Rattle.schedule.specs.lemmas.Fill.{Piece, Ready, fill, needs}
 use Rattle.schedule.specs.lemmas.Kept.{picked-asc, picked-each}
-use Rattle.schedule.specs.lemmas.Linear.{level-bit}
+use Rattle.schedule.specs.lemmas.Linear.{level-bit, level-of, mark-level}
 use Rattle.schedule.specs.lemmas.Necessity.{Each}
 use Rattle.schedule.specs.lemmas.OwnFill.{own-list-is}
 use Rattle.schedule.specs.lemmas.Plan.{plan-choice, plan-fits}
@@ -48,32 +48,6 @@ use Rattle.planner.proofs.Marks.{asc-none}
 use Rattle.basics.specs.lemmas.Lent.{over-long}
 use Rattle.basics.specs.lemmas.Tables.{all-take}
 use Rattle.listing.proofs.Pieces.{left-next, onward-next, same-refl}
-
--- ---- levels and marks
-
-level-sum : (m b : ℕ) → sum (λ n. cond (ltb n m) 1 0) b ≡ min b m
-level-sum m zero = omega arith
-level-sum m (suc b) =
-    ⊎-elim
-    (λ t. let l = ltb→lt b m t in rw (lt-ltb b m l) (omega (arith, level-sum m b)))
-    (λ t. let l = nltb→le b m t in rw (le-ltb b m l) (omega (arith, level-sum m b)))
-    (test (ltb b m))
-
-sum-same : (f g : ℕ → ℕ) (n : ℕ) → ((k : ℕ) → f k ≡ g k) → sum f n ≡ sum g n
-sum-same f g zero h = refl
-sum-same f g (suc n) h = omega (arith, sum-same f g n h, h n)
-
-level-of : (m : ℕ) → m ≤ 8 → levelOf (levelMark m) ≡ m
-level-of m h = sum-same _ _ 8 (λ n. ap (λ (b : Bool). cond b 1 0) (level-bit m n)) ∙ level-sum m 8 ∙ omega arith
-
--- The mark byte of a chunk that carries c of k layers.
-mark-level : (c k : ℕ) → c ≤ k → markByte (λ n. ltb n c) k ≡ levelMark c
-mark-level c zero h = let e : c ≡ 0 = omega arith in rw e
-mark-level c (suc k) h =
-    ⊎-elim
-    (λ t. let l = ltb→lt k c t in let e : c ≡ suc k = omega arith in rw e (mark-cong (λ n. ltb n (suc k)) (λ n. true) (suc k) (λ n u. lt-ltb n (suc k) u)))
-    (λ t. let l = nltb→le k c t in rw (le-ltb k c l) (omega (arith, mark-level c k l)))
-    (test (ltb k c))
 
 -- ---- the queue of the tables
 

@@ -4,7 +4,8 @@ use native.Mathlib.Omega.{arith}
 use lib.ListN.{length-replicate}
 use borrow.Author.Needs.{needs}
 use Rattle.job.specs.Handed.{handed-iff}
-use Rattle.planner.proofs.Handing.{four-hold, marks-aside, slots-aside, chunks-aside, layers-aside, bytes-aside, tight-plan, tight-short}
+use Rattle.handing.proofs.Laws.{four-hold}
+use Rattle.planner.proofs.Handing.{marks-aside, slots-aside, chunks-aside, layers-aside, bytes-aside, tight-plan, tight-short}
 use Rattle.planner.proofs.lay_tight.Statement.{statement}
 use Rattle.planner.proofs.lay_tight.Tie as tie
 
