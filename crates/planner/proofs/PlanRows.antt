@@ -3,11 +3,11 @@ use mathlib.Core.Path.{_≡_, refl, sym, _∙_, ap, subst, fun-ext}
 use mathlib.Core.Bool.{Bool, true, false, cond}
 use mathlib.Core.List.{List, [], _∷_, _++_, map, append-nil}
 use mathlib.Core.Logic.{⊎-elim}
-use Prim.Native.Nat.{ℕ, zero, suc, _+_, _*_, _-_, _≤_, _<_, min}
+use Prim.Native.Nat.{ℕ, zero, suc, _+_, _*_, _-_, _≤_, _<_}
 use native.Mathlib.Omega.{arith}
 use lib.ListN.{length, getD, take, drop, replicate, length-drop}
-use lib.Dec.{leb, ltb, leb→le, nleb→lt, ltb→lt, nltb→le}
-use borrow.Author.Tests.{eq-eqb, ne-eqb, lt-ltb, le-ltb}
+use lib.Dec.{leb, ltb, leb→le, nleb→lt}
+use borrow.Author.Tests.{eq-eqb, ne-eqb}
 use Rattle.basics.specs.Lists.{upTo}
 use Rattle.basics.specs.lemmas.Lists.{upTo-cong}
 use Rattle.basics.specs.Sums.{pre}
@@ -39,7 +39,7 @@ use Rattle.schedule.specs.lemmas.Parts.{at, Part}
 use Rattle.settle.specs.lemmas.Decision.{DecideFrom, Decides}
 use Rattle.planner.specs.lemmas.Handing.{markIn}
 use Rattle.basics.specs.Lent.{over}
-use Rattle.listing.specs.lemmas.Listing.{lastOf, bytesAt, leftAt, onward, load, Fed, Made, Puts, levelOf, Levels, queueOf, AllFrom}
+use Rattle.listing.specs.lemmas.Listing.{lastOf, bytesAt, leftAt, onward, load, Fed, Made, Puts, Levels, queueOf, AllFrom}
 use Rattle.planner.proofs.Marks as all
 use Rattle.planner.proofs.Marks.{asc-none}
 use Rattle.basics.specs.lemmas.Tables.{all-take}

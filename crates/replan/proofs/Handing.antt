@@ -2,33 +2,31 @@
 use Prim.Native.Nat.{ℕ, suc, _-_, _≤_, _<_}
 use mathlib.Core.Path.{_≡_, refl, sym, _∙_, ap, subst}
 use mathlib.Core.Bool.{Bool, true, false, not}
-use mathlib.Core.List.{List, []}
+use mathlib.Core.List.{List}
 use native.Mathlib.Omega.{arith}
-use lib.ListN.{length, take, drop}
+use lib.ListN.{length, take}
 use lib.Seq.{length-take-le}
 use borrow.Author.Tests.{le-leb, lt-leb}
 use Rattle.basics.specs.Refusals.{_orElse_, unless}
 use Rattle.basics.specs.Tests.{All}
-use Rattle.basics.specs.lemmas.Refusals.{orElse-iff, orElse-none, orElse-some}
-use Rattle.job.specs.Handed.{HandedJob, handed-iff, jobIn, jobRefusal}
-use Rattle.job.specs.Job.{Accepted, Job, chunks}
+use Rattle.basics.specs.lemmas.Refusals.{orElse-none, orElse-some}
+use Rattle.job.specs.Handed.{HandedJob, handed-iff, jobIn}
+use Rattle.job.specs.Job.{Accepted, chunks}
 use Rattle.job.specs.Table.{sizesTable, tableAt}
 use Rattle.job.specs.Uneven.{table-is}
-use Rattle.fetch.specs.Handed.{handedRefusal}
 use Rattle.fetch.specs.Rows.{Row}
-use Rattle.fetch.specs.VerdictFrom.{verdict-from-iff}
-use Rattle.afresh.specs.Desk.{Continues, replans, standing-continues}
-use Rattle.afresh.specs.Refusal.{handedKept, joined-in, replan-refusal-iff, Replannable, replanRefusal}
+use Rattle.afresh.specs.Desk.{replans}
+use Rattle.afresh.specs.Refusal.{handedKept, joined-in, replan-refusal-iff, Replannable}
 use Rattle.rules.specs.lemmas.Tables.{Shown}
 use Rattle.gather.specs.lemmas.Gather.{Gathered, GatherFrom}
-use Rattle.relist.specs.lemmas.Handing.{Real}
 use Rattle.planner.proofs.Handing.{OnlyNumber, over-refused}
 use Rattle.planner.specs.Answer.{Lent, lentOf}
 use Rattle.planner.specs.declared.Planned.{Planned}
 use Rattle.planner.specs.lemmas.Handing.{HandsOver, shortRefusal}
 use Rattle.handing.specs.lemmas.Slices.{Result}
-use Rattle.replan.specs.Answer.{fetched, GoesOn, Handed, HandedOn, holdsOn, inputRefusal, jobOn, planOn, refusalOn, rowsOn, SettledAfresh, StandingGoesOn}
+use Rattle.replan.specs.Answer.{fetched, Handed, HandedOn, holdsOn, inputRefusal, jobOn, planOn, refusalOn, rowsOn}
 use Rattle.replan.specs.lemmas.Laying.{askedRefusal, Each, LayFrom, madeAfresh, Tight}
+use Rattle.replan.specs.Theorems.{afresh-none, settled-afresh}
 use Rattle.replan.proofs.Asked.{Asked, asked-none, input-is}
 
 pub not-true : (b : Bool) → not b ≡ true → b ≡ false
@@ -38,31 +36,6 @@ not-true false e = refl
 pub not-false : (b : Bool) → not b ≡ false → b ≡ true
 not-false true e = refl
 not-false false e = sym e
-
--- ---- what holds of the plan made afresh
-
--- The refusals of planning afresh are among those from the input.
-afresh-none : (h : HandedJob) (o : HandedOn) → inputRefusal h o ≡ 0 → (jobRefusal h ≡ 0) × (replanRefusal (jobIn h) (o .from) (fetched o) (o .onward) ≡ 0)
-afresh-none h o z =
-    let whole = handedRefusal 0 [] (o .slots) (o .chunks) (o .layers) (o .bytes) in
-    let afresh = replanRefusal (jobIn h) (o .from) (fetched o) (o .onward) in
-    let a = orElse-iff (jobRefusal h) (whole orElse afresh) .0 z in
-    (a .0, orElse-iff whole afresh .0 (a .1) .1)
-
-pub settled-afresh : (h : HandedJob) (o : HandedOn) → SettledAfresh h o
-settled-afresh h o z =
-    let n = afresh-none h o z in
-    let r = replans (jobIn h) (handed-iff h .0 (n .0) .1) (o .from) (fetched o) (o .onward) (n .1) in
-    record { replans = r; passes = verdict-from-iff (jobOn h o) (o .from) _ _ .1 (r .carries .keeps) }
-
-pub standing-goes-on : (h : HandedJob) (o : HandedOn) → StandingGoesOn h o
-standing-goes-on h o z q is lo hi same unchanged =
-    let j = jobIn h in
-    let a : Accepted j = handed-iff h .0 z .1 in
-    let on : Continues j q (o .from) (fetched o) (o .onward) =
-    subst (Continues j q (o .from) (fetched o)) (sym unchanged) (standing-continues j a q is (o .from) lo hi (fetched o) same) in
-    let d = replans j a (o .from) (fetched o) (o .onward) (on .accepted) .settled in
-    record { accepted = on .accepted; same = on .same (planOn h o) d; rest = on .rest (planOn h o) d }
 
 -- ---- what is handed over, by the refusal
 

@@ -1,5 +1,5 @@
 -- Lemmas. What the functions of lib.rt hand each other: marks of the kept chunks, and a plan laid out where there is room.
-use Prim.Native.Nat.{ℕ, _+_, _≤_}
+use Prim.Native.Nat.{ℕ, _≤_}
 use mathlib.Core.Path.{_≡_}
 use mathlib.Core.Bool.{cond}
 use mathlib.Core.List.{List, [], _∷_, map}

@@ -1,13 +1,12 @@
 -- Refusal 7 of the handed forecast: its bytes, then the number of its slots.
-use mathlib.Core.Path.{_≡_, ap, ap₂, _∙_}
-use Prim.Native.Nat.{ℕ, suc, _+_, _-_}
+use mathlib.Core.Path.{ap, ap₂, _∙_}
+use Prim.Native.Nat.{ℕ, _-_}
 use native.Mathlib.Omega.{arith}
 use lib.ListN.{length}
 use lib.Dec.{eqb}
 use borrow.Author.Needs.{needs}
 use denote.Ref.{now}
 use Rattle.basics.specs.Refusals.{_orElse_, unless}
-use Rattle.job.specs.Job.{lastDue}
 use Rattle.replan.proofs.part_refusal.Statement.{statement}
 use Rattle.replan.proofs.part_refusal.Tie as tie
 

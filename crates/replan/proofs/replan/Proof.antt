@@ -5,7 +5,8 @@ use denote.Ref.{now}
 use Rattle.job.specs.Handed.{handed}
 use Rattle.planner.proofs.Handing.{none}
 use Rattle.replan.specs.Answer.{handedOn}
-use Rattle.replan.proofs.Handing.{earlier-long, gather-from, handed-laid, lay-from, none-left, not-false, not-kept, not-true, refused-asked, settled-afresh, short-marks, some-slot, standing-goes-on}
+use Rattle.replan.specs.Theorems.{settled-afresh, standing-goes-on}
+use Rattle.replan.proofs.Handing.{earlier-long, gather-from, handed-laid, lay-from, none-left, not-false, not-kept, not-true, refused-asked, short-marks, some-slot}
 use borrow.Author.Needs.{needs}
 use Rattle.replan.proofs.replan.Statement.{statement}
 use Rattle.replan.proofs.replan.Tie as tie
