@@ -3,18 +3,13 @@
 use job::Programme;
 use planner::Planned;
 ghost use mathlib.Core.Path.{_≡_};
-ghost use mathlib.Core.List.{[], _∷_};
-ghost use Prim.Native.Nat.{ℕ, suc, _+_, _-_, _≤_};
-ghost use lib.ListN.{length};
-ghost use lib.Dec.{eqb, ltb};
-ghost use Rattle.basics.specs.Refusals.{_orElse_, unless};
+ghost use Prim.Native.Nat.{_≤_};
+ghost use lib.Dec.{ltb};
+ghost use Rattle.basics.specs.Refusals.{unless};
 ghost use Rattle.basics.specs.Tests.{all};
-ghost use Rattle.job.specs.Handed.{handed, jobRefusal};
+ghost use Rattle.job.specs.Handed.{handed};
 ghost use Rattle.job.specs.Job.{lastDue};
-ghost use Rattle.job.specs.Refusal.{bytesRefusal};
 ghost use Rattle.job.specs.Table.{tableAt};
-ghost use Rattle.fetch.specs.Handed.{handedRefusal};
-ghost use Rattle.fetch.specs.VerdictFrom.{slotRefusal};
 ghost use Rattle.relist.specs.lemmas.Handing.{LaidFrom};
 ghost use Rattle.replan.specs.Answer.{handedOn, Handed, SettledAfresh, StandingGoesOn};
 ghost use Rattle.replan.specs.lemmas.Laying.{Each, Filling, LayFrom, Tight, partRefusal, askedRefusal};
@@ -45,7 +40,10 @@ fn part_refusal(p: Programme, from: u16, onward: &[u32]) -> u8
     ensures { λ r. ⌜ r ≡ partRefusal p from (now (onward .entry)) ⌝ }
 {
     let many = job::last_due(p) + 1 - (from as usize);
-    job::or_else(job::bytes_refusal(onward), job::refuse_unless(7, onward.len() == many))
+    job::or_else(
+        job::bytes_refusal(onward),
+        job::refuse_unless(7, onward.len() == many),
+    )
 }
 
 // 5, 6, 18, 7, 8, 21, and 7 of the handed forecast.
@@ -69,7 +67,14 @@ fn asked_refusal(
     if job != 0 {
         return job;
     }
-    let list = fetch::handed_refusal(0, &[], fetched_slots, fetched_chunks, fetched_layers, fetched_bytes);
+    let list = fetch::handed_refusal(
+        0,
+        &[],
+        fetched_slots,
+        fetched_chunks,
+        fetched_layers,
+        fetched_bytes,
+    );
     if list != 0 {
         return list;
     }
