@@ -67,7 +67,6 @@ fn ask_first(c: Case, chunks: &[u16; 4], layers: &[u8; 4], bytes: &[u32; 4], n: 
     )
 }
 
-// Lends room for 12 rows; no plan here has more. What is lent holds 9s.
 fn replan_first(
     c: Case,
     sizes: &[u32],
@@ -88,19 +87,47 @@ fn replan_first(
         &mut layers,
         &mut bytes,
     );
+    replan_handed(
+        c,
+        sizes,
+        size_chunks,
+        size_layers,
+        size_bytes,
+        &slots,
+        &chunks,
+        &layers,
+        &bytes,
+        n,
+    )
+}
+
+// The first n rows are handed.
+fn replan_handed(
+    c: Case,
+    sizes: &[u32],
+    size_chunks: &[u16],
+    size_layers: &[u8],
+    size_bytes: &[u32],
+    slots: &[u16; 18],
+    chunks: &[u16; 18],
+    layers: &[u8; 18],
+    bytes: &[u32; 18],
+    n: usize,
+) -> Got {
     replan_rows(
         c,
         sizes,
         size_chunks,
         size_layers,
         size_bytes,
-        parts::halves(&slots, n),
-        parts::halves(&chunks, n),
-        parts::bytes(&layers, n),
-        parts::words(&bytes, n),
+        parts::halves(slots, n),
+        parts::halves(chunks, n),
+        parts::bytes(layers, n),
+        parts::words(bytes, n),
     )
 }
 
+// Lends room for 18 rows. What is lent holds 9s. The handed rows are then put behind the new ones, for the checker.
 fn replan_rows(
     c: Case,
     sizes: &[u32],
@@ -164,11 +191,12 @@ fn replan_rows(
         size_chunks,
         size_layers,
         size_bytes,
-        parts::bytes(&marks, f.chunks as usize),
-        parts::halves(&slots, n),
-        parts::halves(&chunks, n),
-        parts::bytes(&layers, n),
-        parts::words(&bytes, n),
+        &marks,
+        &slots,
+        &chunks,
+        &layers,
+        &bytes,
+        n,
     );
     Got {
         rows,
@@ -194,18 +222,19 @@ fn rows_of(answer: Answer) -> usize {
     }
 }
 
-// Whether the second checker call's verdict on the whole list is 0.
+// Whether the second checker call's verdict on the first n rows is 0.
 fn pass(
     c: Case,
     sizes: &[u32],
     size_chunks: &[u16],
     size_layers: &[u8],
     size_bytes: &[u32],
-    marks: &[u8],
-    slots: &[u16],
-    chunks: &[u16],
-    layers: &[u8],
-    bytes: &[u32],
+    marks: &[u8; 3],
+    slots: &[u16; 18],
+    chunks: &[u16; 18],
+    layers: &[u8; 18],
+    bytes: &[u32; 18],
+    n: usize,
 ) -> bool {
     let f = c.film;
     let forecast = link::joined(c.p, c.w);
@@ -217,11 +246,11 @@ fn pass(
         size_bytes,
         parts::words(&forecast, film::last_due(f) as usize),
         c.p,
-        marks,
-        slots,
-        chunks,
-        layers,
-        bytes,
+        parts::bytes(marks, f.chunks as usize),
+        parts::halves(slots, n),
+        parts::halves(chunks, n),
+        parts::bytes(layers, n),
+        parts::words(bytes, n),
     );
     match verdict {
         Checked::Verdict(v) => v == 0,

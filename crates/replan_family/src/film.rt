@@ -52,9 +52,12 @@ pub(crate) fn programme(f: Film) -> Programme {
     }
 }
 
-// The paper's d(i + 1).
+// The paper's d(i + 1); L is 1 or 2. The remainders tell the prover that the sums are small.
 pub(crate) fn due(f: Film, i: u16) -> u16 {
-    i % 8 * (f.span % 8) + f.delay % 8
+    if f.span == 1 {
+        return i % 4 + f.delay % 4;
+    }
+    2 * (i % 4) + f.delay % 4
 }
 
 // The paper's d(C).
@@ -70,7 +73,10 @@ pub(crate) fn last_due(f: Film) -> u16 {
 pub(crate) fn size(f: Film, part: u16) -> u32
     ensures { λ r. ⌜ r ≤ 15 ⌝ }
 {
-    if part / 2 < f.chunks && part < PARTS {
+    if f.chunks <= part / 2 {
+        return 0;
+    }
+    if part < PARTS {
         return (f.sizes >> (4 * part)) % 16;
     }
     0
@@ -83,9 +89,17 @@ pub(crate) fn layers(f: Film) -> usize {
     1
 }
 
+// H, the whole part of limit / L.
+pub(crate) fn held_most(f: Film) -> u16 {
+    if f.span == 1 {
+        return f.limit;
+    }
+    f.limit / 2
+}
+
 // "Where H is at least C and base sizes vary" request 9 settles the bases of the plan.
 pub(crate) fn walked(f: Film) -> bool {
-    f.span % 4 * (f.chunks % 4) <= f.limit && (differs(f, 2) || differs(f, 4))
+    f.chunks <= held_most(f) && (differs(f, 2) || differs(f, 4))
 }
 
 // Whether a later part has another size than chunk 0's: it has an SZ.

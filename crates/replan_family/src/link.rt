@@ -29,7 +29,7 @@ pub(crate) fn own(p: u16) -> [u32; 4] {
 }
 
 // How many forecasts of so many slots there are.
-pub(crate) fn forecasts(slots: u16) -> u16
+pub(crate) fn forecasts(slots: usize) -> u16
     ensures { λ r. ⌜ 1 ≤ r ⌝ }
 {
     match slots {
@@ -42,11 +42,16 @@ pub(crate) fn forecasts(slots: u16) -> u16
 }
 
 // How many forecasts of the slots before p there are.
-pub(crate) fn earlier(p: u16) -> u16
+fn earlier(p: u16) -> u16
     ensures { λ r. ⌜ 1 ≤ r ⌝ }
 {
     if p == 0 {
         return 1;
     }
-    forecasts(p - 1)
+    forecasts((p - 1) as usize)
+}
+
+// A forecast's slots from p on.
+pub(crate) fn rest(w: u16, p: u16) -> [u32; 4] {
+    onward(w / earlier(p))
 }

@@ -67,14 +67,16 @@ fn own_marks(f: Film, marks: u32) -> u32 {
     marks % 4096
 }
 
-fn note_plan(c: Case, got: Got, tally: &mut [u64]) {
+fn note_kind(c: Case, marks: u32, tally: &mut [u64]) {
     let f = c.film;
-    let marks = own_marks(f, got.marks);
-    tally::add(tally, tally::PLANS, 1);
-    tally::add_if(tally, tally::NONE_HELD, f.limit < f.span);
+    tally::add_if(tally, tally::NONE_HELD, film::held_most(f) == 0);
     tally::add_if(tally, tally::DUE_BEFORE, film::due(f, 0) < c.p);
     tally::add_if(tally, tally::GIVEN_UP, gives_up_some(f, c.list, marks));
     tally::add_if(tally, tally::ENDED, ends_some(f, c.list, marks));
+}
+
+fn note_plan(got: Got, marks: u32, tally: &mut [u64]) {
+    tally::add(tally, tally::PLANS, 1);
     tally::add(tally, tally::BASES, bits(marks & 0x111));
     tally::add(tally, tally::UPPERS, bits(marks & 0x222));
     tally::add(tally, tally::ROWS, (got.rows % 100) as u32);
@@ -94,13 +96,16 @@ fn trial(c: Case, tally: &mut [u64]) -> bool {
         tally::add(tally, tally::REFUSED, 1);
         return false;
     }
-    note_plan(c, got, tally);
+    let marks = own_marks(c.film, got.marks);
+    note_kind(c, marks, tally);
+    note_plan(got, marks, tally);
     true
 }
 
 fn every_forecast(f: Film, p: u16, list: u32, tally: &mut [u64]) {
+    let forecasts = link::forecasts(asked::slots_on(f, p));
     let mut w: u16 = 0;
-    while w < link::forecasts(asked::slots_on(f, p) as u16) {
+    while w < forecasts {
         let c = Case {
             film: f,
             p,
@@ -115,26 +120,32 @@ fn every_forecast(f: Film, p: u16, list: u32, tally: &mut [u64]) {
     }
 }
 
+fn one_list(f: Film, p: u16, list: u32, tally: &mut [u64]) {
+    if lists::is_list(f, list) {
+        tally::add(tally, tally::LISTS, 1);
+        every_forecast(f, p, list, tally);
+    }
+}
+
 fn every_list(f: Film, p: u16, tally: &mut [u64]) {
+    let bound = lists::bound(p);
     let mut list: u32 = 0;
-    while list < lists::bound(p) {
-        if lists::is_list(f, list) {
-            tally::add(tally, tally::LISTS, 1);
-            every_forecast(f, p, list, tally);
-        }
+    while list < bound {
+        one_list(f, p, list, tally);
         list = list + 1;
     }
 }
 
 fn every_slot(f: Film, tally: &mut [u64]) {
-    if 4 < film::last_due(f) {
+    let last = film::last_due(f);
+    if 4 < last {
         return;
     }
     tally::add(tally, tally::FILMS, 1);
-    let mut p: u16 = 1;
-    while p <= film::last_due(f) {
-        every_list(f, p, tally);
+    let mut p: u16 = 0;
+    while p < last {
         p = p + 1;
+        every_list(f, p, tally);
     }
     standing::every_forecast(f, tally);
 }
@@ -168,7 +179,11 @@ fn say_plans(tally: &[u64]) {
     say(b" layers above ", tally, tally::UPPERS);
     say(b" rows from p on ", tally, tally::ROWS);
     say(b"\nlists that pass the second call ", tally, tally::PASSED);
-    say(b"\nthe same with the rows in another order ", tally, tally::TURNED);
+    say(
+        b"\nthe same with the rows in another order ",
+        tally,
+        tally::TURNED,
+    );
     say(b"\nchecksum over all answers ", tally, tally::SUM);
     say(b"\nstanding plans, at each p ", tally, tally::STANDING);
     say(b" that go on as they were ", tally, tally::GOES_ON);

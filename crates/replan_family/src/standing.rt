@@ -31,25 +31,42 @@ fn before(p: u16, slots: &[u16; 18]) -> usize
     18
 }
 
-// 9s in all rows from a place on.
-fn wipe(
+// Whether the new rows are those from a place on, and 9s stand after both.
+fn is_rest(
     from: usize,
-    slots: &mut [u16; 18],
-    chunks: &mut [u16; 18],
-    layers: &mut [u8; 18],
-    bytes: &mut [u32; 18],
-) {
-    let mut k = from;
-    while k < 18 {
-        slots[k] = 9;
-        chunks[k] = 9;
-        layers[k] = 9;
-        bytes[k] = 9;
+    slots: &[u16; 18],
+    chunks: &[u16; 18],
+    layers: &[u8; 18],
+    bytes: &[u32; 18],
+    new_slots: &[u16; 18],
+    new_chunks: &[u16; 18],
+    new_layers: &[u8; 18],
+    new_bytes: &[u32; 18],
+) -> bool {
+    let mut k: usize = 0;
+    let mut at = from;
+    while at < 18 {
+        if 18 <= k {
+            return false;
+        }
+        if slots[at] != new_slots[k] {
+            return false;
+        }
+        if chunks[at] != new_chunks[k] {
+            return false;
+        }
+        if layers[at] != new_layers[k] {
+            return false;
+        }
+        if bytes[at] != new_bytes[k] {
+            return false;
+        }
         k = k + 1;
+        at = at + 1;
     }
+    true
 }
 
-// The new rows are laid behind the handed ones, which gives the plan again.
 fn goes_on(
     f: Film,
     p: u16,
@@ -58,28 +75,20 @@ fn goes_on(
     size_chunks: &[u16],
     size_layers: &[u8],
     size_bytes: &[u32],
-    own_marks: [u8; 3],
-    slots: [u16; 18],
-    chunks: [u16; 18],
-    layers: [u8; 18],
-    bytes: [u32; 18],
-    rows: usize,
+    own_marks: &[u8; 3],
+    slots: &[u16; 18],
+    chunks: &[u16; 18],
+    layers: &[u8; 18],
+    bytes: &[u32; 18],
 ) -> bool {
-    let m = before(p, &slots);
+    let m = before(p, slots);
     let forecast = link::onward(w);
-    let onward = link::onward(w / link::earlier(p));
+    let onward = link::rest(w, p);
     let mut marks = [9u8; 3];
-    let mut all_slots = slots;
-    let mut all_chunks = chunks;
-    let mut all_layers = layers;
-    let mut all_bytes = bytes;
-    wipe(
-        m,
-        &mut all_slots,
-        &mut all_chunks,
-        &mut all_layers,
-        &mut all_bytes,
-    );
+    let mut new_slots = [9u16; 18];
+    let mut new_chunks = [9u16; 18];
+    let mut new_layers = [9u8; 18];
+    let mut new_bytes = [9u32; 18];
     let plan = replan::replan(
         film::programme(f),
         sizes,
@@ -88,22 +97,31 @@ fn goes_on(
         size_bytes,
         parts::words(&forecast, film::last_due(f) as usize),
         p,
-        parts::halves(&slots, m),
-        parts::halves(&chunks, m),
-        parts::bytes(&layers, m),
-        parts::words(&bytes, m),
+        parts::halves(slots, m),
+        parts::halves(chunks, m),
+        parts::bytes(layers, m),
+        parts::words(bytes, m),
         parts::words(&onward, asked::slots_on(f, p)),
         &mut marks,
-        &mut all_slots[m..],
-        &mut all_chunks[m..],
-        &mut all_layers[m..],
-        &mut all_bytes[m..],
+        &mut new_slots,
+        &mut new_chunks,
+        &mut new_layers,
+        &mut new_bytes,
     );
     let answer = plan.answer;
-    let sum = sums::of_rows(0, &slots, &chunks, &layers, &bytes);
-    rows_of(answer) % 100 + m == rows
-        && sums::word_of(marks) == sums::word_of(own_marks)
-        && sums::of_rows(0, &all_slots, &all_chunks, &all_layers, &all_bytes) == sum
+    rows_of(answer) < 99
+        && sums::same_marks(&marks, own_marks)
+        && is_rest(
+            m,
+            slots,
+            chunks,
+            layers,
+            bytes,
+            &new_slots,
+            &new_chunks,
+            &new_layers,
+            &new_bytes,
+        )
 }
 
 fn every_slot(
@@ -113,37 +131,33 @@ fn every_slot(
     size_chunks: &[u16],
     size_layers: &[u8],
     size_bytes: &[u32],
-    marks: [u8; 3],
-    slots: [u16; 18],
-    chunks: [u16; 18],
-    layers: [u8; 18],
-    bytes: [u32; 18],
-    rows: usize,
+    marks: &[u8; 3],
+    slots: &[u16; 18],
+    chunks: &[u16; 18],
+    layers: &[u8; 18],
+    bytes: &[u32; 18],
     tally: &mut [u64],
 ) {
-    let mut p: u16 = 1;
-    while p <= film::last_due(f) {
-        tally::add(tally, tally::STANDING, 1);
-        tally::add_if(
-            tally,
-            tally::GOES_ON,
-            goes_on(
-                f,
-                p,
-                w,
-                sizes,
-                size_chunks,
-                size_layers,
-                size_bytes,
-                marks,
-                slots,
-                chunks,
-                layers,
-                bytes,
-                rows,
-            ),
-        );
+    let last = film::last_due(f);
+    let mut p: u16 = 0;
+    while p < last {
         p = p + 1;
+        let same = goes_on(
+            f,
+            p,
+            w,
+            sizes,
+            size_chunks,
+            size_layers,
+            size_bytes,
+            marks,
+            slots,
+            chunks,
+            layers,
+            bytes,
+        );
+        tally::add(tally, tally::STANDING, 1);
+        tally::add_if(tally, tally::GOES_ON, same);
     }
 }
 
@@ -176,6 +190,9 @@ fn plan(
         &mut bytes,
     );
     let answer = plan.answer;
+    if 18 < rows_of(answer) {
+        return;
+    }
     every_slot(
         f,
         w,
@@ -183,12 +200,32 @@ fn plan(
         size_chunks,
         size_layers,
         size_bytes,
-        marks,
-        slots,
-        chunks,
-        layers,
-        bytes,
-        rows_of(answer),
+        &marks,
+        &slots,
+        &chunks,
+        &layers,
+        &bytes,
+        tally,
+    );
+}
+
+fn plan_sized(
+    f: Film,
+    w: u16,
+    chunks: &[u16; 4],
+    layers: &[u8; 4],
+    bytes: &[u32; 4],
+    n: usize,
+    tally: &mut [u64],
+) {
+    let sizes = [film::size(f, 0), film::size(f, 1)];
+    plan(
+        f,
+        w,
+        parts::words(&sizes, film::layers(f)),
+        parts::halves(chunks, n),
+        parts::bytes(layers, n),
+        parts::words(bytes, n),
         tally,
     );
 }
@@ -198,24 +235,16 @@ fn plan_first(f: Film, w: u16, tally: &mut [u64]) {
     let mut layers = [0u8; 4];
     let mut bytes = [0u32; 4];
     let n = asked::uneven_sizes(f, &mut chunks, &mut layers, &mut bytes);
-    let sizes = [film::size(f, 0), film::size(f, 1)];
-    plan(
-        f,
-        w,
-        parts::words(&sizes, film::layers(f)),
-        parts::halves(&chunks, n),
-        parts::bytes(&layers, n),
-        parts::words(&bytes, n),
-        tally,
-    );
+    plan_sized(f, w, &chunks, &layers, &bytes, n, tally);
 }
 
 pub(crate) fn every_forecast(f: Film, tally: &mut [u64]) {
     if film::walked(f) {
         return;
     }
+    let forecasts = link::forecasts(film::last_due(f) as usize);
     let mut w: u16 = 0;
-    while w < link::forecasts(film::last_due(f)) {
+    while w < forecasts {
         plan_first(f, w, tally);
         w = w + 1;
     }

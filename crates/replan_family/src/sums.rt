@@ -41,9 +41,15 @@ pub(crate) fn of_case(c: Case) -> u64 {
 
 pub(crate) fn of_marks(sum: u64, answer: Answer, counts: [u16; 4], marks: &[u8; 3]) -> u64 {
     let a = with(sum, number(answer));
-    let b = with(with(with(a, wide(marks[0])), wide(marks[1])), wide(marks[2]));
+    let b = with(
+        with(with(a, wide(marks[0])), wide(marks[1])),
+        wide(marks[2]),
+    );
     with(
-        with(with(with(b, half(counts[0])), half(counts[1])), half(counts[2])),
+        with(
+            with(with(b, half(counts[0])), half(counts[1])),
+            half(counts[2]),
+        ),
         half(counts[3]),
     )
 }
@@ -69,4 +75,8 @@ pub(crate) fn of_rows(
 // Four bits a chunk.
 pub(crate) fn word_of(marks: [u8; 3]) -> u32 {
     wide(marks[0]) % 16 + 16 * (wide(marks[1]) % 16) + 256 * (wide(marks[2]) % 16)
+}
+
+pub(crate) fn same_marks(a: &[u8; 3], b: &[u8; 3]) -> bool {
+    a[0] == b[0] && a[1] == b[1] && a[2] == b[2]
 }

@@ -15,15 +15,6 @@ fn film() -> Programme {
     }
 }
 
-fn forecast() -> [u32; 11] {
-    [1, 0, 4, 0, 0, 3, 0, 3, 6, 6, 4]
-}
-
-// What another link carries.
-fn another() -> [u32; 11] {
-    [3, 2, 3, 0, 0, 0, 0, 0, 5, 5, 4]
-}
-
 fn rows_in(answer: Answer) -> usize {
     match answer {
         Answer::Rows(n) => n,
@@ -69,20 +60,20 @@ fn rest(n: usize, m: usize) -> usize {
     n - m + 2
 }
 
-fn at(text: &[u8], p: u16, link: [u32; 11]) {
+// The plan on a forecast, made afresh at p on another.
+fn at(text: &[u8], p: u16, forecast: &[u32; 11], link: &[u32; 11]) {
     let mut marks = [9u8; 5];
     let mut slots = [9u16; 40];
     let mut chunks = [9u16; 40];
     let mut layers = [9u8; 40];
     let mut bytes = [9u32; 40];
-    let own = forecast();
     let plan = planner::plan(
         film(),
         &[3, 2, 1, 2],
         &[2, 3, 4, 4],
         &[0, 1, 0, 3],
         &[4, 1, 2, 1],
-        &own,
+        forecast,
         &mut marks,
         &mut slots,
         &mut chunks,
@@ -99,31 +90,34 @@ fn at(text: &[u8], p: u16, link: [u32; 11]) {
         &[2, 3, 4, 4],
         &[0, 1, 0, 3],
         &[4, 1, 2, 1],
-        &own,
+        forecast,
         p,
         parts::halves(&slots, m),
         parts::halves(&chunks, m),
         parts::bytes(&layers, m),
         parts::words(&bytes, m),
-        from_slot(&link, p as usize),
+        from_slot(link, p as usize),
         rows_of(5, rest(n, m)),
     );
 }
 
 pub(crate) fn standing() {
-    at(b"film at 1", 1, forecast());
-    at(b"at 2", 2, forecast());
-    at(b"at 4", 4, forecast());
-    at(b"at 7", 7, forecast());
-    at(b"at 9", 9, forecast());
-    at(b"at 11", 11, forecast());
+    let own = [1u32, 0, 4, 0, 0, 3, 0, 3, 6, 6, 4];
+    at(b"film at 1", 1, &own, &own);
+    at(b"at 2", 2, &own, &own);
+    at(b"at 4", 4, &own, &own);
+    at(b"at 7", 7, &own, &own);
+    at(b"at 9", 9, &own, &own);
+    at(b"at 11", 11, &own, &own);
 }
 
 pub(crate) fn changed() {
-    at(b"another link at 1", 1, another());
-    at(b"at 2", 2, another());
-    at(b"at 4", 4, another());
-    at(b"at 7", 7, another());
-    at(b"at 9", 9, another());
-    at(b"at 11", 11, another());
+    let own = [1u32, 0, 4, 0, 0, 3, 0, 3, 6, 6, 4];
+    let other = [3u32, 2, 3, 0, 0, 0, 0, 0, 5, 5, 4];
+    at(b"another link at 1", 1, &own, &other);
+    at(b"at 2", 2, &own, &other);
+    at(b"at 4", 4, &own, &other);
+    at(b"at 7", 7, &own, &other);
+    at(b"at 9", 9, &own, &other);
+    at(b"at 11", 11, &own, &other);
 }

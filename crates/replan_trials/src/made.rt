@@ -167,7 +167,12 @@ pub(crate) fn link_changes() {
 pub(crate) fn less_fetched() {
     second(b"A at 2, one row fetched", 2, 1, &[0, 1, 0, 2, 0]);
     second(b"A at 2, none fetched", 2, 0, &[0, 1, 0, 2, 0]);
-    second(b"A at 2, none fetched, 3 bytes in slot 2", 2, 0, &[3, 1, 0, 2, 0]);
+    second(
+        b"A at 2, none fetched, 3 bytes in slot 2",
+        2,
+        0,
+        &[3, 1, 0, 2, 0],
+    );
 }
 
 // Job A at a later slot, its plan's rows fetched.

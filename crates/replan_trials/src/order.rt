@@ -93,15 +93,7 @@ fn early(text: &[u8], chunks: u16, layers: usize, uneven: usize, slots: usize) {
 }
 
 // The whole job A.
-fn late(
-    text: &[u8],
-    from: u16,
-    slot: u16,
-    layer: usize,
-    bytes: usize,
-    onward: usize,
-    last: u32,
-) {
+fn late(text: &[u8], from: u16, slot: u16, layer: usize, bytes: usize, onward: usize, last: u32) {
     let part = Part {
         chunks: 3,
         layers: 2,

@@ -114,17 +114,82 @@ fn two(
 }
 
 pub(crate) fn pairs() {
-    two(b"layer 1 whole over a short base", 2, 1, 3, 1, 2, 0, 1, 1, 2, 1, 1);
-    two(b"layer 1 short over a short base", 2, 2, 3, 1, 2, 0, 1, 1, 2, 1, 1);
-    two(b"a sum of two rows above its size", 2, 1, 3, 1, 2, 0, 2, 1, 2, 0, 1);
+    two(
+        b"layer 1 whole over a short base",
+        2,
+        1,
+        3,
+        1,
+        2,
+        0,
+        1,
+        1,
+        2,
+        1,
+        1,
+    );
+    two(
+        b"layer 1 short over a short base",
+        2,
+        2,
+        3,
+        1,
+        2,
+        0,
+        1,
+        1,
+        2,
+        1,
+        1,
+    );
+    two(
+        b"a sum of two rows above its size",
+        2,
+        1,
+        3,
+        1,
+        2,
+        0,
+        2,
+        1,
+        2,
+        0,
+        1,
+    );
     two(b"equal rows, each counts", 2, 1, 3, 1, 2, 0, 1, 1, 2, 0, 1);
     two(b"two chunks held", 2, 1, 3, 1, 2, 0, 1, 1, 3, 0, 1);
 }
 
 pub(crate) fn turns() {
     two(b"two chunks held, limit 4", 4, 1, 3, 1, 2, 0, 1, 1, 3, 0, 1);
-    two(b"the same in the other order", 4, 1, 3, 1, 3, 0, 1, 1, 2, 0, 1);
-    two(b"begun before one that plays before it", 4, 1, 4, 1, 3, 0, 2, 3, 2, 0, 1);
+    two(
+        b"the same in the other order",
+        4,
+        1,
+        3,
+        1,
+        3,
+        0,
+        1,
+        1,
+        2,
+        0,
+        1,
+    );
+    two(
+        b"begun before one that plays before it",
+        4,
+        1,
+        4,
+        1,
+        3,
+        0,
+        2,
+        3,
+        2,
+        0,
+        1,
+    );
     two(b"begun after it", 4, 1, 4, 1, 2, 0, 2, 3, 3, 0, 1);
 }
 

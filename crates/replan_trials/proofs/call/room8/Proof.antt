@@ -1,18 +1,17 @@
+-- `replan_trials::call::room8` is safe. Assumes nothing.
 use borrow.Author.Needs.{needs}
+use native.Mathlib.Omega.{arith}
+use mathlib.Core.Path.{sym}
+use lib.Seq.{length-take-le}
 use Rattle.replan_trials.proofs.call.room8.Statement.{statement}
 use Rattle.replan_trials.proofs.call.room8.Tie as tie
-use Rattle.replan_trials.proofs.call.room8.Reads as reads
-use Rattle.replan_trials.proofs.call.room8.Lts as lts
 
--- src/call.rt:32:9
 returns : tie.Need-returns
 returns c = search needs
 
--- src/call.rt:34:5
 slice-aggregate-result : tie.Need-slice-aggregate-result
-slice-aggregate-result c = ?
+slice-aggregate-result c = sym (length-take-le (c .before .before .args .n) (c .before .before .args .s .now) (omega arith))
 
--- src/call.rt:30:1
 returns-2 : tie.Need-returns-2
 returns-2 c = search needs
 

@@ -1,49 +1,41 @@
+-- `replan_trials::film::before` is safe and ends. Assumes nothing.
+use borrow.Author.Needs.{needs}
+use Prim.Native.Nat.{_≤_, _-_}
 use Rattle.replan_trials.proofs.film.before.Statement.{statement}
 use Rattle.replan_trials.proofs.film.before.Tie as tie
-use Rattle.replan_trials.proofs.film.before.Reads as reads
-use Rattle.replan_trials.proofs.film.before.Lts as lts
 
 abbrev Inv-loop : tie.InvT-loop
-Inv-loop p slots n k₀ k = ?
+Inv-loop p slots n k₀ k = k ≤ 40
 
 abbrev μ-loop : tie.MeasureT-loop
-μ-loop p slots n k₀ k = ?
+μ-loop p slots n k₀ k = 40 - k
 
--- src/film.rt:37:5
 loop-holds : tie.Need-loop-holds Inv-loop μ-loop
-loop-holds c = ?
+loop-holds c = search needs
 
--- src/film.rt:39:13
 returns : tie.Need-returns Inv-loop μ-loop
-returns c = ?
+returns c = search needs
 
--- src/film.rt:41:17
 mul-if2 : tie.Need-mul-if2 Inv-loop μ-loop
-mul-if2 c = ?
+mul-if2 c = search needs
 
--- src/film.rt:41:17
 element-copy-out-if2 : tie.Need-element-copy-out-if2 Inv-loop μ-loop
-element-copy-out-if2 c = ?
+element-copy-out-if2 c = search needs
 
--- src/film.rt:42:13
 returns-2 : tie.Need-returns-2 Inv-loop μ-loop
-returns-2 c = ?
+returns-2 c = search needs
 
--- src/film.rt:44:13
 add-k : tie.Need-add-k Inv-loop μ-loop
-add-k c = ?
+add-k c = search needs
 
--- src/film.rt:37:5
 loop-less : tie.Need-loop-less Inv-loop μ-loop
-loop-less c = ?
+loop-less c = search needs
 
--- src/film.rt:37:5
 loop-again : tie.Need-loop-again Inv-loop μ-loop
-loop-again c = ?
+loop-again c = search needs
 
--- src/film.rt:35:1
 returns-3 : tie.Need-returns-3 Inv-loop μ-loop
-returns-3 c = ?
+returns-3 c = search needs
 
 pub before-spec : {M : Type 1} → statement M
 before-spec =

@@ -1,56 +1,45 @@
+-- `replan_trials::print::halves` is safe and ends. Assumes nothing.
+use borrow.Author.Needs.{needs}
+use Prim.Native.Nat.{_≤_, _-_}
+use lib.ListN.{length}
 use Rattle.replan_trials.proofs.print.halves.Statement.{statement}
 use Rattle.replan_trials.proofs.print.halves.Tie as tie
-use Rattle.replan_trials.proofs.print.halves.Reads as reads
-use Rattle.replan_trials.proofs.print.halves.Lts as lts
-use Rattle.replan_trials.proofs.print.half.Reads as half-reads
-use Rattle.replan_trials.proofs.print.next.Reads as next-reads
-use Rattle.replan_trials.proofs.print.word.Reads as word-reads
 
 abbrev Inv-loop : tie.InvT-loop
-Inv-loop text column k₀ k = ?
+Inv-loop text column k₀ k = k ≤ length column
 
 abbrev μ-loop : tie.MeasureT-loop
-μ-loop text column k₀ k = ?
+μ-loop text column k₀ k = length column - k
 
--- src/print.rt:44:5
 word-requires : tie.Need-word-requires Inv-loop μ-loop
-word-requires c κs = ?
+word-requires c κs = search needs
 
--- src/print.rt:46:5
 loop-holds : tie.Need-loop-holds Inv-loop μ-loop
-loop-holds c = ?
+loop-holds c = search needs
 
--- src/print.rt:47:19
 mul-half : tie.Need-mul-half Inv-loop μ-loop
-mul-half c = ?
+mul-half c = search needs
 
--- src/print.rt:47:19
 shared-slice-read-half : tie.Need-shared-slice-read-half Inv-loop μ-loop
-shared-slice-read-half c = ?
+shared-slice-read-half c = search needs
 
--- src/print.rt:47:14
 half-requires : tie.Need-half-requires Inv-loop μ-loop
-half-requires c κs = ?
+half-requires c κs = search needs
 
--- src/print.rt:47:9
 next-requires : tie.Need-next-requires Inv-loop μ-loop
-next-requires c κs = ?
+next-requires c κs = search needs
 
--- src/print.rt:48:13
 add-k : tie.Need-add-k Inv-loop μ-loop
-add-k c = ?
+add-k c = search needs
 
--- src/print.rt:46:5
 loop-less : tie.Need-loop-less Inv-loop μ-loop
-loop-less c = ?
+loop-less c = search needs
 
--- src/print.rt:46:5
 loop-again : tie.Need-loop-again Inv-loop μ-loop
-loop-again c = ?
+loop-again c = search needs
 
--- src/print.rt:43:1
 returns : tie.Need-returns Inv-loop μ-loop
-returns c = ?
+returns c = search needs
 
 pub halves-spec : {M : Type 1} → statement M
 halves-spec =
