@@ -79,10 +79,10 @@ in-turn-iff rows =
       λ f. both .1 (each-row (λ x. All (P x) rows) rows (λ x i. each-row (P x) rows (λ y k. f x y i k))),
     )
 
-before-iff : (p : ℕ) (handed : List Row) → (beforeRefusal p handed ≡ 0) ↔ All (λ x. x .slot < p) handed
+pub before-iff : (p : ℕ) (handed : List Row) → (beforeRefusal p handed ≡ 0) ↔ All (λ x. x .slot < p) handed
 before-iff p handed = unless-as 21 (all (λ x. ltb (x .slot) p) handed) (omega arith) (all-iff (λ x. ltb (x .slot) p) (λ x. x .slot < p) (λ x. ltb-iff (x .slot) p) handed)
 
-onward-iff : (j : Job) (p : ℕ) (onward : List ℕ) → (onwardRefusal j p onward ≡ 0) ↔ (All (Within 0 16777216) onward × (length onward ≡ suc (lastSlot j) - p))
+pub onward-iff : (j : Job) (p : ℕ) (onward : List ℕ) → (onwardRefusal j p onward ≡ 0) ↔ (All (Within 0 16777216) onward × (length onward ≡ suc (lastSlot j) - p))
 onward-iff j p onward =
     let many : Bool = eqb (length onward) (suc (lastSlot j) - p) in
     orElse-as (bytesRefusal onward) (unless 7 many) (bytes-iff onward) (unless-as 7 many (omega arith) (eqb-iff (length onward) (suc (lastSlot j) - p)))
@@ -123,8 +123,11 @@ replan-refusal-iff j p handed onward =
 
 -- ---- the joined job
 
-pub joined-accepted : (j : Job) → Accepted j → (p : ℕ) (handed : List Row) (onward : List ℕ) → Replannable j p handed onward → Accepted (joined j p onward)
-joined-accepted j a p handed onward r =
+-- By 21 of p and 7 alone.
+pub joined-in :
+    (j : Job) → Accepted j → (p : ℕ) → 1 ≤ p → p ≤ lastSlot j → (onward : List ℕ) → All (Within 0 16777216) onward → length onward ≡ suc (lastSlot j) - p →
+    Accepted (joined j p onward)
+joined-in j a p low high onward small many =
     record {
       chunks-in = a .chunks-in;
       span-in = a .span-in;
@@ -136,17 +139,17 @@ joined-accepted j a p handed onward r =
       overrides-named = a .overrides-named;
       overrides-rise = a .overrides-rise;
       overrides-in = a .overrides-in;
-      forecast-in = all-append (Within 0 16777216) (take (p - 1) (j .forecast)) onward (all-take (Within 0 16777216) (p - 1) (j .forecast) (a .forecast-in)) (r .onward-in);
+      forecast-in = all-append (Within 0 16777216) (take (p - 1) (j .forecast)) onward (all-take (Within 0 16777216) (p - 1) (j .forecast) (a .forecast-in)) small;
       slots-in =
           omega (
             arith,
             length-append (take (p - 1) (j .forecast)) onward,
-            length-take-le (p - 1) (j .forecast) (omega (arith, a .slots-in, r .acceptable .p-high)),
-            r .slots-in,
-            r .acceptable .p-low,
-            r .acceptable .p-high,
+            length-take-le (p - 1) (j .forecast) (omega (arith, a .slots-in)),
           );
     }
+
+pub joined-accepted : (j : Job) → Accepted j → (p : ℕ) (handed : List Row) (onward : List ℕ) → Replannable j p handed onward → Accepted (joined j p onward)
+joined-accepted j a p handed onward r = joined-in j a p (r .acceptable .p-low) (r .acceptable .p-high) onward (r .onward-in) (r .slots-in)
 
 -- "the forecast hasn't changed"
 pub joined-unchanged : (j : Job) (p : ℕ) → joined j p (drop (p - 1) (j .forecast)) ≡ j

@@ -1,6 +1,6 @@
 -- Laws on the verdict: what the tables say is what the rules of the second call say. Assumes nothing.
 use Prim.Native.Nat.{ℕ, _+_, _*_, _-_, _/_, _≤_, _<_}
-use mathlib.Core.Path.{_≡_, refl, sym, ap, ap₂, _∙_}
+use mathlib.Core.Path.{_≡_, sym, ap, ap₂, _∙_}
 use mathlib.Core.Bool.{Bool, true, false, _&&_, _||_}
 use mathlib.Core.List.{List, [], _∷_}
 use mathlib.Core.Logic.{inl, inr, ⊎-elim}
@@ -14,9 +14,9 @@ use Rattle.job.specs.Table.{tableAt}
 use Rattle.job.specs.declared.Programme.{Programme}
 use Rattle.job.specs.lemmas.Within.{size-most}
 use Rattle.fetch.specs.Rows.{Row, bytesOfLayer}
-use Rattle.fetch.specs.Verdict.{lowest, rule1, rule2, rule2-iff}
+use Rattle.fetch.specs.Verdict.{lowest, rule2, rule2-iff}
 use Rattle.fetch.specs.VerdictFrom.{layerBefore, rule2-from-iff, rule2From, verdictFrom, wholeFrom}
-use Rattle.rules.proofs.Exact.{carried-is, eqb-cap, ltb-cap, rule2-is, rule3-is, rule4-is, rule6-is, rule7-is}
+use Rattle.rules.proofs.Exact.{carried-is, eqb-cap, ltb-cap, rule1-is, rule2-is, rule3-is, rule4-is, rule6-is, rule7-is}
 use Rattle.rules.specs.declared.Layers.{Layers}
 use Rattle.rules.specs.declared.Pass.{Pass}
 use Rattle.rules.specs.lemmas.Tables.{Passed, SeenAll, Shown, Tallied, heldBy}
@@ -53,13 +53,10 @@ module _ (j : Job) (rows : List Row) (S L F : List ℕ) (ok : Accepted j) (t : T
 -- ---- the verdict, with the last slot and the number of layers as numbers of their own
 
 module _ (p : Programme) (table : List ℕ) (depth : ℕ) (forecast : List ℕ) (from : ℕ) (marks : List ℕ) (rows : List Row) (last : ℕ) (d : last ≡ lastDue p) (r : Pass) (S L F : List ℕ) (a : Passed p last depth rows r S L F) where
-  one-is : (j : Job) → j .programme ≡ p → depth ≡ layers j → r .ranged ≡ rule1 j rows
-  one-is j e k = rw (d, k, ← e) at (a .ranged)
-
   -- A row out of range: rule 1.
   pub judged-one : r .ranged ≡ false → Judged p table depth forecast from marks rows 1
   unfolding verdictFrom
-  judged-one e sizes os w = rw (sym (one-is (jobOf p sizes os forecast) refl (w .depth-is)) ∙ e)
+  judged-one e sizes os w = rw (sym (rule1-is (jobOf p sizes os forecast) a d (w .depth-is)) ∙ e)
 
   -- Every row in range: the lowest broken rule of 2 to 7, by the tables.
   pub judged : r .ranged ≡ true → length marks ≡ p .chunks → (m : Layers) (whole room few : Bool)
@@ -76,7 +73,7 @@ module _ (p : Programme) (table : List ℕ) (depth : ℕ) (forecast : List ℕ) 
       let b′ = rw (w .sizes-are, w .depth-is) at b in
       let two : whole ≡ rule2From j from rows = b′ ∙ ap₂ _||_ (s′ .whole ∙ rule2-is j rows S L F (w .accepted) t) (rule2-from-is j rows S L F (w .accepted) t from) ∙ either-is j rows S L F (w .accepted) t from in
       rw (
-        sym (one-is j refl (w .depth-is)) ∙ g,
+        sym (rule1-is j a d (w .depth-is)) ∙ g,
         two,
         s′ .lower ∙ rule3-is j rows S L F (w .accepted) t,
         q ∙ rule4-is j rows S L F (w .accepted) t,

@@ -1,23 +1,21 @@
 -- Laws on the passes over the chunks: flags and marks, what is left, and first slots in turn. Assumes nothing.
-use Prim.Native.Nat.{ℕ, suc, _+_, _*_, _-_, _≤_, _<_, max}
-use mathlib.Core.Path.{_≡_, refl, sym, ap, _∙_}
+use Prim.Native.Nat.{ℕ, suc, _+_, _-_, _≤_, _<_}
+use mathlib.Core.Path.{_≡_, refl, sym, _∙_}
 use mathlib.Core.Bool.{Bool, true, false, cond, _&&_}
 use mathlib.Core.List.{List}
 use mathlib.Core.Logic.{_⊎_, inl, inr, ⊎-elim}
 use native.Mathlib.Omega.{arith}
 use native.Mathlib.Numerals.{add-one}
 use lib.ListN.{length, getD, set, length-set}
-use lib.Seq.{getD-set-other, getD-set-same}
 use lib.Dec.{eqb, ltb, ltb→lt, nltb→le}
-use Rattle.basics.specs.Tests.{allBelow, allTo}
+use Rattle.basics.specs.Tests.{allBelow}
 use Rattle.basics.specs.lemmas.Tables.{at-set, below-next}
 use Rattle.basics.specs.lemmas.Tests.{allTo-more, last, test}
 use Rattle.fetch.specs.Rows.{markByte}
-use Rattle.resettle.specs.lemmas.Tables.{of}
 use Rattle.rules.specs.declared.Seen.{Seen}
 use Rattle.rules.specs.lemmas.Tables.{SeenChunk, carriedBy, lowerBy}
 use Rattle.gather.specs.declared.Kept.{Kept}
-use Rattle.gather.specs.lemmas.Gather.{Flagged, Flags, InTurnBy, Rest, Turned, fewBy}
+use Rattle.gather.specs.lemmas.Gather.{Flagged, InTurnBy, Rest, Turned, fewBy}
 
 -- ---- what is left
 
@@ -122,10 +120,10 @@ module _ {first : List ℕ} {count i latest : ℕ} (t : Turning first count i la
           turn = λ a b u v w x y.
               ⊎-elim
               (λ l. t .turn a b u v l x y)
-              (λ q. let z : b ≡ i + 1 = omega (arith, add-one i) in rw z (omega (arith, t .above a u (omega arith) x)))
+              (λ (q : b ≡ suc i). let z : b ≡ i + 1 = omega (arith, add-one i) in rw z (omega (arith, t .above a u (omega arith) x)))
               (last b i (omega (arith, add-one i)));
           above = λ a u v w.
-              ⊎-elim (λ l. omega (arith, t .above a u l w)) (λ q. let z : a ≡ i + 1 = omega (arith, add-one i) in rw z (omega arith)) (last a i (omega (arith, add-one i)));
+              ⊎-elim (λ l. omega (arith, t .above a u l w)) (λ (q : a ≡ suc i). let z : a ≡ i + 1 = omega (arith, add-one i) in rw z (omega arith)) (last a i (omega (arith, add-one i)));
           some = inr (i + 1, omega arith, omega arith, refl, f);
         }
 

@@ -1,22 +1,22 @@
 -- Laws on what the tables say of the handed rows. Assumes nothing.
-use Prim.Native.Nat.{ℕ, zero, suc, _+_, _*_, _-_, _≤_, _<_, min}
+use Prim.Native.Nat.{ℕ, suc, _+_, _*_, _-_, _≤_, _<_, min}
 use mathlib.Core.Path.{_≡_, refl, sym, ap, _∙_, subst}
-use mathlib.Core.Bool.{Bool, true, false, not, cond, _&&_, _||_}
+use mathlib.Core.Bool.{Bool}
 use mathlib.Core.List.{List, [], _∷_, _++_}
-use mathlib.Core.Logic.{⊎-elim, _↔_}
+use mathlib.Core.Logic.{⊎-elim}
 use native.Mathlib.Omega.{arith}
 use lib.ListN.{length, getD, length-append, List·getD-append}
 use lib.Dec.{T, leb, ltb, eqb, eqb→eq, leb→le, nleb→lt, le→leb, ltb→lt, lt→ltb, nltb→le}
 use borrow.Author.Tests.{eq-eqb, le-ltb, lt-ltb}
 use Rattle.basics.specs.Tests.{All, In, allBelow, allTo, here, there}
-use Rattle.basics.specs.lemmas.Tests.{T-true, allBelow-cong, allTo-cong, allTo-iff, any-row, at-row, eqb-iff, leb-iff, not-T-false, same-test, test}
+use Rattle.basics.specs.lemmas.Tests.{T-true, allBelow-cong, allTo-cong, allTo-iff, any-row, at-row, eqb-iff, not-T-false, same-test, test}
 use Rattle.job.specs.Job.{Accepted, Job, Override, chunks, forecast, lastDue, layers, size}
 use Rattle.job.specs.Table.{spot, tableAt}
 use Rattle.job.specs.declared.Programme.{Programme}
 use Rattle.job.specs.lemmas.Within.{all-most, size-most}
 use Rattle.fetch.specs.Rows.{Row, begun, bytesInSlot, bytesOfLayer, carried, hasRow, markByte}
 use Rattle.fetch.specs.Rules.{InRange, LowerCarried}
-use Rattle.fetch.specs.Verdict.{rule4, rule4-iff}
+use Rattle.fetch.specs.Verdict.{rule4}
 use Rattle.fetch.specs.lemmas.Marks.{mark-cong}
 use Rattle.fetch.specs.lemmas.Rows.{any-some, bytes-none}
 use Rattle.schedule.specs.lemmas.Level.{level, level-choice, level-iff}
@@ -25,9 +25,9 @@ use Rattle.schedule.specs.lemmas.Trials.{levelMark}
 use Rattle.schedule.specs.lemmas.Words.{layer-of}
 use Rattle.afresh.specs.Refusal.{InTurn, in-turn-iff, inTurn, noMore}
 use Rattle.resettle.specs.lemmas.Decision.{Tabled, jobFrom}
-use Rattle.resettle.specs.lemmas.Tables.{Small, of}
+use Rattle.resettle.specs.lemmas.Tables.{Small}
 use Rattle.rules.proofs.Exact.{begun-is, carried-is, leb-cap}
-use Rattle.rules.specs.lemmas.Tables.{Shown, Tallied, cap, carriedBy, firstOf}
+use Rattle.rules.specs.lemmas.Tables.{Tallied, carriedBy, firstOf}
 use Rattle.gather.specs.lemmas.Gather.{Flags, InTurnBy, Rest, Turned, fewBy}
 
 -- ---- first slots

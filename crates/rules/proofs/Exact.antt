@@ -21,8 +21,9 @@ use Rattle.job.specs.Uneven.{table-is}
 use Rattle.job.specs.lemmas.Within.{all-most, size-most}
 use Rattle.fetch.specs.Rows.{Row, begun, held, heldCount, carried, markByte, bytesInSlot, bytesOfLayer}
 use Rattle.fetch.specs.lemmas.Marks.{mark-cong}
-use Rattle.fetch.specs.Verdict.{rule2, rule3, rule4, rule6, rule7, lowerCarried, same, same-iff}
-use Rattle.rules.specs.lemmas.Tables.{cap, firstOf, Tallied, carriedBy, wholeBy, under, lowerBy, heldBy, Shown}
+use Rattle.fetch.specs.Verdict.{rule1, rule2, rule3, rule4, rule6, rule7, lowerCarried, same, same-iff}
+use Rattle.rules.specs.declared.Pass.{Pass}
+use Rattle.rules.specs.lemmas.Tables.{cap, firstOf, Tallied, Passed, carriedBy, wholeBy, under, lowerBy, heldBy, Shown}
 use Rattle.basics.specs.lemmas.Ranges.{count-cong}
 
 -- ---- a sum that stops at the cap
@@ -121,6 +122,11 @@ module _ (j : Job) (rows : List Row) (S L F : List ℕ) (ok : Accepted j) (t : T
       mark-at i u v =
           let back : i - 1 + 1 ≡ i = omega arith in
           rw back (mark-cong (carriedBy (size j) L i) (carried j rows i) (layers j) (λ n w. carried-is i n u v w))
+
+-- Rule 1 by the pass over the rows, with the last slot and the number of layers as numbers of their own.
+pub rule1-is : (j : Job) {rows : List Row} {last depth : ℕ} {r : Pass} {S L F : List ℕ} → Passed (j .programme) last depth rows r S L F
+    → last ≡ lastDue (j .programme) → depth ≡ layers j → r .ranged ≡ rule1 j rows
+rule1-is j a d k = rw (d, k) at (a .ranged)
 
 -- Every chunk is due by the last slot.
 pub due-most : (p : Programme) (i n : ℕ) → lastDue p ≤ n → i ≤ p .chunks → dueSlot p i ≤ n

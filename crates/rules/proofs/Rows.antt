@@ -14,14 +14,11 @@ use Rattle.basics.specs.Tests.{all}
 use Rattle.basics.specs.lemmas.Tests.{last, true-T, tests, all-snoc}
 use Rattle.basics.specs.Lists.{upTo}
 use Rattle.job.specs.declared.Programme.{Programme}
-use Rattle.fetch.specs.Rows.{Row, rowAt, rowsOf, bytesIf, bytesInSlot, bytesOfLayer}
+use Rattle.fetch.specs.Rows.{Row, rowAt, rowsOf, bytesInSlot, bytesOfLayer}
+use Rattle.fetch.specs.lemmas.Rows.{bytes-snoc}
 use Rattle.rules.specs.lemmas.Tables.{cap, inRange, onTime, firstOf, Tallied, Passed}
 
 -- ---- one row more
-
-bytes-snoc : (p : Row → Bool) (l : List Row) (x : Row) → bytesIf p (l ++ (x ∷ [])) ≡ bytesIf p l + cond (p x) (x .bytes) 0
-bytes-snoc p [] x = omega arith
-bytes-snoc p (y ∷ l) x = omega (arith, bytes-snoc p l x)
 
 first-snoc : (i : ℕ) (l : List Row) (x : Row) → firstOf i (l ++ (x ∷ [])) ≡ min (firstOf i l) (cond (eqb (x .chunk) i) (x .slot) 65535)
 first-snoc i [] x = omega arith

@@ -1,5 +1,4 @@
 -- Six tests, one after the other.
-use borrow.Author.Needs.{needs}
 use Rattle.gather.proofs.every.Statement.{statement}
 use Rattle.gather.proofs.every.Tie as tie
 use borrow.Author.Tests.{not-false, not-true}

@@ -6,7 +6,6 @@ use Prim.Native.Nat.{_-_, _≤_}
 use mathlib.Core.Path.{_≡_, refl}
 use native.Mathlib.Omega.{arith}
 use native.Mathlib.Numerals.{add-one}
-use denote.Ref.{now}
 use Rattle.basics.specs.Tests.{allBelow}
 use Rattle.job.specs.Table.{tableAt}
 use Rattle.gather.specs.lemmas.Gather.{fewBy}

@@ -1,5 +1,4 @@
 -- A first slot below 65,535 is that of a row.
-use borrow.Author.Needs.{needs}
 use Rattle.gather.proofs.flag.Statement.{statement}
 use Rattle.gather.proofs.flag.Tie as tie
 use borrow.Author.Tests.{le-ltb, lt-ltb}

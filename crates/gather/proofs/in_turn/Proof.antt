@@ -2,8 +2,8 @@
 use borrow.Author.Needs.{needs}
 use Rattle.gather.proofs.in_turn.Statement.{statement}
 use Rattle.gather.proofs.in_turn.Tie as tie
-use Prim.Native.Nat.{ℕ, _+_, _-_}
-use mathlib.Core.Path.{_≡_, ap, sym, _∙_}
+use Prim.Native.Nat.{ℕ, _-_}
+use mathlib.Core.Path.{ap}
 use native.Mathlib.Omega.{arith}
 use denote.Ref.{now}
 use lib.ListN.{getD}

@@ -2,10 +2,9 @@
 use borrow.Author.Needs.{needs}
 use Rattle.gather.proofs.set_flags.Statement.{statement}
 use Rattle.gather.proofs.set_flags.Tie as tie
-use Prim.Native.Nat.{ℕ, _+_, _-_, _≤_}
+use Prim.Native.Nat.{_-_, _≤_}
 use mathlib.Core.Path.{_≡_}
 use native.Mathlib.Omega.{arith}
-use denote.Ref.{now}
 use Rattle.job.specs.Table.{tableAt}
 use Rattle.gather.proofs.Flags.{flagged-more, flagged-none}
 use Rattle.gather.specs.lemmas.Gather.{Flagged}

@@ -4,7 +4,6 @@ use Rattle.gather.proofs.set_left.Statement.{statement}
 use Rattle.gather.proofs.set_left.Tie as tie
 use Prim.Native.Nat.{_-_}
 use native.Mathlib.Omega.{arith}
-use denote.Ref.{now}
 use Rattle.gather.proofs.Flags.{Leaving, leaving-end, leaving-more, leaving-start}
 
 abbrev Inv-loop : tie.InvT-loop
