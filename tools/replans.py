@@ -1,7 +1,10 @@
-"""Planning afresh once more: the lines that the programs `replan_trials` and `replan_family` have to print. The first are by `reference.py`'s
-`replan`; of the family each layer is decided by a search over all fetch lists, which takes some minutes. Run it at the root of the repository:
+"""Planning afresh once more. The cases that the program `replan_trials` reads and what it has to print of them, by `reference.py`; and what
+`replan_family` has to print, each layer decided by a search over all fetch lists, which takes some minutes. Run it at the root of the
+repository:
+python3 tools/replans.py cases | diff - crates/replan_trials/stdin
 python3 tools/replans.py | diff - crates/replan_trials/stdout
 python3 tools/replans.py family | diff - crates/replan_family/stdout"""
+import random
 import sys
 from itertools import combinations_with_replacement, product
 from reference import *
@@ -19,30 +22,63 @@ def marks_of(levels):
     return [(1 << k) - 1 for k in levels]
 
 
-# ---- single cases, each told whole: the answer, the counts, and every lent byte afterwards; what is lent holds 9s
+# ---- single cases: a title, and the call's numbers on one line (crate replan_trials, table), or what comes of it
+
+CASES = sys.argv[1:] == ["cases"]
+
 
 def after(lent, result):
     return list(result) + [9] * (lent - len(result))
 
 
-def tell(text, said, four, lent, results):
-    said = f"{text}: {said}, counts {' '.join(map(str, four))}"
+def numbers(call, job, p, handed, last, lent):
+    """A list is its length and then its numbers."""
+    o = list(zip(*job.overrides)) or [(), (), ()]
+    lists = [job.sizes, *o, job.forecast], [*handed, last]
+    flat = lambda lists: [x for l in lists for x in [len(l), *l]]
+    return [call, job.chunks, job.span, job.delay, job.limit, *flat(lists[0]), p, *flat(lists[1]), *lent]
+
+
+def told(said, four, lent, results):
+    """Answer, counts, and every lent byte afterwards; what is lent holds 9s."""
+    said = f"{said}, counts {' '.join(map(str, four))}"
     for name, n, result in zip(("marks", "slots", "chunks", "layers", "bytes"), lent, results):
         said += "".join([f", {name}"] + [f" {x}" for x in after(n, result)])
-    print(said)
+    return said
+
+
+def tell(text, said, *case):
+    print(f"{text}:" + "".join(f"{x} " for x in numbers(*case)) if CASES else f"{text}: {said}")
 
 
 def ask(text, job, p, handed, onward, lent=(3, 3, 3, 3, 3)):
     """handed is rows, or their four columns."""
+    handed, rows = handed if isinstance(handed, tuple) else columns(handed), None
     try:
-        levels, rows = replan(job, p, onward, *(handed if isinstance(handed, tuple) else columns(handed)))
+        levels, rows = replan(job, p, onward, *handed)
         results = [marks_of(levels)] + columns(rows)
         if any(n < len(x) for n, x in zip(lent, results)):
             raise Refused(11)
-        tell(text, f"rows {len(rows)}", counts(levels), lent, results)
-        return rows
+        said = told(f"rows {len(rows)}", counts(levels), lent, results)
     except Refused as r:
-        tell(text, f"refused {r.number}", [0] * 4, lent, [[]] * 5)
+        said = told(f"refused {r.number}", [0] * 4, lent, [[]] * 5)
+    tell(text, said, 0, job, p, handed, onward, lent)
+    return rows
+
+
+def check(text, job, p, marks, handed):
+    handed = handed if isinstance(handed, tuple) else columns(handed)
+    try:
+        said = f"verdict {check_from(job, p, marks, *handed)}"
+    except Refused as r:
+        said = f"refused {r.number}"
+    tell(text, said, 1, job, p, handed, marks, ())
+
+
+def planned(text, job, lent):
+    levels, rows = plan(job)
+    tell(text, told(f"rows {len(rows)}", counts(levels), lent, [marks_of(levels)] + columns(rows)), 2, job, 1, [[]] * 4, [], lent)
+    return rows
 
 
 A = Job(3, 2, 2, 2, [2, 1], [], [3, 0, 1, 0, 2, 0])
@@ -52,8 +88,7 @@ OWN = [(1, 2, 0, 2), (1, 2, 1, 1), (5, 3, 0, 2)]
 def made():
     ask("a chunk before a begun one", Job(2, 1, 2, 2, [1], [], [1, 1, 1]), 2, [(1, 2, 0, 1)], [1, 1])
     uneven = Job(3, 1, 1, 3, [1], [Override(3, 0, 2)], [1, 1, 0])
-    levels, rows = plan(uneven)
-    print(f"bases of 1, 1 and 2 bytes, planned: rows {len(rows)}, counts {' '.join(map(str, counts(levels)))}, marks {' '.join(map(str, marks_of(levels)))}")
+    planned("bases of 1, 1 and 2 bytes, planned", uneven, (3, 3, 3, 3, 3))
     ask("and made afresh", uneven, 1, [], [1, 1, 0])
     for text, handed, slot in (("nothing fetched", [], 1), ("a base begun and given up", [(1, 1, 0, 1)], 1),
                                ("a base begun and ended", [(1, 1, 0, 1)], 2), ("a base whole before p", [(1, 1, 0, 3)], 1)):
@@ -72,12 +107,12 @@ def made():
 def film():
     job = Job(5, 2, 3, 4, [3, 2, 1, 2], [Override(2, 0, 4), Override(3, 1, 1), Override(4, 0, 2), Override(4, 3, 1)],
               [1, 0, 4, 0, 0, 3, 0, 3, 6, 6, 4])
-    _, rows = plan(job)
-    for link, first in ((job.forecast, "film at 1"), ([3, 2, 3, 0, 0, 0, 0, 0, 5, 5, 4], "another link at 1")):
-        for p in (1, 2, 4, 7, 9, 11):
+    rows = planned("a film of four layers", job, (5,) + (20,) * 4)
+    for link, text in ((job.forecast, "afresh"), ([3, 2, 3, 0, 0, 0, 0, 0, 5, 5, 4], "on another link")):
+        for p in range(1, 12):
             fetched = [x for x in rows if x.slot < p]
             lent = (5,) + (len(rows) - len(fetched) + 2,) * 4
-            new = ask(first if p == 1 else f"at {p}", job, p, fetched, link[p - 1:], lent)
+            new = ask(f"{text} at {p}", job, p, fetched, link[p - 1:], lent)
             assert link != job.forecast or new == [x for x in rows if x.slot >= p]
 
 
@@ -127,18 +162,12 @@ def room():
 
 # ---- the order of the refusals, in both calls
 
-def said(call, *args):
-    try:
-        return f"verdict {call(*args)}"
-    except Refused as r:
-        return f"refused {r.number}"
-
-
 def both(text, chunks=3, layers=2, sz=(), slots=6, p=9, slot=9, ends=(1, 1, 1), onward=3, last=0):
     """A row of chunk 9 on a part of job A; ends says how many of the row's other fields are handed."""
     job = A._replace(chunks=chunks, sizes=[2, 1][:layers], overrides=[Override(*o) for o in sz], forecast=A.forecast[:slots])
     row = ([slot], [9][:ends[0]], [0][:ends[1]], [2][:ends[2]])
-    ask(f"{text}: {said(check_from, job, p, [0, 0, 0], *row)}, planned", job, p, row, [0, 1, 0, 2, last, 0][:onward], (0,) * 5)
+    check(f"{text}, checked", job, p, [0, 0, 0], row)
+    ask(f"{text}, planned", job, p, row, [0, 1, 0, 2, last, 0][:onward], (0,) * 5)
 
 
 def order():
@@ -150,6 +179,7 @@ def order():
     both("then 8", **dict(every, sz=(), slots=6))
     both("8 for a layer", ends=(1, 0, 1))
     both("8 for bytes", ends=(1, 1, 0))
+    check("8 for a mark", A, 9, [0, 0], [])
     both("then 21 for p", slot=1)
     both("21 for the row", p=2, slot=2)
     both("then 7 of the forecast, a slot too few", p=2, slot=1, onward=4)
@@ -162,27 +192,56 @@ def order():
 # ---- the second checker call
 
 def second():
-    def check(text, p, marks, rows, sz=()):
-        print(f"{text}: {said(check_from, A._replace(overrides=list(sz)), p, marks, *columns(rows))}")
-    check("second call, p 0", 0, [0, 1, 0], [(1, 2, 0, 2)])
-    for p in (1, 6, 7, 65535):
-        check(f"p {p}", p, [0, 1, 0], [(1, 2, 0, 2)])
-    check("a short sum before p", 2, [0, 0, 0], [(1, 2, 0, 1)])
-    check("its mark says it is carried", 2, [0, 1, 0], [(1, 2, 0, 1)])
-    check("a short sum in slot p", 1, [0, 0, 0], [(1, 2, 0, 1)])
-    check("a short sum after p", 2, [0, 0, 0], [(3, 2, 0, 1)])
-    check("a sum above its size before p", 2, [0, 1, 0], [(1, 2, 0, 3)])
-    check("layer 1 whole over no base", 2, [0, 2, 0], [(1, 2, 1, 1)])
-    check("a row before slot 1", 2, [0, 0, 0], [(0, 2, 0, 1)])
-    check("begun before p and ended after it", 3, [0, 1, 0], [(1, 2, 0, 1), (3, 2, 0, 1)])
-    check("whole before p and a byte more after it", 3, [0, 1, 0], [(1, 2, 0, 2), (3, 2, 0, 1)])
-    check("begun before p and no more", 3, [0, 0, 0], [(1, 2, 0, 1)])
-    check("all rows before p, at 4", 4, [0, 1, 0], [(1, 2, 0, 1), (3, 2, 0, 1)])
-    five = [Override(2, 0, 5)]
-    check("a short sum of 3, at 2", 2, [0, 0, 0], [(1, 2, 0, 3)], five)
-    check("of 4 with a byte from p on", 2, [0, 0, 0], [(1, 2, 0, 3), (3, 2, 0, 1)], five)
-    check("of 4 with a byte in slot p", 3, [0, 0, 0], [(1, 2, 0, 3), (3, 2, 0, 1)], five)
-    check("of 4 before p", 4, [0, 0, 0], [(1, 2, 0, 3), (3, 2, 0, 1)], five)
+    for p in (0, 1, 6, 7, 65535):
+        check(f"second call, p {p}", A, p, [0, 1, 0], [(1, 2, 0, 2)])
+    check("a short sum before p", A, 2, [0, 0, 0], [(1, 2, 0, 1)])
+    check("its mark says it is carried", A, 2, [0, 1, 0], [(1, 2, 0, 1)])
+    check("a short sum in slot p", A, 1, [0, 0, 0], [(1, 2, 0, 1)])
+    check("a short sum after p", A, 2, [0, 0, 0], [(3, 2, 0, 1)])
+    check("a sum above its size before p", A, 2, [0, 1, 0], [(1, 2, 0, 3)])
+    check("layer 1 whole over no base", A, 2, [0, 2, 0], [(1, 2, 1, 1)])
+    check("a row before slot 1", A, 2, [0, 0, 0], [(0, 2, 0, 1)])
+    check("begun before p and ended after it", A, 3, [0, 1, 0], [(1, 2, 0, 1), (3, 2, 0, 1)])
+    check("whole before p and a byte more after it", A, 3, [0, 1, 0], [(1, 2, 0, 2), (3, 2, 0, 1)])
+    check("begun before p and no more", A, 3, [0, 0, 0], [(1, 2, 0, 1)])
+    check("all rows before p, at 4", A, 4, [0, 1, 0], [(1, 2, 0, 1), (3, 2, 0, 1)])
+    check("A's plan at 4", A, 4, [0, 3, 1], OWN)
+    check("with its last row split, at 4", A, 4, [0, 3, 1], OWN[:2] + [(3, 3, 0, 1), (5, 3, 0, 1)])
+    check("more than a slot carries", A, 4, [0, 0, 1], [(3, 3, 0, 2)])
+    check("a late row", A, 4, [0, 1, 0], [(5, 2, 0, 2)])
+    five = A._replace(overrides=[Override(2, 0, 5)])
+    check("3 bytes of 5, at 2", five, 2, [0, 0, 0], [(1, 2, 0, 3)])
+    check("4 with a byte from p on", five, 2, [0, 0, 0], [(1, 2, 0, 3), (3, 2, 0, 1)])
+    check("4 with a byte in slot p", five, 3, [0, 0, 0], [(1, 2, 0, 3), (3, 2, 0, 1)])
+    check("4 before p", five, 4, [0, 0, 0], [(1, 2, 0, 3), (3, 2, 0, 1)])
+
+
+# ---- any jobs
+
+def any_jobs():
+    """Jobs of up to 6 chunks and 4 layers, on rows of the plan or of other lists, shuffled; then the second call on the joined list, and with
+    a row left out."""
+    random.seed(12)
+    for k in range(1, 101):
+        chunks, span, delay = random.randint(2, 6), random.randint(1, 3), random.randint(1, 6)
+        sizes = [random.randint(1, 6) for _ in range(random.randint(1, 4))]
+        spots = [(i, n, random.randint(1, 6)) for i in range(2, chunks + 1) for n in range(len(sizes)) if k % 2 and random.random() < 0.4]
+        sz = [Override(i, n, z) for i, n, z in spots if z != sizes[n]]
+        last = (chunks - 1) * span + delay
+        link = lambda slots: [random.choice([0, 1, 2, 4, 7]) for _ in range(slots)]
+        job, p = Job(chunks, span, delay, random.randint(0, 3 * span), sizes, sz, link(last)), random.randint(1, last)
+        own = plan(job)[1] if k % 3 == 0 else own_list(job, [random.randint(0, len(sizes)) for _ in range(chunks)])
+        fetched = [x for x in own if x.slot < p]
+        random.shuffle(fetched)
+        onward = link(last - p + 1)
+        new = ask(f"job {k} at {p}", job, p, fetched, onward, (8,) + (24,) * 4)
+        if new is None:
+            continue
+        on = job._replace(forecast=job.forecast[:p - 1] + onward)
+        check(f"job {k} joined", on, p, marks_given(job, fetched + new), fetched + new)
+        if new:
+            less = fetched + new[:-1]
+            check(f"job {k} without its last row", on, p, marks_given(job, less), less)
 
 
 # ---- the family of replan_family
@@ -311,5 +370,5 @@ def family():
 if sys.argv[1:] == ["family"]:
     family()
 else:
-    for lines in (made, film, rows, room, order, second):
+    for lines in (made, film, rows, room, order, second, any_jobs):
         lines()

@@ -1,34 +1,33 @@
-// Trials of planning afresh: examples, job A as the link changes, a longer film at several slots; each way to 21 and 22, the order of the
-// refusals, the room lent; and the second checker call. The lines are those of tools/replans.py.
+// Trials of planning afresh and of the second checker call, on the cases that stand on standard input, a line each: tools/replans.py writes
+// them, and what has to come of each.
 mod call;
-mod film;
-mod made;
-mod order;
+mod line;
 mod print;
-mod room;
-mod rows;
-mod second;
+mod table;
+
+use libc::STDIN_FILENO;
+
+fn every_line(text: &[u8]) {
+    let mut at: usize = 0;
+    while at < text.len() {
+        let end = line::end_of(text, at, 10);
+        call::case(parts::bytes(text, end), at);
+        if end < at {
+            return;
+        }
+        if text.len() <= end {
+            return;
+        }
+        at = end + 1;
+    }
+}
+
+fn read_first(file: &[u8; 65536], n: usize) {
+    every_line(parts::bytes(file, n));
+}
 
 fn main() {
-    made::examples();
-    made::given_up();
-    made::link_changes();
-    made::less_fetched();
-    made::standing();
-    film::standing();
-    film::changed();
-    rows::slots();
-    rows::ranges();
-    rows::sums();
-    rows::pairs();
-    rows::turns();
-    rows::large();
-    room::lent();
-    order::order();
-    order::later();
-    order::last();
-    second::slots();
-    second::shorts();
-    second::splits();
-    second::given_up();
+    let mut file = [0u8; 65536];
+    let n = io::read_full(STDIN_FILENO, &mut file);
+    read_first(&file, n);
 }

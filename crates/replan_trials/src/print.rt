@@ -70,7 +70,7 @@ pub(crate) fn said(plan: Planned) {
 
 pub(crate) fn verdict_said(checked: Checked) {
     match checked {
-        Checked::Verdict(v) => pair(b"verdict ", v as usize),
-        Checked::Refused(n) => pair(b"refused ", n as usize),
+        Checked::Verdict(v) => pair(b": verdict ", v as usize),
+        Checked::Refused(n) => pair(b": refused ", n as usize),
     }
 }
