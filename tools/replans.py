@@ -312,15 +312,19 @@ def made_afresh(job, p, rows):
 
 
 def checksum(numbers):
-    sum = 0
+    all = 0
     for x in numbers:
-        sum = (sum * 31 + x) % MODULUS
-    return sum
+        all = (all * 31 + x) % MODULUS
+    return all
+
+
+def digits(numbers):
+    return sum(x * 16**k for k, x in enumerate(numbers))
 
 
 def of_answer(case, said, marks, four, rows):
-    lent = after(3, marks) + four + [x for row in after(18, rows) for x in ((9, 9, 9, 9) if row == 9 else row)]
-    return checksum(case + [said] + lent)
+    lent = [x for row in after(18, rows) for x in ((9, 9, 9, 9) if row == 9 else row)]
+    return checksum(case + [said, digits(after(3, marks)), digits(four)] + lent)
 
 
 def family():
@@ -358,13 +362,11 @@ def family():
                     count["sum"] += of_answer([k, p, word, w], len(new), marks_of(levels), counts(levels), new)
     count["sum"] %= MODULUS
     count["asked"] = count["refused"] + count["plans"]
-    print("films {films} lists of rows fetched {lists} refused by 22 {refused}".format(**count))
-    print("plans made afresh {plans} with H 0 {none_held} a chunk due before p {due_before} a begun layer given up {given_up} one ended {ended}".format(**count))
-    print("bases {bases} layers above {uppers} rows from p on {rows}".format(**count))
-    print("lists that pass the second call {plans}".format(**count))
-    print("the same with the rows in another order {asked}".format(**count))
-    print("checksum over all answers {sum}".format(**count))
-    print("standing plans, at each p {standing} that go on as they were {standing}".format(**count))
+    print("films; lists of rows fetched; refused by 22: {films} {lists} {refused}".format(**count))
+    print("plans made afresh; with H 0, a chunk due before p, a begun layer given up, one ended; bases, layers above, rows from p on; that pass the second call: "
+          "{plans} {none_held} {due_before} {given_up} {ended} {bases} {uppers} {rows} {plans}".format(**count))
+    print("the same with the rows in another order; checksum over all answers: {asked} {sum}".format(**count))
+    print("standing plans, at each p; that go on as they were: {standing} {standing}".format(**count))
 
 
 if sys.argv[1:] == ["family"]:

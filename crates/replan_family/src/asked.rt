@@ -127,7 +127,7 @@ fn replan_handed(
     )
 }
 
-// Lends room for 18 rows. What is lent holds 9s. The handed rows are then put behind the new ones, for the checker.
+// Lends room for 18 rows. What is lent holds 9s.
 fn replan_rows(
     c: Case,
     sizes: &[u32],
@@ -170,33 +170,26 @@ fn replan_rows(
     let counts = plan.counts;
     let rows = rows_of(answer);
     let sum = sums::of_rows(
-        sums::of_marks(sums::of_case(c), answer, counts, &marks),
+        sums::of_answer(sums::of_case(c), answer, marks, counts),
+        0,
+        18,
         &slots,
         &chunks,
         &layers,
         &bytes,
     );
-    let n = lists::hand(
-        c.list,
-        c.back,
-        rows,
-        &mut slots,
-        &mut chunks,
-        &mut layers,
-        &mut bytes,
-    );
-    let passed = pass(
+    let passed = pass_joined(
         c,
         sizes,
         size_chunks,
         size_layers,
         size_bytes,
         &marks,
-        &slots,
-        &chunks,
-        &layers,
-        &bytes,
-        n,
+        &mut slots,
+        &mut chunks,
+        &mut layers,
+        &mut bytes,
+        rows,
     );
     Got {
         rows,
@@ -204,6 +197,36 @@ fn replan_rows(
         marks: sums::word_of(marks),
         passed,
     }
+}
+
+// The handed rows are put behind the new ones.
+fn pass_joined(
+    c: Case,
+    sizes: &[u32],
+    size_chunks: &[u16],
+    size_layers: &[u8],
+    size_bytes: &[u32],
+    marks: &[u8; 3],
+    slots: &mut [u16; 18],
+    chunks: &mut [u16; 18],
+    layers: &mut [u8; 18],
+    bytes: &mut [u32; 18],
+    rows: usize,
+) -> bool {
+    let n = lists::hand(c.list, c.back, rows, slots, chunks, layers, bytes);
+    pass(
+        c,
+        sizes,
+        size_chunks,
+        size_layers,
+        size_bytes,
+        marks,
+        slots,
+        chunks,
+        layers,
+        bytes,
+        n,
+    )
 }
 
 // How many slots there are from p on.

@@ -158,41 +158,43 @@ fn every_film(tally: &mut [u64]) {
     }
 }
 
-fn say(words: &[u8], tally: &[u64], k: u16) {
+// The words, and the numbers from one on and before another.
+fn say(words: &[u8], tally: &[u64], from: u16, to: u16) {
     io::write_all(STDOUT_FILENO, words);
-    io::print_decimal(STDOUT_FILENO, tally::number(tally, k));
-}
-
-fn say_family(tally: &[u64]) {
-    say(b"films ", tally, tally::FILMS);
-    say(b" lists of rows fetched ", tally, tally::LISTS);
-    say(b" refused by 22 ", tally, tally::REFUSED);
-    say(b"\nplans made afresh ", tally, tally::PLANS);
-    say(b" with H 0 ", tally, tally::NONE_HELD);
-    say(b" a chunk due before p ", tally, tally::DUE_BEFORE);
-    say(b" a begun layer given up ", tally, tally::GIVEN_UP);
-    say(b" one ended ", tally, tally::ENDED);
-}
-
-fn say_plans(tally: &[u64]) {
-    say(b"\nbases ", tally, tally::BASES);
-    say(b" layers above ", tally, tally::UPPERS);
-    say(b" rows from p on ", tally, tally::ROWS);
-    say(b"\nlists that pass the second call ", tally, tally::PASSED);
-    say(
-        b"\nthe same with the rows in another order ",
-        tally,
-        tally::TURNED,
-    );
-    say(b"\nchecksum over all answers ", tally, tally::SUM);
-    say(b"\nstanding plans, at each p ", tally, tally::STANDING);
-    say(b" that go on as they were ", tally, tally::GOES_ON);
+    let mut k = from;
+    while k < to {
+        io::write_all(STDOUT_FILENO, b" ");
+        io::print_decimal(STDOUT_FILENO, tally::number(tally, k));
+        k = k + 1;
+    }
     io::write_all(STDOUT_FILENO, b"\n");
 }
 
 fn main() {
     let mut tally = [0u64; 16];
     every_film(&mut tally);
-    say_family(&tally);
-    say_plans(&tally);
+    say(
+        b"films; lists of rows fetched; refused by 22:",
+        &tally,
+        tally::FILMS,
+        tally::PLANS,
+    );
+    say(
+        b"plans made afresh; with H 0, a chunk due before p, a begun layer given up, one ended; bases, layers above, rows from p on; that pass the second call:",
+        &tally,
+        tally::PLANS,
+        tally::TURNED,
+    );
+    say(
+        b"the same with the rows in another order; checksum over all answers:",
+        &tally,
+        tally::TURNED,
+        tally::STANDING,
+    );
+    say(
+        b"standing plans, at each p; that go on as they were:",
+        &tally,
+        tally::STANDING,
+        16,
+    );
 }

@@ -31,40 +31,12 @@ fn before(p: u16, slots: &[u16; 18]) -> usize
     18
 }
 
-// Whether the new rows are those from a place on, and 9s stand after both.
-fn is_rest(
-    from: usize,
-    slots: &[u16; 18],
-    chunks: &[u16; 18],
-    layers: &[u8; 18],
-    bytes: &[u32; 18],
-    new_slots: &[u16; 18],
-    new_chunks: &[u16; 18],
-    new_layers: &[u8; 18],
-    new_bytes: &[u32; 18],
-) -> bool {
-    let mut k: usize = 0;
-    let mut at = from;
-    while at < 18 {
-        if 18 <= k {
-            return false;
-        }
-        if slots[at] != new_slots[k] {
-            return false;
-        }
-        if chunks[at] != new_chunks[k] {
-            return false;
-        }
-        if layers[at] != new_layers[k] {
-            return false;
-        }
-        if bytes[at] != new_bytes[k] {
-            return false;
-        }
-        k = k + 1;
-        at = at + 1;
+// How many of 18 rows stand after m.
+fn after(m: usize) -> usize {
+    if 18 < m {
+        return 0;
     }
-    true
+    18 - m
 }
 
 fn goes_on(
@@ -75,7 +47,7 @@ fn goes_on(
     size_chunks: &[u16],
     size_layers: &[u8],
     size_bytes: &[u32],
-    own_marks: &[u8; 3],
+    own_marks: [u8; 3],
     slots: &[u16; 18],
     chunks: &[u16; 18],
     layers: &[u8; 18],
@@ -109,19 +81,17 @@ fn goes_on(
         &mut new_bytes,
     );
     let answer = plan.answer;
-    rows_of(answer) < 99
-        && sums::same_marks(&marks, own_marks)
-        && is_rest(
-            m,
-            slots,
-            chunks,
-            layers,
-            bytes,
-            &new_slots,
-            &new_chunks,
-            &new_layers,
-            &new_bytes,
-        )
+    let rest = sums::of_rows(0, m, 18, slots, chunks, layers, bytes);
+    let new = sums::of_rows(
+        0,
+        0,
+        after(m),
+        &new_slots,
+        &new_chunks,
+        &new_layers,
+        &new_bytes,
+    );
+    rows_of(answer) < 99 && sums::word_of(marks) == sums::word_of(own_marks) && rest == new
 }
 
 fn every_slot(
@@ -131,7 +101,7 @@ fn every_slot(
     size_chunks: &[u16],
     size_layers: &[u8],
     size_bytes: &[u32],
-    marks: &[u8; 3],
+    marks: [u8; 3],
     slots: &[u16; 18],
     chunks: &[u16; 18],
     layers: &[u8; 18],
@@ -200,7 +170,7 @@ fn plan(
         size_chunks,
         size_layers,
         size_bytes,
-        &marks,
+        marks,
         &slots,
         &chunks,
         &layers,

@@ -39,32 +39,30 @@ pub(crate) fn of_case(c: Case) -> u64 {
     )
 }
 
-pub(crate) fn of_marks(sum: u64, answer: Answer, counts: [u16; 4], marks: &[u8; 3]) -> u64 {
-    let a = with(sum, number(answer));
-    let b = with(
-        with(with(a, wide(marks[0])), wide(marks[1])),
-        wide(marks[2]),
-    );
+// With the answer, the marks and the counts.
+pub(crate) fn of_answer(sum: u64, answer: Answer, marks: [u8; 3], counts: [u16; 4]) -> u64 {
     with(
-        with(
-            with(with(b, half(counts[0])), half(counts[1])),
-            half(counts[2]),
-        ),
-        half(counts[3]),
+        with(with(sum, number(answer)), word_of(marks)),
+        counts_of(counts),
     )
 }
 
-// All 18 rows that are lent, row by row.
+// With the rows from one place on and before another, row by row.
 pub(crate) fn of_rows(
     sum: u64,
+    from: usize,
+    to: usize,
     slots: &[u16; 18],
     chunks: &[u16; 18],
     layers: &[u8; 18],
     bytes: &[u32; 18],
 ) -> u64 {
     let mut all = sum;
-    let mut k: usize = 0;
-    while k < 18 {
+    let mut k = from;
+    while k < to {
+        if 18 <= k {
+            return all;
+        }
         all = with(with(all, half(slots[k])), half(chunks[k]));
         all = with(with(all, wide(layers[k])), bytes[k]);
         k = k + 1;
@@ -77,6 +75,10 @@ pub(crate) fn word_of(marks: [u8; 3]) -> u32 {
     wide(marks[0]) % 16 + 16 * (wide(marks[1]) % 16) + 256 * (wide(marks[2]) % 16)
 }
 
-pub(crate) fn same_marks(a: &[u8; 3], b: &[u8; 3]) -> bool {
-    a[0] == b[0] && a[1] == b[1] && a[2] == b[2]
+// Four bits a layer.
+fn counts_of(counts: [u16; 4]) -> u32 {
+    half(counts[0]) % 16
+        + 16 * (half(counts[1]) % 16)
+        + 256 * (half(counts[2]) % 16)
+        + 4096 * (half(counts[3]) % 16)
 }

@@ -25,11 +25,11 @@ pub(crate) const PASSED: u16 = 11;
 
 pub(crate) const TURNED: u16 = 12;
 
-pub(crate) const STANDING: u16 = 13;
+pub(crate) const SUM: u16 = 13;
 
-pub(crate) const GOES_ON: u16 = 14;
+pub(crate) const STANDING: u16 = 14;
 
-pub(crate) const SUM: u16 = 15;
+pub(crate) const GOES_ON: u16 = 15;
 
 pub(crate) fn add(tally: &mut [u64], k: u16, n: u32) {
     let at = k as usize;

@@ -158,7 +158,11 @@ fn replan_case(at: Places, numbers: &[u32; 512], halves: &[u16; 512], bytes: &[u
     replan(
         programme(halves),
         words(numbers, at.sizes),
-        table::halves(halves, at.size_chunks, table::small(numbers, at.size_chunks)),
+        table::halves(
+            halves,
+            at.size_chunks,
+            table::small(numbers, at.size_chunks),
+        ),
         table::bytes(bytes, at.size_layers, table::small(numbers, at.size_layers)),
         words(numbers, at.size_bytes),
         words(numbers, at.forecast),
@@ -176,7 +180,11 @@ fn check_case(at: Places, numbers: &[u32; 512], halves: &[u16; 512], bytes: &[u8
     print::verdict_said(checker::check_from(
         programme(halves),
         words(numbers, at.sizes),
-        table::halves(halves, at.size_chunks, table::small(numbers, at.size_chunks)),
+        table::halves(
+            halves,
+            at.size_chunks,
+            table::small(numbers, at.size_chunks),
+        ),
         table::bytes(bytes, at.size_layers, table::small(numbers, at.size_layers)),
         words(numbers, at.size_bytes),
         words(numbers, at.forecast),
@@ -193,7 +201,11 @@ fn plan_case(at: Places, numbers: &[u32; 512], halves: &[u16; 512], bytes: &[u8;
     plan(
         programme(halves),
         words(numbers, at.sizes),
-        table::halves(halves, at.size_chunks, table::small(numbers, at.size_chunks)),
+        table::halves(
+            halves,
+            at.size_chunks,
+            table::small(numbers, at.size_chunks),
+        ),
         table::bytes(bytes, at.size_layers, table::small(numbers, at.size_layers)),
         words(numbers, at.size_bytes),
         words(numbers, at.forecast),

@@ -2,8 +2,7 @@
 ghost use Prim.Native.Nat.{_≤_};
 
 // The place of the first such byte from a place on, or the end.
-pub(crate) fn end_of(text: &[u8], at: usize, byte: u8) -> usize
-{
+pub(crate) fn end_of(text: &[u8], at: usize, byte: u8) -> usize {
     let mut k = at;
     while k < text.len() {
         if text[k] == byte {

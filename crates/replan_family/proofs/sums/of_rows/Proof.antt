@@ -5,13 +5,16 @@ use Rattle.replan_family.proofs.sums.of_rows.Statement.{statement}
 use Rattle.replan_family.proofs.sums.of_rows.Tie as tie
 
 abbrev Inv-loop : tie.InvT-loop
-Inv-loop sum slots chunks layers bytes all₀ k₀ all k = k ≤ 18
+Inv-loop sum from to slots chunks layers bytes all₀ k₀ all k = 0 ≤ k
 
 abbrev μ-loop : tie.MeasureT-loop
-μ-loop sum slots chunks layers bytes all₀ k₀ all k = 18 - k
+μ-loop sum from to slots chunks layers bytes all₀ k₀ all k = to - k
 
 loop-holds : tie.Need-loop-holds Inv-loop μ-loop
 loop-holds c = search needs
+
+returns : tie.Need-returns Inv-loop μ-loop
+returns c = search needs
 
 mul-half : tie.Need-mul-half Inv-loop μ-loop
 mul-half c = search needs
@@ -64,8 +67,8 @@ loop-less c = search needs
 loop-again : tie.Need-loop-again Inv-loop μ-loop
 loop-again c = search needs
 
-returns : tie.Need-returns Inv-loop μ-loop
-returns c = search needs
+returns-2 : tie.Need-returns-2 Inv-loop μ-loop
+returns-2 c = search needs
 
 pub of-rows-spec : {M : Type 1} → statement M
 of-rows-spec =
@@ -74,6 +77,7 @@ of-rows-spec =
     Inv-loop
     μ-loop
     loop-holds
+    returns
     mul-half
     element-copy-out-half
     half-requires
@@ -91,4 +95,4 @@ of-rows-spec =
     add-k
     loop-less
     loop-again
-    returns)
+    returns-2)
