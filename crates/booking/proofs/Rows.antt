@@ -16,9 +16,10 @@ use Rattle.basics.specs.lemmas.Lists.{getD-upTo, upTo-cong}
 use Rattle.basics.specs.lemmas.Tests.{all-append, eqb-iff, last, not-T-false, test, T-true}
 use Rattle.job.specs.Job.{Within}
 use Rattle.fetch.specs.Rows.{Row, bytesInSlot, rowAt, rowsOf}
+use Rattle.fetch.specs.lemmas.Rows.{bytes-append}
 use Rattle.booking.specs.Booking.{slotHas, slotBySlot, takenOff, addedBack, SlotsThere, Releasable}
 use Rattle.booking.specs.lemmas.Passes.{bare, Added, Covered}
-use Rattle.booking.specs.lemmas.Slots.{bytes-append, length-changed, length-taken, length-added, taken-at, added-at, all-slots, slots-equal}
+use Rattle.booking.specs.lemmas.Slots.{length-changed, length-taken, length-added, taken-at, added-at, all-slots, slots-equal}
 
 -- ---- one row more
 

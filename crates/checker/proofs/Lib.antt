@@ -1,5 +1,2 @@
-mod Rows
-mod Held
-mod Seeing
-mod Exact
-mod Answer
+mod Late
+mod Judged

@@ -1,5 +1,5 @@
--- Meaning. What the checker answers: document 01, "Direct calls without files check 5, 6, 7, then 8", with 18 "after 6 and before 7", else
--- the verdict.
+-- Meaning. What the checker's two calls answer: document 01, "Direct calls without files check 5, 6, 7, then 8", with 18 "after 6 and
+-- before 7", and 21 of the second call after them; else the verdict.
 use Prim.Native.Nat.{ℕ}
 use mathlib.Core.Bool.{cond}
 use mathlib.Core.List.{List}
@@ -10,6 +10,7 @@ use Rattle.job.specs.Handed.{HandedJob, jobIn, jobRefusal}
 use Rattle.fetch.specs.Rows.{rowsOf}
 use Rattle.fetch.specs.Handed.{handedRefusal}
 use Rattle.fetch.specs.Verdict.{verdict}
+use Rattle.fetch.specs.VerdictFrom.{slotRefusal, verdictFrom}
 use Rattle.checker.specs.declared.Checked.{Checked}
 use Rattle.checker.specs.declared.Checked.the-variants.{Verdict, Refused}
 
@@ -25,3 +26,11 @@ checkRefusal h marks slots chunks′ layers bytes = jobRefusal h orElse handedRe
 abbrev pub checked : HandedJob → List ℕ → List ℕ → List ℕ → List ℕ → List ℕ → Checked
 checked h marks slots chunks′ layers bytes =
     answer (checkRefusal h marks slots chunks′ layers bytes) (verdict (jobIn h) marks (rowsOf slots chunks′ layers bytes))
+
+-- The second call's: "21, p not from 1 to d(C), in either call", after the job's own and 8.
+abbrev pub checkFromRefusal : HandedJob → ℕ → List ℕ → List ℕ → List ℕ → List ℕ → List ℕ → ℕ
+checkFromRefusal h from marks slots chunks′ layers bytes = checkRefusal h marks slots chunks′ layers bytes orElse slotRefusal (h .programme) from
+
+abbrev pub checkedFrom : HandedJob → ℕ → List ℕ → List ℕ → List ℕ → List ℕ → List ℕ → Checked
+checkedFrom h from marks slots chunks′ layers bytes =
+    answer (checkFromRefusal h from marks slots chunks′ layers bytes) (verdictFrom (jobIn h) from marks (rowsOf slots chunks′ layers bytes))

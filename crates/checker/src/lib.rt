@@ -1,284 +1,27 @@
-// The checker: document 01's verdict for any fetch list with its marks. One pass over the rows fills tables of sums and of
-// first slots; one pass over the chunks and two over the slots read them.
+// The checker: document 01's verdict for any fetch list with its marks, and document 02's from a slot on, whose rule 2 allows a short sum
+// whose rows are all before that slot. At slot 1 the second is the first. The tables and what they say of the rules are those of rules.
 use job::Programme;
 ghost use mathlib.Core.Path.{_≡_};
-ghost use mathlib.Core.Bool.{_&&_};
+ghost use mathlib.Core.Bool.{_||_};
 ghost use mathlib.Core.List.{[], _∷_};
-ghost use Prim.Native.Nat.{ℕ, _+_, _*_, _-_, _/_, _<_, _≤_, min};
-ghost use lib.ListN.{length, getD, set, replicate};
-ghost use lib.Dec.{leb};
-ghost use Rattle.basics.specs.Tests.{allTo};
-ghost use Rattle.job.specs.Job.{dueSlot, lastDue};
+ghost use Prim.Native.Nat.{ℕ, _+_, _*_, _-_, _<_, _≤_};
+ghost use lib.ListN.{length, getD, replicate};
+ghost use lib.Dec.{eqb};
+ghost use Rattle.basics.specs.Tests.{allBelow, allTo};
+ghost use Rattle.job.specs.Job.{lastDue};
 ghost use Rattle.job.specs.Handed.{handed};
 ghost use Rattle.job.specs.Table.{tableAt};
 ghost use Rattle.fetch.specs.Rows.{rowsOf};
 ghost use Rattle.fetch.specs.Handed.{Whole};
 ghost use Rattle.fetch.specs.Verdict.{lowest};
-ghost use Rattle.checker.specs.Checked.{checked};
-ghost use Rattle.checker.specs.lemmas.Tables.{cap, inRange, Passed, SeenChunk, SeenAll, heldBy, Marked, Judged};
+ghost use Rattle.fetch.specs.VerdictFrom.{layerBefore};
+ghost use Rattle.checker.specs.Checked.{checked, checkedFrom};
+ghost use Rattle.checker.specs.lemmas.Judged.{allowedSum, allowedBy, early, InTables, Late, Judged};
 
 // The verdict 0 to 7, or the number of a refusal.
 pub enum Checked {
     Verdict(u8),
     Refused(u8),
-}
-
-// What the pass over the rows finds: rule 1, and where it holds rule 5.
-struct Pass {
-    ranged: bool,
-    timely: bool,
-}
-
-// The layers of one chunk: its mark byte, rules 2 and 3.
-struct Seen {
-    mark: u8,
-    whole: bool,
-    lower: bool,
-}
-
-// The layers of all chunks: rules 2, 3 and 7.
-struct Layers {
-    whole: bool,
-    lower: bool,
-    said: bool,
-}
-
-const CAP: u64 = 1099511627776;
-
-fn both(a: bool, b: bool) -> bool
-    ensures { λ r. ⌜ r ≡ a && b ⌝ }
-{
-    if a {
-        return b;
-    }
-    false
-}
-
-// Saturates: a direct call may hand more rows than 64 bits can sum, and any sum above CAP breaks rule 2 or 4 alike.
-fn add(sum: u64, more: u32) -> u64
-    requires { ⌜ sum ≤ cap ⌝ }
-    ensures { λ r. ⌜ r ≡ min cap (sum + more) ⌝ }
-{
-    let next = sum + (more as u64);
-    if CAP < next {
-        return CAP;
-    }
-    next
-}
-
-fn sooner(a: u16, b: u16) -> u16
-    ensures { λ r. ⌜ r ≡ min a b ⌝ }
-{
-    if a < b {
-        return a;
-    }
-    b
-}
-
-fn wide(x: u16) -> usize
-    ensures { λ r. ⌜ r ≡ x ⌝ }
-{
-    x as usize
-}
-
-// Rule 1 of one row.
-fn in_range(last: usize, count: u16, depth: usize, s: u16, c: u16, l: u8, b: u32) -> bool
-    ensures { λ r. ⌜ r ≡ inRange last count depth (record { slot = s; chunk = c; layer = l; bytes = b }) ⌝ }
-{
-    if s < 1 {
-        return false;
-    }
-    if last < (s as usize) {
-        return false;
-    }
-    if c < 1 {
-        return false;
-    }
-    if count < c {
-        return false;
-    }
-    if depth <= (l as usize) {
-        return false;
-    }
-    1 <= b
-}
-
-// A row goes into the tables.
-fn add_row(
-    slotsum: &mut [u64; 3601],
-    layersum: &mut [u64; 2000],
-    first: &mut [u16; 501],
-    s: u16,
-    c: u16,
-    l: u8,
-    b: u32,
-)
-    requires { ⌜ (s ≤ 3600) × (1 ≤ c) × (c ≤ 500) × (l < 4) × (getD (now slotsum) s 0 ≤ cap) × (getD (now layersum) (4 * (c - 1) + l) 0 ≤ cap) ⌝ }
-    ensures { λ _. ⌜ (now (slotsum .exit) ≡ set (now (slotsum .entry)) s (min cap (getD (now (slotsum .entry)) s 0 + b))) × (now (layersum .exit) ≡ set (now (layersum .entry)) (4 * (c - 1) + l) (min cap (getD (now (layersum .entry)) (4 * (c - 1) + l) 0 + b))) × (now (first .exit) ≡ set (now (first .entry)) c (min (getD (now (first .entry)) c 0) s)) ⌝ }
-{
-    let t = s as usize;
-    let i = c as usize;
-    let at = 4 * (i - 1) + (l as usize);
-    slotsum[t] = add(slotsum[t], b);
-    layersum[at] = add(layersum[at], b);
-    first[i] = sooner(first[i], s);
-}
-
-// One pass over the rows: rule 1, rule 5 and the tables. A row out of range ends it.
-fn tally(
-    p: Programme,
-    last: usize,
-    depth: usize,
-    slots: &[u16],
-    chunks: &[u16],
-    layers: &[u8],
-    bytes: &[u32],
-    slotsum: &mut [u64; 3601],
-    layersum: &mut [u64; 2000],
-    first: &mut [u16; 501],
-) -> Pass
-    requires { ⌜ (last ≤ 3600) × (p .chunks ≤ 500) × (depth ≤ 4) × (length (now slots) ≡ length (now chunks)) × (length (now slots) ≡ length (now layers)) × (length (now slots) ≡ length (now bytes)) × (now slotsum ≡ replicate 3601 0) × (now layersum ≡ replicate 2000 0) × (now first ≡ replicate 501 65535) ⌝ }
-    ensures { λ r. ⌜ Passed p last depth (rowsOf (now (slots .entry)) (now (chunks .entry)) (now (layers .entry)) (now (bytes .entry))) r (now (slotsum .exit)) (now (layersum .exit)) (now (first .exit)) ⌝ }
-{
-    let mut timely = true;
-    let mut i: usize = 0;
-    while i < slots.len() {
-        let s = slots[i];
-        let c = chunks[i];
-        let l = layers[i];
-        let b = bytes[i];
-        if in_range(last, p.chunks, depth, s, c, l, b) {
-            timely = both(timely, wide(s) <= job::due_slot(p, c));
-            add_row(slotsum, layersum, first, s, c, l, b);
-            i = i + 1;
-        } else {
-            return Pass {
-                ranged: false,
-                timely: false,
-            };
-        }
-    }
-    Pass {
-        ranged: true,
-        timely,
-    }
-}
-
-// The layers of chunk i, from the base up.
-fn see_chunk(table: &[u32; 2000], depth: usize, layersum: &[u64; 2000], i: u16) -> Seen
-    requires { ⌜ (depth ≤ 4) × (1 ≤ i) × (i ≤ 500) ⌝ }
-    ensures { λ r. ⌜ SeenChunk (tableAt (now (table .entry))) (now (layersum .entry)) depth i r ⌝ }
-{
-    let from = 4 * (wide(i) - 1);
-    let mut mark: u8 = 0;
-    let mut whole = true;
-    let mut lower = true;
-    let mut below = true;
-    let mut n: usize = 0;
-    while n < depth {
-        let at = from + n;
-        let sum = layersum[at];
-        let size = job::size_at(table, i, n) as u64;
-        if sum == size {
-            mark = fetch::with(mark, n as u8);
-            lower = both(below, lower);
-            below = true;
-            n = n + 1;
-        } else {
-            whole = both(sum == 0, whole);
-            below = false;
-            n = n + 1;
-        }
-    }
-    Seen { mark, whole, lower }
-}
-
-// Rules 2, 3 and 7, chunk by chunk.
-fn see_all(
-    table: &[u32; 2000],
-    depth: usize,
-    layersum: &[u64; 2000],
-    marks: &[u8],
-    count: u16,
-) -> Layers
-    requires { ⌜ (depth ≤ 4) × (count ≤ 500) × (length (now marks) ≡ count) ⌝ }
-    ensures { λ r. ⌜ SeenAll (tableAt (now (table .entry))) (now (layersum .entry)) (now (marks .entry)) depth count r ⌝ }
-{
-    let mut whole = true;
-    let mut lower = true;
-    let mut said = true;
-    let mut i: u16 = 0;
-    while i < count {
-        let at = i as usize;
-        let next = i + 1;
-        let seen = see_chunk(table, depth, layersum, next);
-        whole = both(seen.whole, whole);
-        lower = both(seen.lower, lower);
-        said = both(marks[at] == seen.mark, said);
-        i = next;
-    }
-    Layers { whole, lower, said }
-}
-
-// Rule 4, slot by slot.
-fn within(forecast: &[u32], slotsum: &[u64; 3601]) -> bool
-    requires { ⌜ length (now forecast) ≤ 3600 ⌝ }
-    ensures { λ r. ⌜ r ≡ allTo (length (now (forecast .entry))) (λ t. leb (getD (now (slotsum .entry)) t 0) (getD (now (forecast .entry)) (t - 1) 0)) ⌝ }
-{
-    let mut t: usize = 0;
-    while t < forecast.len() {
-        let u = t + 1;
-        if (forecast[t] as u64) < slotsum[u] {
-            return false;
-        }
-        t = u;
-    }
-    true
-}
-
-// The slots in which chunks begin to be held, and in which they cease to be. A chunk begun in its due slot is never held.
-fn mark_times(p: Programme, first: &[u16; 501], begins: &mut [u16; 3601], ends: &mut [u16; 3601])
-    requires { ⌜ (p .chunks ≤ 500) × ((i : ℕ) → i ≤ p .chunks → dueSlot p i ≤ 3600) × (now begins ≡ replicate 3601 0) × (now ends ≡ replicate 3601 0) ⌝ }
-    ensures { λ _. ⌜ Marked p (now (first .entry)) (p .chunks) (now (begins .exit)) (now (ends .exit)) ⌝ }
-{
-    let n = p.chunks;
-    let mut i: u16 = 0;
-    while i < n {
-        let next = i + 1;
-        let k = next as usize;
-        let a = wide(first[k]);
-        let d = job::due_slot(p, next);
-        if a < d {
-            begins[a] = begins[a] + 1;
-            ends[d] = ends[d] + 1;
-            i = next;
-        } else {
-            i = next;
-        }
-    }
-}
-
-// Rule 6, slot by slot.
-fn sweep(p: Programme, last: usize, first: &[u16; 501]) -> bool
-    requires { ⌜ (p .chunks ≤ 500) × (last ≤ 3600) × ((i : ℕ) → i ≤ p .chunks → dueSlot p i ≤ 3600) × ((i : ℕ) → 1 ≤ i → i ≤ 500 → 1 ≤ getD (now first) i 0) ⌝ }
-    ensures { λ r. ⌜ r ≡ allTo last (λ t. leb (heldBy p (now (first .entry)) t) (p .limit / p .span)) ⌝ }
-{
-    let most = job::held_most(p);
-    let mut begins = [0u16; 3601];
-    let mut ends = [0u16; 3601];
-    mark_times(p, first, &mut begins, &mut ends);
-    let mut held: u16 = 0;
-    let mut t: usize = 0;
-    while t < last {
-        let u = t + 1;
-        let more = held + begins[u];
-        held = more - ends[u];
-        if most < held {
-            return false;
-        }
-        t = u;
-    }
-    true
 }
 
 // The lowest broken rule of 2 to 7, or 0.
@@ -306,13 +49,140 @@ fn lowest_broken(whole: bool, lower: bool, within: bool, timely: bool, few: bool
     0
 }
 
-// The verdict of an accepted job's list, its rows whole and its marks one byte a chunk. The job's sizes are seen by their table alone;
-// `depth` is the number of layers.
+// Rule 2 of the second call for one layer: its sum is 0 or its size, or less where its rows are all before the slot.
+fn allowed(sum: u64, size: u32, flag: u8) -> bool
+    ensures { λ r. ⌜ r ≡ allowedSum sum size (eqb flag 0) ⌝ }
+{
+    let z = size as u64;
+    if sum == 0 {
+        return true;
+    }
+    if sum == z {
+        return true;
+    }
+    if sum < z {
+        return flag == 0;
+    }
+    false
+}
+
+// A flag for each layer that has a row from the slot on.
+fn mark_late(
+    last: usize,
+    count: u16,
+    depth: usize,
+    from: u16,
+    slots: &[u16],
+    chunks: &[u16],
+    layers: &[u8],
+    bytes: &[u32],
+    late: &mut [u8; 2000],
+)
+    requires { ⌜ InTables last count depth (now slots) (now chunks) (now layers) (now bytes) × (now late ≡ replicate 2000 0) ⌝ }
+    ensures { λ _. ⌜ Late from (rowsOf (now (slots .entry)) (now (chunks .entry)) (now (layers .entry)) (now (bytes .entry))) (now (late .exit)) ⌝ }
+{
+    let mut k: usize = 0;
+    while k < slots.len() {
+        let s = slots[k];
+        let i = rules::wide(chunks[k]);
+        let n = layers[k] as usize;
+        let at = 4 * (i - 1) + n;
+        if from <= s {
+            late[at] = 1;
+            k = k + 1;
+        } else {
+            k = k + 1;
+        }
+    }
+}
+
+// Rule 2 of the second call for the layers of a chunk.
+fn allowed_chunk(
+    table: &[u32; 2000],
+    depth: usize,
+    layersum: &[u64; 2000],
+    late: &[u8; 2000],
+    i: u16,
+) -> bool
+    requires { ⌜ (depth ≤ 4) × (1 ≤ i) × (i ≤ 500) ⌝ }
+    ensures { λ r. ⌜ r ≡ allBelow depth (allowedBy (tableAt (now (table .entry))) (now (layersum .entry)) (early (now (late .entry))) i) ⌝ }
+{
+    let from = 4 * (rules::wide(i) - 1);
+    let mut all = true;
+    let mut n: usize = 0;
+    while n < depth {
+        let at = from + n;
+        let z = job::size_at(table, i, n);
+        all = rules::both(allowed(layersum[at], z, late[at]), all);
+        n = n + 1;
+    }
+    all
+}
+
+// And for all chunks.
+fn allowed_all(
+    table: &[u32; 2000],
+    depth: usize,
+    layersum: &[u64; 2000],
+    late: &[u8; 2000],
+    count: u16,
+) -> bool
+    requires { ⌜ (depth ≤ 4) × (count ≤ 500) ⌝ }
+    ensures { λ r. ⌜ r ≡ allTo count (λ i. allBelow depth (allowedBy (tableAt (now (table .entry))) (now (layersum .entry)) (early (now (late .entry))) i)) ⌝ }
+{
+    let mut all = true;
+    let mut i: u16 = 0;
+    while i < count {
+        let next = i + 1;
+        all = rules::both(allowed_chunk(table, depth, layersum, late, next), all);
+        i = next;
+    }
+    all
+}
+
+// Rule 2 of the second call, looked for where the first call's is broken.
+fn whole_from(
+    whole: bool,
+    last: usize,
+    count: u16,
+    depth: usize,
+    from: u16,
+    table: &[u32; 2000],
+    layersum: &[u64; 2000],
+    slots: &[u16],
+    chunks: &[u16],
+    layers: &[u8],
+    bytes: &[u32],
+) -> bool
+    requires { ⌜ InTables last count depth (now slots) (now chunks) (now layers) (now bytes) ⌝ }
+    ensures { λ r. ⌜ r ≡ whole || allTo count (λ i. allBelow depth (allowedBy (tableAt (now (table .entry))) (now (layersum .entry)) (layerBefore from (rowsOf (now (slots .entry)) (now (chunks .entry)) (now (layers .entry)) (now (bytes .entry)))) i)) ⌝ }
+{
+    if whole {
+        return true;
+    }
+    let mut late = [0u8; 2000];
+    mark_late(
+        last,
+        count,
+        depth,
+        from,
+        slots,
+        chunks,
+        layers,
+        bytes,
+        &mut late,
+    );
+    allowed_all(table, depth, layersum, &late, count)
+}
+
+// The verdict from a slot on of an accepted job's list, its rows whole and its marks one byte a chunk. The job's sizes are seen by their
+// table alone; `depth` is the number of layers.
 fn verdict_of(
     p: Programme,
     table: &[u32; 2000],
     depth: usize,
     forecast: &[u32],
+    from: u16,
     marks: &[u8],
     slots: &[u16],
     chunks: &[u16],
@@ -320,13 +190,13 @@ fn verdict_of(
     bytes: &[u32],
 ) -> u8
     requires { ⌜ (p .chunks ≤ 500) × (lastDue p ≤ 3600) × (depth ≤ 4) × (length (now forecast) ≤ 3600) × Whole (p .chunks) (now marks) (now slots) (now chunks) (now layers) (now bytes) ⌝ }
-    ensures { λ r. ⌜ Judged p (now (table .entry)) depth (now (forecast .entry)) (now (marks .entry)) (rowsOf (now (slots .entry)) (now (chunks .entry)) (now (layers .entry)) (now (bytes .entry))) r ⌝ }
+    ensures { λ r. ⌜ Judged p (now (table .entry)) depth (now (forecast .entry)) from (now (marks .entry)) (rowsOf (now (slots .entry)) (now (chunks .entry)) (now (layers .entry)) (now (bytes .entry))) r ⌝ }
 {
     let last = job::last_due(p);
     let mut slotsum = [0u64; 3601];
     let mut layersum = [0u64; 2000];
     let mut first = [65535u16; 501];
-    let pass = tally(
+    let pass = rules::tally(
         p,
         last,
         depth,
@@ -339,10 +209,23 @@ fn verdict_of(
         &mut first,
     );
     if pass.ranged {
-        let seen = see_all(table, depth, &layersum, marks, p.chunks);
-        let room = within(forecast, &slotsum);
-        let few = sweep(p, last, &first);
-        return lowest_broken(seen.whole, seen.lower, room, pass.timely, few, seen.said);
+        let seen = rules::see_all(table, depth, &layersum, marks, p.chunks);
+        let room = rules::within(forecast, &slotsum);
+        let few = rules::sweep(p, last, &first);
+        let whole = whole_from(
+            seen.whole,
+            last,
+            p.chunks,
+            depth,
+            from,
+            table,
+            &layersum,
+            slots,
+            chunks,
+            layers,
+            bytes,
+        );
+        return lowest_broken(whole, seen.lower, room, pass.timely, few, seen.said);
     }
     1
 }
@@ -381,6 +264,54 @@ pub fn check(
         &table,
         depth,
         forecast,
+        1,
+        marks,
+        slots,
+        chunks,
+        layers,
+        bytes,
+    ))
+}
+
+// The same from a slot on: rule 2 allows a short sum whose rows are all before it. Refused: 5, 6, 18, 7, 8, then 21 by the slot.
+pub fn check_from(
+    p: Programme,
+    sizes: &[u32],
+    size_chunks: &[u16],
+    size_layers: &[u8],
+    size_bytes: &[u32],
+    forecast: &[u32],
+    from: u16,
+    marks: &[u8],
+    slots: &[u16],
+    chunks: &[u16],
+    layers: &[u8],
+    bytes: &[u32],
+) -> Checked
+    ensures { λ r. ⌜ r ≡ checkedFrom (handed p (now (sizes .entry)) (now («size_chunks» .entry)) (now («size_layers» .entry)) (now («size_bytes» .entry)) (now (forecast .entry))) from (now (marks .entry)) (now (slots .entry)) (now (chunks .entry)) (now (layers .entry)) (now (bytes .entry)) ⌝ }
+{
+    let job = job::refusal(p, sizes, size_chunks, size_layers, size_bytes, forecast);
+    if job != 0 {
+        return Checked::Refused(job);
+    }
+    let list = fetch::handed_refusal(p.chunks, marks, slots, chunks, layers, bytes);
+    if list != 0 {
+        return Checked::Refused(list);
+    }
+    let slot = fetch::slot_refusal(p, from);
+    if slot != 0 {
+        return Checked::Refused(slot);
+    }
+    let depth = sizes.len();
+    let unset = p.chunks as u32;
+    let mut table = [unset; 2000];
+    job::fill_sizes(sizes, size_chunks, size_layers, size_bytes, &mut table);
+    Checked::Verdict(verdict_of(
+        p,
+        &table,
+        depth,
+        forecast,
+        from,
         marks,
         slots,
         chunks,

@@ -1,4 +1,5 @@
-// A fetch list as it is handed: four slices of one length and a mark byte a chunk.
+// A fetch list as it is handed: four slices of one length and a mark byte a chunk; and a slot that is handed.
+use job::Programme;
 ghost use mathlib.Core.Path.{_≡_};
 ghost use mathlib.Core.Bool.{cond};
 ghost use Prim.Native.Nat.{_+_, _*_, _^_, _≤_, _<_};
@@ -8,6 +9,7 @@ ghost use Rattle.fetch.specs.Marks.{bit, withLayer, withoutLayer};
 ghost use Rattle.fetch.specs.Counts.{markCount, wordCount, wordOf, overWords, overRest};
 ghost use Rattle.fetch.specs.lemmas.Counts.{eight};
 ghost use Rattle.fetch.specs.Handed.{handedRefusal};
+ghost use Rattle.fetch.specs.VerdictFrom.{slotRefusal};
 
 // Whether bit n of a mark byte is set. A byte has no bit 8 or above.
 pub fn has(mark: u8, n: u8) -> bool
@@ -148,6 +150,19 @@ pub fn handed_refusal(
     }
     if slots.len() != bytes.len() {
         return 8;
+    }
+    0
+}
+
+// 21: a slot not from 1 to d(C).
+pub fn slot_refusal(p: Programme, slot: u16) -> u8
+    ensures { λ r. ⌜ r ≡ slotRefusal p slot ⌝ }
+{
+    if slot < 1 {
+        return 21;
+    }
+    if job::last_due(p) < (slot as usize) {
+        return 21;
     }
     0
 }

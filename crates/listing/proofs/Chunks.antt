@@ -16,17 +16,17 @@ use Rattle.schedule.specs.lemmas.Fill.{Piece}
 use Rattle.schedule.specs.lemmas.Linear.{level-bit}
 use Rattle.schedule.specs.lemmas.Queue.{pieces}
 use Rattle.listing.specs.declared.At.{At}
-use Rattle.listing.specs.lemmas.Listing.{lastOf, bytesAt, leftAt, onward, load, Fed, Made, Same, Room, piece, PutsOne, Puts, begun, levelOf, Levels, layersOf, queueOf, ChunkFrom, AllFrom}
+use Rattle.listing.specs.lemmas.Listing.{AllBy, begun, bytesAt, ChunkFrom, Fed, lastOf, layersOf, leftAt, levelOf, Levels, load, Made, onward, piece, PiecesFrom, Puts, PutsOne, queueBy, Room, Same}
 use Rattle.listing.proofs.Pieces.{jump, left-next, made-same, same-refl}
 use Rattle.basics.specs.lemmas.Tables.{drop-next, all-from}
 
 -- ---- loads
 
-load-append : (a b : List Piece) → load (a ++ b) ≡ load a + load b
+pub load-append : (a b : List Piece) → load (a ++ b) ≡ load a + load b
 load-append [] b = omega arith
 load-append (p ∷ a) b = omega (arith, load-append a b)
 
-fed-append : (A : ℕ → ℕ) (a b : List Piece) → Fed A (a ++ b) → Fed A b
+pub fed-append : (A : ℕ → ℕ) (a b : List Piece) → Fed A (a ++ b) → Fed A b
 fed-append A [] b f = f
 fed-append A (p ∷ a) b f = fed-append A a b (f .2)
 
@@ -220,15 +220,15 @@ module _ (start : ℕ) (part : List ℕ) (size : ℕ → ℕ → ℕ) (k r m : �
 
 -- ---- all chunks
 
-pub record Placing (start : ℕ) (part : List ℕ) (size : ℕ → ℕ → ℕ) (ids ready mark : List ℕ) (first : ℕ) (a : At) (ss cs ls bs ss' cs' ls' bs' : List ℕ) (at : At) (q : ℕ) : Type 0 where
+pub record Placing (f : ℕ → ℕ → ℕ → List Piece) (start : ℕ) (part ids ready mark : List ℕ) (first : ℕ) (a : At) (ss cs ls bs ss' cs' ls' bs' : List ℕ) (at : At) (q : ℕ) : Type 0 where
   pub done : List Piece
-  pub says : queueOf size (drop first ids) (drop first ready) (drop first mark) ≡ done ++ queueOf size (drop q ids) (drop q ready) (drop q mark)
+  pub says : queueBy f (drop first ids) (drop first ready) (drop first mark) ≡ done ++ queueBy f (drop q ids) (drop q ready) (drop q mark)
   pub from : first ≤ q
   pub to : q ≤ 500
   pub puts : Puts start part done (4 * (q - first)) a ss cs ls bs at ss' cs' ls' bs'
 
-module _ (start : ℕ) (part : List ℕ) (size : ℕ → ℕ → ℕ) (ids ready mark : List ℕ) (first : ℕ) (a : At) (ss cs ls bs : List ℕ) (o : AllFrom start part size ids ready mark first a ss cs ls bs) where
-  pub placing-start : Placing start part size ids ready mark first a ss cs ls bs ss cs ls bs a first
+module _ (P : ℕ → Type 0) (f : ℕ → ℕ → ℕ → List Piece) (start : ℕ) (part ids ready mark : List ℕ) (first : ℕ) (a : At) (ss cs ls bs : List ℕ) (o : AllBy P f start part ids ready mark first a ss cs ls bs) where
+  pub placing-start : Placing f start part ids ready mark first a ss cs ls bs ss cs ls bs a first
   placing-start =
       record {
         done = [];
@@ -238,40 +238,40 @@ module _ (start : ℕ) (part : List ℕ) (size : ℕ → ℕ → ℕ) (ids ready
         puts = puts-more start part (omega arith) (puts-none start part a ss cs ls bs (o .room .low) (o .room .high));
       }
 
-  module _ (ss' cs' ls' bs' : List ℕ) (at : At) (q : ℕ) (y : Placing start part size ids ready mark first a ss cs ls bs ss' cs' ls' bs' at q) where
-    pub placing-end : 500 ≤ q → Puts start part (queueOf size (drop first ids) (drop first ready) (drop first mark)) (4 * (500 - first)) a ss cs ls bs at ss' cs' ls' bs'
+  module _ (ss' cs' ls' bs' : List ℕ) (at : At) (q : ℕ) (y : Placing f start part ids ready mark first a ss cs ls bs ss' cs' ls' bs' at q) where
+    pub placing-end : 500 ≤ q → Puts start part (queueBy f (drop first ids) (drop first ready) (drop first mark)) (4 * (500 - first)) a ss cs ls bs at ss' cs' ls' bs'
     placing-end h =
         let e : drop q ids ≡ [] = drop-of-length-le ids {i = q} (omega (arith, o .long .0)) in
         puts-as start part (sym (append-nil (y .done)) ∙ sym (rw e at (y .says))) (puts-more start part (omega (arith, y .to)) (y .puts))
 
     module _ (h : q < 500) where
       abbrev here′ : List Piece
-      here′ = layersOf size (getD ids q 0) (getD ready q 0) (getD mark q 0)
+      here′ = f (getD ids q 0) (getD ready q 0) (getD mark q 0)
 
       abbrev later : List Piece
-      later = queueOf size (drop (q + 1) ids) (drop (q + 1) ready) (drop (q + 1) mark)
+      later = queueBy f (drop (q + 1) ids) (drop (q + 1) ready) (drop (q + 1) mark)
 
-      next : queueOf size (drop q ids) (drop q ready) (drop q mark) ≡ here′ ++ later
+      next : queueBy f (drop q ids) (drop q ready) (drop q mark) ≡ here′ ++ later
       next = rw (drop-next ids q (omega (arith, o .long .0)), drop-next ready q (omega (arith, o .long .1)), drop-next mark q (omega (arith, o .long .2)))
 
-      split : queueOf size (drop first ids) (drop first ready) (drop first mark) ≡ y .done ++ (here′ ++ later)
+      split : queueBy f (drop first ids) (drop first ready) (drop first mark) ≡ y .done ++ (here′ ++ later)
       split = y .says ∙ ap (λ (l : List Piece). y .done ++ l) next
 
       split-fed : Fed (leftAt start part) (y .done ++ (here′ ++ later))
       split-fed = subst (Fed (leftAt start part)) split (o .fed)
 
-      pub chunk-from : ChunkFrom start part size at (getD ready q 0) (getD ids q 0) (getD mark q 0) ss' cs' ls' bs'
+      pub chunk-from : PiecesFrom P start part here′ at (getD ready q 0) (getD ids q 0) (getD mark q 0) ss' cs' ls' bs'
       chunk-from =
           record {
             room = room-left start part 4 (4 * (500 - first)) (omega (arith, y .from)) (o .room) (y .puts);
             by = all-from (λ r. r ≤ lastOf start part) ready first q (o .by) (y .from) (omega (arith, o .long .1));
             chunk-in = all-from (Within 1 500) ids first q (o .chunks-in) (y .from) (omega (arith, o .long .0));
-            levels = all-from Levels mark first q (o .levels) (y .from) (omega (arith, o .long .2));
+            levels = all-from P mark first q (o .levels) (y .from) (omega (arith, o .long .2));
             fed = fed-front (leftAt start part) here′ later (fed-append (leftAt start part) (y .done) (here′ ++ later) split-fed);
             fits = omega (arith, load-append here′ later, y .puts .enough (here′ ++ later) split-fed (subst (λ (l : List Piece). load l ≤ a .c + leftAt start part (a .t)) split (o .fits)));
           }
 
-      pub placing-more : (at' : At) (s₂ c₂ l₂ b₂ : List ℕ) → Puts start part here′ 4 at ss' cs' ls' bs' at' s₂ c₂ l₂ b₂ → Placing start part size ids ready mark first a ss cs ls bs s₂ c₂ l₂ b₂ at' (q + 1)
+      pub placing-more : (at' : At) (s₂ c₂ l₂ b₂ : List ℕ) → Puts start part here′ 4 at ss' cs' ls' bs' at' s₂ c₂ l₂ b₂ → Placing f start part ids ready mark first a ss cs ls bs s₂ c₂ l₂ b₂ at' (q + 1)
       placing-more at' s₂ c₂ l₂ b₂ p =
           record {
             done = y .done ++ here′;

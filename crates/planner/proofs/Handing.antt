@@ -1,53 +1,78 @@
 -- Laws on what the public call hands over. Assumes nothing.
-use mathlib.Core.Path.{_≡_, sym, _∙_, ap}
-use mathlib.Core.Bool.{Bool, true, false, _&&_}
-use mathlib.Core.List.{List, [], _∷_, map}
-use Prim.Native.Nat.{ℕ, _+_, _≤_, _<_}
+use mathlib.Core.Path.{_≡_, refl, sym, _∙_, ap, subst}
+use mathlib.Core.Bool.{Bool, true, false}
+use mathlib.Core.List.{List, [], _∷_}
+use Prim.Native.Nat.{ℕ, _≤_, _<_}
 use native.Mathlib.Omega.{arith}
-use native.Mathlib.Numerals.{add-one}
-use lib.ListN.{length, getD, set, take, drop, length-set, length-map}
-use lib.Seq.{take-suc, take-at, length-take-le}
-use lib.Dec.{leb, eqb}
+use lib.ListN.{length}
+use lib.Dec.{eqb}
 use borrow.Author.Tests.{eq-eqb, ne-eqb, le-leb, lt-leb}
 use Rattle.basics.specs.Refusals.{unless}
-use Rattle.basics.specs.lemmas.Lists.{length-upTo}
 use Rattle.basics.specs.lemmas.Refusals.{orElse-none, orElse-some}
-use Rattle.basics.specs.lemmas.Tests.{tests, true-T}
 use Rattle.job.specs.Job.{Job, Accepted, chunks}
 use Rattle.job.specs.Handed.{HandedJob, jobIn, jobRefusal, handed-iff}
 use Rattle.schedule.specs.Plan.{plan}
 use Rattle.schedule.specs.lemmas.Plan.{plan-choice}
 use Rattle.schedule.specs.Theorems.{own-list-rows, best, elsewhere-iff, plan-exists}
 use Rattle.schedule.specs.Pictures.{most-pictures}
-use Rattle.schedule.specs.Statement.{countsOf, marksOf}
+use Rattle.handing.proofs.Laws.{fewer-hold, four-hold}
+use Rattle.handing.specs.lemmas.Slices.{Result, rowsHold, Stands}
 use Rattle.planner.specs.declared.Answer.the-variants.{Rows, Refused}
 use Rattle.planner.specs.declared.Planned.{Planned}
 use Rattle.planner.specs.declared.Filled.{Filled}
-use Rattle.planner.specs.lemmas.Handing.{LaidFrom, Laid}
-use Rattle.planner.specs.Answer.{planRows, Lent, lentOf, holds, planRefusal, given, Handed, DecidedByLists, PicturesOfLists, BestOfLists, SteadyBases}
+use Rattle.planner.specs.lemmas.Handing.{HandsOver, Laid, LaidFrom, planned, shortRefusal}
+use Rattle.planner.specs.Answer.{planRows, Lent, lentOf, holds, planRefusal, Handed, DecidedByLists, PicturesOfLists, BestOfLists, SteadyBases}
 use Rattle.steady.specs.Theorems.{steady}
-use Rattle.basics.specs.Lent.{over}
-use Rattle.fetch.specs.Rows.{Row, rowSlot, rowChunk, rowLayer, rowBytes}
-use Rattle.basics.specs.lemmas.Lent.{over-next, over-long}
 
--- ---- a copy
+-- ---- what is handed over, by the refusal
 
-pub record Copied (from old to : List ℕ) (n i : ℕ) : Type 0 where
-  pub within : i ≤ n
-  pub says : to ≡ over (take i from) old
-  pub long : length to ≡ length old
+-- Nothing but a number.
+abbrev pub OnlyNumber : Planned → ℕ → Type 0
+OnlyNumber r k = (r .answer ≡ Refused k) × (r .counts ≡ 0 ∷ 0 ∷ 0 ∷ 0 ∷ [])
 
-pub copied-more : (from old to : List ℕ) (n i : ℕ) → Copied from old to n i → i < n → n ≤ length from → n ≤ length old → Copied from old (set to i (getD from i 0)) n (i + 1)
-copied-more from old to n i s h a b =
-    let e = length-take-le i from (omega arith) in
-    let l : i < length from = omega arith in
-    record {
-      within = omega arith;
-      says = rw (add-one, take-suc from i 0, s .says) (ap (λ (k : ℕ). set (over (take i from) old) k (getD from i 0)) (sym e) ∙ over-next (take i from) old (getD from i 0) (omega (arith, e)));
-      long = simp length-set (s .long);
-    }
+module _ (x : Result) {marks slots cs layers bytes : List ℕ} {r : Planned} where
+  pub over-refused : (refused k : ℕ) → refused ≡ k → (k ≡ 0 → ⊥) → OnlyNumber r k → HandsOver refused x marks slots cs layers bytes r marks slots cs layers bytes
+  over-refused refused k e o n =
+      let g : eqb refused 0 ≡ false = ap (λ (n : ℕ). eqb n 0) e ∙ ne-eqb k 0 o in
+      record {
+        answer = n .0 ∙ sym (rw (g, e));
+        counts = n .1 ∙ sym (rw g);
+        marks-are = sym (rw g);
+        slots-are = sym (rw g);
+        chunks-are = sym (rw g);
+        layers-are = sym (rw g);
+        bytes-are = sym (rw g);
+      }
 
--- ---- what is handed
+  pub over-given :
+      (refused : ℕ) → refused ≡ 0 → {n : ℕ} {counts : List ℕ} → (r .answer ≡ Rows n) × (r .counts ≡ counts) → {marks' slots' cs' layers' bytes' : List ℕ} →
+      Stands x n counts marks slots cs layers bytes marks' slots' cs' layers' bytes' → HandsOver refused x marks slots cs layers bytes r marks' slots' cs' layers' bytes'
+  over-given refused e a s =
+      let g : eqb refused 0 ≡ true = eq-eqb refused 0 e in
+      record {
+        answer = a .0 ∙ ap Rows (s .rows-are) ∙ sym (rw g);
+        counts = a .1 ∙ s .counts-are ∙ sym (rw g);
+        marks-are = s .marks-are ∙ sym (rw g);
+        slots-are = s .slots-are ∙ sym (rw g);
+        chunks-are = s .chunks-are ∙ sym (rw g);
+        layers-are = s .layers-are ∙ sym (rw g);
+        bytes-are = s .bytes-are ∙ sym (rw g);
+      }
+
+  -- Where the marks fit: the rows, or 11.
+  pub over-fits :
+      {n : ℕ} {counts : List ℕ} → rowsHold n slots cs layers bytes ≡ true → (r .answer ≡ Rows n) × (r .counts ≡ counts) → {marks' slots' cs' layers' bytes' : List ℕ} →
+      Stands x n counts marks slots cs layers bytes marks' slots' cs' layers' bytes' →
+      HandsOver (shortRefusal (x .rows) slots cs layers bytes) x marks slots cs layers bytes r marks' slots' cs' layers' bytes'
+  over-fits {n} h a s = over-given (shortRefusal (x .rows) slots cs layers bytes) (ap (λ (m : ℕ). unless 11 (rowsHold m slots cs layers bytes)) (sym (s .rows-are)) ∙ rw h) a s
+
+  pub over-short :
+      {n : ℕ} → n ≡ length (x .rows) → rowsHold n slots cs layers bytes ≡ false → OnlyNumber r 11 →
+      HandsOver (shortRefusal (x .rows) slots cs layers bytes) x marks slots cs layers bytes r marks slots cs layers bytes
+  over-short {n} e h o =
+      over-refused (shortRefusal (x .rows) slots cs layers bytes) 11 (ap (λ (m : ℕ). unless 11 (rowsHold m slots cs layers bytes)) (sym e) ∙ rw h) (λ z. omega arith) o
+
+-- ---- so for the plan
 
 -- What a refusal's number says.
 pub none : {k refusal : ℕ} → k ≡ refusal → k ≤ 0 → refusal ≡ 0
@@ -56,10 +81,8 @@ none e h = omega arith
 accepted : (h : HandedJob) → jobRefusal h ≡ 0 → Accepted (jobIn h)
 accepted h z = handed-iff h .0 z .1
 
-pub four-hold : {holds : Bool} (n a b c d : ℕ) → holds ≡ leb n a && (leb n b && (leb n c && leb n d)) → holds ≡ true → (n ≤ a) × (n ≤ b) × (n ≤ c) × (n ≤ d)
-four-hold n a b c d e t =
-    let u = simp tests at (true-T (leb n a && (leb n b && (leb n c && leb n d))) (sym e ∙ t)) in
-    (u .0, u .1 .0, u .1 .1 .0, u .1 .1 .1)
+pub few-rows : (h : HandedJob) → jobRefusal h ≡ 0 → length (planRows (jobIn h)) ≤ 5599
+few-rows h z = own-list-rows (jobIn h) (accepted h z) (plan (jobIn h)) (plan-choice (jobIn h))
 
 module _ (h : HandedJob) (marks slots cs layers bytes : List ℕ) where
   abbrev j : Job
@@ -68,136 +91,51 @@ module _ (h : HandedJob) (marks slots cs layers bytes : List ℕ) where
   abbrev lent : Lent
   lent = lentOf marks slots cs layers bytes
 
-  -- Nothing but a number.
-  abbrev OnlyNumber : Planned → ℕ → Type 0
-  OnlyNumber r k = (r .answer ≡ Refused k) × (r .counts ≡ 0 ∷ 0 ∷ 0 ∷ 0 ∷ [])
-
-  handed-refused : (k : ℕ) → planRefusal h lent ≡ k → (k ≡ 0 → ⊥) → (r : Planned) → OnlyNumber r k → Handed h marks slots cs layers bytes r marks slots cs layers bytes
-  handed-refused k e o r x =
-      let g : given h lent ≡ false = ap (λ (n : ℕ). eqb n 0) e ∙ ne-eqb k 0 o in
+  handed-by :
+      (refused : ℕ) → planRefusal h lent ≡ refused → {r : Planned} {marks' slots' cs' layers' bytes' : List ℕ} →
+      HandsOver refused (planned j) marks slots cs layers bytes r marks' slots' cs' layers' bytes' → Handed h marks slots cs layers bytes r marks' slots' cs' layers' bytes'
+  handed-by refused e {r} {marks'} {slots'} {cs'} {layers'} {bytes'} x =
+      let y = subst (λ (k : ℕ). HandsOver k (planned j) marks slots cs layers bytes r marks' slots' cs' layers' bytes') (sym e) x in
       record {
-        answer = x .0 ∙ sym (rw (g, e));
-        counts = x .1 ∙ sym (rw g);
-        marks-are = sym (rw g);
-        slots-are = sym (rw g);
-        chunks-are = sym (rw g);
-        layers-are = sym (rw g);
-        bytes-are = sym (rw g);
+        answer = y .answer;
+        counts = y .counts;
+        marks-are = y .marks-are;
+        slots-are = y .slots-are;
+        chunks-are = y .chunks-are;
+        layers-are = y .layers-are;
+        bytes-are = y .bytes-are;
       }
 
   -- 5, 6, 18 or 7.
   pub refused-input : (k : ℕ) → k ≡ jobRefusal h → 0 < k → (r : Planned) → OnlyNumber r k → Handed h marks slots cs layers bytes r marks slots cs layers bytes
-  refused-input k e o r x = handed-refused k (orElse-some (jobRefusal h) (unless 11 (holds j lent)) (λ z. omega arith) ∙ sym e) (λ z. omega arith) r x
+  refused-input k e o r x =
+      handed-by k (orElse-some (jobRefusal h) (unless 11 (holds j lent)) (λ z. omega arith) ∙ sym e) (over-refused (planned j) k k refl (λ z. omega arith) x)
 
   -- 11.
-  refused-short : jobRefusal h ≡ 0 → holds j lent ≡ false → (r : Planned) → OnlyNumber r 11 → Handed h marks slots cs layers bytes r marks slots cs layers bytes
-  refused-short e f r x = handed-refused 11 (orElse-none (jobRefusal h) (unless 11 (holds j lent)) e ∙ rw f) (λ z. omega arith) r x
-
   pub short-marks : jobRefusal h ≡ 0 → length marks < chunks j → (r : Planned) → OnlyNumber r 11 → Handed h marks slots cs layers bytes r marks slots cs layers bytes
-  short-marks e f r x = refused-short e (rw (lt-leb (chunks j) (length marks) f)) r x
+  short-marks e f r x =
+      handed-by 11 (orElse-none (jobRefusal h) (unless 11 (holds j lent)) e ∙ rw (lt-leb (chunks j) (length marks) f)) (over-refused (planned j) 11 11 refl (λ z. omega arith) x)
 
   -- The marks fit: the rows say.
-  abbrev rows-hold : ℕ → Bool
-  rows-hold n = leb n (length slots) && (leb n (length cs) && (leb n (length layers) && leb n (length bytes)))
-
-  holds-rows : chunks j ≤ length marks → (b : Bool) → rows-hold (length (planRows j)) ≡ b → holds j lent ≡ b
-  holds-rows f b e = rw (le-leb (chunks j) (length marks) f) e
-
-  -- The plan itself.
-  handed-plan : jobRefusal h ≡ 0 → holds j lent ≡ true → (r : Planned) (marks' slots' cs' layers' bytes' : List ℕ)
-      → r .answer ≡ Rows (length (planRows j)) → r .counts ≡ countsOf j (plan j)
-      → marks' ≡ over (marksOf j (plan j)) marks → slots' ≡ over (map rowSlot (planRows j)) slots → cs' ≡ over (map rowChunk (planRows j)) cs
-      → layers' ≡ over (map rowLayer (planRows j)) layers → bytes' ≡ over (map rowBytes (planRows j)) bytes
-      → Handed h marks slots cs layers bytes r marks' slots' cs' layers' bytes'
-  handed-plan e f r marks' slots' cs' layers' bytes' an co ma sl ch la by =
-      let z : planRefusal h lent ≡ 0 = orElse-none (jobRefusal h) (unless 11 (holds j lent)) e ∙ rw f in
-      let g : given h lent ≡ true = eq-eqb (planRefusal h lent) 0 z in
-      record {
-        answer = an ∙ sym (rw g);
-        counts = co ∙ sym (rw g);
-        marks-are = ma ∙ sym (rw g);
-        slots-are = sl ∙ sym (rw g);
-        chunks-are = ch ∙ sym (rw g);
-        layers-are = la ∙ sym (rw g);
-        bytes-are = by ∙ sym (rw g);
-      }
+  pub fit-marks :
+      jobRefusal h ≡ 0 → chunks j ≤ length marks → {r : Planned} {marks' slots' cs' layers' bytes' : List ℕ} →
+      HandsOver (shortRefusal (planRows j) slots cs layers bytes) (planned j) marks slots cs layers bytes r marks' slots' cs' layers' bytes' →
+      Handed h marks slots cs layers bytes r marks' slots' cs' layers' bytes'
+  fit-marks e f =
+      handed-by (shortRefusal (planRows j) slots cs layers bytes) (orElse-none (jobRefusal h) (unless 11 (holds j lent)) e ∙ rw (le-leb (chunks j) (length marks) f))
 
   -- Room for any plan,
-  module _ (z : jobRefusal h ≡ 0) (fit : chunks j ≤ length marks) {holds-any : Bool} (e : holds-any ≡ rows-hold 5599) (t : holds-any ≡ true) where
+  module _ (z : jobRefusal h ≡ 0) (fit : chunks j ≤ length marks) {holds-any : Bool} (e : holds-any ≡ rowsHold 5599 slots cs layers bytes) (t : holds-any ≡ true) where
     pub ample-room : LaidFrom j marks slots cs layers bytes
     ample-room =
         let four = four-hold 5599 (length slots) (length cs) (length layers) (length bytes) e t in
         record { accepted = accepted h z; marks-fit = fit; slots-fit = four .0; chunks-fit = four .1; layers-fit = four .2; bytes-fit = four .3 }
 
     -- and so for this one.
-    ample-rows : rows-hold (length (planRows j)) ≡ true
-    ample-rows =
-        let n = own-list-rows j (accepted h z) (plan j) (plan-choice j) in
-        let four = four-hold 5599 (length slots) (length cs) (length layers) (length bytes) e t in
-        rw (le-leb (length (planRows j)) (length slots) (omega (arith, four .0)), le-leb (length (planRows j)) (length cs) (omega (arith, four .1)), le-leb (length (planRows j)) (length layers) (omega (arith, four .2)), le-leb (length (planRows j)) (length bytes) (omega (arith, four .3)))
-
     pub handed-laid : (r : Planned) (made : Filled) → (r .answer ≡ Rows (made .rows)) × (r .counts ≡ made .counts) → {marks' slots' cs' layers' bytes' : List ℕ}
         → Laid j marks slots cs layers bytes made marks' slots' cs' layers' bytes' → Handed h marks slots cs layers bytes r marks' slots' cs' layers' bytes'
     handed-laid r made x l =
-        handed-plan z (holds-rows fit true ample-rows) r _ _ _ _ _ (x .0 ∙ ap Rows (l .rows)) (x .1 ∙ l .counts) (l .marks-are) (l .slots-are) (l .chunks-are) (l .layers-are) (l .bytes-are)
-
--- ---- a result laid out aside
-
--- What was laid out aside, copied into a lent slice.
-copied-over : (t aside aside' to to' : List ℕ) (n : ℕ) → aside' ≡ over t aside → length t ≡ n → to' ≡ over (take n aside') to → to' ≡ over t to
-copied-over t aside aside' to to' n e f g = g ∙ ap (λ (x : List ℕ). over x to) (ap (take n) e ∙ take-at t (drop (length t) aside) n f)
-
-module _ (h : HandedJob) (z : jobRefusal h ≡ 0) {ms ss cs ls bs : List ℕ} {made : Filled} {ms' ss' cs' ls' bs' : List ℕ} (l : Laid (jobIn h) ms ss cs ls bs made ms' ss' cs' ls' bs') where
-  marks-long : length (marksOf (jobIn h) (plan (jobIn h))) ≡ chunks (jobIn h)
-  marks-long = length-upTo _ (chunks (jobIn h))
-
-  column : (f : Row → ℕ) → length (map f (planRows (jobIn h))) ≡ made .rows
-  column f = length-map (planRows (jobIn h)) f ∙ sym (l .rows)
-
-  -- What stands aside is long enough to be copied.
-  long-aside : (t old new : List ℕ) → new ≡ over t old → length t ≤ length old → length t ≤ length new
-  long-aside t old new e f = omega (arith, ap length e ∙ over-long t old f)
-
-  pub marks-aside : length ms ≡ 500 → chunks (jobIn h) ≤ length ms'
-  marks-aside e = omega (arith, marks-long, long-aside (marksOf (jobIn h) (plan (jobIn h))) ms ms' (l .marks-are) (omega (arith, marks-long, accepted h z .chunks-in .high)))
-
-  few : made .rows ≤ 5599
-  few = omega (arith, own-list-rows (jobIn h) (accepted h z) (plan (jobIn h)) (plan-choice (jobIn h)), l .rows)
-
-  column-aside : (f : Row → ℕ) (old new : List ℕ) → new ≡ over (map f (planRows (jobIn h))) old → length old ≡ 5599 → made .rows ≤ length new
-  column-aside f old new e long = omega (arith, column f, long-aside (map f (planRows (jobIn h))) old new e (omega (arith, column f, few)))
-
-  pub slots-aside : length ss ≡ 5599 → made .rows ≤ length ss'
-  slots-aside = column-aside rowSlot ss ss' (l .slots-are)
-
-  pub chunks-aside : length cs ≡ 5599 → made .rows ≤ length cs'
-  chunks-aside = column-aside rowChunk cs cs' (l .chunks-are)
-
-  pub layers-aside : length ls ≡ 5599 → made .rows ≤ length ls'
-  layers-aside = column-aside rowLayer ls ls' (l .layers-are)
-
-  pub bytes-aside : length bs ≡ 5599 → made .rows ≤ length bs'
-  bytes-aside = column-aside rowBytes bs bs' (l .bytes-are)
-
-  -- Copied into the lent slices, or refused.
-  module _ (marks slots chs layers bytes : List ℕ) (fit : chunks (jobIn h) ≤ length marks) (r : Planned) where
-    holds-made : (k : Bool) {b : Bool} → b ≡ rows-hold h marks slots chs layers bytes (made .rows) → b ≡ k → holds (jobIn h) (lentOf marks slots chs layers bytes) ≡ k
-    holds-made k e t = holds-rows h marks slots chs layers bytes fit k (ap (rows-hold h marks slots chs layers bytes) (sym (l .rows)) ∙ sym e ∙ t)
-
-    pub tight-plan : {b : Bool} → b ≡ rows-hold h marks slots chs layers bytes (made .rows) → b ≡ true → (r .answer ≡ Rows (made .rows)) × (r .counts ≡ made .counts) → {marks' slots' chs' layers' bytes' : List ℕ}
-        → marks' ≡ over (take (chunks (jobIn h)) ms') marks → slots' ≡ over (take (made .rows) ss') slots → chs' ≡ over (take (made .rows) cs') chs
-        → layers' ≡ over (take (made .rows) ls') layers → bytes' ≡ over (take (made .rows) bs') bytes
-        → Handed h marks slots chs layers bytes r marks' slots' chs' layers' bytes'
-    tight-plan e t x ma sl ch la by =
-        handed-plan h marks slots chs layers bytes z (holds-made true e t) r _ _ _ _ _ (x .0 ∙ ap Rows (l .rows)) (x .1 ∙ l .counts)
-        (copied-over (marksOf (jobIn h) (plan (jobIn h))) ms ms' marks _ _ (l .marks-are) marks-long ma)
-        (copied-over (map rowSlot (planRows (jobIn h))) ss ss' slots _ _ (l .slots-are) (column rowSlot) sl)
-        (copied-over (map rowChunk (planRows (jobIn h))) cs cs' chs _ _ (l .chunks-are) (column rowChunk) ch)
-        (copied-over (map rowLayer (planRows (jobIn h))) ls ls' layers _ _ (l .layers-are) (column rowLayer) la)
-        (copied-over (map rowBytes (planRows (jobIn h))) bs bs' bytes _ _ (l .bytes-are) (column rowBytes) by)
-
-    pub tight-short : {b : Bool} → b ≡ rows-hold h marks slots chs layers bytes (made .rows) → b ≡ false → (r .answer ≡ Refused 11) × (r .counts ≡ 0 ∷ 0 ∷ 0 ∷ 0 ∷ []) → Handed h marks slots chs layers bytes r marks slots chs layers bytes
-    tight-short e t x = refused-short h marks slots chs layers bytes z (holds-made false e t) r x
+        fit-marks z fit (over-fits (planned j) (fewer-hold 5599 (made .rows) slots cs layers bytes e t (omega (arith, few-rows h z, l .rows-are))) x l)
 
 -- ---- what holds of the plan
 

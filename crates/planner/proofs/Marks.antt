@@ -1,24 +1,31 @@
 -- Laws on marks and counts of all chunks. Assumes nothing.
 use mathlib.Core.Path.{_≡_, refl, sym, _∙_, ap}
-use mathlib.Core.Bool.{true, false, cond}
-use mathlib.Core.List.{List, [], _∷_, _++_}
+use mathlib.Core.Bool.{cond}
+use mathlib.Core.List.{List, [], _∷_}
 use mathlib.Core.Logic.{⊎-elim}
 use Prim.Native.Nat.{ℕ, suc, _+_, _≤_, _<_}
 use native.Mathlib.Omega.{arith}
 use native.Mathlib.Numerals.{add-one}
 use lib.ListN.{length, getD, set, take, drop, drop-of-length-le, length-set, List·getD-eq-default}
-use lib.Seq.{getD-drop}
+use lib.Seq.{getD-drop, take-at}
 use lib.Dec.{eqb, ltb, ltb→lt, nltb→le}
 use borrow.Author.Tests.{eq-eqb, ne-eqb}
 use Rattle.basics.specs.Lists.{upTo}
-use Rattle.basics.specs.lemmas.Lists.{length-upTo}
+use Rattle.basics.specs.lemmas.Lists.{length-upTo, upTo-cong}
 use Rattle.basics.specs.lemmas.Tests.{test}
+use Rattle.job.specs.Job.{Job, chunks, layers}
+use Rattle.fetch.specs.Counts.{markCount}
+use Rattle.fetch.specs.Marks.{bit}
+use Rattle.fetch.specs.Rows.{markByte}
+use Rattle.fetch.specs.lemmas.Counts.{count-up-to}
+use Rattle.schedule.specs.Statement.{Choice, countsOf, marksOf}
 use Rattle.schedule.specs.lemmas.Ascending.{Asc}
+use Rattle.schedule.specs.lemmas.Linear.{level-bit, mark-level}
 use Rattle.planner.specs.declared.Order.the-variants.{Less, Same, More}
 use Rattle.planner.specs.Answer.{compared}
 use Rattle.planner.specs.lemmas.Handing.{markIn}
 use Rattle.basics.specs.Lent.{over}
-use Rattle.basics.specs.lemmas.Lent.{over-next}
+use Rattle.basics.specs.lemmas.Lent.{over-long, over-next}
 use Rattle.basics.specs.lemmas.Tables.{drop-next, above-next}
 
 -- ---- a mark for each chunk
@@ -94,6 +101,32 @@ module _ (ids mark : List ℕ) (first : ℕ) where
 
   pub spreading-end : (count : ℕ) (old marks : List ℕ) (q i : ℕ) → Spreading count old marks q i → count ≤ i → marks ≡ over (upTo markOf count) old
   spreading-end count old marks q i s h = let e : i ≡ count = omega (arith, s .within) in rw e at (s .says)
+
+-- ---- marks of a choice, and their counts
+
+counts-are : (j : Job) (choice : ℕ → ℕ) → Choice j choice → upTo (λ n. markCount n (marksOf j choice)) 4 ≡ countsOf j choice
+counts-are j choice c =
+    upTo-cong _ _ 4 (λ n h.
+    count-up-to n (λ k. markByte (λ i. ltb i (choice (k + 1))) (layers j)) (λ i. ltb n (choice i)) (chunks j) (λ k u.
+    let e : k + 1 ≡ suc k = omega arith in
+    ap (λ (m : ℕ). bit m n) (mark-level (choice (k + 1)) (layers j) (c (k + 1) (omega arith) (omega arith))) ∙ level-bit (choice (k + 1)) n ∙ rw e))
+
+pub marks-long : (j : Job) (choice : ℕ → ℕ) → length (marksOf j choice) ≡ chunks j
+marks-long j choice = length-upTo _ (chunks j)
+
+-- They stand at the start of their slice.
+module _ (j : Job) (choice : ℕ → ℕ) (marks marks' : List ℕ) (e : marks' ≡ over (marksOf j choice) marks) where
+  pub laid-long : chunks j ≤ length marks → length marks' ≡ length marks
+  laid-long fit = ap length e ∙ over-long (marksOf j choice) marks (omega (arith, marks-long j choice))
+
+  laid-front : take (chunks j) marks' ≡ marksOf j choice
+  laid-front = ap (take (chunks j)) e ∙ take-at (marksOf j choice) (drop (length (marksOf j choice)) marks) (chunks j) (marks-long j choice)
+
+  pub laid-front-long : length (take (chunks j) marks') ≡ chunks j
+  laid-front-long = ap length laid-front ∙ marks-long j choice
+
+  pub laid-counts : Choice j choice → (counts : List ℕ) → counts ≡ upTo (λ n. markCount n (take (chunks j) marks')) 4 → counts ≡ countsOf j choice
+  laid-counts c counts e′ = e′ ∙ ap (λ (m : List ℕ). upTo (λ n. markCount n m) 4) laid-front ∙ counts-are j choice c
 
 -- ---- counts compared
 

@@ -3,32 +3,28 @@ use mathlib.Core.Path.{_≡_, refl, sym, _∙_, ap, subst, fun-ext}
 use mathlib.Core.Bool.{Bool, true, false, cond}
 use mathlib.Core.List.{List, [], _∷_, _++_, map, append-nil}
 use mathlib.Core.Logic.{⊎-elim}
-use Prim.Native.Nat.{ℕ, zero, suc, _+_, _*_, _-_, _≤_, _<_, min}
+use Prim.Native.Nat.{ℕ, zero, suc, _+_, _*_, _-_, _≤_, _<_}
 use native.Mathlib.Omega.{arith}
 use lib.ListN.{length, getD, take, drop, replicate, length-drop}
-use lib.Seq.{take-at}
-use lib.Dec.{leb, ltb, leb→le, nleb→lt, ltb→lt, nltb→le}
-use borrow.Author.Tests.{eq-eqb, ne-eqb, lt-ltb, le-ltb}
+use lib.Dec.{leb, ltb, leb→le, nleb→lt}
+use borrow.Author.Tests.{eq-eqb, ne-eqb}
 use Rattle.basics.specs.Lists.{upTo}
-use Rattle.basics.specs.lemmas.Lists.{upTo-cong, length-upTo}
-use Rattle.basics.specs.Sums.{pre, sum, count}
+use Rattle.basics.specs.lemmas.Lists.{upTo-cong}
+use Rattle.basics.specs.Sums.{pre}
 use Rattle.basics.specs.Tests.{All}
 use Rattle.basics.specs.lemmas.Tests.{test, by-cond}
 use Rattle.job.specs.Job.{Job, Accepted, Within, size, chunks, layers, due, forecast, heldMost, lastSlot}
 use Rattle.job.specs.Table.{sizesTable, tableAt}
 use Rattle.job.specs.Uneven.{table-is}
 use Rattle.job.specs.lemmas.Within.{all-most, size-least, size-most}
-use Rattle.fetch.specs.Marks.{bit}
 use Rattle.fetch.specs.Counts.{markCount}
-use Rattle.fetch.specs.lemmas.Counts.{count-up-to}
-use Rattle.fetch.specs.lemmas.Marks.{mark-cong}
 use Rattle.fetch.specs.Rows.{Row, markByte, rowSlot, rowChunk, rowLayer, rowBytes}
 use Rattle.schedule.specs.lemmas.Ascending.{Asc, asc-within}
 use Rattle.schedule.specs.lemmas.Choice.{fits-weight, kept-asc}
 use Rattle.schedule.specs.Plan.{kept, picked, plan, after}
 use Rattle.schedule.specs.lemmas.Fill.{Piece, Ready, fill, needs}
 use Rattle.schedule.specs.lemmas.Kept.{picked-asc, picked-each}
-use Rattle.schedule.specs.lemmas.Linear.{level-bit}
+use Rattle.schedule.specs.lemmas.Linear.{level-of, mark-level}
 use Rattle.schedule.specs.lemmas.Necessity.{Each}
 use Rattle.schedule.specs.lemmas.OwnFill.{own-list-is}
 use Rattle.schedule.specs.lemmas.Plan.{plan-choice, plan-fits}
@@ -43,37 +39,11 @@ use Rattle.schedule.specs.lemmas.Parts.{at, Part}
 use Rattle.settle.specs.lemmas.Decision.{DecideFrom, Decides}
 use Rattle.planner.specs.lemmas.Handing.{markIn}
 use Rattle.basics.specs.Lent.{over}
-use Rattle.listing.specs.lemmas.Listing.{lastOf, bytesAt, leftAt, onward, load, Fed, Made, Puts, levelOf, Levels, queueOf, AllFrom}
+use Rattle.listing.specs.lemmas.Listing.{lastOf, bytesAt, leftAt, onward, load, Fed, Made, Puts, Levels, queueOf, AllFrom}
+use Rattle.planner.proofs.Marks as all
 use Rattle.planner.proofs.Marks.{asc-none}
-use Rattle.basics.specs.lemmas.Lent.{over-long}
 use Rattle.basics.specs.lemmas.Tables.{all-take}
 use Rattle.listing.proofs.Pieces.{left-next, onward-next, same-refl}
-
--- ---- levels and marks
-
-level-sum : (m b : ℕ) → sum (λ n. cond (ltb n m) 1 0) b ≡ min b m
-level-sum m zero = omega arith
-level-sum m (suc b) =
-    ⊎-elim
-    (λ t. let l = ltb→lt b m t in rw (lt-ltb b m l) (omega (arith, level-sum m b)))
-    (λ t. let l = nltb→le b m t in rw (le-ltb b m l) (omega (arith, level-sum m b)))
-    (test (ltb b m))
-
-sum-same : (f g : ℕ → ℕ) (n : ℕ) → ((k : ℕ) → f k ≡ g k) → sum f n ≡ sum g n
-sum-same f g zero h = refl
-sum-same f g (suc n) h = omega (arith, sum-same f g n h, h n)
-
-level-of : (m : ℕ) → m ≤ 8 → levelOf (levelMark m) ≡ m
-level-of m h = sum-same _ _ 8 (λ n. ap (λ (b : Bool). cond b 1 0) (level-bit m n)) ∙ level-sum m 8 ∙ omega arith
-
--- The mark byte of a chunk that carries c of k layers.
-mark-level : (c k : ℕ) → c ≤ k → markByte (λ n. ltb n c) k ≡ levelMark c
-mark-level c zero h = let e : c ≡ 0 = omega arith in rw e
-mark-level c (suc k) h =
-    ⊎-elim
-    (λ t. let l = ltb→lt k c t in let e : c ≡ suc k = omega arith in rw e (mark-cong (λ n. ltb n (suc k)) (λ n. true) (suc k) (λ n u. lt-ltb n (suc k) u)))
-    (λ t. let l = nltb→le k c t in rw (le-ltb k c l) (omega (arith, mark-level c k l)))
-    (test (ltb k c))
 
 -- ---- the queue of the tables
 
@@ -101,15 +71,6 @@ each-kept P c lo (k ∷ ks) a l f = (f k (omega arith) (a .1), each-kept P c (su
 all-each : (P : ℕ → Type 0) (g : ℕ → ℕ) (ks : List ℕ) → Each (λ k. P (g k)) ks → All P (map g ks)
 all-each P g [] a = tt
 all-each P g (k ∷ ks) a = (a .0, all-each P g ks (a .1))
-
--- ---- the counts
-
-counts-are : (j : Job) → upTo (λ n. markCount n (marksOf j (plan j))) 4 ≡ countsOf j (plan j)
-counts-are j =
-    upTo-cong _ _ 4 (λ n h.
-    count-up-to n (λ k. markByte (λ i. ltb i (plan j (k + 1))) (layers j)) (λ i. ltb n (plan j i)) (chunks j) (λ k u.
-    let e : k + 1 ≡ suc k = omega arith in
-    ap (λ (m : ℕ). bit m n) (mark-level (plan j (k + 1)) (layers j) (plan-choice j (k + 1) (omega arith) (omega arith))) ∙ level-bit (plan j (k + 1)) n ∙ rw e))
 
 -- ---- from an accepted job
 
@@ -286,24 +247,18 @@ module _ (j : Job) (ok : Accepted j) where
         one c k h = by-cond (λ (x : ℕ). x ≡ markByte (λ n. ltb n c) k) (leb 1 c) (λ t. sym (mark-level c k h)) (λ t. let e : c ≡ 0 = omega (arith, nleb→lt 1 c t) in sym (mark-level c k h ∙ rw e))
 
     -- The marks stand at the start of their slice.
-    module _ (marks marks' : List ℕ) (fit : chunks j ≤ length marks) (e : marks' ≡ over (upTo (λ i. markIn (i + 1) (drop first ids) (drop first mark)) (chunks j)) marks) where
+    module _ (marks marks' : List ℕ) (e : marks' ≡ over (upTo (λ i. markIn (i + 1) (drop first ids) (drop first mark)) (chunks j)) marks) where
       pub laid-marks : marks' ≡ over (marksOf j (plan j)) marks
       laid-marks = e ∙ ap (λ (l : List ℕ). over l marks) marks-are
 
-      marks-long : length (marksOf j (plan j)) ≡ chunks j
-      marks-long = length-upTo _ (chunks j)
-
-      pub laid-long : length marks' ≡ length marks
-      laid-long = ap length laid-marks ∙ over-long (marksOf j (plan j)) marks (omega (arith, marks-long))
-
-      laid-front : take (chunks j) marks' ≡ marksOf j (plan j)
-      laid-front = ap (take (chunks j)) laid-marks ∙ take-at (marksOf j (plan j)) (drop (length (marksOf j (plan j))) marks) (chunks j) marks-long
+      pub laid-long : chunks j ≤ length marks → length marks' ≡ length marks
+      laid-long = all.laid-long j (plan j) marks marks' laid-marks
 
       pub laid-front-long : length (take (chunks j) marks') ≡ chunks j
-      laid-front-long = ap length laid-front ∙ marks-long
+      laid-front-long = all.laid-front-long j (plan j) marks marks' laid-marks
 
       pub laid-counts : (counts : List ℕ) → counts ≡ upTo (λ n. markCount n (take (chunks j) marks')) 4 → counts ≡ countsOf j (plan j)
-      laid-counts counts e′ = e′ ∙ ap (λ (m : List ℕ). upTo (λ n. markCount n m) 4) laid-front ∙ counts-are j
+      laid-counts = all.laid-counts j (plan j) marks marks' laid-marks (plan-choice j)
 
     pub ascending : Asc 1 (chunks j) (drop first ids)
     ascending = subst (Asc 1 (chunks j)) (sym (d .chunks)) (kept-asc j (plan j))

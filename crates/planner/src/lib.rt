@@ -3,12 +3,10 @@ use job::Programme;
 ghost use mathlib.Core.Path.{_≡_};
 ghost use mathlib.Core.List.{[], _∷_};
 ghost use Prim.Native.Nat.{_+_, _≤_};
-ghost use lib.ListN.{length, getD, take, drop};
-ghost use lib.Dec.{leb, eqb};
-ghost use mathlib.Core.Bool.{_&&_};
+ghost use lib.ListN.{length, getD, drop};
+ghost use lib.Dec.{eqb};
 ghost use Rattle.basics.specs.Lists.{upTo};
 ghost use Rattle.job.specs.Handed.{handed, jobIn, jobRefusal};
-ghost use Rattle.fetch.specs.Counts.{markCount};
 ghost use Rattle.schedule.specs.lemmas.Ascending.{Asc};
 ghost use Rattle.planner.specs.Answer.{Handed, DecidedByLists, PicturesOfLists, BestOfLists, SteadyBases, compared};
 ghost use Rattle.planner.specs.lemmas.Handing.{markIn, LaidFrom, Laid};
@@ -55,7 +53,8 @@ pub fn compare(a: [u16; 4], b: [u16; 4]) -> Order
     Order::Same
 }
 
-fn refused(n: u8) -> Planned
+// A refusal's number and nothing else.
+pub fn refused(n: u8) -> Planned
     ensures { λ r. ⌜ (r .answer ≡ Answer.Refused n) × (r .counts ≡ 0 ∷ 0 ∷ 0 ∷ 0 ∷ []) ⌝ }
 {
     Planned {
@@ -72,26 +71,6 @@ fn handed(made: Filled) -> Planned
         answer: Answer::Rows(made.rows),
         counts,
     }
-}
-
-// How many marks have layer n.
-fn carried(marks: &[u8], n: u8) -> u16
-    requires { ⌜ length (now marks) ≤ 500 ⌝ }
-    ensures { λ r. ⌜ r ≡ markCount n (now (marks .entry)) ⌝ }
-{
-    fetch::count_marks(marks, n) as u16
-}
-
-// The counts of all four layers.
-fn count_layers(marks: &[u8]) -> [u16; 4]
-    requires { ⌜ length (now marks) ≤ 500 ⌝ }
-    ensures { λ r. ⌜ r ≡ upTo (λ n. markCount n (now (marks .entry))) 4 ⌝ }
-{
-    let base = carried(marks, 0);
-    let first = carried(marks, 1);
-    let second = carried(marks, 2);
-    let third = carried(marks, 3);
-    [base, first, second, third]
 }
 
 fn wide(x: u16) -> usize
@@ -183,60 +162,11 @@ fn lay_out(
         bytes,
     );
     spread(&ids, &mark, first, count, marks);
-    let counts = count_layers(&marks[..count]);
+    let counts = handing::count_layers(&marks[..count]);
     Filled {
         rows: end.n,
         counts,
     }
-}
-
-fn copy8(from: &[u8], n: usize, to: &mut [u8])
-    requires { ⌜ (n ≤ length (now from)) × (n ≤ length (now to)) ⌝ }
-    ensures { λ _. ⌜ now (to .exit) ≡ over (take n (now (from .entry))) (now (to .entry)) ⌝ }
-{
-    let mut i: usize = 0;
-    while i < n {
-        to[i] = from[i];
-        i = i + 1;
-    }
-}
-
-fn copy16(from: &[u16], n: usize, to: &mut [u16])
-    requires { ⌜ (n ≤ length (now from)) × (n ≤ length (now to)) ⌝ }
-    ensures { λ _. ⌜ now (to .exit) ≡ over (take n (now (from .entry))) (now (to .entry)) ⌝ }
-{
-    let mut i: usize = 0;
-    while i < n {
-        to[i] = from[i];
-        i = i + 1;
-    }
-}
-
-fn copy32(from: &[u32], n: usize, to: &mut [u32])
-    requires { ⌜ (n ≤ length (now from)) × (n ≤ length (now to)) ⌝ }
-    ensures { λ _. ⌜ now (to .exit) ≡ over (take n (now (from .entry))) (now (to .entry)) ⌝ }
-{
-    let mut i: usize = 0;
-    while i < n {
-        to[i] = from[i];
-        i = i + 1;
-    }
-}
-
-// Whether each of four lengths is at least n.
-fn all_hold(n: usize, a: usize, b: usize, c: usize, d: usize) -> bool
-    ensures { λ r. ⌜ r ≡ leb n a && (leb n b && (leb n c && leb n d)) ⌝ }
-{
-    if a < n {
-        return false;
-    }
-    if b < n {
-        return false;
-    }
-    if c < n {
-        return false;
-    }
-    n <= d
 }
 
 // The plan of an accepted job into rows that may be too short: laid out aside, and copied if it fits whole.
@@ -275,13 +205,13 @@ fn lay_tight(
         &mut own_bytes,
     );
     let n = made.rows;
-    if all_hold(n, slots.len(), chunks.len(), layers.len(), bytes.len()) {
+    if handing::all_hold(n, slots.len(), chunks.len(), layers.len(), bytes.len()) {
         let count = p.chunks as usize;
-        copy8(&own_marks, count, marks);
-        copy16(&own_slots, n, slots);
-        copy16(&own_chunks, n, chunks);
-        copy8(&own_layers, n, layers);
-        copy32(&own_bytes, n, bytes);
+        handing::copy8(&own_marks, count, marks);
+        handing::copy16(&own_slots, n, slots);
+        handing::copy16(&own_chunks, n, chunks);
+        handing::copy8(&own_layers, n, layers);
+        handing::copy32(&own_bytes, n, bytes);
         handed(made)
     } else {
         refused(11)
@@ -316,7 +246,7 @@ pub fn plan(
     if marks.len() < p.chunks as usize {
         return refused(11);
     }
-    if all_hold(5599, slots.len(), chunks.len(), layers.len(), bytes.len()) {
+    if handing::all_hold(5599, slots.len(), chunks.len(), layers.len(), bytes.len()) {
         handed(lay_out(
             p,
             sizes,

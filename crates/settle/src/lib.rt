@@ -18,7 +18,7 @@ ghost use Rattle.schedule.specs.lemmas.Parts.{at, Part};
 ghost use Rattle.pictures.specs.lemmas.Walking.{KeptIn};
 ghost use Rattle.settle.specs.lemmas.Decision.{Placed, SumTable, BasesFrom, SettleFrom, stackIn, basesIn, Slot, LayerFrom, LayerDone, LayersFrom, LayersDone, DecideFrom, DecidesEach};
 
-fn larger(a: u64, b: u64) -> u64
+pub fn larger(a: u64, b: u64) -> u64
     ensures { λ r. ⌜ r ≡ max a b ⌝ }
 {
     if a < b {
@@ -36,7 +36,7 @@ fn smaller(a: u64, b: u64) -> u64
     b
 }
 
-fn wide(x: u32) -> u64
+pub fn wide(x: u32) -> u64
     ensures { λ r. ⌜ r ≡ x ⌝ }
 {
     x as u64
@@ -84,8 +84,8 @@ pub fn sum_after(part: &[u32], start: usize, after: &mut [u64; 3601])
 }
 
 // The need of the kept chunk so many places on, or 0 past the last.
-fn need_at(needs: &[u64; 500], k: usize, held: usize) -> u64
-    requires { ⌜ (k < 500) × (held ≤ 65535) × (length (now needs) ≡ 500) ⌝ }
+pub fn need_at(needs: &[u64; 500], k: usize, held: usize) -> u64
+    requires { ⌜ (k ≤ 500) × (held ≤ 65535) × (length (now needs) ≡ 500) ⌝ }
     ensures { λ r. ⌜ r ≡ getD (now (needs .entry)) (k + held) 0 ⌝ }
 {
     let at = k + held;

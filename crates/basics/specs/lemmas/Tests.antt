@@ -1,7 +1,7 @@
 -- Lemmas. What tests over numbers, ranges and lists say, and laws of theirs. Assumes nothing.
 use Prim.Native.Nat.{ℕ, zero, suc, _+_, _≤_, _<_}
 use mathlib.Core.Path.{_≡_, refl, sym, ap, _∙_}
-use mathlib.Core.Bool.{Bool, true, false, not, _&&_, _||_, cond, and-assoc, and-true, and-false}
+use mathlib.Core.Bool.{Bool, true, false, not, _&&_, _||_, cond, and-assoc, and-true, and-false, or-assoc}
 use mathlib.Core.List.{List, [], _∷_, _++_}
 use mathlib.Core.Logic.{_⊎_, inl, inr, ⊎-elim, _↔_}
 use native.Mathlib.Omega.{arith}
@@ -15,6 +15,13 @@ use Rattle.basics.specs.Tests.{allTo, allBelow, All, all, any, In, here,
 pub by-cond {ℓ} : {A : Type ℓ} (P : A → Type 0) (b : Bool) {x y : A} → (T b → P x) → (T (not b) → P y) → P (cond b x y)
 by-cond P true f g = f tt
 by-cond P false f g = g tt
+
+-- Of both branches of two, by the same test.
+pub by-cond-both :
+    {A B : Type 0} (P : A → B → Type 0) (b : Bool) {x y : A} {u v : B} → (T b → P x u) → (T (not b) → P y v) →
+    P (cond b x y) (cond b u v)
+by-cond-both P true f g = f tt
+by-cond-both P false f g = g tt
 
 -- A test holds or its negation does.
 pub test : (b : Bool) → T b ⊎ T (not b)
@@ -176,6 +183,25 @@ module _ {A : Type 0} where
   pub all-append : (P : A → Type 0) (a b : List A) → All P a → All P b → All P (a ++ b)
   all-append P [] b u v = v
   all-append P (x ∷ xs) b u v = (u .0, all-append P xs b (u .1) v)
+
+  -- Two lists, one after the other.
+  pub in-append : {x : A} (a b : List A) → In x (a ++ b) → In x a ⊎ In x b
+  in-append [] b i = inr i
+  in-append (y ∷ ys) b here = inl here
+  in-append (y ∷ ys) b (there i) = ⊎-elim (λ u. inl (there u)) (λ u. inr u) (in-append ys b i)
+
+  pub in-left : {x : A} (a b : List A) → In x a → In x (a ++ b)
+  in-left [] b i = absurd (at-row (λ x. ⊥) i tt)
+  in-left (y ∷ ys) b here = here
+  in-left (y ∷ ys) b (there i) = there (in-left ys b i)
+
+  pub in-right : {x : A} (a b : List A) → In x b → In x (a ++ b)
+  in-right [] b i = i
+  in-right (y ∷ ys) b i = there (in-right ys b i)
+
+  pub any-append : (p : A → Bool) (a b : List A) → any p (a ++ b) ≡ (any p a || any p b)
+  any-append p [] b = refl
+  any-append p (x ∷ xs) b = ap (λ (c : Bool). p x || c) (any-append p xs b) ∙ sym (or-assoc (p x) (any p xs) (any p b))
 
 -- What `simp` may rewrite tests by.
 pub ruleset tests = (T-and-iff, eq-or-iff, if-iff, leb-iff, ltb-iff, eqb-iff, allTo-iff)

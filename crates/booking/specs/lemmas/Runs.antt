@@ -8,9 +8,10 @@ use lib.Dec.{eqb}
 use Rattle.basics.specs.Tests.{All}
 use Rattle.job.specs.Job.{Job, EqualChunks, Layer, Within, withForecast}
 use Rattle.fetch.specs.Rows.{Row, bytesInSlot}
+use Rattle.fetch.specs.lemmas.Rows.{bytes-append}
 use Rattle.booking.specs.Booking.{SlotsThere, Without, Run, start, booking, releasing, rowsBooked, Balanced}
 use Rattle.booking.specs.Booking
-use Rattle.booking.specs.lemmas.Slots.{length-taken, length-added, taken-at, added-at, all-slots, slots-all, bytes-append, bookable-within, bookable-there}
+use Rattle.booking.specs.lemmas.Slots.{length-taken, length-added, taken-at, added-at, all-slots, slots-all, bookable-within, bookable-there}
 
 -- Forecasts of one length have the same slots.
 pub slots-there : (f g : List ℕ) → length f ≡ length g → (rows : List Row) → SlotsThere f rows → SlotsThere g rows

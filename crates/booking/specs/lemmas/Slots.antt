@@ -56,12 +56,6 @@ pub slots-all : (P : ℕ → Type 0) (f : List ℕ) → ((t : ℕ) → 1 ≤ t �
 slots-all P [] h = tt
 slots-all P (b ∷ f) h = (h 1 (omega arith) (omega arith), slots-all P f (λ t g l. let e : suc t - 1 ≡ suc (t - 1) = omega arith in rw e at (h (suc t) (omega arith) (omega arith))))
 
--- ---- sums over rows
-
-pub bytes-append : (p : Row → Bool) (a b : List Row) → bytesIf p (a ++ b) ≡ bytesIf p a + bytesIf p b
-bytes-append p [] b = omega arith
-bytes-append p (x ∷ a) b = omega (arith, bytes-append p a b)
-
 -- ---- a list that can be booked
 
 module _ (f : List ℕ) (rows : List Row) (b : Bookable f rows) where

@@ -1,27 +1,30 @@
--- Each way out of `check` is one of the laws of `Answer`.
+-- Refusals 5, 6, 18, 7, then 8, else the verdict of the job whose sizes fill the table: that of the second call at slot 1.
 use borrow.Author.Needs.{needs}
 use Rattle.checker.proofs.check.Statement.{statement}
 use Rattle.checker.proofs.check.Tie as tie
+use mathlib.Core.Path.{sym, ap, _∙_}
+use native.Mathlib.Omega.{arith}
 use lib.ListN.{length-replicate}
 use denote.Ref.{now}
-use Rattle.job.specs.Handed.{handed}
-use Rattle.checker.proofs.Answer.{job-refused, list-refused, may-judge, answered}
+use borrow.Author.Tests.{ne-eqb, eq-eqb}
+use Rattle.job.specs.Handed.{handed, jobIn, handed-iff}
+use Rattle.fetch.specs.Handed as rows
+use Rattle.fetch.specs.Rows.{rowsOf}
+use Rattle.fetch.specs.VerdictFrom.{first-slot}
+use Rattle.checker.specs.declared.Checked.the-variants.{Verdict}
+use Rattle.rules.proofs.Exact.{shown}
 
 refusal-requires : tie.Need-refusal-requires
 refusal-requires c κs = search needs
 
 returns : tie.Need-returns
-returns c =
-    let a = c .before .before .before .before .before .before .before .before .before .before .before .before .args in
-    job-refused (handed (a .p) (now (a .sizes)) (now (a .size-chunks)) (now (a .size-layers)) (now (a .size-bytes)) (now (a .forecast))) (now (a .marks)) (now (a .slots)) (now (a .chunks)) (now (a .layers)) (now (a .bytes)) (c .before .refusal .result) (c .before .refusal .ensures) (c .if1 .taken)
+returns c = rw (sym (c .before .refusal .ensures), ne-eqb _ _ (c .if1 .taken), ne-eqb _ _ (c .if1 .taken))
 
 handed-refusal-requires : tie.Need-handed-refusal-requires
 handed-refusal-requires c κs = search needs
 
 returns-2 : tie.Need-returns-2
-returns-2 c =
-    let a = c .before .before .before .before .before .before .before .before .before .before .before .before .before .before .args in
-    list-refused (handed (a .p) (now (a .sizes)) (now (a .size-chunks)) (now (a .size-layers)) (now (a .size-bytes)) (now (a .forecast))) (now (a .marks)) (now (a .slots)) (now (a .chunks)) (now (a .layers)) (now (a .bytes)) (c .before .before .before .refusal .result) (c .before .before .before .refusal .ensures) (c .before .before .if1 .left) (c .before .handed-refusal .result) (c .before .handed-refusal .ensures) (c .if2 .taken)
+returns-2 c = rw (sym (c .before .before .before .refusal .ensures), eq-eqb _ _ (c .before .before .if1 .left), sym (c .before .handed-refusal .ensures), ne-eqb _ _ (c .if2 .taken))
 
 cast-unset : tie.Need-cast-unset
 cast-unset c = search needs
@@ -32,13 +35,24 @@ fill-sizes-requires c κs = search needs
 verdict-of-requires : tie.Need-verdict-of-requires
 verdict-of-requires c κs =
     let a = c .before .before .before .before .before .before .before .before .before .before .before .before .before .before .before .before .before .before .args in
-    may-judge (handed (a .p) (now (a .sizes)) (now (a .size-chunks)) (now (a .size-layers)) (now (a .size-bytes)) (now (a .forecast))) (now (a .marks)) (now (a .slots)) (now (a .chunks)) (now (a .layers)) (now (a .bytes)) (c .before .before .before .before .before .before .before .refusal .result) (c .before .before .before .before .before .before .before .refusal .ensures) (c .before .before .before .before .before .before .if1 .left) (c .before .before .before .before .before .handed-refusal .result) (c .before .before .before .before .before .handed-refusal .ensures) (c .before .before .before .before .if2 .left)
+    let h = handed (a .p) (now (a .sizes)) (now (a .size-chunks)) (now (a .size-layers)) (now (a .size-bytes)) (now (a .forecast)) in
+    let ok = handed-iff h .0 (sym (c .before .before .before .before .before .before .before .refusal .ensures) ∙ c .before .before .before .before .before .before .if1 .left) .1 in (
+      ok .chunks-in .high,
+      ok .last-in,
+      ok .layers-in .high,
+      omega (arith, ok .slots-in, ok .last-in),
+      rows.handed-iff (a .p .chunks) (now (a .marks)) (now (a .slots)) (now (a .chunks)) (now (a .layers)) (now (a .bytes)) .0 (sym (c .before .before .before .before .before .handed-refusal .ensures) ∙ c .before .before .before .before .if2 .left),
+    )
 
 returns-3 : tie.Need-returns-3
 returns-3 c =
     let a = c .before .before .before .before .before .before .before .before .before .before .before .before .before .before .before .before .before .before .before .args in
-    answered (handed (a .p) (now (a .sizes)) (now (a .size-chunks)) (now (a .size-layers)) (now (a .size-bytes)) (now (a .forecast))) (now (a .marks)) (now (a .slots)) (now (a .chunks)) (now (a .layers)) (now (a .bytes)) (c .before .before .before .before .before .before .before .before .refusal .result) (c .before .before .before .before .before .before .before .before .refusal .ensures) (c .before .before .before .before .before .before .before .if1 .left) (c .before .before .before .before .before .before .handed-refusal .result) (c .before .before .before .before .before .before .handed-refusal .ensures) (c .before .before .before .before .before .if2 .left)
-    _ (c .verdict-of .result) (c .before .before .fill-sizes .ensures (length-replicate 2000 (a .p .chunks))) (c .verdict-of .ensures)
+    let h = handed (a .p) (now (a .sizes)) (now (a .size-chunks)) (now (a .size-layers)) (now (a .size-bytes)) (now (a .forecast)) in
+    let none = sym (c .before .before .before .before .before .before .before .before .refusal .ensures) ∙ c .before .before .before .before .before .before .before .if1 .left in
+    let its = c .before .before .fill-sizes .ensures (length-replicate 2000 (a .p .chunks)) in
+    let rows = rowsOf (now (a .slots)) (now (a .chunks)) (now (a .layers)) (now (a .bytes)) in
+    rw (none, sym (c .before .before .before .before .before .before .handed-refusal .ensures), eq-eqb _ _ (c .before .before .before .before .before .if2 .left))
+    (ap Verdict (c .verdict-of .ensures (h .sizes) (jobIn h .overrides) (shown h _ (handed-iff h .0 none .1) its) ∙ first-slot (jobIn h) (now (a .marks)) rows))
 
 pub check-spec : {M : Type 1} → statement M
 check-spec =

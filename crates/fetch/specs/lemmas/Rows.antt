@@ -7,12 +7,23 @@ use mathlib.Core.Logic.{⊎-elim}
 use native.Mathlib.Omega.{arith}
 use lib.Dec.{T, eqb}
 use Rattle.basics.specs.Tests.{all, any, In, here, there}
-use Rattle.basics.specs.lemmas.Tests.{test, T-or-iff}
+use Rattle.basics.specs.lemmas.Tests.{by-cond, test, T-or-iff}
 use Rattle.job.specs.Job.{Job, Layer, Accepted, size}
 use Rattle.job.specs.lemmas.Within.{size-least}
 use Rattle.fetch.specs.Rows.{Row, bytesIf, Carried, Permuted, none, keep, swap, next}
 use Rattle.fetch.specs.Rules.{LowerCarried}
 use Rattle.fetch.specs.Verdict.{lowerCarried}
+
+-- ---- rows after rows, and rows none of which pass
+
+pub bytes-append : (p : Row → Bool) (a b : List Row) → bytesIf p (a ++ b) ≡ bytesIf p a + bytesIf p b
+bytes-append p [] b = omega arith
+bytes-append p (x ∷ xs) b = omega (arith, bytes-append p xs b)
+
+pub bytes-none : (p : Row → Bool) (l : List Row) → ((x : Row) → In x l → T (p x) → ⊥) → bytesIf p l ≡ 0
+bytes-none p [] f = refl
+bytes-none p (x ∷ xs) f =
+    omega (arith, bytes-none p xs (λ y i. f y (there i)), by-cond (λ n. n ≤ 0) (p x) {x = x .bytes} {y = 0} (λ t. absurd (f x here t)) (λ t. omega arith))
 
 -- ---- the same rows in another order
 

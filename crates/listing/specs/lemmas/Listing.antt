@@ -118,29 +118,38 @@ pub record Levels (mark : ℕ) : Type 0 where
 abbrev pub layersOf : (ℕ → ℕ → ℕ) → ℕ → ℕ → ℕ → List Piece
 layersOf size chunk ready mark = pieces size chunk ready 0 (levelOf mark)
 
--- The pieces of the chunks of three tables.
-abbrev pub queueOf : (ℕ → ℕ → ℕ) → List ℕ → List ℕ → List ℕ → List Piece
-queueOf size [] rs ms = []
-queueOf size (k ∷ ks) [] ms = []
-queueOf size (k ∷ ks) (r ∷ rs) [] = []
-queueOf size (k ∷ ks) (r ∷ rs) (m ∷ ms) = layersOf size k r m ++ queueOf size ks rs ms
+-- The pieces of the chunks of three tables, where f gives those of a chunk, from its release and its mark.
+abbrev pub queueBy : (ℕ → ℕ → ℕ → List Piece) → List ℕ → List ℕ → List ℕ → List Piece
+queueBy f [] rs ms = []
+queueBy f (k ∷ ks) [] ms = []
+queueBy f (k ∷ ks) (r ∷ rs) [] = []
+queueBy f (k ∷ ks) (r ∷ rs) (m ∷ ms) = f k r m ++ queueBy f ks rs ms
 
--- What a chunk's pieces ask for.
-pub record ChunkFrom (start : ℕ) (part : List ℕ) (size : ℕ → ℕ → ℕ) (a : At) (ready chunk mark : ℕ) (ss cs ls bs : List ℕ) : Type 0 where
+abbrev pub queueOf : (ℕ → ℕ → ℕ) → List ℕ → List ℕ → List ℕ → List Piece
+queueOf size = queueBy (layersOf size)
+
+-- What the pieces q of a chunk ask for, of whose mark P holds.
+pub record PiecesFrom (P : ℕ → Type 0) (start : ℕ) (part : List ℕ) (q : List Piece) (a : At) (ready chunk mark : ℕ) (ss cs ls bs : List ℕ) : Type 0 where
   pub room : Room start part 4 a ss cs ls bs
   pub by : ready ≤ lastOf start part
   pub chunk-in : Within 1 500 chunk
-  pub levels : Levels mark
-  pub fed : Fed (leftAt start part) (layersOf size chunk ready mark)
-  pub fits : load (layersOf size chunk ready mark) ≤ a .c + leftAt start part (a .t)
+  pub levels : P mark
+  pub fed : Fed (leftAt start part) q
+  pub fits : load q ≤ a .c + leftAt start part (a .t)
+
+abbrev pub ChunkFrom : ℕ → List ℕ → (ℕ → ℕ → ℕ) → At → (ready chunk mark : ℕ) (ss cs ls bs : List ℕ) → Type 0
+ChunkFrom start part size a ready chunk mark ss cs ls bs = PiecesFrom Levels start part (layersOf size chunk ready mark) a ready chunk mark ss cs ls bs
 
 -- What all pieces ask for.
-pub record AllFrom (start : ℕ) (part : List ℕ) (size : ℕ → ℕ → ℕ) (ids ready mark : List ℕ) (first : ℕ) (a : At) (ss cs ls bs : List ℕ) : Type 0 where
+pub record AllBy (P : ℕ → Type 0) (f : ℕ → ℕ → ℕ → List Piece) (start : ℕ) (part ids ready mark : List ℕ) (first : ℕ) (a : At) (ss cs ls bs : List ℕ) : Type 0 where
   pub within : first ≤ 500
   pub room : Room start part (4 * (500 - first)) a ss cs ls bs
   pub by : All (λ r. r ≤ lastOf start part) (drop first ready)
   pub chunks-in : All (Within 1 500) (drop first ids)
-  pub levels : All Levels (drop first mark)
-  pub fed : Fed (leftAt start part) (queueOf size (drop first ids) (drop first ready) (drop first mark))
-  pub fits : load (queueOf size (drop first ids) (drop first ready) (drop first mark)) ≤ a .c + leftAt start part (a .t)
+  pub levels : All P (drop first mark)
+  pub fed : Fed (leftAt start part) (queueBy f (drop first ids) (drop first ready) (drop first mark))
+  pub fits : load (queueBy f (drop first ids) (drop first ready) (drop first mark)) ≤ a .c + leftAt start part (a .t)
   pub long : (length ids ≡ 500) × (length ready ≡ 500) × (length mark ≡ 500)
+
+abbrev pub AllFrom : ℕ → List ℕ → (ℕ → ℕ → ℕ) → (ids ready mark : List ℕ) → ℕ → At → (ss cs ls bs : List ℕ) → Type 0
+AllFrom start part size ids ready mark first a ss cs ls bs = AllBy Levels (layersOf size) start part ids ready mark first a ss cs ls bs

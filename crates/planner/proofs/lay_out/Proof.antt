@@ -50,7 +50,7 @@ slice-reshare-prefix-count-layers c =
     let says = filled _ (o .accepted) _ (c .before .before .before .before .before .before .before .before .before .before .before .before .before .before .before .before .before .before .before .before .before .before .before .before .before .before .before .before .before .before .fill-sizes .ensures (length-replicate {A = ℕ} 2000 (a .p .chunks))) in
     let d = c .before .before .before .before .before .before .before .before .before .before .before .before .before .before .before .before .before .before .before .before .before .before .before .before .decide .ensures _ _ refl says in
     let e = c .before .before .spread .ensures in
-    omega (arith, laid-long _ (o .accepted) _ _ _ _ d (now (a .marks)) _ (o .marks-fit) e, o .marks-fit)
+    omega (arith, laid-long _ (o .accepted) _ _ _ _ d (now (a .marks)) _ e (o .marks-fit), o .marks-fit)
 
 slice-aggregate-count-layers : tie.Need-slice-aggregate-count-layers
 slice-aggregate-count-layers c =
@@ -59,7 +59,7 @@ slice-aggregate-count-layers c =
     let says = filled _ (o .accepted) _ (c .before .before .before .before .before .before .before .before .before .before .before .before .before .before .before .before .before .before .before .before .before .before .before .before .before .before .before .before .before .before .before .fill-sizes .ensures (length-replicate {A = ℕ} 2000 (a .p .chunks))) in
     let d = c .before .before .before .before .before .before .before .before .before .before .before .before .before .before .before .before .before .before .before .before .before .before .before .before .before .decide .ensures _ _ refl says in
     let e = c .before .before .before .spread .ensures in
-    sym (laid-front-long _ (o .accepted) _ _ _ _ d (now (a .marks)) _ (o .marks-fit) e)
+    sym (laid-front-long _ (o .accepted) _ _ _ _ d (now (a .marks)) _ e)
 
 count-layers-requires : tie.Need-count-layers-requires
 count-layers-requires c κs =
@@ -68,7 +68,7 @@ count-layers-requires c κs =
     let says = filled _ (o .accepted) _ (c .before .before .before .before .before .before .before .before .before .before .before .before .before .before .before .before .before .before .before .before .before .before .before .before .before .before .before .before .before .before .before .fill-sizes .ensures (length-replicate {A = ℕ} 2000 (a .p .chunks))) in
     let d = c .before .before .before .before .before .before .before .before .before .before .before .before .before .before .before .before .before .before .before .before .before .before .before .before .before .decide .ensures _ _ refl says in
     let e = c .before .before .before .spread .ensures in
-    omega (arith, laid-front-long _ (o .accepted) _ _ _ _ d (now (a .marks)) _ (o .marks-fit) e, o .accepted .chunks-in .high)
+    omega (arith, laid-front-long _ (o .accepted) _ _ _ _ d (now (a .marks)) _ e, o .accepted .chunks-in .high)
 
 same-length : tie.Need-same-length
 same-length c = search needs
@@ -94,9 +94,9 @@ returns c =
     let e = c .before .before .before .before .spread .ensures in
     let l = listed _ (o .accepted) _ _ _ _ d _ says _ (now (a .slots)) (now (a .chunks)) (now (a .layers)) (now (a .bytes)) _ _ _ _ _ (c .before .before .before .before .before .before .before .before .before .before .before .before .before .before .before .before .put-all .ensures) in
     record {
-      rows = l .counted;
-      counts = laid-counts _ (o .accepted) _ _ _ _ d (now (a .marks)) _ (o .marks-fit) e _ (c .count-layers .ensures);
-      marks-are = laid-marks _ (o .accepted) _ _ _ _ d (now (a .marks)) _ (o .marks-fit) e;
+      rows-are = l .counted;
+      counts-are = laid-counts _ (o .accepted) _ _ _ _ d (now (a .marks)) _ e _ (c .count-layers .ensures);
+      marks-are = laid-marks _ (o .accepted) _ _ _ _ d (now (a .marks)) _ e;
       slots-are = l .slots;
       chunks-are = l .chunks-are;
       layers-are = l .layers-are;

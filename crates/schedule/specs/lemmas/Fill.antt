@@ -11,6 +11,7 @@ use lib.Dec.{T, leb, ltb, eqb, leb→le, nleb→lt, ltb→lt, nltb→le, eqb→e
 use Rattle.basics.specs.Tests.{All}
 use Rattle.basics.specs.lemmas.Tests.{all-append, all-map, at-row, by-cond, each-row, not-and, test, tests}
 use Rattle.fetch.specs.Rows.{Row, bytesIf, bytesInSlot}
+use Rattle.fetch.specs.lemmas.Rows.{bytes-append, bytes-none}
 
 -- ---- the fill
 
@@ -99,10 +100,6 @@ split-left : (b : Bool) (x c : ℕ) → c ≤ x → cond b c 0 + cond b (x - c) 
 split-left true x c h = omega arith
 split-left false x c h = omega arith
 
-bytes-append : (p : Row → Bool) (a b : List Row) → bytesIf p (a ++ b) ≡ bytesIf p a + bytesIf p b
-bytes-append p [] b = omega arith
-bytes-append p (x ∷ xs) b = omega (arith, bytes-append p xs b)
-
 slot-loses-nothing :
     (P : ℕ → ℕ → Bool) (t c : ℕ) (q : List Piece) →
     bytesIf (on P) (take-slot t c q .rows) + left-of P (take-slot t c q .rest) ≡ left-of P q
@@ -150,11 +147,6 @@ slot-within t =
     (λ c p ps o h l e. omega arith)
     (λ c p ps h m l. omega arith)
 
-bytes-none : (p : Row → Bool) (l : List Row) → All (λ x. T (p x) → ⊥) l → bytesIf p l ≡ 0
-bytes-none p [] a = refl
-bytes-none p (x ∷ xs) a =
-    omega (arith, bytes-none p xs (a .1), by-cond (λ n. n ≤ 0) (p x) {x = x .bytes} {y = 0} (λ t. absurd (a .0 t)) (λ t. omega arith))
-
 bytes-all : (p : Row → Bool) (l : List Row) → bytesIf p l ≤ bytesIf (λ x. true) l
 bytes-all p [] = omega arith
 bytes-all p (x ∷ xs) = omega (arith, bytes-all p xs, by-cond (λ n. n ≤ x .bytes) (p x) {x = x .bytes} {y = 0} (λ t. omega arith) (λ t. omega arith))
@@ -169,10 +161,10 @@ fill-within B (suc n) t q s =
     ⊎-elim
     (λ u.
     let e : suc t ≡ s = eqb→eq (suc t) s u in
-    let none = bytes-none here more (all-map (λ x. (suc t < x .slot) × (x .slot ≤ n + suc t)) (λ x. T (here x) → ⊥) more (λ x h v. omega (arith, eqb→eq (x .slot) s v)) (fill-in-slots B n (suc t) (o .rest))) in
+    let none = bytes-none here more (λ x i v. omega (arith, at-row (λ x. (suc t < x .slot) × (x .slot ≤ n + suc t)) i (fill-in-slots B n (suc t) (o .rest)), eqb→eq (x .slot) s v)) in
     omega (arith, sum, none, bytes-all here (o .rows), slot-within (suc t) (B (suc t)) q, ap B e))
     (λ u.
-    let none = bytes-none here (o .rows) (all-map (λ x. x .slot ≡ suc t) (λ x. T (here x) → ⊥) (o .rows) (λ x e v. T-not (eqb (suc t) s) u (rw e at v)) (slot-in-slot (suc t) (B (suc t)) q)) in
+    let none = bytes-none here (o .rows) (λ x i v. T-not (eqb (suc t) s) u (rw (at-row (λ x. x .slot ≡ suc t) i (slot-in-slot (suc t) (B (suc t)) q)) at v)) in
     omega (arith, sum, none, fill-within B n (suc t) (o .rest) s))
     (test (eqb (suc t) s))
 

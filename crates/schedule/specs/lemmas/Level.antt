@@ -6,12 +6,11 @@ use mathlib.Core.List.{List}
 use native.Mathlib.Omega.{arith}
 use lib.Dec.{ltb, eqb→eq, ltb→lt, lt→ltb}
 use Rattle.basics.specs.lemmas.Lists.{upTo-cong}
-use Rattle.basics.specs.Sums.{sum}
 use Rattle.basics.specs.lemmas.Tests.{eqb-iff, same-test}
-use Rattle.fetch.specs.Rows.{Row, carried, layerCount, marksGiven}
-use Rattle.fetch.specs.Rules.{Keeps, Passes}
+use Rattle.fetch.specs.Rows.{Row, carried, layerCount, layersCarried, marksGiven}
+use Rattle.fetch.specs.Rules.{Keeps, LowerCarried, Passes}
 use Rattle.job.specs.Job.{Job, Layer, chunks, layers}
-use Rattle.basics.specs.lemmas.Ranges.{below-bits-iff, bit, bits-le, count-cong, sum-cong}
+use Rattle.basics.specs.lemmas.Ranges.{below-bits-iff, bits-le, count-cong, sum-cong}
 use Rattle.schedule.specs.Statement.{CarriesExactly, Choice, countOf, marksOf}
 use Rattle.schedule.specs.lemmas.Words.{layer-of}
 
@@ -21,22 +20,25 @@ keeps-passes j marks l ok = subst (λ (m : List ℕ). Keeps j m l) (ok .marks-sa
 
 -- How many layers of chunk i the list carries.
 abbrev pub level : Job → List Row → ℕ → ℕ
-level j l i = sum (λ n. bit (carried j l i n)) (layers j)
+level j l i = layersCarried j l i
 
 pub level-choice : (j : Job) (l : List Row) → Choice j (level j l)
 level-choice j l i g h = bits-le (carried j l i) (layers j)
 
 -- By rule 3 they are the lowest ones.
-pub level-exactly : (j : Job) (l : List Row) → Passes j l → CarriesExactly j l (level j l)
-level-exactly j l ok i n r =
+pub level-iff : (j : Job) (l : List Row) → LowerCarried j l → CarriesExactly j l (level j l)
+level-iff j l low i n r =
     let b =
     below-bits-iff
     (carried j l i)
     (layers j)
-    (λ m h t. eqb-iff _ _ .1 (ok .lower i m (layer-of j i (suc m) (r .chunk-low) (r .chunk-high) h) (eqb→eq _ _ t)))
+    (λ m h t. eqb-iff _ _ .1 (low i m (layer-of j i (suc m) (r .chunk-low) (r .chunk-high) h) (eqb→eq _ _ t)))
     n
     (r .layer-in) in
     (λ e. b .1 (eqb-iff _ _ .1 e), λ h. eqb→eq _ _ (b .0 h))
+
+pub level-exactly : (j : Job) (l : List Row) → Passes j l → CarriesExactly j l (level j l)
+level-exactly j l ok = level-iff j l (ok .lower)
 
 module _ (j : Job) (l : List Row) (lv : ℕ → ℕ) (c : CarriesExactly j l lv) where
   carried-is : (i n : ℕ) → Layer j i n → carried j l i n ≡ ltb n (lv i)

@@ -10,11 +10,13 @@ use borrow.Author.Tests.{eq-eqb, ne-eqb, lt-leb, le-leb, lt-ltb, le-ltb}
 use lib.ListN.{getD, drop}
 use lib.Seq.{drop-drop}
 use lib.Dec.{T, T-not, not-T, leb, ltb, eqb, leb→le, nleb→lt, ltb→lt, nltb→le, lt→ltb, le→leb, eqb→eq, eqb-refl}
-use Rattle.basics.specs.lemmas.Ranges.{sum-mono}
+use Rattle.basics.specs.Sums.{sum}
+use Rattle.basics.specs.lemmas.Ranges.{sum-cong, sum-mono}
 use Rattle.basics.specs.lemmas.Tests.{T-and, T-true, by-cond, not-T-false, same-test, test, tests}
 use Rattle.job.specs.Job.{Job, chunks, due, heldMost, layers, size}
 use Rattle.fetch.specs.Marks.{bit, withLayer}
-use Rattle.fetch.specs.lemmas.Marks.{mark-bit, mark-high, with-next}
+use Rattle.fetch.specs.Rows.{markByte}
+use Rattle.fetch.specs.lemmas.Marks.{mark-bit, mark-cong, mark-high, with-next}
 use Rattle.schedule.specs.lemmas.Base.{base-picks}
 use Rattle.schedule.specs.lemmas.Choice.{Fits}
 use Rattle.schedule.specs.Bases.{baseSize, forecastBy, isKept, keptAtEnd}
@@ -121,13 +123,13 @@ feas-roomy w d A h ks = (
 )
 
 -- A front chunk that has its own room leaves the rest of the room.
-front : (w d A : ℕ → ℕ) (room k r : ℕ) (ks rs : List ℕ) → w k + A (d k) ≤ min room (A (r - 1)) → Roomy w d A room (k ∷ ks) (r ∷ rs) ↔ Roomy w d A (min room (A (r - 1)) - w k) ks rs
+pub front : (w d A : ℕ → ℕ) (room k r : ℕ) (ks rs : List ℕ) → w k + A (d k) ≤ min room (A (r - 1)) → Roomy w d A room (k ∷ ks) (r ∷ rs) ↔ Roomy w d A (min room (A (r - 1)) - w k) ks rs
 front w d A room k r ks rs h = (
   λ f. record { within = omega (arith, f .within, f .released .0); released = f .released .1 },
   λ f. record { within = omega (arith, f .within); released = (omega (arith, f .within), f .released) },
 )
 
-relok-mono : (v w d A : ℕ → ℕ) (ks rs : List ℕ) → Each (λ k. v k ≤ w k) ks → RelOk w d A ks rs → RelOk v d A ks rs
+pub relok-mono : (v w d A : ℕ → ℕ) (ks rs : List ℕ) → Each (λ k. v k ≤ w k) ks → RelOk w d A ks rs → RelOk v d A ks rs
 relok-mono v w d A [] rs a t = tt
 relok-mono v w d A (k ∷ ks) [] a t = t
 relok-mono v w d A (k ∷ ks) (r ∷ rs) a t = (omega (arith, need-mono v w d A (k ∷ ks) a, t .0), relok-mono v w d A ks rs (a .1) (t .1))
@@ -145,7 +147,28 @@ level-bit m n =
 pub level-next : (n : ℕ) → n < 8 → withLayer (levelMark n) n ≡ levelMark (suc n)
 level-next n h = with-next (λ i. true) n h refl
 
-level-top : (m n : ℕ) → 1 ≤ n → m ≤ n → ltb (n - 1) m ≡ eqb m n
+level-sum : (m b : ℕ) → sum (λ n. cond (ltb n m) 1 0) b ≡ min b m
+level-sum m zero = omega arith
+level-sum m (suc b) =
+    ⊎-elim
+    (λ t. let l = ltb→lt b m t in rw (lt-ltb b m l) (omega (arith, level-sum m b)))
+    (λ t. let l = nltb→le b m t in rw (le-ltb b m l) (omega (arith, level-sum m b)))
+    (test (ltb b m))
+
+-- It says so many layers.
+pub level-of : (m : ℕ) → m ≤ 8 → sum (λ n. cond (bit (levelMark m) n) 1 0) 8 ≡ m
+level-of m h = sum-cong _ _ 8 (λ n u. ap (λ (b : Bool). cond b 1 0) (level-bit m n)) ∙ level-sum m 8 ∙ omega arith
+
+-- The mark byte of a chunk that carries c of k layers.
+pub mark-level : (c k : ℕ) → c ≤ k → markByte (λ n. ltb n c) k ≡ levelMark c
+mark-level c zero h = let e : c ≡ 0 = omega arith in rw e
+mark-level c (suc k) h =
+    ⊎-elim
+    (λ t. let l = ltb→lt k c t in let e : c ≡ suc k = omega arith in rw e (mark-cong (λ n. ltb n (suc k)) (λ n. true) (suc k) (λ n u. lt-ltb n (suc k) u)))
+    (λ t. let l = nltb→le k c t in rw (le-ltb k c l) (omega (arith, mark-level c k l)))
+    (test (ltb k c))
+
+pub level-top : (m n : ℕ) → 1 ≤ n → m ≤ n → ltb (n - 1) m ≡ eqb m n
 level-top m n u h =
     ⊎-elim
     (λ t. let e = eqb→eq m n t in rw (e, eq-eqb n n refl) (lt-ltb (n - 1) n (omega arith)))

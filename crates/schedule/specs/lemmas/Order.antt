@@ -7,7 +7,7 @@ use mathlib.Core.Logic.{_⊎_, inl, inr, ⊎-elim}
 use native.Mathlib.Omega.{arith}
 use lib.Dec.{leb, eqb}
 use Rattle.basics.specs.Tests.{All, In, here, there}
-use Rattle.basics.specs.lemmas.Tests.{all-append, all-map, and-T, any-row, at-row, tests}
+use Rattle.basics.specs.lemmas.Tests.{all-append, all-map, and-T, any-row, at-row, in-append, tests}
 use Rattle.job.specs.Job.{Job, chunks, due, forecast, heldMost, lastSlot, layers, size}
 use Rattle.fetch.specs.Rows.{Row}
 use Rattle.fetch.specs.Rules.{InRange, PlayingOrder}
@@ -67,11 +67,6 @@ fill-from B (suc n) t lo q s =
     (fill B n (suc t) (o .rest))
     (all-map (λ x. (lo ≤ x .chunk) × (x .chunk ≤ c .mid)) (λ x. lo ≤ x .chunk) (o .rows) (λ x u. u .0) (c .taken))
     (fill-from B n (suc t) lo (o .rest) (sorted-lower lo (c .mid) (o .rest) (c .low) (c .kept)))
-
-in-append : {x : Row} (a b : List Row) → In x (a ++ b) → In x a ⊎ In x b
-in-append [] b i = inr i
-in-append (y ∷ ys) b here = inl here
-in-append (y ∷ ys) b (there i) = ⊎-elim (λ u. inl (there u)) (λ u. inr u) (in-append ys b i)
 
 fill-order :
     (B : ℕ → ℕ) (n t lo : ℕ) (q : List Piece) → Sorted lo q → (x y : Row) → In x (fill B n t q) → In y (fill B n t q) →

@@ -3,14 +3,15 @@
 use Prim.Native.Nat.{ℕ, zero, suc, _+_, _-_, _≤_}
 use mathlib.Core.Path.{_≡_, refl, sym, ap, _∙_, subst, fun-ext}
 use mathlib.Core.Bool.{Bool, true, false, not, cond, _&&_, _||_}
-use mathlib.Core.List.{List, [], _∷_, _++_, append-assoc}
+use mathlib.Core.List.{List, [], _∷_, _++_, append-assoc, append-nil}
 use native.Mathlib.Omega.{arith}
 use borrow.Author.Tests.{le-leb}
 use lib.ListN.{length, length-append}
 use lib.Dec.{T, leb, ltb, eqb, leb→le, nleb→lt}
+use Rattle.schedule.specs.lemmas.Words.{carries}
 use Rattle.basics.specs.Sums.{count}
 use Rattle.basics.specs.Tests.{All, any}
-use Rattle.basics.specs.lemmas.Tests.{all-append, all-map, by-cond}
+use Rattle.basics.specs.lemmas.Tests.{all-append, all-map, by-cond, by-cond-both}
 use Rattle.basics.specs.Lists.{upTo}
 use Rattle.fetch.specs.Rows.{Row, begun}
 use Rattle.job.specs.Job.{Job, chunks, due, forecast, heldMost, lastSlot, size}
@@ -24,10 +25,6 @@ use Rattle.schedule.specs.lemmas.Queue.{each, ones, pieces, queue, relea
 use Rattle.schedule.specs.lemmas.Sufficiency.{fetch}
 
 -- ---- which chunks have begun
-
--- Chunk i has a row.
-abbrev carries : List Row → ℕ → Bool
-carries rows i = any (λ x. eqb (x .chunk) i) rows
 
 begun-by-slot : (t : ℕ) (rows : List Row) → All (λ x. x .slot ≤ t) rows → begun rows t ≡ carries rows
 begun-by-slot t rows a = fun-ext (λ i. at i rows a)
@@ -76,20 +73,10 @@ record Matches (j : Job) (rows : List Row) (f : Fetched) (o : Out) : Type 0 wher
   left-is : f .left ≡ parts (o .rest)
   fair : Fair j (carries (rows ++ o .rows)) (o .rest)
 
-by-cond-both :
-    {A B : Type 0} (P : A → B → Type 0) (b : Bool) {x y : A} {u v : B} → (T b → P x u) → (T (not b) → P y v) →
-    P (cond b x y) (cond b u v)
-by-cond-both P true f g = f tt
-by-cond-both P false f g = g tt
-
-append-none : {A : Type 0} (l : List A) → l ++ [] ≡ l
-append-none [] = refl
-append-none (x ∷ xs) = ap (λ (l : _). x ∷ l) (append-none xs)
-
 slot-matches :
     (j : Job) (t c : ℕ) (rows : List Row) (q : List Piece) → 1 ≤ t → All (λ x. x .slot ≤ t) rows → Fair j (carries rows) q →
     Matches j rows (slotTakes j t c rows (parts q)) (take-slot t c q)
-slot-matches j t c rows [] u a f = record { rows-are = sym (append-none rows); left-is = refl; fair = tt }
+slot-matches j t c rows [] u a f = record { rows-are = sym (append-nil rows); left-is = refl; fair = tt }
 slot-matches j t c rows (p ∷ ps) u a f =
     let x : ℕ → Row = λ b. rowOf t (part p) b in
     let begin : (b : ℕ) → with (p .chunk) (carries rows) ≡ carries (rows ++ (x b ∷ [])) = λ b. sym (carries-last rows (x b)) in
@@ -106,7 +93,7 @@ slot-matches j t c rows (p ∷ ps) u a f =
     (leb (p .left) c)
     (λ w. record { rows-are = more .rows-are ∙ append-assoc rows (x (p .left) ∷ []) (take-slot t (c - p .left) ps .rows); left-is = more .left-is; fair = rw append-assoc at (more .fair) })
     (λ w. record { rows-are = refl; left-is = refl; fair = subst (λ (s : ℕ → Bool). Released j s (p .ready) × Fair j s ps) (sym (with-twice (p .chunk) (carries rows)) ∙ ap (with (p .chunk)) (begin c)) (f .0, f .1) }))
-    (λ v. record { rows-are = sym (append-none rows); left-is = refl; fair = subst (λ (l : List Row). Fair j (carries l) (p ∷ ps)) (sym (append-none rows)) f }))
+    (λ v. record { rows-are = sym (append-nil rows); left-is = refl; fair = subst (λ (l : List Row). Fair j (carries l) (p ∷ ps)) (sym (append-nil rows)) f }))
 
 -- ---- all slots take what the fill takes
 
@@ -114,7 +101,7 @@ slot-matches j t c rows (p ∷ ps) u a f =
 fill-last :
     (B : ℕ → ℕ) (n t s : ℕ) (q : List Piece) → s ≡ n + t →
     (fill B (suc n) t q ≡ fill B n t q ++ take-slot (suc s) (B (suc s)) (rest-after B n t q) .rows) × (rest-after B (suc n) t q ≡ take-slot (suc s) (B (suc s)) (rest-after B n t q) .rest)
-fill-last B zero t s q h = let e : s ≡ t = omega arith in rw e (append-none (take-slot (suc t) (B (suc t)) q .rows), refl)
+fill-last B zero t s q h = let e : s ≡ t = omega arith in rw e (append-nil (take-slot (suc t) (B (suc t)) q .rows), refl)
 fill-last B (suc n) t s q h =
     let o = take-slot (suc t) (B (suc t)) q in
     let r = fill-last B n (suc t) s (o .rest) (omega arith) in (
@@ -152,7 +139,7 @@ parts-append [] b = refl
 parts-append (p ∷ ps) b = ap (λ (l : List Part). part p ∷ l) (parts-append ps b)
 
 parts-pieces : (j : Job) (k r m n : ℕ) → upTo (wholeLayer j k) m ++ parts (pieces (size j) k r m n) ≡ upTo (wholeLayer j k) (n + m)
-parts-pieces j k r m zero = let e : 0 + m ≡ m = omega arith in rw e (append-none (upTo (wholeLayer j k) m))
+parts-pieces j k r m zero = let e : 0 + m ≡ m = omega arith in rw e (append-nil (upTo (wholeLayer j k) m))
 parts-pieces j k r m (suc n) =
     let e : suc n + m ≡ n + suc m = omega arith in
     rw e (sym (append-assoc (upTo (wholeLayer j k) m) (wholeLayer j k m ∷ []) (parts (pieces (size j) k r (suc m) n))) ∙ parts-pieces j k r (suc m) n)
@@ -166,7 +153,7 @@ abbrev MoreCarried : Job → (ℕ → ℕ) → ℕ → ℕ → List ℕ → List
 MoreCarried j lv lo n ks rs = length ks ≤ length rs → carriedTo j lv (n + lo) ≡ carriedTo j lv lo ++ parts (queue (size j) lv ks rs)
 
 carried-more : (j : Job) (lv : ℕ → ℕ) (lo n : ℕ) (rs : List ℕ) → MoreCarried j lv lo n (keptFrom lv lo n) rs
-carried-more j lv lo zero rs = λ h. let e : 0 + lo ≡ lo = omega arith in rw e (sym (append-none (carriedTo j lv lo)))
+carried-more j lv lo zero rs = λ h. let e : 0 + lo ≡ lo = omega arith in rw e (sym (append-nil (carriedTo j lv lo)))
 carried-more j lv lo (suc n) rs =
     let e : suc n + lo ≡ n + suc lo = omega arith in
     rw e
@@ -178,7 +165,7 @@ carried-more j lv lo (suc n) rs =
     (λ t. one-kept rs (carried-more j lv (suc lo) n))
     (λ t l.
     let z : lv (suc lo) ≡ 0 = omega (arith, nleb→lt 1 (lv (suc lo)) t) in
-    carried-more j lv (suc lo) n rs l ∙ rw (z, append-none (carriedTo j lv lo))))
+    carried-more j lv (suc lo) n rs l ∙ rw (z, append-nil (carriedTo j lv lo))))
   where
     one-kept :
         (rs : List ℕ) → ((rs : List ℕ) → MoreCarried j lv (suc lo) n (keptFrom lv (suc lo) n) rs) →

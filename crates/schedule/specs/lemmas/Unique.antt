@@ -20,7 +20,7 @@ pub can-carry-cong : (j : Job) (p q : ℕ → ℕ) → Same j p q → CanCarry j
 can-carry-cong j p q e s =
     record { rows = s .rows; passes = s .passes; in-order = s .in-order; exactly = λ i n r. rw (e i (r .chunk-low) (r .chunk-high)) at (s .exactly i n r) }
 
-carried-cong : (j : Job) (p q : ℕ → ℕ) → Same j p q → (i : ℕ) → i ≤ chunks j → carriedTo j p i ≡ carriedTo j q i
+pub carried-cong : (j : Job) (p q : ℕ → ℕ) → Same j p q → (i : ℕ) → i ≤ chunks j → carriedTo j p i ≡ carriedTo j q i
 carried-cong j p q e zero h = refl
 carried-cong j p q e (suc i) h = rw (carried-cong j p q e i (omega arith), e (suc i) (omega arith) h)
 

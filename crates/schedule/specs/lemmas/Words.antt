@@ -6,10 +6,9 @@ use native.Mathlib.Omega.{arith}
 use native.Mathlib.Nat.{mul-le-mul-right}
 use lib.Dec.{eqb}
 use Rattle.basics.specs.lemmas.Ranges.{pre-mono}
-use Rattle.basics.specs.Tests.{any}
 use Rattle.job.specs.Job.{Accepted, Job, Layer, chunks, due, forecast, layers, size, dueSlot, lastDue}
 use Rattle.job.specs.lemmas.Within.{size-least}
-use Rattle.fetch.specs.Rows.{Row, bytesIf}
+use Rattle.fetch.specs.Rows.{Row, bytesIf, hasRow}
 use Rattle.schedule.specs.Plan.{after}
 use Rattle.job.specs.declared.Programme.{Programme}
 
@@ -19,7 +18,7 @@ bytesOfChunk rows i = bytesIf (λ x. eqb (x .chunk) i) rows
 
 -- Chunk i has a row.
 abbrev pub carries : List Row → ℕ → Bool
-carries rows i = any (λ x. eqb (x .chunk) i) rows
+carries rows i = hasRow rows i
 
 -- A later chunk is due no earlier.
 pub due-mono : (j : Job) (x y : ℕ) → x ≤ y → due j x ≤ due j y

@@ -1,0 +1,3 @@
+pub mod Chunks
+pub mod Rest
+pub mod Laid

@@ -1,0 +1,4 @@
+pub mod Tables
+pub mod Begun
+pub mod Decision
+pub mod Composed
