@@ -1,35 +1,34 @@
 -- Laws on what the public call hands over. Assumes nothing.
-use mathlib.Core.Path.{_≡_, sym, _∙_, ap}
-use mathlib.Core.Bool.{Bool, true, false, _&&_}
+use mathlib.Core.Path.{_≡_, refl, sym, _∙_, ap}
+use mathlib.Core.Bool.{Bool, true, false, cond, _&&_}
 use mathlib.Core.List.{List, [], _∷_, map}
+use mathlib.Core.Logic.{⊎-elim}
 use Prim.Native.Nat.{ℕ, _+_, _≤_, _<_}
 use native.Mathlib.Omega.{arith}
-use native.Mathlib.Numerals.{add-one}
-use lib.ListN.{length, getD, set, take, drop, length-set, length-map}
-use lib.Seq.{take-suc, take-at, length-take-le}
+use lib.ListN.{length, replicate}
 use lib.Dec.{leb, eqb}
 use borrow.Author.Tests.{eq-eqb, ne-eqb, le-leb, lt-leb}
 use Rattle.basics.specs.Refusals.{unless}
-use Rattle.basics.specs.lemmas.Lists.{length-upTo}
 use Rattle.basics.specs.lemmas.Refusals.{orElse-none, orElse-some}
-use Rattle.basics.specs.lemmas.Tests.{tests, true-T}
-use Rattle.job.specs.Job.{Job, Accepted, chunks}
+use Rattle.basics.specs.lemmas.Tests.{T-true, not-T-false, test}
+use Rattle.job.specs.Job.{Job, Accepted, chunks, size}
 use Rattle.job.specs.Handed.{HandedJob, jobIn, jobRefusal, handed-iff}
 use Rattle.schedule.specs.Plan.{plan}
-use Rattle.schedule.specs.lemmas.Plan.{plan-choice}
-use Rattle.schedule.specs.Theorems.{own-list-rows, best, elsewhere-iff, plan-exists}
+use Rattle.schedule.specs.lemmas.Plan.{plan-choice, plan-fits}
+use Rattle.schedule.specs.Theorems.{best, elsewhere-iff, plan-exists}
 use Rattle.schedule.specs.Pictures.{most-pictures}
 use Rattle.schedule.specs.Statement.{countsOf, marksOf}
-use Rattle.handing.proofs.Laws.{copied-over, four-hold, long-aside}
+use Rattle.settle.specs.lemmas.Decision.{DecideFrom, Decides}
+use Rattle.laying.specs.declared.Laid.{Laid}
+use Rattle.laying.specs.lemmas.Laying.{Decided, Lays}
+use Rattle.laying.proofs.Jobs.{bases-least, part-of, sizes-small}
+use Rattle.laying.proofs.Laying.{unlaid}
 use Rattle.planner.specs.declared.Answer.the-variants.{Rows, Refused}
 use Rattle.planner.specs.declared.Planned.{Planned}
-use Rattle.planner.specs.declared.Filled.{Filled}
-use Rattle.planner.specs.lemmas.Handing.{LaidFrom, Laid}
 use Rattle.planner.specs.Answer.{planRows, Lent, lentOf, holds, planRefusal, given, Handed, DecidedByLists, PicturesOfLists, BestOfLists, SteadyBases}
 use Rattle.steady.specs.Theorems.{steady}
 use Rattle.basics.specs.Lent.{over}
-use Rattle.fetch.specs.Rows.{Row, rowSlot, rowChunk, rowLayer, rowBytes}
-use Rattle.basics.specs.lemmas.Lent.{over-next, over-long}
+use Rattle.fetch.specs.Rows.{rowSlot, rowChunk, rowLayer, rowBytes}
 
 -- ---- what is handed
 
@@ -101,74 +100,58 @@ module _ (h : HandedJob) (marks slots cs layers bytes : List ℕ) where
         bytes-are = by ∙ sym (rw g);
       }
 
-  -- Room for any plan,
-  module _ (z : jobRefusal h ≡ 0) (fit : chunks j ≤ length marks) {holds-any : Bool} (e : holds-any ≡ rows-hold 5599) (t : holds-any ≡ true) where
-    pub ample-room : LaidFrom j marks slots cs layers bytes
-    ample-room =
-        let four = four-hold 5599 (length slots) (length cs) (length layers) (length bytes) e t in
-        record { accepted = accepted h z; marks-fit = fit; slots-fit = four .0; chunks-fit = four .1; layers-fit = four .2; bytes-fit = four .3 }
+  -- ---- what was laid
 
-    -- and so for this one.
-    ample-rows : rows-hold (length (planRows j)) ≡ true
-    ample-rows =
-        let n = own-list-rows j (accepted h z) (plan j) (plan-choice j) in
-        let four = four-hold 5599 (length slots) (length cs) (length layers) (length bytes) e t in
-        rw (le-leb (length (planRows j)) (length slots) (omega (arith, four .0)), le-leb (length (planRows j)) (length cs) (omega (arith, four .1)), le-leb (length (planRows j)) (length layers) (omega (arith, four .2)), le-leb (length (planRows j)) (length bytes) (omega (arith, four .3)))
+  module _ (z : jobRefusal h ≡ 0) (fit : chunks j ≤ length marks) {made : Laid} {marks' slots' cs' layers' bytes' : List ℕ} (l : Lays j (plan j) marks slots cs layers bytes made marks' slots' cs' layers' bytes') where
+    -- Whole,
+    laid-whole :
+        made .whole ≡ true → (r : Planned) → r .answer ≡ Rows (made .rows) → r .counts ≡ made .counts →
+        Handed h marks slots cs layers bytes r marks' slots' cs' layers' bytes'
+    laid-whole t r an co =
+        handed-plan z (holds-rows fit true (sym (l .whole) ∙ t)) r _ _ _ _ _ (an ∙ ap Rows (l .rows)) (co ∙ l .counts)
+        (l .marks-are ∙ rw t) (l .slots-are ∙ rw t) (l .chunks-are ∙ rw t) (l .layers-are ∙ rw t) (l .bytes-are ∙ rw t)
 
-    pub handed-laid : (r : Planned) (made : Filled) → (r .answer ≡ Rows (made .rows)) × (r .counts ≡ made .counts) → {marks' slots' cs' layers' bytes' : List ℕ}
-        → Laid j marks slots cs layers bytes made marks' slots' cs' layers' bytes' → Handed h marks slots cs layers bytes r marks' slots' cs' layers' bytes'
-    handed-laid r made x l =
-        handed-plan z (holds-rows fit true ample-rows) r _ _ _ _ _ (x .0 ∙ ap Rows (l .rows)) (x .1 ∙ l .counts) (l .marks-are) (l .slots-are) (l .chunks-are) (l .layers-are) (l .bytes-are)
+    -- or not at all.
+    laid-not : made .whole ≡ false → (r : Planned) → OnlyNumber r 11 → Handed h marks slots cs layers bytes r marks' slots' cs' layers' bytes'
+    laid-not t r x =
+        unlaid l t (λ m s c y b. Handed h marks slots cs layers bytes r m s c y b) (refused-short z (holds-rows fit false (sym (l .whole) ∙ t)) r x)
 
--- ---- a result laid out aside
+    pub handed-laid :
+        (r : Planned) → (r .answer ≡ cond (made .whole) (Rows (made .rows)) (Refused 11)) × (r .counts ≡ cond (made .whole) (made .counts) (0 ∷ 0 ∷ 0 ∷ 0 ∷ [])) →
+        Handed h marks slots cs layers bytes r marks' slots' cs' layers' bytes'
+    handed-laid r x =
+        ⊎-elim
+        (λ t. let e = T-true (made .whole) t in laid-whole e r (x .0 ∙ rw e) (x .1 ∙ rw e))
+        (λ t. let e = not-T-false (made .whole) t in laid-not e r (x .0 ∙ rw e, x .1 ∙ rw e))
+        (test (made .whole))
 
-module _ (h : HandedJob) (z : jobRefusal h ≡ 0) {ms ss cs ls bs : List ℕ} {made : Filled} {ms' ss' cs' ls' bs' : List ℕ} (l : Laid (jobIn h) ms ss cs ls bs made ms' ss' cs' ls' bs') where
-  marks-long : length (marksOf (jobIn h) (plan (jobIn h))) ≡ chunks (jobIn h)
-  marks-long = length-upTo _ (chunks (jobIn h))
+-- ---- what the decision and the laying ask for
 
-  column : (f : Row → ℕ) → length (map f (planRows (jobIn h))) ≡ made .rows
-  column f = length-map (planRows (jobIn h)) f ∙ sym (l .rows)
+module _ (h : HandedJob) (z : jobRefusal h ≡ 0) where
+  ok-of : Accepted (jobIn h)
+  ok-of = accepted h z
 
-  pub marks-aside : length ms ≡ 500 → chunks (jobIn h) ≤ length ms'
-  marks-aside e = omega (arith, marks-long, long-aside (marksOf (jobIn h) (plan (jobIn h))) ms ms' (l .marks-are) (omega (arith, marks-long, accepted h z .chunks-in .high)))
+  pub decide-from : (own : ℕ → ℕ → ℕ) → own ≡ size (jobIn h) → (ids ready : List ℕ) → length ids ≡ 500 → length ready ≡ 500 → DecideFrom (jobIn h .programme) (length (jobIn h .sizes)) own 1 (jobIn h .forecast) ids ready (replicate 500 1)
+  decide-from own says ids ready a b =
+      record {
+        few = ok-of .chunks-in .high;
+        late = ok-of .delay-in .low;
+        ends = ok-of .last-in;
+        some = ok-of .layers-in .low;
+        few-layers = ok-of .layers-in .high;
+        small = sizes-small (jobIn h) ok-of own says;
+        least = bases-least (jobIn h) ok-of own says;
+        part-in = part-of (jobIn h) ok-of (jobIn h .forecast) refl;
+        slots = omega (arith, ok-of .slots-in);
+        long = (a, b);
+        marks = refl;
+      }
 
-  few : made .rows ≤ 5599
-  few = omega (arith, own-list-rows (jobIn h) (accepted h z) (plan (jobIn h)) (plan-choice (jobIn h)), l .rows)
-
-  column-aside : (f : Row → ℕ) (old new : List ℕ) → new ≡ over (map f (planRows (jobIn h))) old → length old ≡ 5599 → made .rows ≤ length new
-  column-aside f old new e long = omega (arith, column f, long-aside (map f (planRows (jobIn h))) old new e (omega (arith, column f, few)))
-
-  pub slots-aside : length ss ≡ 5599 → made .rows ≤ length ss'
-  slots-aside = column-aside rowSlot ss ss' (l .slots-are)
-
-  pub chunks-aside : length cs ≡ 5599 → made .rows ≤ length cs'
-  chunks-aside = column-aside rowChunk cs cs' (l .chunks-are)
-
-  pub layers-aside : length ls ≡ 5599 → made .rows ≤ length ls'
-  layers-aside = column-aside rowLayer ls ls' (l .layers-are)
-
-  pub bytes-aside : length bs ≡ 5599 → made .rows ≤ length bs'
-  bytes-aside = column-aside rowBytes bs bs' (l .bytes-are)
-
-  -- Copied into the lent slices, or refused.
-  module _ (marks slots chs layers bytes : List ℕ) (fit : chunks (jobIn h) ≤ length marks) (r : Planned) where
-    holds-made : (k : Bool) {b : Bool} → b ≡ rows-hold h marks slots chs layers bytes (made .rows) → b ≡ k → holds (jobIn h) (lentOf marks slots chs layers bytes) ≡ k
-    holds-made k e t = holds-rows h marks slots chs layers bytes fit k (ap (rows-hold h marks slots chs layers bytes) (sym (l .rows)) ∙ sym e ∙ t)
-
-    pub tight-plan : {b : Bool} → b ≡ rows-hold h marks slots chs layers bytes (made .rows) → b ≡ true → (r .answer ≡ Rows (made .rows)) × (r .counts ≡ made .counts) → {marks' slots' chs' layers' bytes' : List ℕ}
-        → marks' ≡ over (take (chunks (jobIn h)) ms') marks → slots' ≡ over (take (made .rows) ss') slots → chs' ≡ over (take (made .rows) cs') chs
-        → layers' ≡ over (take (made .rows) ls') layers → bytes' ≡ over (take (made .rows) bs') bytes
-        → Handed h marks slots chs layers bytes r marks' slots' chs' layers' bytes'
-    tight-plan e t x ma sl ch la by =
-        handed-plan h marks slots chs layers bytes z (holds-made true e t) r _ _ _ _ _ (x .0 ∙ ap Rows (l .rows)) (x .1 ∙ l .counts)
-        (copied-over (marksOf (jobIn h) (plan (jobIn h))) ms ms' marks _ _ (l .marks-are) marks-long ma)
-        (copied-over (map rowSlot (planRows (jobIn h))) ss ss' slots _ _ (l .slots-are) (column rowSlot) sl)
-        (copied-over (map rowChunk (planRows (jobIn h))) cs cs' chs _ _ (l .chunks-are) (column rowChunk) ch)
-        (copied-over (map rowLayer (planRows (jobIn h))) ls ls' layers _ _ (l .layers-are) (column rowLayer) la)
-        (copied-over (map rowBytes (planRows (jobIn h))) bs bs' bytes _ _ (l .bytes-are) (column rowBytes) by)
-
-    pub tight-short : {b : Bool} → b ≡ rows-hold h marks slots chs layers bytes (made .rows) → b ≡ false → (r .answer ≡ Refused 11) × (r .counts ≡ 0 ∷ 0 ∷ 0 ∷ 0 ∷ []) → Handed h marks slots chs layers bytes r marks slots chs layers bytes
-    tight-short e t x = refused-short h marks slots chs layers bytes z (holds-made false e t) r x
+  pub decided :
+      (own : ℕ → ℕ → ℕ) → own ≡ size (jobIn h) → {first : ℕ} {ids ready mark : List ℕ} → Decides (jobIn h) (plan (jobIn h)) first ids ready mark →
+      Decided (chunks (jobIn h)) (jobIn h .forecast) own first ids ready mark (jobIn h) (plan (jobIn h))
+  decided own says d =
+      record { accepted = ok-of; counted = refl; forecast-is = refl; sizes-are = says; choice = plan-choice (jobIn h); fits = plan-fits (jobIn h); tables = d }
 
 -- ---- what holds of the plan
 

@@ -5,8 +5,8 @@ use lib.ListN.{List·getD-eq-default}
 use borrow.Author.Needs.{needs}
 use borrow.Author.Tests.{ne-eqb}
 use denote.Ref.{now}
-use Rattle.planner.proofs.is_at.Statement.{statement}
-use Rattle.planner.proofs.is_at.Tie as tie
+use Rattle.laying.proofs.is_at.Statement.{statement}
+use Rattle.laying.proofs.is_at.Tie as tie
 
 mul-wide : tie.Need-mul-wide
 mul-wide c = search needs

@@ -1,4 +1,4 @@
--- Laws on marks and counts of all chunks. Assumes nothing.
+-- Laws on marks of all chunks. Assumes nothing.
 use mathlib.Core.Path.{_≡_, refl, sym, _∙_, ap}
 use mathlib.Core.Bool.{true, false, cond}
 use mathlib.Core.List.{List, [], _∷_, _++_}
@@ -14,9 +14,7 @@ use Rattle.basics.specs.Lists.{upTo}
 use Rattle.basics.specs.lemmas.Lists.{length-upTo}
 use Rattle.basics.specs.lemmas.Tests.{test}
 use Rattle.schedule.specs.lemmas.Ascending.{Asc}
-use Rattle.planner.specs.declared.Order.the-variants.{Less, Same, More}
-use Rattle.planner.specs.Answer.{compared}
-use Rattle.planner.specs.lemmas.Handing.{markIn}
+use Rattle.laying.specs.lemmas.Laying.{markIn}
 use Rattle.basics.specs.Lent.{over}
 use Rattle.basics.specs.lemmas.Lent.{over-next}
 use Rattle.basics.specs.lemmas.Tables.{drop-next, above-next}
@@ -94,12 +92,3 @@ module _ (ids mark : List ℕ) (first : ℕ) where
 
   pub spreading-end : (count : ℕ) (old marks : List ℕ) (q i : ℕ) → Spreading count old marks q i → count ≤ i → marks ≡ over (upTo markOf count) old
   spreading-end count old marks q i s h = let e : i ≡ count = omega (arith, s .within) in rw e at (s .says)
-
--- ---- counts compared
-
-module _ (a b : List ℕ) (n : ℕ) (la : n < length a) (lb : n < length b) where
-  pub compared-at : compared (drop n a) (drop n b) ≡ cond (ltb (getD a n 0) (getD b n 0)) Less (cond (ltb (getD b n 0) (getD a n 0)) More (compared (drop (n + 1) a) (drop (n + 1) b)))
-  compared-at = rw (drop-next a n la, drop-next b n lb)
-
-pub compared-end : (a b : List ℕ) (n : ℕ) → length a ≤ n → compared (drop n a) (drop n b) ≡ Same
-compared-end a b n h = rw (drop-of-length-le a {i = n} h)

@@ -4,9 +4,9 @@ use Prim.Native.Nat.{_-_}
 use native.Mathlib.Omega.{arith}
 use borrow.Author.Tests.{eqb-true, eqb-false}
 use denote.Ref.{now}
-use Rattle.planner.proofs.Marks.{Spreading, spreading-start, kept-place, spreading-kept, spreading-skipped, spreading-end}
-use Rattle.planner.proofs.spread.Statement.{statement}
-use Rattle.planner.proofs.spread.Tie as tie
+use Rattle.laying.proofs.Marks.{Spreading, spreading-start, kept-place, spreading-kept, spreading-skipped, spreading-end}
+use Rattle.laying.proofs.spread.Statement.{statement}
+use Rattle.laying.proofs.spread.Tie as tie
 
 abbrev Inv-loop : tie.InvT-loop
 Inv-loop ids mark first count marks₀ q₀ i₀ marks q i = Spreading ids mark first count marks₀ marks q i
