@@ -167,44 +167,46 @@ module _ (p : Programme) (layers : ℕ) (size : ℕ → ℕ → ℕ) (start : �
   pub sums-small : (left : List ℕ) → SumTable start part left → Sums left
   sums-small left s k = rw (s .is k) (part-small start part (o .part-in) k)
 
-  module _ (left : List ℕ) (s : SumTable start part left) (first : ℕ) (ids dues bytes : List ℕ) (b : KeptIn p size (basesIn p size (at left)) first ids dues bytes) where
-    pub kept-from : (room : List ℕ) → length room ≡ 500 → KeptFrom p layers size left first ids dues bytes room ready₀ mark₀
-    kept-from room lr =
-        record {
-          few = o .few;
-          late = o .late;
-          ends = o .ends;
-          some = o .some;
-          few-layers = o .few-layers;
-          small = o .small;
-          sums = sums-small left s;
-          kept = record { within = b .within; kept = refl; due-slots = b .due-slots; base-bytes = b .base-bytes; ascending = b .ascending; long = b .long };
-          long = (s .long, lr, o .long .1);
-          marks = o .marks;
-        }
+  -- The table of sums is what is forecast after each slot, of any job that the handed numbers say.
+  pub sums-are : (left : List ℕ) → SumTable start part left → (sizes : List ℕ) (overrides : List Override) → at left ≡ after (jobFrom p sizes overrides start part)
+  sums-are left s sizes overrides =
+      fun-ext (λ t.
+      s .is t ∙ ap (λ (n : ℕ). pre (λ u. at (padded start part) (u - 1)) n - pre (λ u. at (padded start part) (u - 1)) t) (padded-long start part ∙ o .slots))
 
+  pub kept-from :
+      {left : List ℕ} → SumTable start part left → {ks : List ℕ} {first : ℕ} {ids dues bytes : List ℕ} → KeptIn p size ks first ids dues bytes →
+      (room : List ℕ) → length room ≡ 500 → KeptFrom p layers size left first ids dues bytes room ready₀ mark₀
+  kept-from {left} s b room lr =
+      record {
+        few = o .few;
+        late = o .late;
+        ends = o .ends;
+        some = o .some;
+        few-layers = o .few-layers;
+        small = o .small;
+        sums = sums-small left s;
+        kept = record { within = b .within; kept = refl; due-slots = b .due-slots; base-bytes = b .base-bytes; ascending = b .ascending; long = b .long };
+        long = (s .long, lr, o .long .1);
+        marks = o .marks;
+      }
+
+  module _ (left : List ℕ) (s : SumTable start part left) (first : ℕ) (ids dues bytes : List ℕ) (b : KeptIn p size (basesIn p size (at left)) first ids dues bytes) where
     -- A job that the handed numbers say.
     module _ (sizes : List ℕ) (overrides : List Override) (count : layers ≡ length sizes) (says : size ≡ sizeIn sizes overrides) where
       abbrev job : Job
       job = jobFrom p sizes overrides start part
 
-      -- The table of sums is what is forecast after each slot.
-      sums-are : at left ≡ after job
-      sums-are =
-          fun-ext (λ t.
-          s .is t ∙ ap (λ (n : ℕ). pre (λ u. at (padded start part) (u - 1)) n - pre (λ u. at (padded start part) (u - 1)) t) (padded-long start part ∙ o .slots))
-
       kept-are : drop first ids ≡ keptBases job
       kept-are =
           b .kept
           ∙ ap (λ (z : ℕ → ℕ → ℕ). basesIn p z (at left)) says
-          ∙ ap (basesIn p (sizeIn sizes overrides)) sums-are
+          ∙ ap (basesIn p (sizeIn sizes overrides)) (sums-are left s sizes overrides)
           ∙ ap (λ (l : List ℕ). cond (byWalk job) l (stacked job)) (kept-by-after job)
 
       decides-plan : (ready mark' : List ℕ) → DecidesKept p layers size left first ids ready mark' → Decides job (plan job) first ids ready mark'
       decides-plan ready mark' y =
           let some : 0 < length sizes = omega (arith, o .some) in
-          y sizes overrides (padded start part) count says sums-are (plan job) (kept-are ∙ bases-kept job some)
+          y sizes overrides (padded start part) count says (sums-are left s sizes overrides) (plan job) (kept-are ∙ bases-kept job some)
           (ap (decidedOn job) kept-are ∙ decided-is job some (omega (arith, o .few-layers)))
 
     pub decides : (ready mark' : List ℕ) → DecidesKept p layers size left first ids ready mark' → DecidesEach p layers size start part first ids ready mark'

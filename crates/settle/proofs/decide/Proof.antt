@@ -22,7 +22,7 @@ settle-kept-requires : tie.Need-settle-kept-requires
 settle-kept-requires c κs =
     let a = c .before .before .before .before .before .before .before .before .before .before .before .before .before .before .before .before .args in
     let b = c .before .before .before .before .before .before .before .settle-bases .ensures in
-    kept-from (a .p) (a .layers) (tableAt (now (a .table))) (a .start) (now (a .part)) (now (a .ids)) (now (a .ready)) (now (a .mark)) (c .before .before .before .before .before .before .before .before .before .before .before .before .before .before .before .before .pre) _ (c .before .before .before .before .before .before .before .before .before .before .before .before .before .sum-after .ensures) _ _ _ _ (b .0) _ (b .1)
+    kept-from (a .p) (a .layers) (tableAt (now (a .table))) (a .start) (now (a .part)) (now (a .ids)) (now (a .ready)) (now (a .mark)) (c .before .before .before .before .before .before .before .before .before .before .before .before .before .before .before .before .pre) (c .before .before .before .before .before .before .before .before .before .before .before .before .before .sum-after .ensures) (b .0) _ (b .1)
 
 returns : tie.Need-returns
 returns c =
