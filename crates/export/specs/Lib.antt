@@ -1,3 +1,4 @@
 pub mod Number
+pub mod Searches
 pub mod Traces
 pub mod Waits
