@@ -1,27 +1,32 @@
 -- Laws on what the public call hands over. Assumes nothing.
 use mathlib.Core.Path.{_≡_, refl, sym, _∙_, ap, subst}
-use mathlib.Core.Bool.{Bool, true, false}
+use mathlib.Core.Bool.{Bool, true, false, cond}
 use mathlib.Core.List.{List, [], _∷_}
+use mathlib.Core.Logic.{⊎-elim}
 use Prim.Native.Nat.{ℕ, _≤_, _<_}
 use native.Mathlib.Omega.{arith}
-use lib.ListN.{length}
+use lib.ListN.{length, replicate}
 use lib.Dec.{eqb}
 use borrow.Author.Tests.{eq-eqb, ne-eqb, le-leb, lt-leb}
 use Rattle.basics.specs.Refusals.{unless}
 use Rattle.basics.specs.lemmas.Refusals.{orElse-none, orElse-some}
-use Rattle.job.specs.Job.{Job, Accepted, chunks}
+use Rattle.basics.specs.lemmas.Tests.{T-true, not-T-false, test}
+use Rattle.job.specs.Job.{Job, Accepted, chunks, size}
 use Rattle.job.specs.Handed.{HandedJob, jobIn, jobRefusal, handed-iff}
 use Rattle.schedule.specs.Plan.{plan}
-use Rattle.schedule.specs.lemmas.Plan.{plan-choice}
-use Rattle.schedule.specs.Theorems.{own-list-rows, best, elsewhere-iff, plan-exists}
+use Rattle.schedule.specs.lemmas.Plan.{plan-choice, plan-fits}
+use Rattle.schedule.specs.Theorems.{best, elsewhere-iff, plan-exists}
 use Rattle.schedule.specs.Pictures.{most-pictures}
-use Rattle.handing.proofs.Laws.{fewer-hold, four-hold}
+use Rattle.settle.specs.lemmas.Decision.{DecideFrom, Decides}
 use Rattle.handing.specs.lemmas.Slices.{Result, rowsHold, Stands}
+use Rattle.laying.specs.declared.Laid.{Laid}
+use Rattle.laying.specs.lemmas.Laying.{Decided, Lays, ownResult}
+use Rattle.laying.proofs.Jobs.{bases-least, part-of, sizes-small}
+use Rattle.laying.proofs.Laying.{unlaid}
 use Rattle.planner.specs.declared.Answer.the-variants.{Rows, Refused}
 use Rattle.planner.specs.declared.Planned.{Planned}
-use Rattle.planner.specs.declared.Filled.{Filled}
-use Rattle.planner.specs.lemmas.Handing.{HandsOver, Laid, LaidFrom, planned, shortRefusal}
 use Rattle.planner.specs.Answer.{planRows, Lent, lentOf, holds, planRefusal, Handed, DecidedByLists, PicturesOfLists, BestOfLists, SteadyBases}
+use Rattle.planner.specs.lemmas.Handing.{HandsOver, shortRefusal}
 use Rattle.steady.specs.Theorems.{steady}
 
 -- ---- what is handed over, by the refusal
@@ -74,15 +79,16 @@ module _ (x : Result) {marks slots cs layers bytes : List ℕ} {r : Planned} whe
 
 -- ---- so for the plan
 
+-- What is handed over of it.
+abbrev planned : Job → Result
+planned j = ownResult j (plan j)
+
 -- What a refusal's number says.
 pub none : {k refusal : ℕ} → k ≡ refusal → k ≤ 0 → refusal ≡ 0
 none e h = omega arith
 
 accepted : (h : HandedJob) → jobRefusal h ≡ 0 → Accepted (jobIn h)
 accepted h z = handed-iff h .0 z .1
-
-pub few-rows : (h : HandedJob) → jobRefusal h ≡ 0 → length (planRows (jobIn h)) ≤ 5599
-few-rows h z = own-list-rows (jobIn h) (accepted h z) (plan (jobIn h)) (plan-choice (jobIn h))
 
 module _ (h : HandedJob) (marks slots cs layers bytes : List ℕ) where
   abbrev j : Job
@@ -124,18 +130,62 @@ module _ (h : HandedJob) (marks slots cs layers bytes : List ℕ) where
   fit-marks e f =
       handed-by (shortRefusal (planRows j) slots cs layers bytes) (orElse-none (jobRefusal h) (unless 11 (holds j lent)) e ∙ rw (le-leb (chunks j) (length marks) f))
 
-  -- Room for any plan,
-  module _ (z : jobRefusal h ≡ 0) (fit : chunks j ≤ length marks) {holds-any : Bool} (e : holds-any ≡ rowsHold 5599 slots cs layers bytes) (t : holds-any ≡ true) where
-    pub ample-room : LaidFrom j marks slots cs layers bytes
-    ample-room =
-        let four = four-hold 5599 (length slots) (length cs) (length layers) (length bytes) e t in
-        record { accepted = accepted h z; marks-fit = fit; slots-fit = four .0; chunks-fit = four .1; layers-fit = four .2; bytes-fit = four .3 }
+  -- What was laid, whole or not at all.
+  module _ (z : jobRefusal h ≡ 0) (fit : chunks j ≤ length marks) {made : Laid} {marks' slots' cs' layers' bytes' : List ℕ} (l : Lays j (plan j) marks slots cs layers bytes made marks' slots' cs' layers' bytes') where
+    stands : made .whole ≡ true → Stands (planned j) (made .rows) (made .counts) marks slots cs layers bytes marks' slots' cs' layers' bytes'
+    stands t =
+        record {
+          rows-are = l .rows;
+          counts-are = l .counts;
+          marks-are = l .marks-are ∙ rw t;
+          slots-are = l .slots-are ∙ rw t;
+          chunks-are = l .chunks-are ∙ rw t;
+          layers-are = l .layers-are ∙ rw t;
+          bytes-are = l .bytes-are ∙ rw t;
+        }
 
-    -- and so for this one.
-    pub handed-laid : (r : Planned) (made : Filled) → (r .answer ≡ Rows (made .rows)) × (r .counts ≡ made .counts) → {marks' slots' cs' layers' bytes' : List ℕ}
-        → Laid j marks slots cs layers bytes made marks' slots' cs' layers' bytes' → Handed h marks slots cs layers bytes r marks' slots' cs' layers' bytes'
-    handed-laid r made x l =
-        fit-marks z fit (over-fits (planned j) (fewer-hold 5599 (made .rows) slots cs layers bytes e t (omega (arith, few-rows h z, l .rows-are))) x l)
+    room : (v : Bool) → made .whole ≡ v → rowsHold (made .rows) slots cs layers bytes ≡ v
+    room v t = ap (λ (n : ℕ). rowsHold n slots cs layers bytes) (l .rows) ∙ sym (l .whole) ∙ t
+
+    pub handed-laid :
+        (r : Planned) → (r .answer ≡ cond (made .whole) (Rows (made .rows)) (Refused 11)) × (r .counts ≡ cond (made .whole) (made .counts) (0 ∷ 0 ∷ 0 ∷ 0 ∷ [])) →
+        Handed h marks slots cs layers bytes r marks' slots' cs' layers' bytes'
+    handed-laid r x =
+        ⊎-elim
+        (λ t. let e = T-true (made .whole) t in fit-marks z fit (over-fits (planned j) (room true e) (x .0 ∙ rw e, x .1 ∙ rw e) (stands e)))
+        (λ t.
+        let e = not-T-false (made .whole) t in
+        unlaid l e (λ m s c y b. Handed h marks slots cs layers bytes r m s c y b)
+        (fit-marks z fit (over-short (planned j) (l .rows) (room false e) (x .0 ∙ rw e, x .1 ∙ rw e))))
+        (test (made .whole))
+
+-- ---- what the decision and the laying ask for
+
+module _ (h : HandedJob) (z : jobRefusal h ≡ 0) where
+  ok-of : Accepted (jobIn h)
+  ok-of = accepted h z
+
+  pub decide-from : (own : ℕ → ℕ → ℕ) → own ≡ size (jobIn h) → (ids ready : List ℕ) → length ids ≡ 500 → length ready ≡ 500 → DecideFrom (jobIn h .programme) (length (jobIn h .sizes)) own 1 (jobIn h .forecast) ids ready (replicate 500 1)
+  decide-from own says ids ready a b =
+      record {
+        few = ok-of .chunks-in .high;
+        late = ok-of .delay-in .low;
+        ends = ok-of .last-in;
+        some = ok-of .layers-in .low;
+        few-layers = ok-of .layers-in .high;
+        small = sizes-small (jobIn h) ok-of own says;
+        least = bases-least (jobIn h) ok-of own says;
+        part-in = part-of (jobIn h) ok-of (jobIn h .forecast) refl;
+        slots = omega (arith, ok-of .slots-in);
+        long = (a, b);
+        marks = refl;
+      }
+
+  pub decided :
+      (own : ℕ → ℕ → ℕ) → own ≡ size (jobIn h) → {first : ℕ} {ids ready mark : List ℕ} → Decides (jobIn h) (plan (jobIn h)) first ids ready mark →
+      Decided (chunks (jobIn h)) (jobIn h .forecast) own first ids ready mark (jobIn h) (plan (jobIn h))
+  decided own says d =
+      record { accepted = ok-of; counted = refl; forecast-is = refl; sizes-are = says; choice = plan-choice (jobIn h); fits = plan-fits (jobIn h); tables = d }
 
 -- ---- what holds of the plan
 

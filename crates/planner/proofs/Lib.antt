@@ -1,3 +1,2 @@
-pub mod Marks
-pub mod PlanRows
+pub mod Compared
 pub mod Handing

@@ -21,7 +21,8 @@ use Rattle.relist.specs.lemmas.Handing.{Laid, LaidFrom, LaidOf, Real}
 use Rattle.handing.proofs.Laws.{bytes-aside, chunks-aside, copied, fewer-hold, four-hold, layers-aside, marks-aside, slots-aside}
 use Rattle.handing.specs.lemmas.Slices.{rowsHold}
 use Rattle.planner.proofs.Handing.{OnlyNumber, over-fits, over-short}
-use Rattle.planner.proofs.Marks.{laid-counts, laid-front-long, marks-long}
+use Rattle.laying.proofs.Marks as marks-of
+use Rattle.laying.proofs.Marks.{front-counts, marks-long}
 use Rattle.planner.specs.declared.Answer.the-variants.{Rows}
 use Rattle.planner.specs.declared.Planned.{Planned}
 use Rattle.relay.specs.declared.Filled.{Filled}
@@ -51,7 +52,7 @@ module _ {p : Programme} {layers start : ℕ} {part : List ℕ} {left : ℕ → 
   module _ {marks ss cs ls bs : List ℕ} {n : ℕ} {marks′ ss′ cs′ ls′ bs′ : List ℕ} (l : Laid p layers start part left begun whole marks ss cs ls bs n marks′ ss′ cs′ ls′ bs′) where
     pub front-long : Real p layers start part left begun whole → length (take (p .chunks) marks′) ≡ p .chunks
     front-long r =
-        laid-front-long (j r) (plan r) marks marks′
+        marks-of.front-long (j r) (plan r) marks marks′
         (of-real r (λ j handed plan. LaidOf j start handed plan marks ss cs ls bs n marks′ ss′ cs′ ls′ bs′) (record { of = l .laid }) .marks-are)
 
     pub filling : (counts : List ℕ) → counts ≡ upTo (λ n. markCount n (take (p .chunks) marks′)) 4 → Each p layers start part left begun whole (λ j handed plan. Filling j start handed plan marks ss cs ls bs (record { rows = n; counts = counts }) marks′ ss′ cs′ ls′ bs′)
@@ -61,7 +62,7 @@ module _ {p : Programme} {layers start : ℕ} {part : List ℕ} {left : ℕ → 
               let k = l .laid sizes overrides earlier handed plan le st a ok tab is in
               record {
                 rows-are = k .counted;
-                counts-are = laid-counts (jobFrom p sizes overrides earlier part) plan marks marks′ (k .marks-are) (is .choice) counts e;
+                counts-are = front-counts (jobFrom p sizes overrides earlier part) plan marks marks′ (k .marks-are) (is .choice) counts e;
                 marks-are = k .marks-are;
                 slots-are = k .slots-are;
                 chunks-are = k .chunks-are;

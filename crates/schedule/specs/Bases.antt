@@ -1,13 +1,20 @@
 -- Meaning. The bases of uneven film: document 02, request 9. "Go through chunks from 1 to C, add each, and whenever the kept bases due by
 -- then exceed the forecast up to that due slot, drop the largest kept one, the earliest among equals."
 -- Where a plan's bases are settled so says Statement (`IsPlan`).
-use Prim.Native.Nat.{ℕ, zero, suc, _+_}
+use Prim.Native.Nat.{ℕ, zero, suc, _+_, _≤_}
 use mathlib.Core.Bool.{Bool, cond}
 use mathlib.Core.List.{List, [], _∷_, _++_}
 use lib.Dec.{leb, ltb, eqb}
 use Rattle.basics.specs.Lists.{has}
 use Rattle.basics.specs.Sums.{pre}
 use Rattle.job.specs.Job.{Job, chunks, size, due, forecast}
+
+-- ---- sets of chunks
+
+-- Chunks of lo to hi in playing order, each once: how a set of them is listed.
+abbrev pub Asc : ℕ → ℕ → List ℕ → Type 0
+Asc lo hi [] = Unit {0}
+Asc lo hi (k ∷ ks) = (lo ≤ k) × (k ≤ hi) × Asc (suc k) hi ks
 
 -- ---- the walk. s k: the bytes of chunk k's base. Kept chunks are listed in playing order.
 

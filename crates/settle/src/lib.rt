@@ -16,7 +16,7 @@ ghost use Rattle.schedule.specs.lemmas.Sufficiency.{ones};
 ghost use Rattle.schedule.specs.lemmas.Trials.{rooms};
 ghost use Rattle.schedule.specs.lemmas.Parts.{at, Part};
 ghost use Rattle.pictures.specs.lemmas.Walking.{KeptIn};
-ghost use Rattle.settle.specs.lemmas.Decision.{Placed, SumTable, BasesFrom, SettleFrom, stackIn, basesIn, Slot, LayerFrom, LayerDone, LayersFrom, LayersDone, DecideFrom, DecidesEach};
+ghost use Rattle.settle.specs.lemmas.Decision.{Placed, SumTable, BasesFrom, SettleFrom, stackIn, basesIn, Slot, LayerFrom, LayerDone, LayersFrom, LayersDone, KeptFrom, DecidesKept, DecideFrom, DecidesEach};
 
 pub fn larger(a: u64, b: u64) -> u64
     ensures { λ r. ⌜ r ≡ max a b ⌝ }
@@ -272,6 +272,41 @@ pub fn settle_layers(
     }
 }
 
+// The releases and the marks of kept chunks, from place first on, however they were found: the layers above their bases follow.
+pub fn settle_kept(
+    p: Programme,
+    layers: usize,
+    table: &[u32; 2000],
+    after: &[u64; 3601],
+    first: usize,
+    ids: &[u16; 500],
+    dues: &[u16; 500],
+    bytes: &mut [u32; 500],
+    room: &mut [u64; 500],
+    ready: &mut [u16; 500],
+    mark: &mut [u8; 500],
+)
+    requires { ⌜ KeptFrom p layers (tableAt (now table)) (now after) first (now ids) (now dues) (now bytes) (now room) (now ready) (now mark) ⌝ }
+    ensures { λ _. ⌜ DecidesKept p layers (tableAt (now (table .entry))) (now (after .entry)) first (now (ids .entry)) (now (ready .exit)) (now (mark .exit)) ⌝ }
+{
+    let held = job::held_most(p) as usize;
+    let total = after[0];
+    set_releases(held, dues, first, ready);
+    settle_layers(
+        layers,
+        table,
+        total,
+        after,
+        ids,
+        dues,
+        ready,
+        first,
+        bytes,
+        room,
+        mark,
+    );
+}
+
 // The decision over a part of the forecast that starts at slot start: the kept chunks, their releases and their marks, from the
 // place handed back on.
 pub fn decide(
@@ -287,7 +322,6 @@ pub fn decide(
     requires { ⌜ DecideFrom p layers (tableAt (now table)) start (now part) (now ids) (now ready) (now mark) ⌝ }
     ensures { λ r. ⌜ DecidesEach p layers (tableAt (now (table .entry))) start (now (part .entry)) r (now (ids .exit)) (now (ready .exit)) (now (mark .exit)) ⌝ }
 {
-    let held = job::held_most(p) as usize;
     // Both tables are written before they are read. A filling that is no constant is stored in wide words, faster than cleared.
     let unset = part.len() as u64;
     let mut after = [unset; 3601];
@@ -295,20 +329,18 @@ pub fn decide(
     let mut dues = [0u16; 500];
     let mut bytes = [0u32; 500];
     sum_after(part, start, &mut after);
-    let total = after[0];
     let first = settle_bases(p, table, &after, ids, &mut dues, &mut bytes, &mut room);
-    set_releases(held, &dues, first, ready);
-    settle_layers(
+    settle_kept(
+        p,
         layers,
         table,
-        total,
         &after,
+        first,
         ids,
         &dues,
-        ready,
-        first,
         &mut bytes,
         &mut room,
+        ready,
         mark,
     );
     first

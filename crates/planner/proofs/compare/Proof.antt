@@ -5,7 +5,7 @@ use native.Mathlib.Omega.{arith}
 use lib.ListN.{drop}
 use borrow.Author.Tests.{lt-ltb, le-ltb}
 use Rattle.planner.specs.Answer.{compared}
-use Rattle.planner.proofs.Marks.{compared-at, compared-end}
+use Rattle.planner.proofs.Compared.{compared-at, compared-end}
 use Rattle.planner.proofs.compare.Statement.{statement}
 use Rattle.planner.proofs.compare.Tie as tie
 

@@ -9,11 +9,7 @@ use Rattle.basics.specs.Sums.{count}
 use Rattle.basics.specs.lemmas.Ranges.{pre-mono, bit, count-step}
 use Rattle.basics.specs.Tests.{All}
 use Rattle.job.specs.Job.{Within}
-
--- Ascending, in lo .. hi.
-abbrev pub Asc : ℕ → ℕ → List ℕ → Type 0
-Asc lo hi [] = Unit {0}
-Asc lo hi (k ∷ ks) = (lo ≤ k) × (k ≤ hi) × Asc (suc k) hi ks
+pub use Rattle.schedule.specs.Bases.{Asc}
 
 pub asc-lower : (lo lo′ hi : ℕ) (ks : List ℕ) → lo ≤ lo′ → Asc lo′ hi ks → Asc lo hi ks
 asc-lower lo lo′ hi [] h a = tt

@@ -18,7 +18,7 @@ use Rattle.schedule.specs.lemmas.AnyOrder.{any-order-fit}
 use Rattle.schedule.specs.lemmas.Ascending.{Asc, count-all}
 use Rattle.schedule.specs.lemmas.Choice.{Fits, chunk-bytes}
 use Rattle.schedule.specs.Plan.{bytes, kept, picked, need, after}
-use Rattle.schedule.specs.lemmas.Kept.{count-le-length-picked, feas-picked, picked-asc, picked-cong, picked-each, picked-skip}
+use Rattle.schedule.specs.lemmas.Kept.{feas-picked, length-picked, picked-asc, picked-cong, picked-each, picked-skip}
 use Rattle.schedule.specs.lemmas.Level.{level, level-choice, level-exactly}
 use Rattle.schedule.specs.lemmas.Need.{Feas, feas-mono, feas-tail}
 use Rattle.schedule.specs.lemmas.Plan.{kept-same-test}
@@ -131,10 +131,10 @@ basesIn j l = picked (λ i. ltb 0 (level j l i)) 0 (chunks j)
 pub bases-asc : (j : Job) (l : List Row) → Asc 1 (chunks j) (basesIn j l)
 bases-asc j l = picked-asc (λ i. ltb 0 (level j l i)) 0 (chunks j) (chunks j) (omega arith)
 
-pub bases-counted : (j : Job) (l : List Row) → countOf j (level j l) 0 ≤ length (basesIn j l)
+pub bases-counted : (j : Job) (l : List Row) → countOf j (level j l) 0 ≡ length (basesIn j l)
 bases-counted j l =
     let e : chunks j + 0 ≡ chunks j = omega arith in
-    omega (arith, rw e at (count-le-length-picked (λ i. ltb 0 (level j l i)) 0 (chunks j)))
+    omega (arith, rw e at (length-picked (λ i. ltb 0 (level j l i)) 0 (chunks j)))
 
 -- They fit, in whatever order the list fetches, where the chunks have one base size z.
 pub bases-fit :

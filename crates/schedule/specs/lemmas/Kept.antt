@@ -101,13 +101,13 @@ length-picked-le p lo (suc n) =
     let r = length-picked-le p (suc lo) n in
     by-cond (λ (ks : List ℕ). length ks ≤ suc n) (p (suc lo)) {x = suc lo ∷ picked p (suc lo) n} {y = picked p (suc lo) n} (λ t. omega arith) (λ t. omega arith)
 
-pub count-le-length-picked : (p : ℕ → Bool) (lo n : ℕ) → count p (n + lo) ≤ length (picked p lo n) + count p lo
-count-le-length-picked p lo zero = let e : 0 + lo ≡ lo = omega arith in rw e (omega arith)
-count-le-length-picked p lo (suc n) =
+pub length-picked : (p : ℕ → Bool) (lo n : ℕ) → count p (n + lo) ≡ length (picked p lo n) + count p lo
+length-picked p lo zero = let e : 0 + lo ≡ lo = omega arith in rw e (omega arith)
+length-picked p lo (suc n) =
     let e : suc n + lo ≡ n + suc lo = omega arith in
-    rw e (omega (arith, count-le-length-picked p (suc lo) n, one-more (p (suc lo))))
+    rw e (omega (arith, length-picked p (suc lo) n, one-more (p (suc lo))))
   where
-    one-more : (b : Bool) → length (picked p (suc lo) n) + bit b ≤ length (cond b (suc lo ∷ picked p (suc lo) n) (picked p (suc lo) n))
+    one-more : (b : Bool) → length (picked p (suc lo) n) + bit b ≡ length (cond b (suc lo ∷ picked p (suc lo) n) (picked p (suc lo) n))
     one-more true = omega arith
     one-more false = omega arith
 

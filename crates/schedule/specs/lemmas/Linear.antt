@@ -10,6 +10,7 @@ use borrow.Author.Tests.{eq-eqb, ne-eqb, lt-leb, le-leb, lt-ltb, le-ltb}
 use lib.ListN.{getD, drop}
 use lib.Seq.{drop-drop}
 use lib.Dec.{T, T-not, not-T, leb, ltb, eqb, leb→le, nleb→lt, ltb→lt, nltb→le, lt→ltb, le→leb, eqb→eq, eqb-refl}
+use Rattle.basics.specs.Lists.{has}
 use Rattle.basics.specs.Sums.{sum}
 use Rattle.basics.specs.lemmas.Ranges.{sum-cong, sum-mono}
 use Rattle.basics.specs.lemmas.Tests.{T-and, T-true, by-cond, not-T-false, same-test, test, tests}
@@ -19,7 +20,7 @@ use Rattle.fetch.specs.Rows.{markByte}
 use Rattle.fetch.specs.lemmas.Marks.{mark-bit, mark-cong, mark-high, with-next}
 use Rattle.schedule.specs.lemmas.Base.{base-picks}
 use Rattle.schedule.specs.lemmas.Choice.{Fits}
-use Rattle.schedule.specs.Bases.{baseSize, forecastBy, isKept, keptAtEnd}
+use Rattle.schedule.specs.Bases.{Asc, baseSize, forecastBy, keptAtEnd}
 use Rattle.schedule.specs.Plan.{byWalk, bytes, kept, picked, need, plan, planByTrials}
 use Rattle.schedule.specs.lemmas.Kept.{feas-mono, need-mono, picked-cong, picked-each, picked-has}
 use Rattle.schedule.specs.lemmas.Necessity.{Each, after}
@@ -44,6 +45,21 @@ needs-at w d A [] (suc h) = refl
 needs-at w d A (k ∷ ks) zero = refl
 needs-at w d A (k ∷ ks) (suc h) = needs-at w d A ks h
 
+-- The need of a chunk in front of a set, from the set's stack.
+pub candidate-is : (s d A : ℕ → ℕ) (ks : List ℕ) (i : ℕ) → candidate s d A (needs-of s d A ks) i ≡ need s d A (i ∷ ks)
+candidate-is s d A ks i = omega (arith, needs-at s d A ks 0)
+
+-- Beside a set that fits, the chunk in front fits exactly if the test says so.
+pub keeps-iff-feas :
+    (s d A : ℕ → ℕ) (h i : ℕ) (ks : List ℕ) → Feas s d A h ks → T (keeps s d A h (needs-of s d A ks) i) ↔ Feas s d A h (i ∷ ks)
+keeps-iff-feas s d A h i ks g =
+    let ns = needs-of s d A ks in
+    let c = candidate-is s d A ks i in
+    let e : getD (candidate s d A ns i ∷ ns) h 0 ≡ need s d A (drop h (i ∷ ks)) = rw c (needs-at s d A (i ∷ ks) h) in (
+      λ t. let u = simp tests at t in record { whole = omega (arith, u .0); tails = (omega (arith, u .1), g .tails) },
+      λ f. simp tests (omega (arith, f .whole), omega (arith, f .tails .0)),
+    )
+
 module _ (j : Job) (p : ℕ → ℕ) (accepts : (i : ℕ) → 1 ≤ i → i ≤ chunks j → (0 < p i) ↔ Fits j (tried p 0 i)) where
   abbrev base : ℕ → Bool
   base i = leb 1 (p i)
@@ -63,23 +79,15 @@ module _ (j : Job) (p : ℕ → ℕ) (accepts : (i : ℕ) → 1 ≤ i → i ≤ 
 
   keeps-iff : (i m : ℕ) → i + m ≡ chunks j → 1 ≤ i → T (keeps one (due j) (after j) (heldMost j) (needed (picked base i m)) i) ↔ T (base i)
   keeps-iff i m h g =
-      let ks = picked base i m in
-      let ns = needed ks in
       let b = base-picks j p accepts i m h g in
-      let e = needs-at one (due j) (after j) ks 0 in
-      let c : candidate one (due j) (after j) ns i ≡ need one (due j) (after j) (i ∷ ks) = omega arith in
-      let d : getD (candidate one (due j) (after j) ns i ∷ ns) (heldMost j) 0 ≡ need one (due j) (after j) (drop (heldMost j) (i ∷ ks)) = rw c (needs-at one (due j) (after j) (i ∷ ks) (heldMost j)) in (
-        λ t. let u = simp tests at t in b .1 (record { whole = omega (arith, u .0); tails = (omega (arith, u .1), good i m h .tails) }),
-        λ t. let f = b .0 t in simp tests (omega (arith, f .whole), omega (arith, f .tails .0)),
-      )
+      let k = keeps-iff-feas one (due j) (after j) (heldMost j) i (picked base i m) (good i m h) in
+      (λ t. b .1 (k .0 t), λ t. k .1 (b .0 t))
 
   abbrev exact : List ℕ → Stack
   exact ks = record { needs = needed ks; chunks = ks }
 
   pushed : (i : ℕ) (ks : List ℕ) (b : Bool) → cond b (record { needs = candidate one (due j) (after j) (needed ks) i ∷ needed ks; chunks = i ∷ ks }) (exact ks) ≡ exact (cond b (i ∷ ks) ks)
-  pushed i ks true =
-      let c : candidate one (due j) (after j) (needed ks) i ≡ need one (due j) (after j) (i ∷ ks) = omega (arith, needs-at one (due j) (after j) ks 0) in
-      ap (λ (n : ℕ). record { needs = n ∷ needed ks; chunks = i ∷ ks }) c
+  pushed i ks true = ap (λ (n : ℕ). record { needs = n ∷ needed ks; chunks = i ∷ ks }) (candidate-is one (due j) (after j) ks i)
   pushed i ks false = refl
 
   -- The scan keeps the plan's chunks.
@@ -382,7 +390,7 @@ module _ (j : Job) (p : ℕ → ℕ) (c : Choice j p) (f : Fits j p) (takes : (n
   passes-are zero h few = same-levels (λ k. 1) (below-layer 1) (λ i u v t. omega arith)
   passes-are (suc n) h few = ap (onLayer (size j) (after j) (after j 0) releases-of (suc n)) (passes-are n (omega arith) few) ∙ pass-is n h few
 
-  decided-on-is : 0 < layers j → layers j ≤ 8 → decidedOn j (kept j p) ≡ map (keptAt j p) (kept j p)
+  pub decided-on-is : 0 < layers j → layers j ≤ 8 → decidedOn j (kept j p) ≡ map (keptAt j p) (kept j p)
   decided-on-is some few =
       passes-are (layers j - 1) (omega arith) few ∙ same-levels (below-layer (suc (layers j - 1))) p (λ i u v t. omega (arith, c i u v))
 
@@ -403,12 +411,17 @@ trials-decided j some few =
 
 -- ---- the plan
 
-walked-kept : (j : Job) (p : ℕ → ℕ) → BasesWalked j p → keptAtEnd j ≡ kept j p
-walked-kept j p b =
-    sym (picked-cong (λ i. leb 1 (p i)) (isKept j) 0 (chunks j) (λ i u v.
+-- The kept chunks of a choice whose bases are those of a set.
+pub kept-of-set :
+    (j : Job) (p : ℕ → ℕ) (ks : List ℕ) → Asc 1 (chunks j) ks → ((i : ℕ) → 1 ≤ i → i ≤ chunks j → (0 < p i) ↔ T (has ks i)) → kept j p ≡ ks
+kept-of-set j p ks a b =
+    picked-cong (λ i. leb 1 (p i)) (has ks) 0 (chunks j) (λ i u v.
     let k = b i u (omega arith) in
-    same-test (leb 1 (p i)) (isKept j i) (λ t. k .0 (leb→le 1 (p i) t)) (λ t. le→leb 1 (p i) (k .1 t)))
-    ∙ picked-has 0 (chunks j) (chunks j) (keptAtEnd j) (omega arith) (kept-asc (baseSize j) (forecastBy j) (chunks j)))
+    same-test (leb 1 (p i)) (has ks i) (λ t. k .0 (leb→le 1 (p i) t)) (λ t. le→leb 1 (p i) (k .1 t)))
+    ∙ picked-has 0 (chunks j) (chunks j) ks (omega arith) a
+
+walked-kept : (j : Job) (p : ℕ → ℕ) → BasesWalked j p → keptAtEnd j ≡ kept j p
+walked-kept j p b = sym (kept-of-set j p (keptAtEnd j) (kept-asc (baseSize j) (forecastBy j) (chunks j)) b)
 
 -- The walk or the stack keeps the plan's chunks,
 pub bases-kept : (j : Job) → 0 < layers j → keptBases j ≡ kept j (plan j)

@@ -115,7 +115,7 @@ skip-all-fits j = rw (empty 0 (chunks j)) (record { whole = omega arith; tails =
 
 -- ---- layers on settled bases
 
-planTo-fits : (j : Job) (bases : ℕ → ℕ) → Fits j bases → (n : ℕ) → Fits j (planTo j bases n)
+pub planTo-fits : (j : Job) (bases : ℕ → ℕ) → Fits j bases → (n : ℕ) → Fits j (planTo j bases n)
 planTo-fits j bases f zero = skip-all-fits j
 planTo-fits j bases f (suc zero) = f
 planTo-fits j bases f (suc (suc n)) = sweep-fits j (suc n) 0 (chunks j) (planTo j bases (suc n)) (planTo-fits j bases f (suc n))
@@ -215,6 +215,16 @@ on-tried : (j : Job) → TakesFitting j (planOn j (basesTried j)) 0
 on-tried j i r =
     taken-iff j (planOn j (basesTried j)) (λ k. 0) 0 (λ k. omega arith) (λ k. on-min j (basesTried j) (tried-le j) 1 k (r .layer-in)) i r
 
+-- The bases of the chunks that pass a test: a plan on them carries these and no others.
+pub tested-le : (q : ℕ → Bool) (k : ℕ) → cond (q k) 1 0 ≤ 1
+tested-le q k = by-cond (λ (m : ℕ). m ≤ 1) (q k) (λ t. omega arith) (λ t. omega arith)
+
+pub on-bases : (j : Job) (q : ℕ → Bool) → 0 < layers j → (i : ℕ) → (0 < planOn j (λ k. cond (q k) 1 0) i) ↔ T (q i)
+on-bases j q some i = kept-as (planOn j (λ k. cond (q k) 1 0) i) (q i) (on-min j (λ k. cond (q k) 1 0) (tested-le q) 1 i some) where
+  kept-as : (a : ℕ) (b : Bool) → min a 1 ≡ cond b 1 0 → (0 < a) ↔ T b
+  kept-as a true e = (λ l. tt, λ t. omega arith)
+  kept-as a false e = (λ l. absurd (omega arith), λ t. absurd t)
+
 -- ---- above the base the kept chunks stay the same
 
 pub kept-same-test : (a b n : ℕ) → 1 ≤ n → min a n ≡ min b n → leb 1 a ≡ leb 1 b
@@ -300,7 +310,7 @@ either-way j P f g = ⊎-elim (λ t. f (by-walk-iff j .0 t)) (λ t. g (λ w. T-n
 -- ---- the computed plan
 
 pub walked-le : (j : Job) (k : ℕ) → basesWalked j k ≤ 1
-walked-le j k = by-cond (λ (m : ℕ). m ≤ 1) (isKept j k) (λ t. omega arith) (λ t. omega arith)
+walked-le j = tested-le (isKept j)
 
 pub plan-by-walk : (j : Job) → ByWalk j → plan j ≡ planOn j (basesWalked j)
 unfolding plan
@@ -330,10 +340,7 @@ plan-takes j n =
 
 -- Its bases are the ones that the walk keeps.
 pub plan-bases : (j : Job) → 0 < layers j → ByWalk j → BasesWalked j (plan j)
-plan-bases j some w i u v = rw (plan-by-walk j w) (kept-as (planOn j (basesWalked j) i) (isKept j i) (on-min j (basesWalked j) (walked-le j) 1 i some)) where
-  kept-as : (a : ℕ) (b : Bool) → min a 1 ≡ cond b 1 0 → (0 < a) ↔ T b
-  kept-as a true e = (λ l. tt, λ t. omega arith)
-  kept-as a false e = (λ l. absurd (omega arith), λ t. absurd t)
+plan-bases j some w i u v = rw (plan-by-walk j w) (on-bases j (isKept j) some i)
 
 pub plan-is-plan : (j : Job) → Sized j → 0 < layers j → IsPlan j (plan j)
 plan-is-plan j sized some =

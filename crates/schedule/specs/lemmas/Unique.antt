@@ -3,12 +3,14 @@
 -- Section 3 of the argument.
 use Prim.Native.Nat.{ℕ, zero, suc, _+_, _≤_, _<_, min}
 use mathlib.Core.Path.{_≡_, refl, sym, ap}
-use mathlib.Core.Logic.{⊎-elim}
+use mathlib.Core.Bool.{Bool}
+use mathlib.Core.Logic.{⊎-elim, _↔_}
 use native.Mathlib.Omega.{arith}
 use borrow.Author.Tests.{eq-eqb, ne-eqb, lt-ltb, le-ltb}
-use lib.Dec.{T-not, ltb, eqb, ltb→lt, nltb→le, eqb→eq, eqb-refl}
+use lib.Dec.{T, T-not, ltb, eqb, ltb→lt, nltb→le, eqb→eq, eqb-refl}
 use Rattle.basics.specs.lemmas.Tests.{test}
 use Rattle.job.specs.Job.{Job, chunks, lastSlot, layers}
+use Rattle.schedule.specs.Bases.{isKept}
 use Rattle.schedule.specs.Statement.{BasesWalked, CanCarry, Choice, IsPlan, Same, SettledByTrials, Settles, tried}
 use Rattle.schedule.specs.Own.{Fetched, carriedTo, fetchedBy, ownList}
 use Rattle.schedule.specs.lemmas.Plan.{either-way}
@@ -84,15 +86,21 @@ module _ (j : Job) (n : ℕ) (h : n < layers j) where
 same-tried : (j : Job) (p q : ℕ → ℕ) → Settles j p 0 → Settles j q 0 → 0 < layers j → Same j (below p 1) (below q 1)
 same-tried j p q dp dq h k u v = same-sweep j 0 h p q dp dq (λ k u v. omega arith) (chunks j) 0 (omega arith) k u v
 
--- or the same ones kept by the walk.
-pub same-walked : (j : Job) (p q : ℕ → ℕ) → BasesWalked j p → BasesWalked j q → Same j (below p 1) (below q 1)
-same-walked j p q dp dq k u v =
+-- or those of the chunks that pass one test,
+pub same-tested :
+    (j : Job) (r : ℕ → Bool) (p q : ℕ → ℕ) → ((i : ℕ) → 1 ≤ i → i ≤ chunks j → (0 < p i) ↔ T (r i)) →
+    ((i : ℕ) → 1 ≤ i → i ≤ chunks j → (0 < q i) ↔ T (r i)) → Same j (below p 1) (below q 1)
+same-tested j r p q dp dq k u v =
     let a = dp k u v in
     let b = dq k u v in
     ⊎-elim
     (λ t. omega (arith, ltb→lt 0 (p k) t, b .1 (a .0 (ltb→lt 0 (p k) t))))
     (λ t. ⊎-elim (λ w. omega (arith, ltb→lt 0 (q k) w, a .1 (b .0 (ltb→lt 0 (q k) w)))) (λ w. omega (arith, nltb→le 0 (p k) t, nltb→le 0 (q k) w)) (test (ltb 0 (q k))))
     (test (ltb 0 (p k)))
+
+-- as the ones kept by the walk.
+pub same-walked : (j : Job) (p q : ℕ → ℕ) → BasesWalked j p → BasesWalked j q → Same j (below p 1) (below q 1)
+same-walked j = same-tested j (isKept j)
 
 -- On the same bases, the layers above them.
 module _

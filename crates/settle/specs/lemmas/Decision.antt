@@ -9,10 +9,10 @@ use lib.Dec.{leb, ltb}
 use Rattle.basics.specs.Tests.{All}
 use Rattle.job.specs.declared.Programme.{Programme}
 use Rattle.job.specs.Job.{Job, Override, Within, jobOf, sizeIn, due, dueSlot, heldMost, lastDue}
-use Rattle.pictures.specs.lemmas.Walking.{walkedIn, walksIn}
+use Rattle.pictures.specs.lemmas.Walking.{KeptIn, walkedIn, walksIn}
 use Rattle.schedule.specs.lemmas.Sufficiency.{releases}
-use Rattle.schedule.specs.Plan.{kept, plan}
-use Rattle.schedule.specs.lemmas.Trials.{bases, levelMark, Kept, back, onLayers}
+use Rattle.schedule.specs.Plan.{after, kept, plan}
+use Rattle.schedule.specs.lemmas.Trials.{bases, levelMark, Kept, back, decidedOn, keptAt, onLayers}
 use Rattle.schedule.specs.lemmas.Parts.{Part, at, leftAfter, padded}
 
 -- The sums of a forecast that can be: 3,600 slots of 16,777,216 bytes.
@@ -105,6 +105,38 @@ pub record LayersDone (layers : ℕ) (size : ℕ → ℕ → ℕ) (all : ℕ) (a
       ≡ onLayers size (at after) all (drop first ready) (layers - 1) (keptOf (drop first ids) (drop first dues) (drop first bytes) (drop first mark))
   pub long : (length bytes' ≡ 500) × (length mark' ≡ 500)
 
+-- ---- kept chunks, however they were found
+
+-- What the layers above their bases ask for; left: what is forecast after each slot.
+pub record KeptFrom (p : Programme) (layers : ℕ) (size : ℕ → ℕ → ℕ) (left : List ℕ) (first : ℕ) (ids dues bytes room ready mark : List ℕ) : Type 0 where
+  pub few : p .chunks ≤ 500
+  pub late : 1 ≤ p .delay
+  pub ends : lastDue p ≤ 3600
+  pub some : 1 ≤ layers
+  pub few-layers : layers ≤ 4
+  pub small : (i n : ℕ) → size i n ≤ 16777216
+  pub sums : Sums left
+  pub kept : KeptIn p size (drop first ids) first ids dues bytes
+  pub long : (length left ≡ 3601) × (length room ≡ 500) × (length ready ≡ 500)
+  pub marks : mark ≡ replicate 500 1
+
+-- The tables hold the chunks of a choice, their releases, and their marks.
+pub record Decides (j : Job) (x : ℕ → ℕ) (first : ℕ) (ids ready mark : List ℕ) : Type 0 where
+  pub within : first ≤ 500
+  pub chunks : drop first ids ≡ kept j x
+  pub releases-are : drop first ready ≡ take (500 - first) (releases (due j) (heldMost j) (kept j x))
+  pub marks : drop first mark ≡ map (λ k. levelMark (x k)) (kept j x)
+  pub long : (length ids ≡ 500) × (length ready ≡ 500) × (length mark ≡ 500)
+
+-- So for every job that the handed numbers say, however its sizes are stored, and the choice that the passes over these chunks decide.
+abbrev pub DecidesKept : Programme → ℕ → (ℕ → ℕ → ℕ) → List ℕ → ℕ → List ℕ → List ℕ → List ℕ → Type 0
+DecidesKept p layers size left first ids ready mark =
+    (sizes : List ℕ) (overrides : List Override) (forecast : List ℕ) → layers ≡ length sizes → size ≡ sizeIn sizes overrides →
+    at left ≡ after (jobOf p sizes overrides forecast) → (x : ℕ → ℕ) → drop first ids ≡ kept (jobOf p sizes overrides forecast) x →
+    decidedOn (jobOf p sizes overrides forecast) (drop first ids)
+    ≡ map (keptAt (jobOf p sizes overrides forecast) x) (kept (jobOf p sizes overrides forecast) x) →
+    Decides (jobOf p sizes overrides forecast) x first ids ready mark
+
 -- ---- the whole decision
 
 -- The job of which a part of the forecast is handed.
@@ -124,16 +156,8 @@ pub record DecideFrom (p : Programme) (layers : ℕ) (size : ℕ → ℕ → ℕ
   pub long : (length ids ≡ 500) × (length ready ≡ 500)
   pub marks : mark ≡ replicate 500 1
 
--- The tables hold the plan's chunks, their releases, and their marks.
-pub record Decides (j : Job) (first : ℕ) (ids ready mark : List ℕ) : Type 0 where
-  pub within : first ≤ 500
-  pub chunks : drop first ids ≡ kept j (plan j)
-  pub releases-are : drop first ready ≡ take (500 - first) (releases (due j) (heldMost j) (kept j (plan j)))
-  pub marks : drop first mark ≡ map (λ k. levelMark (plan j k)) (kept j (plan j))
-  pub long : (length ids ≡ 500) × (length ready ≡ 500) × (length mark ≡ 500)
-
--- So for every job that the handed numbers say, however its sizes are stored.
+-- The tables hold the plan, of every job that the handed numbers say.
 abbrev pub DecidesEach : Programme → ℕ → (ℕ → ℕ → ℕ) → ℕ → List ℕ → ℕ → List ℕ → List ℕ → List ℕ → Type 0
 DecidesEach p layers size start part first ids ready mark =
     (sizes : List ℕ) (overrides : List Override) → layers ≡ length sizes → size ≡ sizeIn sizes overrides →
-    Decides (jobFrom p sizes overrides start part) first ids ready mark
+    Decides (jobFrom p sizes overrides start part) (plan (jobFrom p sizes overrides start part)) first ids ready mark

@@ -1,0 +1,4 @@
+pub mod Jobs
+pub mod Marks
+pub mod Rows
+pub mod Laying
