@@ -151,7 +151,7 @@ pub record Agrees (w d r F w′ d′ r′ F′ : ℕ → ℕ) (c : ℕ) : Type 0
   pub up-to-begin : (q : ℕ) → q < c → F (r q - 1) ≡ F′ (r′ q - 1)
 
 module _ (w d r F w′ d′ r′ F′ : ℕ → ℕ) (c : ℕ) (same : Agrees w d r F w′ d′ r′ F′ c) where
-  forward-agrees : (u at n : ℕ) → at + n ≤ c → forward w d r F u at n ≡ forward w′ d′ r′ F′ u at n
+  pub forward-agrees : (u at n : ℕ) → at + n ≤ c → forward w d r F u at n ≡ forward w′ d′ r′ F′ u at n
   forward-agrees u at zero h = refl
   forward-agrees u at (suc n) h =
       let l : at < c = omega arith in
