@@ -4,3 +4,4 @@ pub mod Both
 pub mod Lays
 pub mod Tries
 pub mod Alls
+pub mod Told

@@ -3,3 +3,5 @@ pub mod Held
 pub mod Laying
 pub mod Sentences
 pub mod All
+pub mod Tables
+pub mod Planned

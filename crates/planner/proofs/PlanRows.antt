@@ -1,23 +1,20 @@
 -- Laws on the plan laid out: the queue that the tables hold is the plan's, and what the slices hold at the end. Assumes nothing.
-use mathlib.Core.Path.{_≡_, refl, sym, _∙_, ap, subst, fun-ext}
+use mathlib.Core.Path.{_≡_, refl, sym, _∙_, ap, subst}
 use mathlib.Core.Bool.{Bool, true, false, cond}
 use mathlib.Core.List.{List, [], _∷_, _++_, map, append-nil}
 use mathlib.Core.Logic.{⊎-elim}
 use Prim.Native.Nat.{ℕ, zero, suc, _+_, _*_, _-_, _≤_, _<_, min}
 use native.Mathlib.Omega.{arith}
-use lib.ListN.{length, getD, take, drop, replicate, length-drop}
+use lib.ListN.{length, getD, take, drop, length-drop}
 use lib.Seq.{take-at}
 use lib.Dec.{leb, ltb, leb→le, nleb→lt, ltb→lt, nltb→le}
 use borrow.Author.Tests.{eq-eqb, ne-eqb, lt-ltb, le-ltb}
 use Rattle.basics.specs.Lists.{upTo}
 use Rattle.basics.specs.lemmas.Lists.{upTo-cong, length-upTo}
-use Rattle.basics.specs.Sums.{pre, sum, count}
+use Rattle.basics.specs.Sums.{count}
 use Rattle.basics.specs.Tests.{All}
 use Rattle.basics.specs.lemmas.Tests.{test, by-cond}
 use Rattle.job.specs.Job.{Job, Accepted, Within, size, chunks, layers, due, forecast, heldMost, lastSlot}
-use Rattle.job.specs.Table.{sizesTable, tableAt}
-use Rattle.job.specs.Uneven.{table-is}
-use Rattle.job.specs.lemmas.Within.{all-most, size-least, size-most}
 use Rattle.fetch.specs.Marks.{bit}
 use Rattle.fetch.specs.Counts.{markCount}
 use Rattle.fetch.specs.lemmas.Counts.{count-up-to}
@@ -39,8 +36,8 @@ use Rattle.schedule.specs.lemmas.Trials.{levelMark}
 use Rattle.schedule.specs.lemmas.Words.{accepted-sized, due-by}
 use Rattle.listing.specs.declared.At.{At}
 use Rattle.planner.specs.Answer.{planRows}
-use Rattle.schedule.specs.lemmas.Parts.{at, Part}
-use Rattle.settle.specs.lemmas.Decision.{DecideFrom, Decides}
+use Rattle.settle.specs.lemmas.Accepted.{left-is, part-in}
+use Rattle.settle.specs.lemmas.Decision.{Decides}
 use Rattle.planner.specs.lemmas.Handing.{markIn}
 use Rattle.basics.specs.Lent.{over}
 use Rattle.listing.specs.lemmas.Listing.{lastOf, bytesAt, leftAt, onward, load, Fed, Made, Puts, levelOf, Levels, queueOf, AllFrom}
@@ -91,33 +88,6 @@ module _ (j : Job) (ok : Accepted j) where
   abbrev f : List ℕ
   f = j .forecast
 
-  -- The table that the call fills says the job's sizes.
-  pub filled : (table : List ℕ) → table ≡ sizesTable (j .sizes) (j .overrides) → tableAt table ≡ size j
-  filled table e = ap tableAt e ∙ table-is j ok
-
-  part-in : Part 1 f
-  part-in = record { low = omega arith; high = omega (arith, ok .slots-in, ok .last-in); small = all-most 0 16777216 f (ok .forecast-in) }
-
-  pub decide-from : (own : ℕ → ℕ → ℕ) → own ≡ size j → (ids ready : List ℕ) → length ids ≡ 500 → length ready ≡ 500 → DecideFrom (j .programme) (layers j) own 1 f ids ready (replicate 500 1)
-  decide-from own says ids ready a b =
-      record {
-        few = ok .chunks-in .high;
-        late = ok .delay-in .low;
-        ends = ok .last-in;
-        some = ok .layers-in .low;
-        few-layers = ok .layers-in .high;
-        small = λ i n. subst (λ (z : ℕ → ℕ → ℕ). z i n ≤ 16777216) (sym says) (size-most j ok i n);
-        least = λ i u v. subst (λ (z : ℕ → ℕ → ℕ). 1 ≤ z i 0) (sym says) (size-least j ok i 0 (ok .layers-in .low));
-        part-in = part-in;
-        slots = omega (arith, ok .slots-in);
-        long = (a, b);
-        marks = refl;
-      }
-
-  -- What is left after a slot is what is forecast after it.
-  left-is : leftAt 1 f ≡ after j
-  left-is = fun-ext (λ t. ap (λ (n : ℕ). pre (λ u. at f (u - 1)) n - pre (λ u. at f (u - 1)) t) (ok .slots-in))
-
   levels-in : Each (λ k. (1 ≤ plan j k) × (plan j k ≤ 4)) (kept j (plan j))
   levels-in = picked-each (λ i. leb 1 (plan j i)) (λ k. (1 ≤ plan j k) × (plan j k ≤ 4)) 0 (chunks j) (λ i u v t. (leb→le 1 (plan j i) t, omega (arith, plan-choice j i u (omega arith), ok .layers-in .high)))
 
@@ -167,12 +137,12 @@ module _ (j : Job) (ok : Accepted j) where
         let room : 0 + (lastOf 1 f - 1) + 4 * (500 - first) ≤ 5599 = omega (arith, slots, last, d .within) in
         record {
           within = d .within;
-          room = record { part-in = part-in; low = omega arith; high = omega arith; count = omega arith; s = omega arith; c = omega arith; l = omega arith; b = omega arith };
+          room = record { part-in = part-in j ok; low = omega arith; high = omega arith; count = omega arith; s = omega arith; c = omega arith; l = omega arith; b = omega arith };
           by = subst (All (λ r. r ≤ lastOf 1 f)) (sym (d .releases-are)) released;
           chunks-in = subst (All (Within 1 500)) (sym (d .chunks)) (asc-within 1 (chunks j) 1 500 (kept j (plan j)) (omega arith) (ok .chunks-in .high) (kept-asc j (plan j)));
           levels = subst (All Levels) (sym (d .marks)) (all-each Levels (λ k. levelMark (plan j k)) (kept j (plan j)) (each-imp (λ k. (1 ≤ plan j k) × (plan j k ≤ 4)) (λ k. Levels (levelMark (plan j k))) (kept j (plan j)) level levels-in));
-          fed = subst (Fed (leftAt 1 f)) (sym (queued own says)) (subst (λ (A : ℕ → ℕ). Fed A plan-queue) (sym left-is) (fed-ready (due j) (after j) plan-queue (plan-ready .1)));
-          fits = subst (λ (q : List Piece). load q ≤ getD f 0 0 + leftAt 1 f 1) (sym (queued own says)) (omega (arith, load-needs (due j) (after j) plan-queue, plan-ready .0, ap (λ (A : ℕ → ℕ). A 0) left-is, left-next 1 f 0 (omega arith)));
+          fed = subst (Fed (leftAt 1 f)) (sym (queued own says)) (subst (λ (A : ℕ → ℕ). Fed A plan-queue) (sym (left-is j ok)) (fed-ready (due j) (after j) plan-queue (plan-ready .1)));
+          fits = subst (λ (q : List Piece). load q ≤ getD f 0 0 + leftAt 1 f 1) (sym (queued own says)) (omega (arith, load-needs (due j) (after j) plan-queue, plan-ready .0, ap (λ (A : ℕ → ℕ). A 0) (left-is j ok), left-next 1 f 0 (omega arith)));
           long = d .long;
         }
       where

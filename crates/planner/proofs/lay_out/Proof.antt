@@ -5,7 +5,8 @@ use native.Mathlib.Omega.{arith}
 use lib.ListN.{length-replicate}
 use borrow.Author.Needs.{needs}
 use denote.Ref.{now}
-use Rattle.planner.proofs.PlanRows.{filled, decide-from, all-from, listed, ascending, laid-marks, laid-long, laid-counts, laid-front-long}
+use Rattle.settle.specs.lemmas.Accepted.{decide-from, filled}
+use Rattle.planner.proofs.PlanRows.{all-from, listed, ascending, laid-marks, laid-long, laid-counts, laid-front-long}
 use Rattle.planner.proofs.lay_out.Statement.{statement}
 use Rattle.planner.proofs.lay_out.Tie as tie
 
