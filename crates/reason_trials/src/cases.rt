@@ -50,7 +50,7 @@ fn print_first(out: &[u8; 2048], n: usize) {
 fn text_of(file: &[u8; 1024], n: usize) {
     let mut sizes = [0u32; 4];
     let mut size_chunks = [0u16; 1996];
-    let mut size_layers = [0u8..2896];
+    let mut size_layers = [0u8; 1996];
     let mut size_bytes = [0u32; 1996];
     let mut forecast = [0u32; 3600];
     match jobfile::read_job(

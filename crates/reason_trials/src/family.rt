@@ -4,6 +4,7 @@ use crate::cases::line;
 use crate::cases::pair;
 use job::Programme;
 use reason::Written;
+ghost use Prim.Native.Nat.{_<_};
 
 // What is counted of the texts.
 struct Tally {
@@ -57,12 +58,18 @@ fn count(text: &[u8], byte: u8) -> u64 {
     n
 }
 
+fn wide(x: u8) -> u64
+    ensures { λ r. ⌜ r < 256 ⌝ }
+{
+    x as u64
+}
+
 // A text after a sum.
 fn sum_on(sum: u64, text: &[u8]) -> u64 {
     let mut s = sum;
     let mut i = 0;
     while i < text.len() {
-        s = s % 1000000007 * 31 + (text[i] as u64);
+        s = s % 1000000007 * 31 + wide(text[i]);
         i = i + 1;
     }
     s
