@@ -6,7 +6,7 @@ use mathlib.Core.Path.{refl}
 use Prim.Native.Nat.{ℕ}
 use native.Mathlib.Omega.{arith}
 use lib.ListN.{length-replicate}
-use Rattle.laying.proofs.Jobs.{filled}
+use Rattle.settle.specs.lemmas.Accepted.{filled}
 use Rattle.planner.proofs.Handing.{decide-from}
 use Rattle.search.proofs.Handing.{accepted, decided, handed-laid}
 

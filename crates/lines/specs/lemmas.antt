@@ -1,0 +1,7 @@
+pub mod Passes
+pub mod Held
+pub mod Laying
+pub mod Sentences
+pub mod All
+pub mod Tables
+pub mod Planned
