@@ -20,7 +20,7 @@ use Rattle.fetch.specs.Rows.{rowAt}
 use Rattle.fetch.specs.VerdictFrom.{slot-iff, slotRefusal}
 use Rattle.afresh.specs.Refusal.{before-iff, beforeRefusal, handedKept, onward-iff, replanRefusal}
 use Rattle.replan.specs.Answer.{HandedOn, fetched, inputRefusal, jobOn}
-use Rattle.replan.specs.lemmas.Laying.{askedRefusal, partRefusal}
+use Rattle.replan.specs.lemmas.Asked.{askedRefusal, partRefusal}
 
 -- The first refuses,
 pub refuses : {k a : ℕ} (b : ℕ) → k ≡ a → (k ≡ 0 → ⊥) → k ≡ (a orElse b)

@@ -25,7 +25,8 @@ use Rattle.planner.specs.declared.Planned.{Planned}
 use Rattle.planner.specs.lemmas.Handing.{HandsOver, shortRefusal}
 use Rattle.handing.specs.lemmas.Slices.{Result}
 use Rattle.replan.specs.Answer.{fetched, Handed, HandedOn, holdsOn, inputRefusal, jobOn, planOn, refusalOn, rowsOn}
-use Rattle.replan.specs.lemmas.Laying.{askedRefusal, Each, LayFrom, madeAfresh, Tight}
+use Rattle.relay.specs.lemmas.Laying.{Each, LayFrom, madeAfresh, Tight}
+use Rattle.replan.specs.lemmas.Asked.{askedRefusal}
 use Rattle.replan.specs.Theorems.{afresh-none, settled-afresh}
 use Rattle.replan.proofs.Asked.{Asked, asked-none, input-is}
 

@@ -1,8 +1,8 @@
 -- `lay` meets its contract: into the lent slices where they have room for any plan, else aside.
-use Rattle.replan.proofs.Laying.{ample, ample-from}
+use Rattle.relay.proofs.Laying.{ample, ample-from}
 use borrow.Author.Needs.{needs}
-use Rattle.replan.proofs.lay.Statement.{statement}
-use Rattle.replan.proofs.lay.Tie as tie
+use Rattle.relay.proofs.lay.Statement.{statement}
+use Rattle.relay.proofs.lay.Tie as tie
 
 all-hold-requires : tie.Need-all-hold-requires
 all-hold-requires c κs = search needs

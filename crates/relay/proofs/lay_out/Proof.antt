@@ -1,10 +1,10 @@
 -- `lay_out` meets its contract: the rows and marks are those of the plan made afresh, and the counts are of its marks.
 use mathlib.Core.Path.{sym}
 use native.Mathlib.Omega.{arith}
-use Rattle.replan.proofs.Laying.{filling, front-long}
+use Rattle.relay.proofs.Laying.{filling, front-long}
 use borrow.Author.Needs.{needs}
-use Rattle.replan.proofs.lay_out.Statement.{statement}
-use Rattle.replan.proofs.lay_out.Tie as tie
+use Rattle.relay.proofs.lay_out.Statement.{statement}
+use Rattle.relay.proofs.lay_out.Tie as tie
 
 lay-rest-requires : tie.Need-lay-rest-requires
 lay-rest-requires c κs = search needs

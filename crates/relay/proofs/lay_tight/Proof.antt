@@ -2,11 +2,11 @@
 use mathlib.Core.Path.{sym, _∙_}
 use Prim.Native.Nat.{ℕ}
 use lib.ListN.{length-replicate}
-use Rattle.handing.proofs.Laws.{bytes-aside, chunks-aside, four-hold, layers-aside, slots-aside}
-use Rattle.replan.proofs.Laying.{aside-from, few-aside, marks-long-aside, real-filling, tight, tight-short}
+use Rattle.handing.proofs.Laws.{four-hold}
+use Rattle.relay.proofs.Laying.{aside-from, bytes-long-aside, chunks-long-aside, layers-long-aside, marks-long-aside, slots-long-aside, tight, tight-short}
 use borrow.Author.Needs.{needs}
-use Rattle.replan.proofs.lay_tight.Statement.{statement}
-use Rattle.replan.proofs.lay_tight.Tie as tie
+use Rattle.relay.proofs.lay_tight.Statement.{statement}
+use Rattle.relay.proofs.lay_tight.Tie as tie
 
 slice-aggregate-lay-out : tie.Need-slice-aggregate-lay-out
 slice-aggregate-lay-out c = search needs
@@ -45,32 +45,28 @@ slice-aggregate-copy16 c = search needs
 
 copy16-requires : tie.Need-copy16-requires
 copy16-requires c κs =
-    let l = c .before .before .before .before .before .before .before .before .before .before .before .before .before .before .before .lay-out .ensures in
-    (slots-aside (real-filling l (c .before .before .before .before .before .before .before .before .before .before .before .before .before .before .before .before .before .before .before .before .before .before .before .before .before .before .before .pre .real)) (few-aside l (c .before .before .before .before .before .before .before .before .before .before .before .before .before .before .before .before .before .before .before .before .before .before .before .before .before .before .before .pre .real)) (length-replicate {A = ℕ} 5599 0), four-hold _ _ _ _ _ (c .before .before .before .before .before .before .before .before .before .all-hold .ensures) (c .before .before .before .before .before .before .before .before .if1 .taken) .0)
+    (slots-long-aside (c .before .before .before .before .before .before .before .before .before .before .before .before .before .before .before .lay-out .ensures) (c .before .before .before .before .before .before .before .before .before .before .before .before .before .before .before .before .before .before .before .before .before .before .before .before .before .before .before .pre .real) (length-replicate {A = ℕ} 5599 0), four-hold _ _ _ _ _ (c .before .before .before .before .before .before .before .before .before .all-hold .ensures) (c .before .before .before .before .before .before .before .before .if1 .taken) .0)
 
 slice-aggregate-copy16-2 : tie.Need-slice-aggregate-copy16-2
 slice-aggregate-copy16-2 c = search needs
 
 copy16-requires-2 : tie.Need-copy16-requires-2
 copy16-requires-2 c κs =
-    let l = c .before .before .before .before .before .before .before .before .before .before .before .before .before .before .before .before .before .before .before .before .lay-out .ensures in
-    (chunks-aside (real-filling l (c .before .before .before .before .before .before .before .before .before .before .before .before .before .before .before .before .before .before .before .before .before .before .before .before .before .before .before .before .before .before .before .before .pre .real)) (few-aside l (c .before .before .before .before .before .before .before .before .before .before .before .before .before .before .before .before .before .before .before .before .before .before .before .before .before .before .before .before .before .before .before .before .pre .real)) (length-replicate {A = ℕ} 5599 0), four-hold _ _ _ _ _ (c .before .before .before .before .before .before .before .before .before .before .before .before .before .before .all-hold .ensures) (c .before .before .before .before .before .before .before .before .before .before .before .before .before .if1 .taken) .1)
+    (chunks-long-aside (c .before .before .before .before .before .before .before .before .before .before .before .before .before .before .before .before .before .before .before .before .lay-out .ensures) (c .before .before .before .before .before .before .before .before .before .before .before .before .before .before .before .before .before .before .before .before .before .before .before .before .before .before .before .before .before .before .before .before .pre .real) (length-replicate {A = ℕ} 5599 0), four-hold _ _ _ _ _ (c .before .before .before .before .before .before .before .before .before .before .before .before .before .before .all-hold .ensures) (c .before .before .before .before .before .before .before .before .before .before .before .before .before .if1 .taken) .1)
 
 slice-aggregate-copy8-2 : tie.Need-slice-aggregate-copy8-2
 slice-aggregate-copy8-2 c = search needs
 
 copy8-requires-2 : tie.Need-copy8-requires-2
 copy8-requires-2 c κs =
-    let l = c .before .before .before .before .before .before .before .before .before .before .before .before .before .before .before .before .before .before .before .before .before .before .before .before .before .lay-out .ensures in
-    (layers-aside (real-filling l (c .before .before .before .before .before .before .before .before .before .before .before .before .before .before .before .before .before .before .before .before .before .before .before .before .before .before .before .before .before .before .before .before .before .before .before .before .before .pre .real)) (few-aside l (c .before .before .before .before .before .before .before .before .before .before .before .before .before .before .before .before .before .before .before .before .before .before .before .before .before .before .before .before .before .before .before .before .before .before .before .before .before .pre .real)) (length-replicate {A = ℕ} 5599 0), four-hold _ _ _ _ _ (c .before .before .before .before .before .before .before .before .before .before .before .before .before .before .before .before .before .before .before .all-hold .ensures) (c .before .before .before .before .before .before .before .before .before .before .before .before .before .before .before .before .before .before .if1 .taken) .2)
+    (layers-long-aside (c .before .before .before .before .before .before .before .before .before .before .before .before .before .before .before .before .before .before .before .before .before .before .before .before .before .lay-out .ensures) (c .before .before .before .before .before .before .before .before .before .before .before .before .before .before .before .before .before .before .before .before .before .before .before .before .before .before .before .before .before .before .before .before .before .before .before .before .before .pre .real) (length-replicate {A = ℕ} 5599 0), four-hold _ _ _ _ _ (c .before .before .before .before .before .before .before .before .before .before .before .before .before .before .before .before .before .before .before .all-hold .ensures) (c .before .before .before .before .before .before .before .before .before .before .before .before .before .before .before .before .before .before .if1 .taken) .2)
 
 slice-aggregate-copy32 : tie.Need-slice-aggregate-copy32
 slice-aggregate-copy32 c = search needs
 
 copy32-requires : tie.Need-copy32-requires
 copy32-requires c κs =
-    let l = c .before .before .before .before .before .before .before .before .before .before .before .before .before .before .before .before .before .before .before .before .before .before .before .before .before .before .before .before .before .before .lay-out .ensures in
-    (bytes-aside (real-filling l (c .before .before .before .before .before .before .before .before .before .before .before .before .before .before .before .before .before .before .before .before .before .before .before .before .before .before .before .before .before .before .before .before .before .before .before .before .before .before .before .before .before .before .pre .real)) (few-aside l (c .before .before .before .before .before .before .before .before .before .before .before .before .before .before .before .before .before .before .before .before .before .before .before .before .before .before .before .before .before .before .before .before .before .before .before .before .before .before .before .before .before .before .pre .real)) (length-replicate {A = ℕ} 5599 0), four-hold _ _ _ _ _ (c .before .before .before .before .before .before .before .before .before .before .before .before .before .before .before .before .before .before .before .before .before .before .before .before .all-hold .ensures) (c .before .before .before .before .before .before .before .before .before .before .before .before .before .before .before .before .before .before .before .before .before .before .before .if1 .taken) .3)
+    (bytes-long-aside (c .before .before .before .before .before .before .before .before .before .before .before .before .before .before .before .before .before .before .before .before .before .before .before .before .before .before .before .before .before .before .lay-out .ensures) (c .before .before .before .before .before .before .before .before .before .before .before .before .before .before .before .before .before .before .before .before .before .before .before .before .before .before .before .before .before .before .before .before .before .before .before .before .before .before .before .before .before .before .pre .real) (length-replicate {A = ℕ} 5599 0), four-hold _ _ _ _ _ (c .before .before .before .before .before .before .before .before .before .before .before .before .before .before .before .before .before .before .before .before .before .before .before .before .all-hold .ensures) (c .before .before .before .before .before .before .before .before .before .before .before .before .before .before .before .before .before .before .before .before .before .before .before .if1 .taken) .3)
 
 refused-requires : tie.Need-refused-requires
 refused-requires c κs = search needs

@@ -1,19 +1,12 @@
 -- Lemmas. What the functions hand each other: the plan made afresh laid out where there is room, or aside and copied. For every job and rows
 -- with these tables (relist, Handing).
-use Prim.Native.Nat.{ℕ, suc, _-_, _≤_}
+use Prim.Native.Nat.{ℕ, suc, _≤_}
 use mathlib.Core.Path.{_≡_}
-use mathlib.Core.List.{List, []}
+use mathlib.Core.List.{List}
 use lib.ListN.{length}
-use lib.Dec.{eqb, ltb}
-use Rattle.basics.specs.Refusals.{_orElse_, unless}
-use Rattle.basics.specs.Tests.{all}
-use Rattle.job.specs.Handed.{HandedJob, jobRefusal}
-use Rattle.job.specs.Job.{Accepted, Job, Override, lastDue}
-use Rattle.job.specs.Refusal.{bytesRefusal}
+use Rattle.job.specs.Job.{Accepted, Job, Override}
 use Rattle.job.specs.declared.Programme.{Programme}
-use Rattle.fetch.specs.Handed.{handedRefusal}
 use Rattle.fetch.specs.Rows.{Row}
-use Rattle.fetch.specs.VerdictFrom.{slotRefusal}
 use Rattle.schedule.specs.Statement.{countsOf, marksOf}
 use Rattle.handing.specs.lemmas.Slices.{Result, Stands}
 use Rattle.planner.specs.declared.Planned.{Planned}
@@ -23,8 +16,7 @@ use Rattle.afresh.specs.Statement.{Acceptable, IsReplan}
 use Rattle.resettle.specs.lemmas.Decision.{Tabled, jobFrom}
 use Rattle.resettle.specs.lemmas.Tables.{Small}
 use Rattle.relist.specs.lemmas.Handing.{Real}
-use Rattle.replan.specs.Answer.{HandedOn}
-use Rattle.replan.specs.declared.Filled.{Filled}
+use Rattle.relay.specs.declared.Filled.{Filled}
 
 -- Of each job with these tables, each rows and each plan made afresh of it.
 pub record Each (p : Programme) (layers start : ℕ) (part : List ℕ) (left : ℕ → ℕ → ℕ) (begun whole : List ℕ) (P : Job → List Row → (ℕ → ℕ) → Type 0) : Type 0 where
@@ -54,16 +46,3 @@ pub record LayFrom (p : Programme) (layers start : ℕ) (part : List ℕ) (left 
   pub small : Small left
   pub long : (length begun ≡ 500) × (length whole ≡ 500)
   pub marks-fit : p .chunks ≤ length marks
-
--- ---- the refusals before 22
-
-abbrev pub partRefusal : Programme → ℕ → List ℕ → ℕ
-partRefusal p from onward = bytesRefusal onward orElse unless 7 (eqb (length onward) (suc (lastDue p) - from))
-
-abbrev pub askedRefusal : HandedJob → HandedOn → ℕ
-askedRefusal h o =
-    jobRefusal h
-    orElse handedRefusal 0 [] (o .slots) (o .chunks) (o .layers) (o .bytes)
-    orElse slotRefusal (h .programme) (o .from)
-    orElse unless 21 (all (λ s. ltb s (o .from)) (o .slots))
-    orElse partRefusal (h .programme) (o .from) (o .onward)

@@ -18,15 +18,15 @@ use Rattle.afresh.specs.Theorems.{replan-exists}
 use Rattle.afresh.specs.lemmas.Shape.{own-rest-rows}
 use Rattle.resettle.specs.lemmas.Decision.{jobFrom}
 use Rattle.relist.specs.lemmas.Handing.{Laid, LaidFrom, LaidOf, Real}
-use Rattle.handing.proofs.Laws.{copied, fewer-hold, four-hold, marks-aside}
+use Rattle.handing.proofs.Laws.{bytes-aside, chunks-aside, copied, fewer-hold, four-hold, layers-aside, marks-aside, slots-aside}
 use Rattle.handing.specs.lemmas.Slices.{rowsHold}
 use Rattle.planner.proofs.Handing.{OnlyNumber, over-fits, over-short}
 use Rattle.laying.proofs.Marks as marks-of
 use Rattle.laying.proofs.Marks.{front-counts, marks-long}
 use Rattle.planner.specs.declared.Answer.the-variants.{Rows}
 use Rattle.planner.specs.declared.Planned.{Planned}
-use Rattle.replan.specs.declared.Filled.{Filled}
-use Rattle.replan.specs.lemmas.Laying.{Each, Filling, LayFrom, madeAfresh, Tight}
+use Rattle.relay.specs.declared.Filled.{Filled}
+use Rattle.relay.specs.lemmas.Laying.{Each, Filling, LayFrom, madeAfresh, Tight}
 
 module _ {p : Programme} {layers start : ℕ} {part : List ℕ} {left : ℕ → ℕ → ℕ} {begun whole : List ℕ} where
   -- ---- the real job
@@ -75,14 +75,26 @@ module _ {p : Programme} {layers start : ℕ} {part : List ℕ} {left : ℕ → 
 
   module _ {ms ss cs ls bs : List ℕ} {made : Filled} {ms′ ss′ cs′ ls′ bs′ : List ℕ} (f : Each p layers start part left begun whole (λ j handed plan. Filling j start handed plan ms ss cs ls bs made ms′ ss′ cs′ ls′ bs′)) where
     module _ (r : Real p layers start part left begun whole) where
-      pub real-filling : Filling (j r) start (r .handed) (plan r) ms ss cs ls bs made ms′ ss′ cs′ ls′ bs′
+      real-filling : Filling (j r) start (r .handed) (plan r) ms ss cs ls bs made ms′ ss′ cs′ ls′ bs′
       real-filling = of-real r (λ j handed plan. Filling j start handed plan ms ss cs ls bs made ms′ ss′ cs′ ls′ bs′) f
 
-      pub few-aside : made .rows ≤ 5599
+      few-aside : made .rows ≤ 5599
       few-aside = omega (arith, real-few r, real-filling .rows-are)
 
       pub marks-long-aside : length ms ≡ 500 → p .chunks ≤ length ms′
       marks-long-aside = marks-aside real-filling (p .chunks) (marks-long (j r) (plan r)) (r .accepted .chunks-in .high)
+
+      pub slots-long-aside : length ss ≡ 5599 → made .rows ≤ length ss′
+      slots-long-aside = slots-aside real-filling few-aside
+
+      pub chunks-long-aside : length cs ≡ 5599 → made .rows ≤ length cs′
+      chunks-long-aside = chunks-aside real-filling few-aside
+
+      pub layers-long-aside : length ls ≡ 5599 → made .rows ≤ length ls′
+      layers-long-aside = layers-aside real-filling few-aside
+
+      pub bytes-long-aside : length bs ≡ 5599 → made .rows ≤ length bs′
+      bytes-long-aside = bytes-aside real-filling few-aside
 
     -- Copied into the lent slices,
     pub tight :
