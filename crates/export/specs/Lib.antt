@@ -1,3 +1,4 @@
 pub mod Number
 pub mod Traces
 pub mod Waits
+pub mod Reasons
