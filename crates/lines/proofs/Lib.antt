@@ -4,4 +4,3 @@ pub mod Both
 pub mod Lays
 pub mod Tries
 pub mod Alls
-pub mod Told

@@ -3,5 +3,3 @@ pub mod Held
 pub mod Laying
 pub mod Sentences
 pub mod All
-pub mod Tables
-pub mod Planned

@@ -5,16 +5,10 @@ use job::Programme;
 mod laying;
 mod passes;
 mod sentences;
-mod tables;
 
 ghost use mathlib.Core.Path.{_≡_};
-ghost use Prim.Native.Nat.{_/_, _≤_};
-ghost use lib.ListN.{length};
+ghost use Prim.Native.Nat.{_/_};
 ghost use Rattle.job.specs.declared.Programme.{Programme};
-ghost use Rattle.job.specs.Handed.{handed, jobIn};
-ghost use Rattle.job.specs.Job.{Accepted};
-ghost use Rattle.missing.specs.Lines.{planText};
-ghost use Rattle.text.specs.lemmas.Places.{Put};
 ghost use Rattle.lines.specs.lemmas.All.{capOf, LineFrom, LineDone, ChunkFrom, ChunkDone, AllFrom, AllDone, Scratch};
 
 // How many layers the chunks before the missing one may have in its trial. most: bases were settled by request 9.
@@ -110,7 +104,7 @@ fn put_chunk(
 
 // All lines of a plan. layers: how many the job has. levels: how many the plan carries of each chunk. sums: the bytes of the first
 // layers of each chunk, four places a chunk. after: what is forecast after each slot.
-fn put_reasons(
+pub fn put_reasons(
     p: Programme,
     held: usize,
     layers: u8,
@@ -148,46 +142,4 @@ fn put_reasons(
         k = i;
     }
     next
-}
-
-// All lines of an accepted job's plan.
-pub fn put_plan(
-    p: Programme,
-    sizes: &[u32],
-    size_chunks: &[u16],
-    size_layers: &[u8],
-    size_bytes: &[u32],
-    forecast: &[u32],
-    out: &mut [u8],
-) -> usize
-    requires { ⌜ Accepted (jobIn (handed p (now sizes) (now «size_chunks») (now «size_layers») (now «size_bytes») (now forecast))) × (length (planText (jobIn (handed p (now sizes) (now «size_chunks») (now «size_layers») (now «size_bytes») (now forecast)))) ≤ length (now out)) ⌝ }
-    ensures { λ r. ⌜ Put (now (out .entry)) 0 (planText (jobIn (handed p (now (sizes .entry)) (now («size_chunks» .entry)) (now («size_layers» .entry)) (now («size_bytes» .entry)) (now (forecast .entry))))) (now (out .exit)) r ⌝ }
-{
-    // Filled with no constant, as in settle.
-    let unset = p.chunks as u32;
-    let mut table = [unset; 2000];
-    let mut sums = [unset; 2000];
-    let mut after = [unset as u64; 3601];
-    let mut ids = [0u16; 500];
-    let mut ready = [0u16; 500];
-    let mut mark = [1u8; 500];
-    let mut levels = [0u8; 500];
-    let layers = sizes.len();
-    let held = job::held_most(p) as usize;
-    job::fill_sizes(sizes, size_chunks, size_layers, size_bytes, &mut table);
-    let most = pictures::by_walk(p, &table);
-    let first = settle::decide(
-        p,
-        layers,
-        &table,
-        forecast,
-        1,
-        &mut ids,
-        &mut ready,
-        &mut mark,
-    );
-    tables::set_levels(&ids, &mark, first, &mut levels);
-    tables::sum_sizes(&table, &mut sums);
-    settle::sum_after(forecast, 1, &mut after);
-    put_reasons(p, held, layers as u8, most, &sums, &after, &levels, out)
 }

@@ -5,11 +5,11 @@ use native.Mathlib.Omega.{arith}
 use lib.ListN.{length-replicate}
 use denote.Ref.{now}
 use Rattle.settle.specs.lemmas.Accepted.{decide-from, filled, part-in}
-use Rattle.lines.specs.lemmas.Planned.{all-asked, all-put, ids-in}
-use Rattle.lines.specs.lemmas.Tables.{sizes-in, zeros-at}
+use Rattle.reason.specs.lemmas.Planned.{all-asked, all-put, ids-in}
+use Rattle.reason.specs.lemmas.Tables.{sizes-in, zeros-at}
 use borrow.Author.Needs.{needs}
-use Rattle.lines.proofs.put_plan.Statement.{statement}
-use Rattle.lines.proofs.put_plan.Tie as tie
+use Rattle.reason.proofs.put_plan.Statement.{statement}
+use Rattle.reason.proofs.put_plan.Tie as tie
 
 cast-unset : tie.Need-cast-unset
 cast-unset c = search needs

@@ -8,7 +8,7 @@ use Rattle.basics.specs.Tests.{All}
 use Rattle.basics.specs.lemmas.Ranges.{sum-le, sum-most}
 use Rattle.basics.specs.lemmas.Tables.{all-from, at-set, below-next, drop-next}
 use Rattle.job.specs.Job.{Within}
-use Rattle.lines.specs.lemmas.Tables.{SizesIn, Summed, first-layer, layersIn, next-layer, spread, upToLayer}
+use Rattle.reason.specs.lemmas.Tables.{SizesIn, Summed, first-layer, layersIn, next-layer, spread, upToLayer}
 
 -- ---- layers by marks
 

@@ -4,10 +4,10 @@ use Prim.Native.Nat.{_-_, _≤_}
 use native.Mathlib.Omega.{arith}
 use borrow.Author.Needs.{needs}
 use denote.Ref.{now}
-use Rattle.lines.specs.lemmas.Tables.{Summed}
-use Rattle.lines.proofs.Told.{summed-first, summed-next, summed-start, sums-most}
-use Rattle.lines.proofs.tables.sum_sizes.Statement.{statement}
-use Rattle.lines.proofs.tables.sum_sizes.Tie as tie
+use Rattle.reason.specs.lemmas.Tables.{Summed}
+use Rattle.reason.proofs.Spreads.{summed-first, summed-next, summed-start, sums-most}
+use Rattle.reason.proofs.tables.sum_sizes.Statement.{statement}
+use Rattle.reason.proofs.tables.sum_sizes.Tie as tie
 
 abbrev Inv-loop : tie.InvT-loop
 Inv-loop table sums₀ i₀ sums i = Summed table i sums × (i ≤ 2000)

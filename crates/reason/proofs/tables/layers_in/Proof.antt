@@ -1,8 +1,8 @@
 -- `layers_in` meets its contract. Assumes nothing.
 use native.Mathlib.Omega.{arith}
 use borrow.Author.Tests.{lt-ltb, le-ltb}
-use Rattle.lines.proofs.tables.layers_in.Statement.{statement}
-use Rattle.lines.proofs.tables.layers_in.Tie as tie
+use Rattle.reason.proofs.tables.layers_in.Statement.{statement}
+use Rattle.reason.proofs.tables.layers_in.Tie as tie
 
 returns : tie.Need-returns
 returns c = let m = c .before .args .mark in rw (lt-ltb m 2 (omega arith))

@@ -4,7 +4,7 @@ ghost use Prim.Native.Nat.{_≤_};
 ghost use lib.ListN.{length, drop};
 ghost use Rattle.basics.specs.Tests.{All};
 ghost use Rattle.job.specs.Job.{Within};
-ghost use Rattle.lines.specs.lemmas.Tables.{SizesIn, Summed, layersIn, spread};
+ghost use Rattle.reason.specs.lemmas.Tables.{SizesIn, Summed, layersIn, spread};
 
 // How many layers a mark has, of layers from the base up.
 fn layers_in(mark: u8) -> u8

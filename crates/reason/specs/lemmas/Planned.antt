@@ -24,9 +24,9 @@ use Rattle.missing.specs.lemmas.Refused.{Refuses, plan-refuses}
 use Rattle.settle.specs.lemmas.Accepted.{left-is, part-in}
 use Rattle.settle.specs.lemmas.Decision.{Decides, SumTable}
 use Rattle.text.specs.lemmas.Places.{Put}
 use Rattle.lines.specs.lemmas.All.{AllDone, AllFrom, Facts, againstBy}
 use Rattle.lines.specs.lemmas.Laying.{Given}
-use Rattle.lines.specs.lemmas.Tables.{Summed, plan-levels, spread, sums-are}
+use Rattle.reason.specs.lemmas.Tables.{Summed, plan-levels, spread, sums-are}
 
 -- ---- the choice that a line is against
 

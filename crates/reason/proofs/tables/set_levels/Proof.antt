@@ -3,9 +3,9 @@ use Prim.Native.Nat.{_-_}
 use native.Mathlib.Omega.{arith}
 use borrow.Author.Needs.{needs}
 use denote.Ref.{now}
-use Rattle.lines.proofs.Told.{Spreading, chunk-in, spreading-end, spreading-more, spreading-start}
-use Rattle.lines.proofs.tables.set_levels.Statement.{statement}
-use Rattle.lines.proofs.tables.set_levels.Tie as tie
+use Rattle.reason.proofs.Spreads.{Spreading, chunk-in, spreading-end, spreading-more, spreading-start}
+use Rattle.reason.proofs.tables.set_levels.Statement.{statement}
+use Rattle.reason.proofs.tables.set_levels.Tie as tie
 
 abbrev Inv-loop : tie.InvT-loop
 Inv-loop ids mark first levels₀ q₀ levels q = Spreading ids mark first levels₀ levels q
