@@ -52,11 +52,11 @@ module _ (j : Job) (ok : Accepted j) where
   -- ---- the tables
 
   -- The kept chunks have places.
-  pub ids-in : (first : ℕ) (ids ready mark : List ℕ) → Decides j first ids ready mark → All (Within 1 500) (drop first ids)
+  pub ids-in : (first : ℕ) (ids ready mark : List ℕ) → Decides j (plan j) first ids ready mark → All (Within 1 500) (drop first ids)
   ids-in first ids ready mark d = rw (d .chunks) (asc-within 1 (chunks j) 1 500 (kept j (plan j)) (omega arith) (ok .chunks-in .high) (kept-asc j (plan j)))
 
   module _
-      (first : ℕ) (ids ready mark : List ℕ) (decided : Decides j first ids ready mark) (zeros levels : List ℕ) (none : (k : ℕ) → getD zeros k 0 ≡ 0)
+      (first : ℕ) (ids ready mark : List ℕ) (decided : Decides j (plan j) first ids ready mark) (zeros levels : List ℕ) (none : (k : ℕ) → getD zeros k 0 ≡ 0)
       (long : length zeros ≡ 500) (spread-is : levels ≡ spread (drop first ids) (drop first mark) zeros) (table sums : List ℕ) (says : tableAt table ≡ size j)
       (summed : Summed table 2000 sums) (rest : List ℕ) (left : SumTable 1 (j .forecast) rest)
     where
