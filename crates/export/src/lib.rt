@@ -1,6 +1,8 @@
-// The planner, the reader and writer of link traces, the shortest wait and the reasons under missing layers, for callers in C or Rust: a slice is a pointer and a length. The
-// planner answers the number of rows, or 65,536 and the refusal's number more; no plan has that many rows, since it has at most 5,599.
+// The planner, the search within a budget, the reader and writer of link traces, the shortest wait and the reasons under missing layers, for
+// callers in C or Rust: a slice is a pointer and a length. The planner answers the number of rows, or 65,536 and the refusal's number more;
+// no plan has that many rows, since it has at most 5,599.
 mod reasons;
+mod searches;
 mod traces;
 mod waits;
 
@@ -10,7 +12,7 @@ ghost use mathlib.Core.Path.{_≡_};
 ghost use Rattle.job.specs.Handed.{handed};
 ghost use Rattle.export.specs.Number.{numberOf, Exported};
 
-fn number(answer: Answer) -> usize
+pub(crate) fn number(answer: Answer) -> usize
     ensures { λ r. ⌜ r ≡ numberOf answer ⌝ }
 {
     match answer {
