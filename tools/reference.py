@@ -1,5 +1,6 @@
 """Documents 01 and 02 once more, in plain Python and independent of the proved crates: job and plan files, the seven rules, the plan, the
-report, link traces, bookings. `cases.py` and `traces.py` compute from it what the trials programs have to print."""
+report, link traces, bookings, plans made afresh. `cases.py`, `traces.py`, `waits.py`, `bookings.py` and `replans.py` compute from it what
+the trials programs have to print."""
 from collections import namedtuple
 
 Job = namedtuple("Job", "chunks span delay limit sizes overrides forecast")
@@ -191,12 +192,30 @@ def held(job, rows, t):
     return sum(1 for i in range(1, job.chunks + 1) if due(job, i) > t and any(x.chunk == i and x.slot <= t for x in rows))
 
 
-def verdict(job, rows, marks=None):
+def whole_or_none(job, rows, i, n, since):
+    """Rule 2 of a layer; document 02, request 12: "its rule 2 allows a short sum whose rows are all before p"."""
+    got = layer_sum(rows, i, n)
+    short = got < size(job, i, n) and all(x.slot < since for x in rows if (x.chunk, x.layer) == (i, n))
+    return got in (0, size(job, i, n)) or short
+
+
+def begun(rows, i):
+    """The first slot with a row of chunk i; past every slot if there is none."""
+    return min((x.slot for x in rows if x.chunk == i), default=1 << 16)
+
+
+def in_order(job, rows):
+    """Playing order: no chunk is begun in an earlier slot than a carried chunk that plays before it."""
+    return all(begun(rows, i) <= x.slot for i in range(1, job.chunks + 1) if carried(job, rows, i, 0) for x in rows if x.chunk > i)
+
+
+def verdict(job, rows, marks=None, since=1):
+    """Of the second checker call with p = since; at 1 it is the first: a row before slot 1 breaks rule 1."""
     last, layers = due(job, job.chunks), range(len(job.sizes))
     chunks = range(1, job.chunks + 1)
     if any(not (1 <= x.slot <= last and 1 <= x.chunk <= job.chunks and x.layer in layers and x.bytes >= 1) for x in rows):
         return 1
-    if any(layer_sum(rows, i, n) not in (0, size(job, i, n)) for i in chunks for n in layers):
+    if any(not whole_or_none(job, rows, i, n, since) for i in chunks for n in layers):
         return 2
     if any(carried(job, rows, i, n) and not carried(job, rows, i, n - 1) for i in chunks for n in layers if n):
         return 3
@@ -211,16 +230,20 @@ def verdict(job, rows, marks=None):
     return 0
 
 
-def fits(job, levels):
-    """Whether some passing list in playing order carries exactly these layers: the fill of theory, slot by slot."""
-    rows = own_list(job, levels)
-    return verdict(job, rows) == 0 and all(layer_sum(rows, i + 1, n) == size(job, i + 1, n) for i, k in enumerate(levels) for n in range(k))
+def fits(job, levels, since=1, fetched=()):
+    """Whether some passing list in playing order that begins with the rows fetched carries exactly these layers: the fill of theory, slot
+    by slot. `replans.py` asks every list instead."""
+    rows = list(fetched) + own_list(job, levels, since, fetched)
+    exactly = marks_given(job, rows) == [(1 << k) - 1 for k in levels]
+    return exactly and verdict(job, rows, since=since) == 0 and in_order(job, rows)
 
 
-def own_list(job, levels):
-    queue = [[i + 1, n, size(job, i + 1, n)] for i, k in enumerate(levels) for n in range(k)]
-    rows, begun = [], []
-    for t in range(1, due(job, job.chunks) + 1):
+def own_list(job, levels, since=1, fetched=()):
+    """The rows from a slot on, beside those fetched before it."""
+    queue = [[i + 1, n, size(job, i + 1, n) - layer_sum(fetched, i + 1, n)] for i, k in enumerate(levels) for n in range(k)]
+    queue = [part for part in queue if part[2] > 0]
+    rows, begun = [], [i + 1 for i in range(job.chunks) if any(x.chunk == i + 1 for x in fetched)]
+    for t in range(since, due(job, job.chunks) + 1):
         left = job.forecast[t - 1]
         while queue and left:
             i, n, lacking = queue[0]
@@ -324,3 +347,58 @@ def release(job, *columns):
     if any(not 1 <= x.slot <= len(forecast) for x in rows) or max(forecast) > 1 << 24:
         raise Refused(20)
     return forecast
+
+
+def check_slot(job, p):
+    if not 1 <= p <= due(job, job.chunks):
+        raise Refused(21)
+
+
+def check_from(job, p, marks, *columns):
+    """Document 02, request 12: the second checker call."""
+    check_job(job)
+    rows = listed(*columns)
+    if len(marks) != job.chunks:
+        raise Refused(8)
+    check_slot(job, p)
+    return verdict(job, rows, marks, p)
+
+
+def check_fetched(job, p, rows):
+    """Refusal 22. Rows that are all before p break the second call's rule 2 only where a sum exceeds its size."""
+    turn = all(begun(rows, y.chunk) <= x.slot for x in rows for y in rows if y.chunk < x.chunk)
+    if verdict(job, rows, since=p) or not turn:
+        raise Refused(22)
+
+
+def whole_before(job, rows, i):
+    """How many layers of chunk i are whole; by rule 3 the lowest ones."""
+    return sum(carried(job, rows, i, n) for n in range(len(job.sizes)))
+
+
+def settle_afresh(job, p, fetched, can):
+    """Layers whole before p are carried; the others of chunks due from p on are settled as in document 01, each by `can`."""
+    levels = [whole_before(job, fetched, i) for i in range(1, job.chunks + 1)]
+    for n in range(len(job.sizes)):
+        for i in range(job.chunks, 0, -1):
+            if levels[i - 1] == n and due(job, i) >= p:
+                tried = levels[:]
+                tried[i - 1] += 1
+                if can(tried):
+                    levels = tried
+    return levels
+
+
+def replan(job, p, onward, *columns):
+    """Document 02, request 12: the layers carried by each chunk, and the rows from p on."""
+    check_job(job)
+    rows = listed(*columns)
+    check_slot(job, p)
+    if any(x.slot >= p for x in rows):
+        raise Refused(21)
+    if any(b > 1 << 24 for b in onward) or len(onward) != due(job, job.chunks) - p + 1:
+        raise Refused(7)
+    job = job._replace(forecast=job.forecast[:p - 1] + list(onward))
+    check_fetched(job, p, rows)
+    levels = settle_afresh(job, p, rows, lambda tried: fits(job, tried, p, rows))
+    return levels, own_list(job, levels, p, rows)

@@ -1,4 +1,5 @@
 pub mod Number
+pub mod Replans
 pub mod Searches
 pub mod Traces
 pub mod Waits
