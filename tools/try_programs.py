@@ -1,5 +1,5 @@
 """Runs the built programs on case files, damaged, truncated and oversized files, random small jobs and random mixed files, and compares
-every output with `reference.py`. Run it at the root of the repository after `rt check plan film_report verdict convert`:
+every output with `reference.py` and `reasons.py`. Run it at the root of the repository after `rt check plan film_report verdict convert reasons`:
 python3 tools/try_programs.py"""
 import glob
 import os
@@ -7,6 +7,7 @@ import random
 import subprocess
 import tempfile
 from reference import *
+from reasons import reasons
 
 BIN = os.path.abspath("target/bin")
 A = write_job(Job(3, 2, 2, 2, [2, 1], [], [3, 0, 1, 0, 2, 0]))
@@ -103,6 +104,19 @@ def try_jobs():
     print(tried, "inputs of plan and film_report")
 
 
+def try_reasons():
+    cases = [write_job(random_job()) for _ in range(1000)] + [damaged(U) for _ in range(200)] + [bytes(65537)]
+    lines = 0
+    for data in cases:
+        try:
+            wanted = reasons(read_job(data)).encode()
+        except Refused as r:
+            wanted = b"refused %d\n" % r.number
+        assert run("reasons", data) == wanted, data[:80]
+        lines += wanted.count(b"slots")
+    print(len(cases), "inputs of reasons,", lines, "stretches")
+
+
 def try_verdicts():
     plans = [open(f, "rb").read() for f in sorted(glob.glob("crates/file_trials/data/p*"))] + [bytes(65537), bytes(300000)]
     tried = 0
@@ -126,5 +140,6 @@ def try_verdicts():
 
 random.seed(7)
 try_jobs()
+try_reasons()
 try_verdicts()
 try_convert()

@@ -3,3 +3,4 @@ pub mod Replans
 pub mod Searches
 pub mod Traces
 pub mod Waits
+pub mod Reasons

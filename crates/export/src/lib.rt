@@ -1,6 +1,7 @@
-// The planner, planning afresh, the search within a budget, the reader and writer of link traces, and the shortest wait, for callers in C
-// or Rust: a slice is a pointer and a length. The planner answers the number of rows, or 65,536 and the refusal's number more; no plan has
-// that many rows, since it has at most 5,599.
+// The planner, planning afresh, the search within a budget, the reader and writer of link traces, the shortest wait and the reasons under
+// missing layers, for callers in C or Rust: a slice is a pointer and a length. The planner answers the number of rows, or 65,536 and the
+// refusal's number more; no plan has that many rows, since it has at most 5,599.
+mod reasons;
 mod replans;
 mod searches;
 mod traces;

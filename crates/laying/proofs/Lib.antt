@@ -1,4 +1,3 @@
-pub mod Jobs
 pub mod Marks
 pub mod Rows
 pub mod Laying

@@ -33,11 +33,11 @@ use Rattle.schedule.specs.lemmas.Sufficiency.{fetch}
 use Rattle.schedule.specs.lemmas.Trials.{levelMark}
 use Rattle.schedule.specs.lemmas.Words.{accepted-sized, due-by}
 use Rattle.listing.specs.declared.At.{At}
-use Rattle.schedule.specs.lemmas.Parts.{at, Part}
+use Rattle.schedule.specs.lemmas.Parts.{Part}
+use Rattle.settle.specs.lemmas.Accepted as accepted-job
 use Rattle.laying.specs.lemmas.Laying.{Decided, markIn}
 use Rattle.basics.specs.Lent.{over}
 use Rattle.listing.specs.lemmas.Listing.{lastOf, bytesAt, leftAt, onward, load, Fed, Made, Puts, levelOf, Levels, queueOf, AllFrom}
-use Rattle.laying.proofs.Jobs.{part-of}
 use Rattle.laying.proofs.Marks.{asc-none, front-counts, front-long, marks-stay-long}
 use Rattle.basics.specs.lemmas.Tables.{all-take}
 use Rattle.listing.proofs.Pieces.{left-next, onward-next, same-refl}
@@ -85,9 +85,7 @@ module _
 
   -- What is left after a slot is what is forecast after it.
   left-is : leftAt 1 f ≡ after j
-  left-is =
-      ap (leftAt 1) (o .forecast-is)
-      ∙ fun-ext (λ t. ap (λ (n : ℕ). pre (λ u. at (j .forecast) (u - 1)) n - pre (λ u. at (j .forecast) (u - 1)) t) (ok .slots-in))
+  left-is = ap (leftAt 1) (o .forecast-is) ∙ accepted-job.left-is j ok
 
   levels-in : Each (λ k. (1 ≤ x k) × (x k ≤ 4)) (kept j x)
   levels-in = picked-each (λ i. leb 1 (x i)) (λ k. (1 ≤ x k) × (x k ≤ 4)) 0 (chunks j) (λ i u v t. (leb→le 1 (x i) t, omega (arith, c i u (omega arith), ok .layers-in .high)))
@@ -137,7 +135,7 @@ module _
       let room : 0 + (lastOf 1 f - 1) + 4 * (500 - first) ≤ 5599 = omega (arith, slots, last, o .tables .within) in
       record {
         within = o .tables .within;
-        room = record { part-in = part-of j ok f (o .forecast-is); low = omega arith; high = omega arith; count = omega arith; s = omega arith; c = omega arith; l = omega arith; b = omega arith };
+        room = record { part-in = subst (Part 1) (sym (o .forecast-is)) (accepted-job.part-in j ok); low = omega arith; high = omega arith; count = omega arith; s = omega arith; c = omega arith; l = omega arith; b = omega arith };
         by = subst (All (λ r. r ≤ lastOf 1 f)) (sym (o .tables .releases-are)) released;
         chunks-in = subst (All (Within 1 500)) (sym (o .tables .chunks)) (asc-within 1 (chunks j) 1 500 (kept j x) (omega arith) (ok .chunks-in .high) (kept-asc j x));
         levels = subst (All Levels) (sym (o .tables .marks)) (all-each Levels (λ k. levelMark (x k)) (kept j x) (each-imp (λ k. (1 ≤ x k) × (x k ≤ 4)) (λ k. Levels (levelMark (x k))) (kept j x) level levels-in));

@@ -5,7 +5,7 @@ use mathlib.Core.List.{List, [], _∷_}
 use mathlib.Core.Logic.{⊎-elim}
 use Prim.Native.Nat.{ℕ, _≤_, _<_}
 use native.Mathlib.Omega.{arith}
-use lib.ListN.{length, replicate}
+use lib.ListN.{length}
 use lib.Dec.{eqb}
 use borrow.Author.Tests.{eq-eqb, ne-eqb, le-leb, lt-leb}
 use Rattle.basics.specs.Refusals.{unless}
@@ -17,11 +17,10 @@ use Rattle.schedule.specs.Plan.{plan}
 use Rattle.schedule.specs.lemmas.Plan.{plan-choice, plan-fits}
 use Rattle.schedule.specs.Theorems.{best, elsewhere-iff, plan-exists}
 use Rattle.schedule.specs.Pictures.{most-pictures}
-use Rattle.settle.specs.lemmas.Decision.{DecideFrom, Decides}
+use Rattle.settle.specs.lemmas.Decision.{Decides}
 use Rattle.handing.specs.lemmas.Slices.{Result, rowsHold, Stands}
 use Rattle.laying.specs.declared.Laid.{Laid}
 use Rattle.laying.specs.lemmas.Laying.{Decided, Lays, ownResult}
-use Rattle.laying.proofs.Jobs.{bases-least, part-of, sizes-small}
 use Rattle.laying.proofs.Laying.{unlaid}
 use Rattle.planner.specs.declared.Answer.the-variants.{Rows, Refused}
 use Rattle.planner.specs.declared.Planned.{Planned}
@@ -159,27 +158,11 @@ module _ (h : HandedJob) (marks slots cs layers bytes : List ℕ) where
         (fit-marks z fit (over-short (planned j) (l .rows) (room false e) (x .0 ∙ rw e, x .1 ∙ rw e))))
         (test (made .whole))
 
--- ---- what the decision and the laying ask for
+-- ---- what the laying asks for
 
 module _ (h : HandedJob) (z : jobRefusal h ≡ 0) where
   ok-of : Accepted (jobIn h)
   ok-of = accepted h z
-
-  pub decide-from : (own : ℕ → ℕ → ℕ) → own ≡ size (jobIn h) → (ids ready : List ℕ) → length ids ≡ 500 → length ready ≡ 500 → DecideFrom (jobIn h .programme) (length (jobIn h .sizes)) own 1 (jobIn h .forecast) ids ready (replicate 500 1)
-  decide-from own says ids ready a b =
-      record {
-        few = ok-of .chunks-in .high;
-        late = ok-of .delay-in .low;
-        ends = ok-of .last-in;
-        some = ok-of .layers-in .low;
-        few-layers = ok-of .layers-in .high;
-        small = sizes-small (jobIn h) ok-of own says;
-        least = bases-least (jobIn h) ok-of own says;
-        part-in = part-of (jobIn h) ok-of (jobIn h .forecast) refl;
-        slots = omega (arith, ok-of .slots-in);
-        long = (a, b);
-        marks = refl;
-      }
 
   pub decided :
       (own : ℕ → ℕ → ℕ) → own ≡ size (jobIn h) → {first : ℕ} {ids ready mark : List ℕ} → Decides (jobIn h) (plan (jobIn h)) first ids ready mark →

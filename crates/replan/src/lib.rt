@@ -32,7 +32,10 @@ fn part_refusal(p: Programme, from: u16, onward: &[u32]) -> u8
     ensures { λ r. ⌜ r ≡ partRefusal p from (now (onward .entry)) ⌝ }
 {
     let many = job::last_due(p) + 1 - (from as usize);
-    job::or_else(job::bytes_refusal(onward), job::refuse_unless(7, onward.len() == many))
+    job::or_else(
+        job::bytes_refusal(onward),
+        job::refuse_unless(7, onward.len() == many),
+    )
 }
 
 // 5, 6, 18, 7, 8, 21, and 7 of the handed forecast.
@@ -56,7 +59,14 @@ fn asked_refusal(
     if job != 0 {
         return job;
     }
-    let list = fetch::handed_refusal(0, &[], fetched_slots, fetched_chunks, fetched_layers, fetched_bytes);
+    let list = fetch::handed_refusal(
+        0,
+        &[],
+        fetched_slots,
+        fetched_chunks,
+        fetched_layers,
+        fetched_bytes,
+    );
     if list != 0 {
         return list;
     }

@@ -6,22 +6,12 @@ ghost use Rattle.basics.specs.Text.{ascii, digits, line};
 ghost use Rattle.text.specs.lemmas.Places.{Put};
 ghost use Rattle.report.specs.lemmas.Tables.{switchLines};
 
-// A word, and a number after it.
-fn put_field(out: &mut [u8], at: usize, word: &[u8], n: u64) -> usize
-    requires { ⌜ at + length (now word ++ digits n) ≤ length (now out) ⌝ }
-    ensures { λ r. ⌜ Put (now (out .entry)) at (now (word .entry) ++ digits n) (now (out .exit)) r ⌝ }
-{
-    records::put(out, at, word);
-    let next = at + word.len();
-    text::put_number(out, next, n)
-}
-
 // A number after a space.
 pub(crate) fn put_next(out: &mut [u8], at: usize, n: u64) -> usize
     requires { ⌜ at + length (32 ∷ digits n) ≤ length (now out) ⌝ }
     ensures { λ r. ⌜ Put (now (out .entry)) at (32 ∷ digits n) (now (out .exit)) r ⌝ }
 {
-    put_field(out, at, b" ", n)
+    text::put_field(out, at, b" ", n)
 }
 
 // The end of a line.
@@ -37,9 +27,9 @@ pub(crate) fn slots_line(out: &mut [u8], at: usize, last: u64, count: u64, held:
     requires { ⌜ at + length (line (ascii "slots") (digits last ∷ ascii "chunks" ∷ digits count ∷ ascii "held" ∷ digits held ∷ [])) ≤ length (now out) ⌝ }
     ensures { λ r. ⌜ Put (now (out .entry)) at (line (ascii "slots") (digits last ∷ ascii "chunks" ∷ digits count ∷ ascii "held" ∷ digits held ∷ [])) (now (out .exit)) r ⌝ }
 {
-    let slots = put_field(out, at, b"slots ", last);
-    let chunks = put_field(out, slots, b" chunks ", count);
-    let end = put_field(out, chunks, b" held ", held);
+    let slots = text::put_field(out, at, b"slots ", last);
+    let chunks = text::put_field(out, slots, b" chunks ", count);
+    let end = text::put_field(out, chunks, b" held ", held);
     put_end(out, end)
 }
 
@@ -57,8 +47,8 @@ pub(crate) fn bytes_line(out: &mut [u8], at: usize, spent: u64, left: u64) -> us
     requires { ⌜ at + length (line (ascii "bytes") (digits spent ∷ ascii "left" ∷ digits left ∷ [])) ≤ length (now out) ⌝ }
     ensures { λ r. ⌜ Put (now (out .entry)) at (line (ascii "bytes") (digits spent ∷ ascii "left" ∷ digits left ∷ [])) (now (out .exit)) r ⌝ }
 {
-    let bytes = put_field(out, at, b"bytes ", spent);
-    let end = put_field(out, bytes, b" left ", left);
+    let bytes = text::put_field(out, at, b"bytes ", spent);
+    let end = text::put_field(out, bytes, b" left ", left);
     put_end(out, end)
 }
 
@@ -66,7 +56,7 @@ fn switch_line(out: &mut [u8], at: usize, switch: u64) -> usize
     requires { ⌜ at + length (line (ascii "switch") (digits switch ∷ [])) ≤ length (now out) ⌝ }
     ensures { λ r. ⌜ Put (now (out .entry)) at (line (ascii "switch") (digits switch ∷ [])) (now (out .exit)) r ⌝ }
 {
-    let end = put_field(out, at, b"switch ", switch);
+    let end = text::put_field(out, at, b"switch ", switch);
     put_end(out, end)
 }
 
@@ -77,7 +67,7 @@ fn rate_line(out: &mut [u8], at: usize, switch: u64, film: u64) -> usize
 {
     let whole = switch / film;
     let rest = switch % film;
-    let quotient = put_field(out, at, b"rate ", whole);
+    let quotient = text::put_field(out, at, b"rate ", whole);
     let end = put_next(out, quotient, rest);
     put_end(out, end)
 }

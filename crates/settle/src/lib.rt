@@ -43,7 +43,7 @@ pub fn wide(x: u32) -> u64
 }
 
 // What is left of a after b, or 0.
-fn less(a: u64, b: u64) -> u64
+pub fn less(a: u64, b: u64) -> u64
     ensures { λ r. ⌜ r ≡ a - b ⌝ }
 {
     if a < b {

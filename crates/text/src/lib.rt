@@ -1,4 +1,5 @@
-// Numbers as text at a place of a lent buffer, for the crates that write text. Internal: what is written has to fit.
+// Words and numbers as text at a place of a lent buffer, for the crates that write text. Internal: what is written has to fit.
+ghost use mathlib.Core.List.{_++_};
 ghost use Prim.Native.Nat.{_+_, _≤_};
 ghost use lib.ListN.{length};
 ghost use Rattle.basics.specs.Text.{digits};
@@ -16,4 +17,22 @@ pub fn put_number(out: &mut [u8], at: usize, n: u64) -> usize
     let next = put_number(out, at, n / 10);
     out[next] = 48 + ((n % 10) as u8);
     next + 1
+}
+
+// A word goes to out at a place. The place after it.
+pub fn put_word(out: &mut [u8], at: usize, word: &[u8]) -> usize
+    requires { ⌜ at + length (now word) ≤ length (now out) ⌝ }
+    ensures { λ r. ⌜ Put (now (out .entry)) at (now (word .entry)) (now (out .exit)) r ⌝ }
+{
+    records::put(out, at, word);
+    at + word.len()
+}
+
+// A word, and a number after it.
+pub fn put_field(out: &mut [u8], at: usize, word: &[u8], n: u64) -> usize
+    requires { ⌜ at + length (now word ++ digits n) ≤ length (now out) ⌝ }
+    ensures { λ r. ⌜ Put (now (out .entry)) at (now (word .entry) ++ digits n) (now (out .exit)) r ⌝ }
+{
+    let next = put_word(out, at, word);
+    put_number(out, next, n)
 }

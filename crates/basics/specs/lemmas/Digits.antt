@@ -1,4 +1,4 @@
--- Lemmas. Decimal digits: one more, how many there are, that they read back and have no leading zero. Assumes nothing.
+-- Lemmas. Decimal digits: one more, how many there are, that they read back, have no leading zero and are digits. Assumes nothing.
 use Prim.Native.Nat.{ℕ, zero, suc, _+_, _*_, _-_, _/_, _%_, _^_, _≤_, _<_}
 use mathlib.Core.Path.{_≡_, refl, sym, ap, _∙_}
 use mathlib.Core.List.{List, [], _∷_, _++_}
@@ -8,7 +8,8 @@ use native.Mathlib.Nat.{pow-suc}
 use lib.ListN.{length, getD, length-append, List·getD-append}
 use lib.Dec.{ltb, ltb→lt, nltb→le}
 use borrow.Author.Tests.{lt-ltb, le-ltb}
-use Rattle.basics.specs.lemmas.Tests.{test}
+use Rattle.basics.specs.Tests.{All}
+use Rattle.basics.specs.lemmas.Tests.{all-append, by-cond, test}
 use Rattle.basics.specs.Text.{digitsIn, digits, readOn}
 
 -- ---- digits one by one
@@ -122,3 +123,24 @@ in-first (suc p) n h l =
 pub digits-first : (n : ℕ) → 1 ≤ n → 49 ≤ getD (digits n) 0 0
 unfolding digits
 digits-first n l = in-first (suc n) n (omega arith) l
+
+-- ---- digits and nothing else, and at least one
+
+pub digits-some : (n : ℕ) → 1 ≤ length (digits n)
+unfolding digits
+digits-some n = in-some (suc n) n (omega arith)
+
+-- 48 to 57: the ASCII digits.
+abbrev IsDigit : ℕ → Type 0
+IsDigit x = (48 ≤ x) × (x ≤ 57)
+
+in-digits : (p n : ℕ) → All IsDigit (digitsIn p n)
+in-digits zero n = tt
+in-digits (suc p) n =
+    by-cond (All IsDigit) (ltb n 10)
+    (λ t. let h = ltb→lt n 10 t in ((omega arith, omega arith), tt))
+    (λ t. all-append IsDigit (digitsIn p (n / 10)) ((48 + n % 10) ∷ []) (in-digits p (n / 10)) ((omega arith, omega arith), tt))
+
+pub digits-are : (n : ℕ) → All (λ x. (48 ≤ x) × (x ≤ 57)) (digits n)
+unfolding digits
+digits-are n = in-digits (suc n) n

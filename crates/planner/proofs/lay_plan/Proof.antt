@@ -6,8 +6,8 @@ use mathlib.Core.Path.{refl}
 use Prim.Native.Nat.{ℕ}
 use lib.ListN.{length-replicate}
 use Rattle.job.specs.Handed.{handed-iff}
-use Rattle.laying.proofs.Jobs.{filled}
-use Rattle.planner.proofs.Handing.{decide-from, decided, handed-laid}
+use Rattle.settle.specs.lemmas.Accepted.{decide-from, filled}
+use Rattle.planner.proofs.Handing.{decided, handed-laid}
 
 cast-unset : tie.Need-cast-unset
 cast-unset c = search needs
@@ -22,7 +22,7 @@ decide-requires : tie.Need-decide-requires
 decide-requires c κs =
     let o = c .before .before .before .before .before .before .before .before .before .before .before .before .before .before .before .before .before .before .pre in
     let says = filled _ (handed-iff _ .0 (o .0) .1) _ (c .before .before .before .before .before .fill-sizes .ensures (length-replicate {A = ℕ} 2000 (c .before .before .before .before .before .before .before .before .before .before .before .before .before .before .before .before .before .before .args .p .chunks))) in
-    decide-from _ (o .0) _ says _ _ (length-replicate {A = ℕ} 500 0) (length-replicate {A = ℕ} 500 0)
+    decide-from _ (handed-iff _ .0 (o .0) .1) _ says _ _ (length-replicate {A = ℕ} 500 0) (length-replicate {A = ℕ} 500 0)
 
 lay-requires : tie.Need-lay-requires
 lay-requires c κs =

@@ -143,7 +143,8 @@ module _ (j : Job) (sized : Sized j) (some : 0 < layers j) (wide : HoldsAll j) (
   kept-last =
       kept-rises (baseSize j) (forecastBy j) (chunks j) (λ x y a b c d. equal x y (record { low = a; high = b }) (record { low = c; high = d }))
 
-  trials-last : Rises (chunks j) (λ i. ltb 0 (p i))
+  -- The bases of document 01's way are the last ones.
+  pub trials-last : Rises (chunks j) (λ i. ltb 0 (p i))
   trials-last x y g h l t =
       lt→ltb 0 (p y) (leb→le 1 (p y) (base-rises j wide equal p (base-taken-iff j sized p (dec .choice) (dec .decided 0) some) x y g h l (le→leb 1 (p x) (ltb→lt 0 (p x) t))))
 

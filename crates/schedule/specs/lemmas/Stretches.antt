@@ -24,7 +24,7 @@ abbrev pub release : (d : ℕ → ℕ) (h : ℕ) (ks : List ℕ) (m : ℕ) → �
 release d h ks m = cond (ltb m h) 1 (d (getD ks (m - h) 0))
 
 -- The kept chunks a .. a + n fit between the release of the first and the due slot of the last.
-pub Stretches : (w d A : ℕ → ℕ) (h : ℕ) → List ℕ → Type 0
+unfoldable pub Stretches : (w d A : ℕ → ℕ) (h : ℕ) → List ℕ → Type 0
 Stretches w d A h ks = (a n : ℕ) → a + n < length ks → total w (take (suc n) (drop a ks)) + A (d (getD ks (a + n) 0)) ≤ A (release d h ks a - 1)
 
 -- ---- a need is bounded exactly if each run from the first chunk is

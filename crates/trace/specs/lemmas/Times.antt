@@ -1,44 +1,29 @@
 -- Lemmas. What is written: its lines, its times, and how many of them a slot has. Assumes nothing.
-use Prim.Native.Nat.{ℕ, zero, suc, _+_, _*_, _-_, _/_, _%_, _≤_, _<_}
+use Prim.Native.Nat.{ℕ, zero, suc, _+_, _*_, _-_, _/_, _≤_, _<_}
 use mathlib.Core.Path.{_≡_, refl, ap}
 use mathlib.Core.Bool.{Bool, true, false, cond, and-false}
 use mathlib.Core.List.{List, [], _∷_, _++_, map}
-use mathlib.Core.Logic.{⊎-elim, _↔_}
+use mathlib.Core.Logic.{_↔_}
 use native.Mathlib.Omega.{arith}
 use borrow.Author.Tests.{le-leb, lt-leb, lt-ltb, le-ltb}
-use lib.ListN.{length, getD, replicate, length-append}
-use lib.Dec.{T, leb, ltb, ltb→lt, nltb→le}
+use lib.ListN.{length, getD, replicate}
+use lib.Dec.{T, leb, ltb}
 use Rattle.basics.specs.Tests.{All}
-use Rattle.basics.specs.lemmas.Tests.{all-append, by-cond, test, tests}
+use Rattle.basics.specs.lemmas.Tests.{all-append, all-map, by-cond, tests}
 use Rattle.job.specs.Job.{Within}
-use Rattle.basics.specs.lemmas.Digits.{digits-few, digits-more, digits-one, digits-read}
-use Rattle.basics.specs.Text.{digits, digitsIn}
+use Rattle.basics.specs.lemmas.Digits.{digits-are, digits-few, digits-read, digits-some}
+use Rattle.basics.specs.Text.{digits}
 use Rattle.trace.specs.lemmas.Lists.{All-replicate}
 use Rattle.trace.specs.Trace.{Line, NotBelow, howMany, inSlot, linesFrom, time}
 
 -- ---- digits
 
-in-digits : (p n : ℕ) → All (Within 48 57) (digitsIn p n)
-in-digits zero n = tt
-in-digits (suc p) n =
-    by-cond (All (Within 48 57)) (ltb n 10)
-    (λ t. let h = ltb→lt n 10 t in (record { low = omega arith; high = omega arith }, tt))
-    (λ t. all-append (Within 48 57) (digitsIn p (n / 10)) ((48 + n % 10) ∷ []) (in-digits p (n / 10)) (record { low = omega arith; high = omega arith }, tt))
-
-pub digits-are : (n : ℕ) → All (Within 48 57) (digits n)
-unfolding digits
-digits-are n = in-digits (suc n) n
-
-digits-some : (n : ℕ) → 1 ≤ length (digits n)
-digits-some n =
-    ⊎-elim
-    (λ t. omega (arith, ap length (digits-one n (ltb→lt n 10 t))))
-    (λ t. omega (arith, ap length (digits-more n (nltb→le n 10 t)), length-append (digits (n / 10)) ((48 + n % 10) ∷ [])))
-    (test (ltb n 10))
+written-digits : (n : ℕ) → All (Within 48 57) (digits n)
+written-digits n = all-map (λ x. (48 ≤ x) × (x ≤ 57)) (Within 48 57) (digits n) (λ x h. record { low = h .0; high = h .1 }) (digits-are n)
 
 -- The line of a slot's first millisecond.
 written-line : (t : ℕ) → t < 3600 → Line (digits (t * 1000))
-written-line t h = record { few = record { low = digits-some (t * 1000); high = digits-few 6 (t * 1000) (omega arith) }; digits = digits-are (t * 1000) }
+written-line t h = record { few = record { low = digits-some (t * 1000); high = digits-few 6 (t * 1000) (omega arith) }; digits = written-digits (t * 1000) }
 
 -- ---- lines and times
 

@@ -1,0 +1,10 @@
+pub mod Runs
+pub mod First
+pub mod Search
+pub mod Bridge
+pub mod Named
+pub mod Refused
+pub mod Agree
+pub mod Places
+pub mod Readback
+pub mod Widths
