@@ -6,8 +6,7 @@ use mathlib.Core.Path.{refl}
 use Prim.Native.Nat.{ℕ}
 use native.Mathlib.Omega.{arith}
 use lib.ListN.{length-replicate}
-use Rattle.settle.specs.lemmas.Accepted.{filled}
-use Rattle.planner.proofs.Handing.{decide-from}
+use Rattle.settle.specs.lemmas.Accepted.{decide-from, filled}
 use Rattle.search.proofs.Handing.{accepted, decided, handed-laid}
 
 fill-sizes-requires : tie.Need-fill-sizes-requires
@@ -20,7 +19,7 @@ decide-requires : tie.Need-decide-requires
 decide-requires c κs =
     let o = c .before .before .before .before .before .before .before .before .before .before .before .before .before .before .before .before .before .pre in
     let says = filled _ (accepted _ (o .0)) _ (c .before .before .before .before .before .fill-sizes .ensures (length-replicate {A = ℕ} 2000 0)) in
-    decide-from _ (o .0) _ says _ _ (length-replicate {A = ℕ} 500 0) (length-replicate {A = ℕ} 500 0)
+    decide-from _ (accepted _ (o .0)) _ says _ _ (length-replicate {A = ℕ} 500 0) (length-replicate {A = ℕ} 500 0)
 
 lay-requires : tie.Need-lay-requires
 lay-requires c κs =
