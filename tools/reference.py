@@ -76,7 +76,7 @@ def read_job(data, mixed=False):
     """A job file in one sequence; a mixed one, as document 01 has it and so without SZ, too if mixed."""
     if len(data) > 65536:
         raise Refused(9)
-    programme, sizes, overrides, forecast, seen = None, [], [], [], []
+    programme, sizes, overrides, forecast, before = None, [], [], [], None
     bodies = {b"PG": 8, b"LY": 4, b"SZ": 7, b"BW": 6, b"EN": 0}
     if mixed:
         del bodies[b"SZ"]
@@ -84,11 +84,12 @@ def read_job(data, mixed=False):
         if mark == b"PG" and programme:
             raise Refused(4)
         if mark != b"EN":
-            seen.append((mark, body))
-            marks = b"".join(m[:1] for m, _ in seen).lstrip(b"P").lstrip(b"L").lstrip(b"S").lstrip(b"B")
-            again = mark == b"BW" and [m for m, _ in seen[-2:]] == [b"BW"] * 2 and seen[-2][1][2:] == body[2:]
-            if not mixed and (marks or again or seen[0][0] != b"PG"):
+            turn = b"PLSB".index(mark[:1])
+            out_of_turn = turn < b"PLSB".index(before[0][:1]) if before else mark != b"PG"
+            again = before and mark == before[0] == b"BW" and body[2:] == before[1][2:]
+            if not mixed and (out_of_turn or again):
                 raise Refused(17)
+            before = mark, body
         if mark == b"PG":
             programme = [number(body[k:k + 2]) for k in (0, 2, 4, 6)]
             check_fields(*programme)
