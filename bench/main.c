@@ -1,19 +1,14 @@
 // Plans the largest job (500 chunks, 4 layers, 3,600 slots), of equal or of uneven chunks (1,996 SZs), or of uneven ones on a lean link
 // with a limit that holds them all, so that request 9 settles the bases, by the planner named on the command line and prints the number of rows and a checksum over marks and rows, so that both did the same work.
+#include "film_planner.h"
 #include "plan.h"
 #include <stdio.h>
 
-// The proved planner, as crate `export` hands it to C: a slice is a pointer and a length.
-size_t plan_job(uint16_t chunks, uint16_t span, uint16_t delay, uint16_t limit, const uint32_t *sizes, size_t layers,
-                const uint16_t *size_chunks, size_t e, const uint8_t *size_layers, size_t f, const uint32_t *size_bytes, size_t g,
-                const uint32_t *forecast, size_t slots, uint8_t *marks, size_t marks_len, uint16_t *row_slots, size_t a,
-                uint16_t *row_chunks, size_t b, uint8_t *row_layers, size_t c, uint32_t *row_bytes, size_t d);
-
 size_t plan_rattle(const struct job *j, struct plan *out)
 {
-    return plan_job(j->chunks, j->span, j->delay, j->limit, j->sizes, j->layers, j->size_chunks, j->overrides, j->size_layers,
-                    j->overrides, j->size_bytes, j->overrides, j->forecast, j->slots, out->marks, 500, out->slots, 5599, out->chunks, 5599,
-                    out->layers, 5599, out->bytes, 5599);
+    return film_plan(j->chunks, j->span, j->delay, j->limit, j->sizes, j->layers, j->size_chunks, j->overrides, j->size_layers, j->overrides,
+                     j->size_bytes, j->overrides, j->forecast, j->slots, out->marks, FILM_MARKS, out->slots, FILM_ROWS, out->chunks, FILM_ROWS,
+                     out->layers, FILM_ROWS, out->bytes, FILM_ROWS, out->counts, FILM_COUNTS);
 }
 
 int main(int argc, char **argv)

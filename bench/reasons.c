@@ -1,16 +1,9 @@
 // All lines of the largest jobs, 500 chunks of 4 layers: the bytes of the text and how many lines are of the first kind, so that runs can be
 // compared. Prints them; a plan of the same job is for scale.
+#include "film_planner.h"
 #include "plan.h"
 #include <stdio.h>
 #include <string.h>
-
-size_t plan_job(uint16_t chunks, uint16_t span, uint16_t delay, uint16_t limit, const uint32_t *sizes, size_t layers,
-                const uint16_t *size_chunks, size_t e, const uint8_t *size_layers, size_t f, const uint32_t *size_bytes, size_t g,
-                const uint32_t *forecast, size_t slots, uint8_t *marks, size_t marks_len, uint16_t *row_slots, size_t a,
-                uint16_t *row_chunks, size_t b, uint8_t *row_layers, size_t c, uint32_t *row_bytes, size_t d);
-size_t reasons_film(uint16_t chunks, uint16_t span, uint16_t delay, uint16_t limit, const uint32_t *sizes, size_t layers,
-                    const uint16_t *size_chunks, size_t e, const uint8_t *size_layers, size_t f, const uint32_t *size_bytes, size_t g,
-                    const uint32_t *forecast, size_t slots, uint8_t *out, size_t n);
 
 struct film {
     uint16_t limit;
@@ -28,20 +21,20 @@ static const struct film films[] = {
 static uint32_t sizes[4], forecast[3600], size_bytes[499];
 static uint16_t size_chunks[499];
 static uint8_t size_layers[499];
-static uint8_t text[94000];
+static uint8_t text[FILM_REASONS];
 static struct plan out;
 
 size_t lines(const struct film *w)
 {
     size_t n = w->uneven ? 499 : 0;
-    return reasons_film(500, 7, 107, w->limit, sizes, 4, size_chunks, n, size_layers, n, size_bytes, n, forecast, 3600, text, sizeof text);
+    return film_reasons(500, 7, 107, w->limit, sizes, 4, size_chunks, n, size_layers, n, size_bytes, n, forecast, 3600, text, sizeof text);
 }
 
 size_t planned(const struct film *w)
 {
     size_t n = w->uneven ? 499 : 0;
-    return plan_job(500, 7, 107, w->limit, sizes, 4, size_chunks, n, size_layers, n, size_bytes, n, forecast, 3600, out.marks, 500, out.slots,
-                    5599, out.chunks, 5599, out.layers, 5599, out.bytes, 5599);
+    return film_plan(500, 7, 107, w->limit, sizes, 4, size_chunks, n, size_layers, n, size_bytes, n, forecast, 3600, out.marks, FILM_MARKS, out.slots,
+                     FILM_ROWS, out.chunks, FILM_ROWS, out.layers, FILM_ROWS, out.bytes, FILM_ROWS, out.counts, FILM_COUNTS);
 }
 
 int main(int argc, char **argv)

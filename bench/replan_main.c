@@ -1,35 +1,24 @@
 // Plans the largest job (500 chunks, 4 layers, 3,600 slots) of equal or of uneven chunks, and makes it afresh at a slot on a forecast that
 // changes from there on: the rows handed are the plan's own before the slot. By the call named on the command line; prints the number of rows
 // from the slot on and a checksum over marks and rows, so that both did the same work. `plan` plans the job on the joined forecast instead.
+#include "film_planner.h"
 #include "replan.h"
 #include <stdio.h>
 #include <stdlib.h>
 
-// The proved calls, as crate `export` hands them to C: a slice is a pointer and a length.
-size_t plan_job(uint16_t chunks, uint16_t span, uint16_t delay, uint16_t limit, const uint32_t *sizes, size_t layers,
-                const uint16_t *size_chunks, size_t e, const uint8_t *size_layers, size_t f, const uint32_t *size_bytes, size_t g,
-                const uint32_t *forecast, size_t slots, uint8_t *marks, size_t marks_len, uint16_t *row_slots, size_t a,
-                uint16_t *row_chunks, size_t b, uint8_t *row_layers, size_t c, uint32_t *row_bytes, size_t d);
-size_t replan_film(uint16_t chunks, uint16_t span, uint16_t delay, uint16_t limit, const uint32_t *sizes, size_t layers,
-                   const uint16_t *size_chunks, size_t e, const uint8_t *size_layers, size_t f, const uint32_t *size_bytes, size_t g,
-                   const uint32_t *forecast, size_t slots, uint16_t from, const uint16_t *fetched_slots, size_t h,
-                   const uint16_t *fetched_chunks, size_t i, const uint8_t *fetched_layers, size_t k, const uint32_t *fetched_bytes, size_t l,
-                   const uint32_t *onward, size_t slots_on, uint8_t *marks, size_t marks_len, uint16_t *row_slots, size_t a,
-                   uint16_t *row_chunks, size_t b, uint8_t *row_layers, size_t c, uint32_t *row_bytes, size_t d);
-
 size_t plan_rattle(const struct job *j, struct plan *out)
 {
-    return plan_job(j->chunks, j->span, j->delay, j->limit, j->sizes, j->layers, j->size_chunks, j->overrides, j->size_layers,
-                    j->overrides, j->size_bytes, j->overrides, j->forecast, j->slots, out->marks, 500, out->slots, 5599, out->chunks, 5599,
-                    out->layers, 5599, out->bytes, 5599);
+    return film_plan(j->chunks, j->span, j->delay, j->limit, j->sizes, j->layers, j->size_chunks, j->overrides, j->size_layers, j->overrides,
+                     j->size_bytes, j->overrides, j->forecast, j->slots, out->marks, FILM_MARKS, out->slots, FILM_ROWS, out->chunks, FILM_ROWS,
+                     out->layers, FILM_ROWS, out->bytes, FILM_ROWS, out->counts, FILM_COUNTS);
 }
 
 size_t replan_rattle(const struct job *j, uint16_t start, const struct fetched *f, const uint32_t *onward, size_t slots_on, struct plan *out)
 {
-    return replan_film(j->chunks, j->span, j->delay, j->limit, j->sizes, j->layers, j->size_chunks, j->overrides, j->size_layers,
+    return film_replan(j->chunks, j->span, j->delay, j->limit, j->sizes, j->layers, j->size_chunks, j->overrides, j->size_layers,
                        j->overrides, j->size_bytes, j->overrides, j->forecast, j->slots, start, f->slots, f->rows, f->chunks, f->rows,
-                       f->layers, f->rows, f->bytes, f->rows, onward, slots_on, out->marks, 500, out->slots, 5599, out->chunks, 5599,
-                       out->layers, 5599, out->bytes, 5599);
+                       f->layers, f->rows, f->bytes, f->rows, onward, slots_on, out->marks, FILM_MARKS, out->slots,
+                       FILM_ROWS, out->chunks, FILM_ROWS, out->layers, FILM_ROWS, out->bytes, FILM_ROWS, out->counts, FILM_COUNTS);
 }
 
 int main(int argc, char **argv)

@@ -1,5 +1,6 @@
 // The best base set of 500 uneven chunks within a budget of 10,000,000 steps under a limit that binds, by the proved call, which lays out the
 // plan over it too, or by the same walk in plain C. Prints the set's size and a checksum of it, so that both did the same work.
+#include "film_planner.h"
 #include <stddef.h>
 #include <stdint.h>
 #include <stdio.h>
@@ -8,11 +9,6 @@
 
 enum { C = 500, SPAN = 7, DELAY = 107, SLOTS = (C - 1) * SPAN + DELAY };
 
-size_t search_film(uint16_t chunks, uint16_t span, uint16_t delay, uint16_t limit, const uint32_t *sizes, size_t layers,
-                   const uint16_t *size_chunks, size_t e, const uint8_t *size_layers, size_t f, const uint32_t *size_bytes, size_t g,
-                   const uint32_t *forecast, size_t slots, uint32_t budget, uint8_t *marks, size_t marks_len, uint16_t *row_slots, size_t a,
-                   uint16_t *row_chunks, size_t b, uint8_t *row_layers, size_t c, uint32_t *row_bytes, size_t d);
-
 // H, and the bytes below which the forecast varies.
 static const struct film {
     uint16_t held;
@@ -20,9 +16,9 @@ static const struct film {
 } films[] = {{10, 1800000}, {3, 1800000}, {10, 600000}};
 
 static uint32_t own, base[C + 1], forecast[SLOTS], size_bytes[C];
-static uint16_t size_chunks[C], row_slots[5599], row_chunks[5599];
-static uint8_t size_layers[C], marks[C], row_layers[5599];
-static uint32_t row_bytes[5599];
+static uint16_t size_chunks[C], row_slots[FILM_ROWS], row_chunks[FILM_ROWS], counts[FILM_COUNTS];
+static uint8_t size_layers[C], marks[C], row_layers[FILM_ROWS];
+static uint32_t row_bytes[FILM_ROWS], numbers[FILM_WALK];
 
 size_t search_rattle(const struct film *w, uint32_t budget)
 {
@@ -32,8 +28,8 @@ size_t search_rattle(const struct film *w, uint32_t budget)
             size_chunks[n] = i;
             size_bytes[n++] = base[i];
         }
-    search_film(C, SPAN, DELAY, w->held * SPAN, &own, 1, size_chunks, n, size_layers, n, size_bytes, n, forecast, SLOTS, budget, marks, C,
-                row_slots, 5599, row_chunks, 5599, row_layers, 5599, row_bytes, 5599);
+    film_search(C, SPAN, DELAY, w->held * SPAN, &own, 1, size_chunks, n, size_layers, n, size_bytes, n, forecast, SLOTS, budget, marks, C,
+                row_slots, FILM_ROWS, row_chunks, FILM_ROWS, row_layers, FILM_ROWS, row_bytes, FILM_ROWS, counts, FILM_COUNTS, numbers, FILM_WALK);
     size_t kept = 0;
     for (int i = 0; i < C; i++) kept += marks[i] & 1;
     return kept;

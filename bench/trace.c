@@ -1,43 +1,41 @@
 // Link traces of document 02 in plain C beside the proved calls: reads, or writes, a trace of 1,000,000 lines over 3,600 slots by the call
 // named on the command line, and prints its answer and a checksum, so that both did the same work.
+#include "film_planner.h"
 #include <stdint.h>
 #include <stdio.h>
 #include <string.h>
-
-// The proved calls, as crate `export` hands them to C: a slice is a pointer and a length.
-size_t read_trace(const uint8_t *trace, size_t len, size_t slots, uint32_t *out, size_t room);
-size_t write_trace(const uint32_t *forecast, size_t slots, uint8_t *out, size_t room);
 
 enum { LINES = 1000000, SLOTS = 3600, ROOM = 8 * LINES };
 
 __attribute__((noinline)) size_t read_rattle(const uint8_t *s, size_t n, size_t slots, uint32_t *out, size_t room)
 {
-    return read_trace(s, n, slots, out, room);
+    return film_read_trace(s, n, slots, out, room);
 }
 
 __attribute__((noinline)) size_t read_c(const uint8_t *s, size_t n, size_t slots, uint32_t *out, size_t room)
 {
+    const size_t refused = (size_t)1 << 32;
     uint64_t counts[SLOTS] = {0};
     uint32_t last = 0;
-    if (slots < 1 || slots > SLOTS) return 65536 + 7;
+    if (slots < 1 || slots > SLOTS) return refused + 7;
     for (size_t i = 0; i < n; i++) {
         size_t from = i;
         uint32_t t = 0;
         while (i < n && i < from + 7 && s[i] >= '0' && s[i] <= '9') t = t * 10 + (s[i++] - '0');
-        if (i == from || i == n || s[i] != '\n' || t < last) return 65536 + 14;
+        if (i == from || i == n || s[i] != '\n' || t < last) return refused + 14;
         if (t / 1000 < SLOTS) counts[t / 1000]++;
         last = t;
     }
     for (size_t k = 0; k < slots; k++)
-        if (counts[k] > 11184) return 65536 + 15;
-    if (room < slots) return 65536 + 11;
+        if (counts[k] > 11184) return refused + 15;
+    if (room < slots) return refused + 11;
     for (size_t k = 0; k < slots; k++) out[k] = 1500 * counts[k];
     return slots;
 }
 
 __attribute__((noinline)) size_t write_rattle(const uint32_t *forecast, size_t slots, uint8_t *out, size_t room)
 {
-    return write_trace(forecast, slots, out, room);
+    return film_write_trace(forecast, slots, out, room);
 }
 
 static size_t line(size_t t, char *text)

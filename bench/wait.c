@@ -1,14 +1,8 @@
 // The shortest wait of a film of 500 chunks on a forecast of 3,600 slots with a limit that binds, by the proved search or by the obvious
-// way, a whole plan for each s. Prints the answer, so that both did the same work; 65,552 is refusal 16.
+// way, a whole plan for each s. Prints the answer, so that both did the same work; 2^32 and 16 is refusal 16.
+#include "film_planner.h"
 #include "plan.h"
 #include <stdio.h>
-
-size_t plan_job(uint16_t chunks, uint16_t span, uint16_t delay, uint16_t limit, const uint32_t *sizes, size_t layers,
-                const uint16_t *size_chunks, size_t e, const uint8_t *size_layers, size_t f, const uint32_t *size_bytes, size_t g,
-                const uint32_t *forecast, size_t slots, uint8_t *marks, size_t marks_len, uint16_t *row_slots, size_t a,
-                uint16_t *row_chunks, size_t b, uint8_t *row_layers, size_t c, uint32_t *row_bytes, size_t d);
-size_t wait_film(uint16_t chunks, uint16_t span, uint16_t limit, const uint32_t *sizes, size_t layers, const uint16_t *size_chunks, size_t e,
-                 const uint8_t *size_layers, size_t f, const uint32_t *size_bytes, size_t g, const uint32_t *forecast, size_t slots);
 
 struct film {
     uint16_t span, limit;
@@ -32,19 +26,19 @@ static const uint32_t no_bytes[1];
 
 size_t search(const struct film *w)
 {
-    return wait_film(500, w->span, w->limit, &w->base, 1, no_chunks, 0, no_layers, 0, no_bytes, 0, forecast, 3600);
+    return film_wait(500, w->span, w->limit, &w->base, 1, no_chunks, 0, no_layers, 0, no_bytes, 0, forecast, 3600);
 }
 
 size_t plans(const struct film *w)
 {
     for (size_t s = 1, last = 499 * w->span + 1; last <= 3600; s++, last++) {
-        plan_job(500, w->span, s, w->limit, &w->base, 1, no_chunks, 0, no_layers, 0, no_bytes, 0, forecast, last, out.marks, 500,
-                 out.slots, 5599, out.chunks, 5599, out.layers, 5599, out.bytes, 5599);
+        film_plan(500, w->span, s, w->limit, &w->base, 1, no_chunks, 0, no_layers, 0, no_bytes, 0, forecast, last, out.marks, 500,
+                 out.slots, FILM_ROWS, out.chunks, FILM_ROWS, out.layers, FILM_ROWS, out.bytes, FILM_ROWS, out.counts, FILM_COUNTS);
         uint8_t all = 1;
         for (int i = 0; i < 500; i++) all &= out.marks[i];
         if (all) return s;
     }
-    return 65536 + 16;
+    return ((size_t)1 << 32) + FILM_NO_WAIT;
 }
 
 int main(int argc, char **argv)

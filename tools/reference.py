@@ -1,6 +1,6 @@
 """Documents 01 and 02 once more, in plain Python and independent of the proved crates: job and plan files, the seven rules, the plan, the
-report, link traces, bookings, plans made afresh. `cases.py`, `traces.py`, `waits.py`, `bookings.py` and `replans.py` compute from it what
-the trials programs have to print."""
+report, link traces, bookings, plans made afresh, the search, the reasons, the wait, counts, the meter. `cases.py`, `traces.py`, `waits.py`, `bookings.py` and
+`replans.py` compute from it what the trials programs have to print; `compare.py` compares it with the library, call by call."""
 from collections import namedtuple
 
 Job = namedtuple("Job", "chunks span delay limit sizes overrides forecast")
@@ -38,10 +38,14 @@ def check_overrides(chunks, sizes, overrides):
         raise Refused(18)
 
 
+def check_sizes(sizes):
+    if not 1 <= len(sizes) <= 4 or any(not 1 <= z <= 1 << 24 for z in sizes):
+        raise Refused(6)
+
+
 def check_job(job):
     check_fields(job.chunks, job.span, job.delay, job.limit)
-    if not 1 <= len(job.sizes) <= 4 or any(not 1 <= z <= 1 << 24 for z in job.sizes):
-        raise Refused(6)
+    check_sizes(job.sizes)
     check_overrides(job.chunks, job.sizes, job.overrides)
     if any(b > 1 << 24 for b in job.forecast) or len(job.forecast) != due(job, job.chunks):
         raise Refused(7)
@@ -285,8 +289,8 @@ def plan(job):
     return levels, own_list(job, levels)
 
 
-def report(job):
-    levels, rows = plan(job)
+def report(job, planned=None):
+    levels, rows = planned or plan(job)
     carried = [sum(x.bytes for x in rows if x.chunk == i) for i in range(1, job.chunks + 1)]
     lines = [f"slots {due(job, job.chunks)} chunks {job.chunks} held {job.limit // job.span}"]
     lines += [f"{i + 1} {levels[i]} {carried[i]}" for i in range(job.chunks)]
@@ -320,6 +324,252 @@ def write_trace(forecast):
     if any(b > 1 << 24 or b % 1500 for b in forecast):
         raise Refused(15)
     return b"".join(b"%d\n" % (j * 1000) * (b // 1500) for j, b in enumerate(forecast))
+
+
+# ---- a film's shortest wait, counts of marks, the meter
+
+def wait(chunks, span, limit, sizes, overrides, forecast, skips_none=lambda job: all(plan(job)[0])):
+    """Document 02, request 5: the smallest s whose plan skips no base."""
+    if not (1 <= chunks <= 500 and 1 <= span <= 60):
+        raise Refused(5)
+    check_sizes(sizes)
+    check_overrides(chunks, sizes, overrides)
+    if not 1 <= len(forecast) <= 3600 or any(b > 1 << 24 for b in forecast):
+        raise Refused(7)
+    for s in range(1, len(forecast) - (chunks - 1) * span + 1):
+        if skips_none(Job(chunks, span, s, limit, sizes, overrides, forecast[:(chunks - 1) * span + s])):
+            return s
+    raise Refused(16)
+
+
+def count_marks(marks, n):
+    return sum(m >> n & 1 for m in marks) if n < 8 else 0
+
+
+def count_word(word, n):
+    return count_marks(word.to_bytes(8, "little"), n)
+
+
+def four(counts):
+    """Four counts of a slice: 0 for those of absent layers."""
+    return (list(counts) + [0] * 4)[:4]
+
+
+def in_range(slot, sample):
+    return 1 <= slot <= 65535 and 0 <= sample <= 1 << 24
+
+
+def kept_in(slots, samples, kept):
+    """The samples of a meter, ten cells each and how many are kept."""
+    if kept > 10 or any(not in_range(*x) for x in zip(slots[:kept], samples[:kept])) or any(a >= b for a, b in zip(slots[:kept], slots[1:kept])):
+        raise Refused(10)
+    return list(zip(slots, samples))[:kept]
+
+
+def meter_take(slots, samples, kept, slot, sample):
+    """The meter's cells after a sample."""
+    if not in_range(slot, sample):
+        raise Refused(10)
+    all_kept = kept_in(slots, samples, kept)
+    if all_kept and slot <= all_kept[-1][0]:
+        raise Refused(13)
+    last = (all_kept + [(slot, sample)])[-10:]
+    return [x[0] for x in last] + list(slots[len(last):]), [x[1] for x in last] + list(samples[len(last):]), len(last)
+
+
+def meter_forecast(slots, samples, kept):
+    all_kept = [x[1] for x in kept_in(slots, samples, kept)]
+    if not all_kept:
+        raise Refused(12)
+    if 0 in all_kept:
+        return 0
+    return len(all_kept) * 2**56 // sum(-(-2**56 // b) for b in all_kept)
+
+
+# ---- the search within a budget, and the reason under each missing layer
+
+def search(job, budget):
+    """Document 02, request 13: the layers carried by each chunk, the rows, the steps taken, whether the walk ended, the shortfall."""
+    table, sums = sizes_by_chunk(job), brought(job)
+    best, steps = [], 0
+
+    def taken():
+        nonlocal steps
+        if steps == budget:
+            raise StopIteration
+        steps += 1
+
+    def tried(i, kept):
+        """Chunk i kept, then skipped, with all that follows from either; kept has the chunks after it."""
+        nonlocal best
+        if i == 0:
+            return
+        taken()
+        if fits_fast(job, [(k, table[k - 1][0]) for k in [i] + kept], sums):
+            if len(kept) + 1 > len(best):
+                best = [i] + kept
+            tried(i - 1, [i] + kept)
+        taken()
+        tried(i - 1, kept)
+
+    ended = True
+    try:
+        tried(job.chunks, [])
+    except StopIteration:
+        ended = False
+    levels = settle_fast(job, [int(i in best) for i in range(1, job.chunks + 1)], range(1, len(job.sizes)), table, sums)
+    shortfall = 0 if ended else len(walk_fast(job, table, sums)) - len(best)
+    return levels, own_list_fast(job, levels, table), steps, ended, shortfall
+
+
+def stretch(job, levels, table):
+    """Document 02, request 14: of the slots that need more than they carry those with the smallest last slot, then the greatest first slot.
+    Need grows only where a chunk is due, and falls only past a slot in which one can begin, so no other slots are tried."""
+    kept, most, sums = [i for i, k in enumerate(levels, 1) if k], job.limit // job.span, brought(job)
+    begin = [1 if m < most else due(job, kept[m - most]) for m in range(len(kept))]
+    need = [sum(table[i - 1][:levels[i - 1]]) for i in kept]
+    for m, i in enumerate(kept):
+        last = due(job, i)
+        for first in sorted(set(begin[:m + 1]), reverse=True):
+            asked = sum(b for b, start in zip(need[:m + 1], begin) if start >= first)
+            if asked > sums[last] - sums[first - 1]:
+                return f"slots {first} to {last} carry {sums[last] - sums[first - 1]}, need {asked}"
+    raise AssertionError(job)
+
+
+def reasons(job, planned=None):
+    """A line under each layer of the job that its plan doesn't carry."""
+    levels, table = (planned or plan(job))[0], sizes_by_chunk(job)
+    walked = job.limit // job.span >= job.chunks and any(z[0] != job.sizes[0] for z in table)
+    text = ""
+    for i in range(1, job.chunks + 1):
+        for n in range(levels[i - 1], len(job.sizes)):
+            if n > levels[i - 1]:
+                text += f"chunk {i} layer {n}: layer {n - 1} is missing\n"
+                continue
+            # Settled before it: the layers below of all chunks, and this one of later chunks; a base of request 9 is against all bases kept.
+            later = range(1, job.chunks + 1) if walked and n == 0 else range(i + 1, job.chunks + 1)
+            against = [n + 1 if k == i else min(levels[k - 1], n + 1 if k in later else n) for k in range(1, job.chunks + 1)]
+            text += f"chunk {i} layer {n}: {stretch(job, against, table)}\n"
+    return text
+
+
+# ---- the same for large jobs, where trying every layer by a whole list takes too long
+
+def sizes_by_chunk(job):
+    """The bytes of each layer of each chunk, chunk 1 at 0."""
+    table = [list(job.sizes) for _ in range(job.chunks)]
+    for o in job.overrides:
+        table[o.chunk - 1][o.layer] = o.bytes
+    return table
+
+
+def brought(job):
+    """What the forecast brings up to each slot."""
+    sums = [0]
+    for b in job.forecast:
+        sums.append(sums[-1] + b)
+    return sums
+
+
+def fits_fast(job, kept, sums):
+    """Whether chunks, each with its bytes, can be fetched whole in playing order: each goes on where the one before ended, and not before
+    the slot in which the one H places before it is due."""
+    most, at = job.limit // job.span, 0
+    for k, (i, need) in enumerate(kept):
+        first = 1 if k < most else due(job, kept[k - most][0])
+        at = max(at, sums[first - 1]) + need
+        if at > sums[due(job, i)]:
+            return False
+    return True
+
+
+def settle_fast(job, levels, layers, table, sums):
+    """Layers from the given ones on, each from chunk C down to 1, beside what is settled."""
+    for n in layers:
+        for i in range(job.chunks, 0, -1):
+            if levels[i - 1] == n:
+                levels[i - 1] += 1
+                if not fits_fast(job, [(k + 1, sum(table[k][:m])) for k, m in enumerate(levels) if m], sums):
+                    levels[i - 1] -= 1
+    return levels
+
+
+def walk_fast(job, table, sums):
+    kept, held_bytes = [], 0
+    for i in range(1, job.chunks + 1):
+        kept.append(i)
+        held_bytes += table[i - 1][0]
+        if held_bytes > sums[due(job, i)]:
+            k = max(kept, key=lambda k: (table[k - 1][0], -k))
+            kept.remove(k)
+            held_bytes -= table[k - 1][0]
+    return kept
+
+
+def plan_fast(job):
+    table, sums = sizes_by_chunk(job), brought(job)
+    levels, settled = [0] * job.chunks, 0
+    if job.limit // job.span >= job.chunks and any(z[0] != job.sizes[0] for z in table):
+        kept, settled = set(walk_fast(job, table, sums)), 1
+        levels = [int(i in kept) for i in range(1, job.chunks + 1)]
+    levels = settle_fast(job, levels, range(settled, len(job.sizes)), table, sums)
+    return levels, own_list_fast(job, levels, table)
+
+
+def own_list_fast(job, levels, table):
+    """The own list: a chunk waits until fewer than H begun ones are still held at the slot's end, or it is due in the slot."""
+    most, rows, begun_at = job.limit // job.span, [], []
+    parts = [[i + 1, n, table[i][n]] for i, k in enumerate(levels) for n in range(k)][::-1]
+    for t, left in enumerate(job.forecast, 1):
+        begun_at = [i for i in begun_at if due(job, i) > t]
+        while parts and left:
+            i, n, lacking = parts[-1]
+            if i not in begun_at and due(job, i) > t:
+                if len(begun_at) >= most:
+                    break
+                begun_at.append(i)
+            take = min(left, lacking)
+            rows.append(Row(t, i, n, take))
+            left -= take
+            parts[-1][2] -= take
+            if lacking == take:
+                parts.pop()
+    return rows
+
+
+def verdict_fast(job, rows, marks, since=1):
+    last, layers, table = due(job, job.chunks), len(job.sizes), sizes_by_chunk(job)
+    if any(not (1 <= x.slot <= last and 1 <= x.chunk <= job.chunks and x.layer < layers and x.bytes >= 1) for x in rows):
+        return 1
+    got = [[0] * layers for _ in table]
+    ends, spent, first = [[0] * layers for _ in table], [0] * (last + 1), {}
+    for x in rows:
+        got[x.chunk - 1][x.layer] += x.bytes
+        ends[x.chunk - 1][x.layer] = max(ends[x.chunk - 1][x.layer], x.slot)
+        spent[x.slot] += x.bytes
+        first[x.chunk] = min(first.get(x.chunk, last), x.slot)
+    for g, z, e in zip(got, table, ends):
+        for a, b, slot in zip(g, z, e):
+            if a > b or (0 < a < b and slot >= since):
+                return 2
+    whole = [[a == b for a, b in zip(g, z)] for g, z in zip(got, table)]
+    if any(w[n] and not w[n - 1] for w in whole for n in range(1, layers)):
+        return 3
+    if any(spent[t] > job.forecast[t - 1] for t in range(1, last + 1)):
+        return 4
+    if any(x.slot > due(job, x.chunk) for x in rows):
+        return 5
+    change = [0] * (last + 2)
+    for i, slot in first.items():
+        change[slot] += 1
+        change[due(job, i)] -= 1
+    now = 0
+    for t in range(1, last + 1):
+        now += change[t]
+        if now > job.limit // job.span:
+            return 6
+    return 0 if list(marks) == [sum(1 << n for n in range(layers) if w[n]) for w in whole] else 7
 
 
 def listed(slots, chunks, layers, sizes):

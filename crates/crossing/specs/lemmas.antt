@@ -1,0 +1,6 @@
+pub mod Numbers
+pub mod Slices
+pub mod Reading
+pub mod Planning
+pub mod Searching
+pub mod Metering

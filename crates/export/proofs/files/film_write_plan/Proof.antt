@@ -1,0 +1,21 @@
+-- `export::files::film_write_plan` meets its contract. Assumes nothing.
+use borrow.Author.Needs.{needs}
+use Rattle.export.proofs.files.film_write_plan.Statement.{statement}
+use Rattle.export.proofs.files.film_write_plan.Tie as tie
+use Rattle.crossing.specs.lemmas.Numbers.{plan-written-told}
+
+write-plan-requires : tie.Need-write-plan-requires
+write-plan-requires c κs = search needs
+
+plan-written-requires : tie.Need-plan-written-requires
+plan-written-requires c κs = search needs
+
+same-length : tie.Need-same-length
+same-length c = search needs
+
+returns : tie.Need-returns
+returns c = (plan-written-told _ _ _ _ (c .plan-written .ensures) (c .before .before .before .write-plan .ensures .0), c .before .before .before .write-plan .ensures .1)
+
+pub film-write-plan-spec : {M : Type 1} → statement M
+film-write-plan-spec =
+    tie.close (tie.spec write-plan-requires plan-written-requires same-length returns)

@@ -1,0 +1,17 @@
+-- `export::lists::film_check_from` meets its contract. Assumes nothing.
+use borrow.Author.Needs.{needs}
+use Rattle.export.proofs.lists.film_check_from.Statement.{statement}
+use Rattle.export.proofs.lists.film_check_from.Tie as tie
+use Rattle.crossing.specs.lemmas.Numbers.{checked-told}
+
+check-from-requires : tie.Need-check-from-requires
+check-from-requires c κs = search needs
+
+checked-requires : tie.Need-checked-requires
+checked-requires c κs = search needs
+
+returns : tie.Need-returns
+returns c = checked-told _ _ _ _ (c .checked .ensures) (c .before .check-from .ensures)
+
+pub film-check-from-spec : {M : Type 1} → statement M
+film-check-from-spec = tie.close (tie.spec check-from-requires checked-requires returns)

@@ -1,0 +1,20 @@
+-- `export::lists::film_release` meets its contract. Assumes nothing.
+use borrow.Author.Needs.{needs}
+use Rattle.export.proofs.lists.film_release.Statement.{statement}
+use Rattle.export.proofs.lists.film_release.Tie as tie
+use Rattle.crossing.specs.lemmas.Numbers.{booked-told}
+
+release-requires : tie.Need-release-requires
+release-requires c κs = search needs
+
+booked-requires : tie.Need-booked-requires
+booked-requires c κs = search needs
+
+same-length : tie.Need-same-length
+same-length c = search needs
+
+returns : tie.Need-returns
+returns c = (booked-told _ _ _ (c .booked .ensures) (c .before .before .before .release .ensures .answered), c .before .before .before .release .ensures .left)
+
+pub film-release-spec : {M : Type 1} → statement M
+film-release-spec = tie.close (tie.spec release-requires booked-requires same-length returns)

@@ -1,0 +1,20 @@
+-- `export::texts::film_reasons` meets its contract. Assumes nothing.
+use borrow.Author.Needs.{needs}
+use Rattle.export.proofs.texts.film_reasons.Statement.{statement}
+use Rattle.export.proofs.texts.film_reasons.Tie as tie
+use Rattle.crossing.specs.lemmas.Numbers.{reason-told}
+
+reasons-requires : tie.Need-reasons-requires
+reasons-requires c κs = search needs
+
+told-requires : tie.Need-told-requires
+told-requires c κs = search needs
+
+same-length : tie.Need-same-length
+same-length c = search needs
+
+returns : tie.Need-returns
+returns c = (reason-told _ _ _ _ (c .told .ensures) (c .before .before .before .reasons .ensures .0 .result), c .before .before .before .reasons .ensures .0 .buffer)
+
+pub film-reasons-spec : {M : Type 1} → statement M
+film-reasons-spec = tie.close (tie.spec reasons-requires told-requires same-length returns)

@@ -1,0 +1,17 @@
+-- `export::texts::film_wait` meets its contract. Assumes nothing.
+use borrow.Author.Needs.{needs}
+use Rattle.export.proofs.texts.film_wait.Statement.{statement}
+use Rattle.export.proofs.texts.film_wait.Tie as tie
+use Rattle.crossing.specs.lemmas.Numbers.{wait-told}
+
+wait-requires : tie.Need-wait-requires
+wait-requires c κs = search needs
+
+waited-requires : tie.Need-waited-requires
+waited-requires c κs = search needs
+
+returns : tie.Need-returns
+returns c = wait-told _ _ _ _ (c .waited .ensures) (c .before .wait .ensures .0)
+
+pub film-wait-spec : {M : Type 1} → statement M
+film-wait-spec = tie.close (tie.spec wait-requires waited-requires returns)

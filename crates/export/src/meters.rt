@@ -1,0 +1,53 @@
+// The link meter in the caller's own storage.
+ghost use mathlib.Core.Path.{_≡_};
+ghost use Rattle.meter.specs.Meter.{sample};
+ghost use Rattle.crossing.specs.Meters.{Begun, Sampled, meanNumber, storage};
+
+#[no_mangle]
+pub extern "C" fn film_meter_new(slots: &mut [u16], bytes: &mut [u32], kept: &mut [u8]) -> u64
+    ensures { λ r. ⌜ Begun (storage (now (slots .entry)) (now (bytes .entry)) (now (kept .entry))) r (storage (now (slots .exit)) (now (bytes .exit)) (now (kept .exit))) ⌝ }
+{
+    if !crossing::holds_meter(slots.len(), bytes.len(), kept.len()) {
+        return crossing::refused(11);
+    }
+    let begun = meter::new();
+    let first = begun.slots;
+    let second = begun.bytes;
+    crossing::store(first, second, begun.kept, slots, bytes, kept);
+    0
+}
+
+#[no_mangle]
+pub extern "C" fn film_meter_take(
+    slots: &mut [u16],
+    bytes: &mut [u32],
+    kept: &mut [u8],
+    slot: u16,
+    sample: u32,
+) -> u64
+    ensures { λ r. ⌜ Sampled (storage (now (slots .entry)) (now (bytes .entry)) (now (kept .entry))) slot sample r (storage (now (slots .exit)) (now (bytes .exit)) (now (kept .exit))) ⌝ }
+{
+    if !crossing::holds_meter(slots.len(), bytes.len(), kept.len()) {
+        return crossing::refused(job::or_else(crossing::sample_refusal(slot, sample), 11));
+    }
+    let taken = meter::take(crossing::meter_in(slots, bytes, kept), slot, sample);
+    let code = taken.code;
+    if code != 0 {
+        return crossing::refused(code);
+    }
+    let after = taken.meter;
+    let first = after.slots;
+    let second = after.bytes;
+    crossing::store(first, second, after.kept, slots, bytes, kept);
+    0
+}
+
+#[no_mangle]
+pub extern "C" fn film_meter_forecast(slots: &[u16], bytes: &[u32], kept: &[u8]) -> u64
+    ensures { λ r. ⌜ r ≡ meanNumber (storage (now (slots .entry)) (now (bytes .entry)) (now (kept .entry))) ⌝ }
+{
+    if !crossing::holds_meter(slots.len(), bytes.len(), kept.len()) {
+        return crossing::refused(11);
+    }
+    crossing::mean_number(meter::forecast(crossing::meter_in(slots, bytes, kept)))
+}

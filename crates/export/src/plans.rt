@@ -1,0 +1,196 @@
+// The calls that hand over a plan: its number of rows, the marks and rows, and the four counts.
+use job::Programme;
+ghost use Rattle.job.specs.Handed.{handed, jobIn};
+ghost use Rattle.planner.specs.Answer.{lentOf, planRefusal, planRows};
+ghost use Rattle.schedule.specs.Plan.{plan};
+ghost use Rattle.schedule.specs.Statement.{countsOf, marksOf};
+ghost use Rattle.crossing.specs.Convention.{film};
+ghost use Rattle.replan.specs.Answer.{handedOn, jobOn, planOn, refusalOn, rowsOn};
+ghost use Rattle.crossing.specs.Plans.{PlanHanded, SearchHanded, slices, withCounts};
+
+#[no_mangle]
+pub extern "C" fn film_plan(
+    chunks: u16,
+    span: u16,
+    delay: u16,
+    limit: u16,
+    sizes: &[u32],
+    size_chunks: &[u16],
+    size_layers: &[u8],
+    size_bytes: &[u32],
+    forecast: &[u32],
+    marks: &mut [u8],
+    row_slots: &mut [u16],
+    row_chunks: &mut [u16],
+    row_layers: &mut [u8],
+    row_bytes: &mut [u32],
+    counts: &mut [u16],
+) -> u64
+    ensures { λ r. ⌜ PlanHanded (withCounts (planRefusal (film chunks span delay limit (now (sizes .entry)) (now («size_chunks» .entry)) (now («size_layers» .entry)) (now («size_bytes» .entry)) (now (forecast .entry))) (lentOf (now (marks .entry)) (now («row_slots» .entry)) (now («row_chunks» .entry)) (now («row_layers» .entry)) (now («row_bytes» .entry)))) (now (counts .entry))) (marksOf (jobIn (film chunks span delay limit (now (sizes .entry)) (now («size_chunks» .entry)) (now («size_layers» .entry)) (now («size_bytes» .entry)) (now (forecast .entry)))) (plan (jobIn (film chunks span delay limit (now (sizes .entry)) (now («size_chunks» .entry)) (now («size_layers» .entry)) (now («size_bytes» .entry)) (now (forecast .entry)))))) (planRows (jobIn (film chunks span delay limit (now (sizes .entry)) (now («size_chunks» .entry)) (now («size_layers» .entry)) (now («size_bytes» .entry)) (now (forecast .entry))))) (countsOf (jobIn (film chunks span delay limit (now (sizes .entry)) (now («size_chunks» .entry)) (now («size_layers» .entry)) (now («size_bytes» .entry)) (now (forecast .entry)))) (plan (jobIn (film chunks span delay limit (now (sizes .entry)) (now («size_chunks» .entry)) (now («size_layers» .entry)) (now («size_bytes» .entry)) (now (forecast .entry)))))) (slices (now (marks .entry)) (now («row_slots» .entry)) (now («row_chunks» .entry)) (now («row_layers» .entry)) (now («row_bytes» .entry)) (now (counts .entry))) r (slices (now (marks .exit)) (now («row_slots» .exit)) (now («row_chunks» .exit)) (now («row_layers» .exit)) (now («row_bytes» .exit)) (now (counts .exit))) ⌝ }
+{
+    let p = Programme {
+        chunks,
+        span,
+        delay,
+        limit,
+    };
+    if counts.len() < 4 {
+        return crossing::short_counts(job::refusal(
+            p,
+            sizes,
+            size_chunks,
+            size_layers,
+            size_bytes,
+            forecast,
+        ));
+    }
+    let plan = planner::plan(
+        p,
+        sizes,
+        size_chunks,
+        size_layers,
+        size_bytes,
+        forecast,
+        marks,
+        row_slots,
+        row_chunks,
+        row_layers,
+        row_bytes,
+    );
+    let answer = plan.answer;
+    let four = plan.counts;
+    crossing::hand_counts(answer, four, counts);
+    crossing::plan_number(answer)
+}
+
+#[no_mangle]
+pub extern "C" fn film_replan(
+    chunks: u16,
+    span: u16,
+    delay: u16,
+    limit: u16,
+    sizes: &[u32],
+    size_chunks: &[u16],
+    size_layers: &[u8],
+    size_bytes: &[u32],
+    forecast: &[u32],
+    from: u16,
+    fetched_slots: &[u16],
+    fetched_chunks: &[u16],
+    fetched_layers: &[u8],
+    fetched_bytes: &[u32],
+    onward: &[u32],
+    marks: &mut [u8],
+    row_slots: &mut [u16],
+    row_chunks: &mut [u16],
+    row_layers: &mut [u8],
+    row_bytes: &mut [u32],
+    counts: &mut [u16],
+) -> u64
+    ensures { λ r. ⌜ PlanHanded (withCounts (refusalOn (film chunks span delay limit (now (sizes .entry)) (now («size_chunks» .entry)) (now («size_layers» .entry)) (now («size_bytes» .entry)) (now (forecast .entry))) (handedOn from (now («fetched_slots» .entry)) (now («fetched_chunks» .entry)) (now («fetched_layers» .entry)) (now («fetched_bytes» .entry)) (now (onward .entry))) (lentOf (now (marks .entry)) (now («row_slots» .entry)) (now («row_chunks» .entry)) (now («row_layers» .entry)) (now («row_bytes» .entry)))) (now (counts .entry))) (marksOf (jobOn (film chunks span delay limit (now (sizes .entry)) (now («size_chunks» .entry)) (now («size_layers» .entry)) (now («size_bytes» .entry)) (now (forecast .entry))) (handedOn from (now («fetched_slots» .entry)) (now («fetched_chunks» .entry)) (now («fetched_layers» .entry)) (now («fetched_bytes» .entry)) (now (onward .entry)))) (planOn (film chunks span delay limit (now (sizes .entry)) (now («size_chunks» .entry)) (now («size_layers» .entry)) (now («size_bytes» .entry)) (now (forecast .entry))) (handedOn from (now («fetched_slots» .entry)) (now («fetched_chunks» .entry)) (now («fetched_layers» .entry)) (now («fetched_bytes» .entry)) (now (onward .entry))))) (rowsOn (film chunks span delay limit (now (sizes .entry)) (now («size_chunks» .entry)) (now («size_layers» .entry)) (now («size_bytes» .entry)) (now (forecast .entry))) (handedOn from (now («fetched_slots» .entry)) (now («fetched_chunks» .entry)) (now («fetched_layers» .entry)) (now («fetched_bytes» .entry)) (now (onward .entry)))) (countsOf (jobOn (film chunks span delay limit (now (sizes .entry)) (now («size_chunks» .entry)) (now («size_layers» .entry)) (now («size_bytes» .entry)) (now (forecast .entry))) (handedOn from (now («fetched_slots» .entry)) (now («fetched_chunks» .entry)) (now («fetched_layers» .entry)) (now («fetched_bytes» .entry)) (now (onward .entry)))) (planOn (film chunks span delay limit (now (sizes .entry)) (now («size_chunks» .entry)) (now («size_layers» .entry)) (now («size_bytes» .entry)) (now (forecast .entry))) (handedOn from (now («fetched_slots» .entry)) (now («fetched_chunks» .entry)) (now («fetched_layers» .entry)) (now («fetched_bytes» .entry)) (now (onward .entry))))) (slices (now (marks .entry)) (now («row_slots» .entry)) (now («row_chunks» .entry)) (now («row_layers» .entry)) (now («row_bytes» .entry)) (now (counts .entry))) r (slices (now (marks .exit)) (now («row_slots» .exit)) (now («row_chunks» .exit)) (now («row_layers» .exit)) (now («row_bytes» .exit)) (now (counts .exit))) ⌝ }
+{
+    let p = Programme {
+        chunks,
+        span,
+        delay,
+        limit,
+    };
+    if counts.len() < 4 {
+        return crossing::replan_refused(
+            p,
+            sizes,
+            size_chunks,
+            size_layers,
+            size_bytes,
+            forecast,
+            from,
+            fetched_slots,
+            fetched_chunks,
+            fetched_layers,
+            fetched_bytes,
+            onward,
+        );
+    }
+    let made = replan::replan(
+        p,
+        sizes,
+        size_chunks,
+        size_layers,
+        size_bytes,
+        forecast,
+        from,
+        fetched_slots,
+        fetched_chunks,
+        fetched_layers,
+        fetched_bytes,
+        onward,
+        marks,
+        row_slots,
+        row_chunks,
+        row_layers,
+        row_bytes,
+    );
+    let answer = made.answer;
+    let four = made.counts;
+    crossing::hand_counts(answer, four, counts);
+    crossing::plan_number(answer)
+}
+
+#[no_mangle]
+pub extern "C" fn film_search(
+    chunks: u16,
+    span: u16,
+    delay: u16,
+    limit: u16,
+    sizes: &[u32],
+    size_chunks: &[u16],
+    size_layers: &[u8],
+    size_bytes: &[u32],
+    forecast: &[u32],
+    budget: u32,
+    marks: &mut [u8],
+    row_slots: &mut [u16],
+    row_chunks: &mut [u16],
+    row_layers: &mut [u8],
+    row_bytes: &mut [u32],
+    counts: &mut [u16],
+    walk: &mut [u32],
+) -> u64
+    ensures { λ r. ⌜ SearchHanded (film chunks span delay limit (now (sizes .entry)) (now («size_chunks» .entry)) (now («size_layers» .entry)) (now («size_bytes» .entry)) (now (forecast .entry))) budget (now (marks .entry)) (now («row_slots» .entry)) (now («row_chunks» .entry)) (now («row_layers» .entry)) (now («row_bytes» .entry)) (now (counts .entry)) (now (walk .entry)) r (now (marks .exit)) (now («row_slots» .exit)) (now («row_chunks» .exit)) (now («row_layers» .exit)) (now («row_bytes» .exit)) (now (counts .exit)) (now (walk .exit)) ⌝ }
+{
+    let p = Programme {
+        chunks,
+        span,
+        delay,
+        limit,
+    };
+    if !crossing::holds_walk(counts.len(), walk.len()) {
+        return crossing::short_counts(job::refusal(
+            p,
+            sizes,
+            size_chunks,
+            size_layers,
+            size_bytes,
+            forecast,
+        ));
+    }
+    let found = search::search(
+        p,
+        sizes,
+        size_chunks,
+        size_layers,
+        size_bytes,
+        forecast,
+        budget,
+        marks,
+        row_slots,
+        row_chunks,
+        row_layers,
+        row_bytes,
+    );
+    let answer = found.answer;
+    let four = found.counts;
+    crossing::hand_counts(answer, four, counts);
+    crossing::hand_walk(answer, found.steps, found.ended, found.shortfall, walk);
+    crossing::plan_number(answer)
+}

@@ -1,0 +1,452 @@
+/* The layered film planner of the winch desk, for callers in C.
+ *
+ * This header says all there is to know to link the proved library. Build the archive by `rt staticlib export`, which writes
+ * target/staticlib/libexport.a, and link it after your own files; nothing else is needed. Every call below is proved to answer what is
+ * said here, for every input: no call has a precondition on the numbers and slices it is handed, none keeps anything, none allocates, and
+ * each ends. What the caller owes is what C owes any function: a pointer with at least so many elements behind it as its length says,
+ * aligned for its type and not null (a slice of length 0 may point anywhere but to null), and no two slices of one call that overlap, if
+ * one of them is lent for writing. The calls may run on several threads at once.
+ *
+ * ANSWERS. Every call answers one 64-bit number:
+ *
+ *     the result, which is below 2^32, or 2^32 and the refusal's number more.
+ *
+ * No result can be mistaken for a refusal. `film_refused(answer)` is the refusal's number, or 0. Whatever else a call hands over, it writes
+ * to the start of slices that the caller lends: `T *x, size_t x_len`, without const. If one of them is shorter than what is to be written
+ * to it, the call refuses with 11, after all other refusals; in a longer one the elements past the result stay as they are. On a refusal no
+ * lent byte is changed. How large the largest results are, say the constants below.
+ *
+ * A JOB is handed as C, L, s and the limit (`chunks`, `span`, `delay`, `limit`), the layer sizes (`sizes`, base first), the sizes that
+ * differ by chunk (`SZ`: `size_chunks`, `size_layers`, `size_bytes`, three slices of one length, empty for film of equal chunks), and the
+ * forecast, one number a slot. Chunk i is due in slot (i - 1) * L + s, the last of them, d(C), is the number of slots. H is limit / L.
+ * A FETCH LIST is four slices of one length, `row_slots`, `row_chunks`, `row_layers`, `row_bytes`, in any order.
+ * MARKS are one byte a chunk; bit n says that layer n is carried. COUNTS are four numbers, how many chunks carry each layer.
+ * Slots, chunks and files are counted as documents 01 and 02 of the planner count them: slots and chunks from 1, layers from 0.
+ */
+#ifndef FILM_PLANNER_H
+#define FILM_PLANNER_H
+
+#include <stddef.h>
+#include <stdint.h>
+
+#ifdef __cplusplus
+extern "C" {
+#endif
+
+/* ---- the largest results, in elements of their slices */
+
+enum {
+    FILM_LAYERS = 4,           /* layer sizes of a job */
+    FILM_SLOTS = 3600,         /* slots of a forecast */
+    FILM_MARKS = 500,          /* marks of a plan: one a chunk */
+    FILM_ROWS = 5599,          /* rows that planning hands over, also afresh */
+    FILM_SZS = 1996,           /* SZs of a job: four layers of 499 chunks */
+    FILM_PROGRAMME = 4,        /* C, L, s and the limit */
+    FILM_LENGTHS = 2,          /* how many layers, how many SZs */
+    FILM_COUNTS = 4,           /* counts of a plan */
+    FILM_WALK = 3,             /* steps, ended, shortfall of a search */
+    FILM_FILE = 65536,         /* bytes of any file that is read or written */
+    FILM_FILE_ROWS = 5957,     /* rows of any plan file that is read: (65,536 - 2 - 5) / 11 */
+    FILM_JOB_FILE = 46800,     /* bytes of a job file as written */
+    FILM_PLAN_FILE = 64091,    /* bytes of the file of a plan of at most FILM_ROWS rows */
+    FILM_REPORT = 7633,        /* bytes of a report */
+    FILM_REASONS = 94000,      /* bytes of the reasons */
+    FILM_TRACE = 322099200,    /* bytes of a link trace as written */
+    FILM_SAMPLES = 10          /* cells of a meter */
+};
+
+/* ---- refusals: the number, and the sentence of document 01 (1 to 13) or 02 (14 to 22) */
+
+enum {
+    FILM_ENDS_EARLY = 1,     /* A file ends before a mark, within a record or without `EN`. */
+    FILM_UNKNOWN_MARK = 2,   /* Unknown mark for this kind of file. */
+    FILM_BYTES_AFTER = 3,    /* Bytes after `EN`. */
+    FILM_PROGRAMMES = 4,     /* A second `PG`, or none by `EN`. */
+    FILM_PROGRAMME_FIELD = 5,/* A programme field out of range, or d(C) above 3,600. */
+    FILM_LAYER_SIZE = 6,     /* A layer size out of range, a fifth layer, or no layer by `EN`. */
+    FILM_FORECAST = 7,       /* A run of 0 slots, runs beyond 3,600 slots, bytes out of range, or a slot total other than d(C). */
+    FILM_NOT_WHOLE = 8,      /* `KP` records not for 1 to C in turn, before every `FT`, and complete by `EN`; in a direct call marks that
+                              * aren't one byte a chunk or a row not handed whole. */
+    FILM_LONG_FILE = 9,      /* A file above 65,536 bytes, read or to be written. */
+    FILM_SAMPLE = 10,        /* A sample's slot or bytes out of range, handed or kept; a meter with more than ten samples or slots not
+                              * rising. */
+    FILM_SHORT_BUFFER = 11,  /* A lent buffer is shorter than the whole result, after all input refusals. */
+    FILM_NO_SAMPLES = 12,    /* A forecast from a meter without samples. */
+    FILM_LATE_SAMPLE = 13,   /* A sample whose slot is not above the last one's, after 10. */
+    FILM_TRACE_LINE = 14,    /* A line that isn't 1 to 7 digits, lacks its line feed, or has a time below the line before. */
+    FILM_TRACE_SLOT = 15,    /* A slot above 16,777,216 bytes, or a slot not a multiple of 1,500 in writing. */
+    FILM_NO_WAIT = 16,       /* No s within the forecast works, a forecast too short for s = 1 included. */
+    FILM_SEQUENCE = 17,      /* A record out of sequence or a run of the same bytes as the one before. */
+    FILM_SZ = 18,            /* An `SZ` naming chunk 1, or a chunk or layer that isn't in the job, not rising, or of size out of range or
+                              * equal to the layer's own; in a direct call also an `SZ` not handed whole. */
+    FILM_NOT_PASSING = 19,   /* Booking a list whose verdict isn't 0. */
+    FILM_RELEASE = 20,       /* Releasing a row for a slot that isn't there or beyond 16,777,216 bytes in a slot. */
+    FILM_SLOT = 21,          /* p not from 1 to d(C), or in planning a handed row not before p. */
+    FILM_FETCHED = 22        /* Handed rows that break rule 1, 3, 4, 5 or 6, with rule 2 only where a sum exceeds its size, or that begin a
+                              * chunk in an earlier slot than a handed one that plays before it. */
+};
+
+/* The refusal's number, or 0 for a result. */
+static inline uint32_t film_refused(uint64_t answer)
+{
+    return answer >> 32 ? (uint32_t)answer : 0;
+}
+
+/* The sentence of a refusal, or of 0. */
+static inline const char *film_sentence(uint32_t refusal)
+{
+    static const char *const sentences[] = {
+        "Not refused.",
+        "A file ends before a mark, within a record or without `EN`.",
+        "Unknown mark for this kind of file.",
+        "Bytes after `EN`.",
+        "A second `PG`, or none by `EN`.",
+        "A programme field out of range, or d(C) above 3,600.",
+        "A layer size out of range, a fifth layer, or no layer by `EN`.",
+        "A run of 0 slots, runs beyond 3,600 slots, bytes out of range, or a slot total other than d(C).",
+        "`KP` records not for 1 to C in turn, before every `FT`, and complete by `EN`; in a direct call marks that aren't one byte a chunk or "
+        "a row not handed whole.",
+        "A file above 65,536 bytes, read or to be written.",
+        "A sample's slot or bytes out of range, handed or kept; a meter with more than ten samples or slots not rising.",
+        "A lent buffer is shorter than the whole result, after all input refusals.",
+        "A forecast from a meter without samples.",
+        "A sample whose slot is not above the last one's, after 10.",
+        "A line that isn't 1 to 7 digits, lacks its line feed, or has a time below the line before.",
+        "A slot above 16,777,216 bytes, or a slot not a multiple of 1,500 in writing.",
+        "No s within the forecast works, a forecast too short for s = 1 included.",
+        "A record out of sequence or a run of the same bytes as the one before.",
+        "An `SZ` naming chunk 1, or a chunk or layer that isn't in the job, not rising, or of size out of range or equal to the layer's own; "
+        "in a direct call also an `SZ` not handed whole.",
+        "Booking a list whose verdict isn't 0.",
+        "Releasing a row for a slot that isn't there or beyond 16,777,216 bytes in a slot.",
+        "p not from 1 to d(C), or in planning a handed row not before p.",
+        "Handed rows that break rule 1, 3, 4, 5 or 6, with rule 2 only where a sum exceeds its size, or that begin a chunk in an earlier slot "
+        "than a handed one that plays before it.",
+    };
+    return refusal < sizeof sentences / sizeof *sentences ? sentences[refusal] : "No refusal has this number.";
+}
+
+/* ---- types, for callers who want them: no call asks for one. The macros spread them as arguments. */
+
+/* A job as handed: FILM_JOB(j) stands for its arguments in every call that takes one, FILM_FILM(j) in film_wait. */
+struct film_job {
+    uint16_t chunks, span, delay, limit; /* C 1 to 500, L 1 to 60, s 1 to 3,600, and the limit */
+    const uint32_t *sizes;               /* 1 to 4, each 1 to 16,777,216 */
+    size_t layers;
+    const uint16_t *size_chunks;         /* the SZs, rising by chunk and then layer; chunk 1 has none */
+    const uint8_t *size_layers;
+    const uint32_t *size_bytes;
+    size_t szs;
+    uint32_t *forecast;                  /* d(C) of them, each 0 to 16,777,216; written by film_book and film_release alone */
+    size_t slots;
+};
+
+/* A fetch list, handed or lent: FILM_LIST(l) stands for its arguments. */
+struct film_list {
+    uint16_t *slots, *chunks;
+    uint8_t *layers;
+    uint32_t *bytes;
+    size_t rows;
+};
+
+/* A meter: FILM_METER(m) stands for its storage. film_meter_new begins one. */
+struct film_meter {
+    uint16_t slots[FILM_SAMPLES];
+    uint32_t bytes[FILM_SAMPLES];
+    uint8_t kept[1];
+};
+
+#define FILM_SIZES(j) \
+    (j).sizes, (j).layers, (j).size_chunks, (j).szs, (j).size_layers, (j).szs, (j).size_bytes, (j).szs, (j).forecast, (j).slots
+#define FILM_JOB(j) (j).chunks, (j).span, (j).delay, (j).limit, FILM_SIZES(j)
+#define FILM_FILM(j) (j).chunks, (j).span, (j).limit, FILM_SIZES(j)
+#define FILM_LIST(l) (l).slots, (l).rows, (l).chunks, (l).rows, (l).layers, (l).rows, (l).bytes, (l).rows
+#define FILM_METER(m) (m).slots, FILM_SAMPLES, (m).bytes, FILM_SAMPLES, (m).kept, 1
+
+/* ---- job and plan files */
+
+/* Reads a job file in one sequence: PG, all LY, all SZ, all BW, EN. Answers the number of slots of the forecast. Lent: the programme (C, L,
+ * s, limit), lengths (how many layers, how many SZs), the layer sizes, the SZs in three slices, the forecast.
+ * Refuses: 9; record by record 2 or 1 for the mark, 1 for the body, 4 for a second PG, 17, then 5, 6, 7; at EN 3, 4, 6, 18, 7; then 11. */
+uint64_t film_read_job(
+    const uint8_t *file, size_t file_len,
+    uint16_t *programme, size_t programme_len,
+    uint64_t *lengths, size_t lengths_len,
+    uint32_t *sizes, size_t sizes_len,
+    uint16_t *size_chunks, size_t size_chunks_len,
+    uint8_t *size_layers, size_t size_layers_len,
+    uint32_t *size_bytes, size_t size_bytes_len,
+    uint32_t *forecast, size_t forecast_len);
+
+/* The same of a mixed file, as document 01 has it and as files kept for ever may be: PG anywhere, LY and BW mixed, no SZ (2). A file in one
+ * sequence without SZ is one, too. Refuses as film_read_job, without 17 and 18. */
+uint64_t film_read_mixed_job(
+    const uint8_t *file, size_t file_len,
+    uint16_t *programme, size_t programme_len,
+    uint64_t *lengths, size_t lengths_len,
+    uint32_t *sizes, size_t sizes_len,
+    uint32_t *forecast, size_t forecast_len);
+
+/* Writes the job's file, the only one it has in one sequence. Answers its bytes, at most FILM_JOB_FILE. Refuses: 5, 6, 18, 7, 11. */
+uint64_t film_write_job(
+    uint16_t chunks, uint16_t span, uint16_t delay, uint16_t limit,
+    const uint32_t *sizes, size_t sizes_len,
+    const uint16_t *size_chunks, size_t size_chunks_len,
+    const uint8_t *size_layers, size_t size_layers_len,
+    const uint32_t *size_bytes, size_t size_bytes_len,
+    const uint32_t *forecast, size_t forecast_len,
+    uint8_t *out, size_t out_len);
+
+/* Reads a plan file for a job: KP for chunk 1 to C, then FT, EN. Answers the number of rows, at most FILM_FILE_ROWS. Lent: the marks, the
+ * rows. Whether they are sensible is film_check's business. Refuses: the job's 5, 6, 18, 7; 9; record by record 2, 1, 8; at EN 3, 8; 11. */
+uint64_t film_read_plan(
+    uint16_t chunks, uint16_t span, uint16_t delay, uint16_t limit,
+    const uint32_t *sizes, size_t sizes_len,
+    const uint16_t *size_chunks, size_t size_chunks_len,
+    const uint8_t *size_layers, size_t size_layers_len,
+    const uint32_t *size_bytes, size_t size_bytes_len,
+    const uint32_t *forecast, size_t forecast_len,
+    const uint8_t *file, size_t file_len,
+    uint8_t *marks, size_t marks_len,
+    uint16_t *row_slots, size_t row_slots_len,
+    uint16_t *row_chunks, size_t row_chunks_len,
+    uint8_t *row_layers, size_t row_layers_len,
+    uint32_t *row_bytes, size_t row_bytes_len);
+
+/* Writes a plan file, the rows as handed. Answers its bytes: 5 a chunk, 11 a row, 2. Refuses: 5, 6, 18, 7, 8, 9, 11. */
+uint64_t film_write_plan(
+    uint16_t chunks, uint16_t span, uint16_t delay, uint16_t limit,
+    const uint32_t *sizes, size_t sizes_len,
+    const uint16_t *size_chunks, size_t size_chunks_len,
+    const uint8_t *size_layers, size_t size_layers_len,
+    const uint32_t *size_bytes, size_t size_bytes_len,
+    const uint32_t *forecast, size_t forecast_len,
+    const uint8_t *marks, size_t marks_len,
+    const uint16_t *row_slots, size_t row_slots_len,
+    const uint16_t *row_chunks, size_t row_chunks_len,
+    const uint8_t *row_layers, size_t row_layers_len,
+    const uint32_t *row_bytes, size_t row_bytes_len,
+    uint8_t *out, size_t out_len);
+
+/* ---- the checker */
+
+/* Judges a fetch list with its marks. Answers the verdict: 0 if rules 1 to 7 all hold, else the lowest broken rule.
+ *   1  Slot 1 to d(C), chunk 1 to C, layer below the layer count, bytes at least 1.
+ *   2  Each layer of each chunk sums to 0 or its full size.
+ *   3  A carried layer has the layer below carried.
+ *   4  A slot's rows sum to at most the forecast of the slot.
+ *   5  No row is later than its chunk's due slot.
+ *   6  At the end of each slot at most H chunks are held.
+ *   7  The marks of the plan say the layers carried.
+ * Refuses: 5, 6, 18, 7, 8. */
+uint64_t film_check(
+    uint16_t chunks, uint16_t span, uint16_t delay, uint16_t limit,
+    const uint32_t *sizes, size_t sizes_len,
+    const uint16_t *size_chunks, size_t size_chunks_len,
+    const uint8_t *size_layers, size_t size_layers_len,
+    const uint32_t *size_bytes, size_t size_bytes_len,
+    const uint32_t *forecast, size_t forecast_len,
+    const uint8_t *marks, size_t marks_len,
+    const uint16_t *row_slots, size_t row_slots_len,
+    const uint16_t *row_chunks, size_t row_chunks_len,
+    const uint8_t *row_layers, size_t row_layers_len,
+    const uint32_t *row_bytes, size_t row_bytes_len);
+
+/* The second call, for lists made afresh at slot p (`from`): rule 2 allows a short sum whose rows are all before p. The job's forecast is
+ * the joined one, as it was before p and as it was handed from p on. Refuses: 5, 6, 18, 7, 8, 21. */
+uint64_t film_check_from(
+    uint16_t chunks, uint16_t span, uint16_t delay, uint16_t limit,
+    const uint32_t *sizes, size_t sizes_len,
+    const uint16_t *size_chunks, size_t size_chunks_len,
+    const uint8_t *size_layers, size_t size_layers_len,
+    const uint32_t *size_bytes, size_t size_bytes_len,
+    const uint32_t *forecast, size_t forecast_len,
+    uint16_t from,
+    const uint8_t *marks, size_t marks_len,
+    const uint16_t *row_slots, size_t row_slots_len,
+    const uint16_t *row_chunks, size_t row_chunks_len,
+    const uint8_t *row_layers, size_t row_layers_len,
+    const uint32_t *row_bytes, size_t row_bytes_len);
+
+/* ---- plans */
+
+/* Plans a job: the layers that documents 01 and 02 decide to carry, and the plan's own list by slot, chunk, layer. Answers the number of
+ * rows, at most FILM_ROWS. Lent: the marks, the rows, the four counts. Refuses: 5, 6, 18, 7, 11. */
+uint64_t film_plan(
+    uint16_t chunks, uint16_t span, uint16_t delay, uint16_t limit,
+    const uint32_t *sizes, size_t sizes_len,
+    const uint16_t *size_chunks, size_t size_chunks_len,
+    const uint8_t *size_layers, size_t size_layers_len,
+    const uint32_t *size_bytes, size_t size_bytes_len,
+    const uint32_t *forecast, size_t forecast_len,
+    uint8_t *marks, size_t marks_len,
+    uint16_t *row_slots, size_t row_slots_len,
+    uint16_t *row_chunks, size_t row_chunks_len,
+    uint8_t *row_layers, size_t row_layers_len,
+    uint32_t *row_bytes, size_t row_bytes_len,
+    uint16_t *counts, size_t counts_len);
+
+/* Compares two plans' counts entry by entry from the base: 0 if they are the same; at the first that differs 1 if the first plan has fewer,
+ * 2 if it has more. Never refuses: a count that is not handed is 0, as that of an absent layer, and none past the fourth is looked at. */
+enum { FILM_SAME = 0, FILM_FEWER = 1, FILM_MORE = 2 };
+uint64_t film_compare(const uint16_t *counts, size_t counts_len, const uint16_t *others, size_t others_len);
+
+/* Plans afresh at slot p (`from`), during the act: the rows fetched before p, in any order, and the forecast from p on, d(C) - p + 1 slots
+ * (`onward`); the job's own forecast says the slots before p. Layers whole before p are carried, chunks due before p are settled by what
+ * they have, the others as in document 01, bases too, over lists that begin with the rows fetched. Answers the number of rows from p on, at
+ * most FILM_ROWS; with the rows fetched they pass film_check_from. Lent: the marks, the rows from p on, the four counts.
+ * Refuses: 5, 6, 18, 7, 8, 21, 7 (the forecast from p on), 22, 11. */
+uint64_t film_replan(
+    uint16_t chunks, uint16_t span, uint16_t delay, uint16_t limit,
+    const uint32_t *sizes, size_t sizes_len,
+    const uint16_t *size_chunks, size_t size_chunks_len,
+    const uint8_t *size_layers, size_t size_layers_len,
+    const uint32_t *size_bytes, size_t size_bytes_len,
+    const uint32_t *forecast, size_t forecast_len,
+    uint16_t from,
+    const uint16_t *fetched_slots, size_t fetched_slots_len,
+    const uint16_t *fetched_chunks, size_t fetched_chunks_len,
+    const uint8_t *fetched_layers, size_t fetched_layers_len,
+    const uint32_t *fetched_bytes, size_t fetched_bytes_len,
+    const uint32_t *onward, size_t onward_len,
+    uint8_t *marks, size_t marks_len,
+    uint16_t *row_slots, size_t row_slots_len,
+    uint16_t *row_chunks, size_t row_chunks_len,
+    uint8_t *row_layers, size_t row_layers_len,
+    uint32_t *row_bytes, size_t row_bytes_len,
+    uint16_t *counts, size_t counts_len);
+
+/* Searches the best set of bases within a budget of steps, and plans over it: each chunk from the last is tried kept and then skipped, each
+ * try is a step. Answers the number of rows, at most FILM_ROWS; the set is bit 0 of the marks. Lent: the marks, the rows, the four counts,
+ * and three numbers of the walk: the steps taken, 1 if it ended, else 0, and the shortfall, by which no passing list in playing order can
+ * carry more bases; 0 if the walk ended. Refuses: 5, 6, 18, 7, 11. */
+uint64_t film_search(
+    uint16_t chunks, uint16_t span, uint16_t delay, uint16_t limit,
+    const uint32_t *sizes, size_t sizes_len,
+    const uint16_t *size_chunks, size_t size_chunks_len,
+    const uint8_t *size_layers, size_t size_layers_len,
+    const uint32_t *size_bytes, size_t size_bytes_len,
+    const uint32_t *forecast, size_t forecast_len,
+    uint32_t budget,
+    uint8_t *marks, size_t marks_len,
+    uint16_t *row_slots, size_t row_slots_len,
+    uint16_t *row_chunks, size_t row_chunks_len,
+    uint8_t *row_layers, size_t row_layers_len,
+    uint32_t *row_bytes, size_t row_bytes_len,
+    uint16_t *counts, size_t counts_len,
+    uint32_t *walk, size_t walk_len);
+
+/* The shortest wait: from a job without s and a forecast of up to 3,600 slots the smallest s for which the plan skips no base. Answers s.
+ * Refuses: 5 (C, L and the limit alone), 6, 18, 7, 16. */
+uint64_t film_wait(
+    uint16_t chunks, uint16_t span, uint16_t limit,
+    const uint32_t *sizes, size_t sizes_len,
+    const uint16_t *size_chunks, size_t size_chunks_len,
+    const uint8_t *size_layers, size_t size_layers_len,
+    const uint32_t *size_bytes, size_t size_bytes_len,
+    const uint32_t *forecast, size_t forecast_len);
+
+/* ---- text */
+
+/* The report of the job's plan, lines ended by a line feed:
+ *   slots d(C) chunks C held H
+ *   for each chunk: number, layers carried, bytes carried
+ *   layers, and the counts of the job's layers
+ *   bytes in rows, left unspent
+ *   switch, the sum of differences in bytes between each carried chunk and the next carried one
+ *   rate, that sum divided by C * L: whole quotient and remainder
+ * Answers its bytes, at most FILM_REPORT. Refuses: 5, 6, 18, 7, 11. */
+uint64_t film_report(
+    uint16_t chunks, uint16_t span, uint16_t delay, uint16_t limit,
+    const uint32_t *sizes, size_t sizes_len,
+    const uint16_t *size_chunks, size_t size_chunks_len,
+    const uint8_t *size_layers, size_t size_layers_len,
+    const uint32_t *size_bytes, size_t size_bytes_len,
+    const uint32_t *forecast, size_t forecast_len,
+    uint8_t *out, size_t out_len);
+
+/* The reason under each layer of the job that its plan doesn't carry, by chunk and then layer, lines ended by a line feed:
+ *   chunk 1 layer 0: slots 2 to 4 carry 1, need 2
+ *   chunk 1 layer 1: layer 0 is missing
+ * Answers its bytes, at most FILM_REASONS; 0 for a plan that lacks nothing. Refuses: 5, 6, 18, 7, 11. */
+uint64_t film_reasons(
+    uint16_t chunks, uint16_t span, uint16_t delay, uint16_t limit,
+    const uint32_t *sizes, size_t sizes_len,
+    const uint16_t *size_chunks, size_t size_chunks_len,
+    const uint8_t *size_layers, size_t size_layers_len,
+    const uint32_t *size_bytes, size_t size_bytes_len,
+    const uint32_t *forecast, size_t forecast_len,
+    uint8_t *out, size_t out_len);
+
+/* ---- link traces */
+
+/* Reads a link trace for so many slots, 1 to 3,600: a line is a time in milliseconds, 1 to 7 digits and a line feed, and stands for 1,500
+ * bytes that got through. Slot j gets 1,500 times the lines from (j - 1) * 1,000 up to, but not including, j * 1,000; later lines are read
+ * and not counted. Answers the number of slots. Lent: the forecast. The trace may have any length. Refuses: 7 (the number of slots), 14,
+ * 15, 11. */
+uint64_t film_read_trace(const uint8_t *trace, size_t trace_len, size_t slots, uint32_t *forecast, size_t forecast_len);
+
+/* Writes a forecast of 1 to 3,600 slots, all multiples of 1,500, as the trace with each slot's lines at its first millisecond. Answers its
+ * bytes, at most FILM_TRACE. Refuses: 7 (the number of slots), 15, 11. */
+uint64_t film_write_trace(const uint32_t *forecast, size_t forecast_len, uint8_t *out, size_t out_len);
+
+/* ---- bookings: two films on one link */
+
+/* Takes a passing list's bytes off the job's forecast, in its own storage. Answers 0. Refuses: 5, 6, 18, 7, 8, 19. */
+uint64_t film_book(
+    uint16_t chunks, uint16_t span, uint16_t delay, uint16_t limit,
+    const uint32_t *sizes, size_t sizes_len,
+    const uint16_t *size_chunks, size_t size_chunks_len,
+    const uint8_t *size_layers, size_t size_layers_len,
+    const uint32_t *size_bytes, size_t size_bytes_len,
+    uint32_t *forecast, size_t forecast_len,
+    const uint8_t *marks, size_t marks_len,
+    const uint16_t *row_slots, size_t row_slots_len,
+    const uint16_t *row_chunks, size_t row_chunks_len,
+    const uint8_t *row_layers, size_t row_layers_len,
+    const uint32_t *row_bytes, size_t row_bytes_len);
+
+/* Adds a list's bytes back; after a booking of that list the forecast is what it was. Answers 0. Refuses: 5, 6, 18, 7, 8, 20. */
+uint64_t film_release(
+    uint16_t chunks, uint16_t span, uint16_t delay, uint16_t limit,
+    const uint32_t *sizes, size_t sizes_len,
+    const uint16_t *size_chunks, size_t size_chunks_len,
+    const uint8_t *size_layers, size_t size_layers_len,
+    const uint32_t *size_bytes, size_t size_bytes_len,
+    uint32_t *forecast, size_t forecast_len,
+    const uint16_t *row_slots, size_t row_slots_len,
+    const uint16_t *row_chunks, size_t row_chunks_len,
+    const uint8_t *row_layers, size_t row_layers_len,
+    const uint32_t *row_bytes, size_t row_bytes_len);
+
+/* ---- counts of marks */
+
+/* How many marks have bit n, for marks of any length; 0 for n above 7. Answers 0. Lent: one number for the count, since that of very many
+ * marks may be 2^32 or more. Refuses: 11. */
+uint64_t film_count_marks(const uint8_t *marks, size_t marks_len, uint8_t n, uint64_t *count, size_t count_len);
+
+/* Answers how many of a word's eight bytes have bit n, for n from 0 to 7, and 0 above. Never refuses. */
+uint64_t film_count_word(uint64_t word, uint8_t n);
+
+/* ---- the link meter, in the caller's own storage: ten slots, ten bytes, and how many samples are kept. Only the first `kept` cells mean
+ * anything, the newest sample last. A slice shorter than its part of the meter holds no meter: 11. In longer ones the cells past the tenth,
+ * and past the first `kept`, are not looked at and stay as they are. */
+
+/* Makes the storage a meter without samples. Answers 0. Refuses: 11. */
+uint64_t film_meter_new(uint16_t *slots, size_t slots_len, uint32_t *bytes, size_t bytes_len, uint8_t *kept, size_t kept_len);
+
+/* Takes a sample, a slot of 1 to 65,535 and its bytes, 0 to 16,777,216; the last ten are kept. Answers 0.
+ * Refuses: 10 of the handed sample, 11, 10 of what is kept, 13. */
+uint64_t film_meter_take(
+    uint16_t *slots, size_t slots_len, uint32_t *bytes, size_t bytes_len, uint8_t *kept, size_t kept_len, uint16_t slot, uint32_t sample);
+
+/* Answers the forecast of a slot's bytes: 0 if a sample is 0, else the whole part of the samples' exact harmonic mean or one less, and
+ * never more. Refuses: 11, 10, 12. */
+uint64_t film_meter_forecast(
+    const uint16_t *slots, size_t slots_len, const uint32_t *bytes, size_t bytes_len, const uint8_t *kept, size_t kept_len);
+
+#ifdef __cplusplus
+}
+#endif
+
+#endif

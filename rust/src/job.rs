@@ -1,0 +1,178 @@
+use crate::{ffi, FetchList, Found, Plan, Refusal, Verdict, FILE, FILE_ROWS, LAYERS, MARKS, REASONS, REPORT, ROWS, SLOTS, SZS};
+
+/// A size of one layer of one chunk that differs from the layer's own (`SZ`).
+#[derive(Clone, Copy, Debug, PartialEq, Eq, PartialOrd, Ord, Hash)]
+pub struct Override {
+    pub chunk: u16,
+    pub layer: u8,
+    pub bytes: u32,
+}
+
+/// A job: C chunks of L slots of film each (`span`), a start delay of s slots, the buffer limit, the layer sizes, the sizes that differ by
+/// chunk, and the forecast, one number a slot. Any value may stand in it; each call refuses what is out of range.
+#[derive(Clone, Debug, Default, PartialEq, Eq)]
+pub struct Job {
+    pub chunks: u16,
+    pub span: u16,
+    pub delay: u16,
+    pub limit: u16,
+    pub sizes: Vec<u32>,
+    pub overrides: Vec<Override>,
+    pub forecast: Vec<u32>,
+}
+
+/// The overrides by column, as the calls take them.
+struct Columns(Vec<u16>, Vec<u8>, Vec<u32>);
+
+fn columns(overrides: &[Override]) -> Columns {
+    Columns(
+        overrides.iter().map(|o| o.chunk).collect(),
+        overrides.iter().map(|o| o.layer).collect(),
+        overrides.iter().map(|o| o.bytes).collect(),
+    )
+}
+
+/// A call with the job's arguments in front of some more.
+macro_rules! with_job {
+    ($call:ident, $job:expr, $forecast:expr, $($more:expr),*) => {{
+        let Columns(chunks, layers, bytes) = columns(&$job.overrides);
+        Refusal::settle(ffi::$call(
+            $job.chunks, $job.span, $job.delay, $job.limit, &$job.sizes, &chunks, &layers, &bytes, $forecast, $($more),*
+        ))
+    }};
+}
+
+impl Job {
+    /// Reads a job file in one sequence: 9, record by record, at `EN` 3, 4, 6, 18, 7.
+    pub fn read(file: &[u8]) -> Result<Job, Refusal> {
+        let (mut programme, mut lengths, mut sizes, mut forecast) = ([0; 4], [0; 2], vec![0; LAYERS], vec![0; SLOTS]);
+        let (mut chunks, mut layers, mut bytes) = (vec![0; SZS], vec![0; SZS], vec![0; SZS]);
+        let answer =
+            ffi::read_job(file, &mut programme, &mut lengths, &mut sizes, &mut chunks, &mut layers, &mut bytes, &mut forecast);
+        let slots = Refusal::settle(answer)?;
+        let overrides =
+            (0..lengths[1] as usize).map(|k| Override { chunk: chunks[k], layer: layers[k], bytes: bytes[k] }).collect();
+        Ok(Job::read_as(programme, lengths, sizes, overrides, forecast, slots))
+    }
+
+    /// Reads a mixed job file, as document 01 has it: 9, record by record, at `EN` 3, 4, 6, 7.
+    pub fn read_mixed(file: &[u8]) -> Result<Job, Refusal> {
+        let (mut programme, mut lengths, mut sizes, mut forecast) = ([0; 4], [0; 2], vec![0; LAYERS], vec![0; SLOTS]);
+        let slots = Refusal::settle(ffi::read_mixed_job(file, &mut programme, &mut lengths, &mut sizes, &mut forecast))?;
+        Ok(Job::read_as(programme, lengths, sizes, Vec::new(), forecast, slots))
+    }
+
+    fn read_as(p: [u16; 4], lengths: [u64; 2], mut sizes: Vec<u32>, overrides: Vec<Override>, mut forecast: Vec<u32>, slots: usize) -> Job {
+        sizes.truncate(lengths[0] as usize);
+        forecast.truncate(slots);
+        Job { chunks: p[0], span: p[1], delay: p[2], limit: p[3], sizes, overrides, forecast }
+    }
+
+    /// The job's file, the only one it has in one sequence: 5, 6, 18, 7.
+    pub fn write(&self) -> Result<Vec<u8>, Refusal> {
+        let mut out = vec![0; FILE];
+        let n = with_job!(write_job, self, &self.forecast, &mut out)?;
+        out.truncate(n);
+        Ok(out)
+    }
+
+    /// Reads a plan file for the job, its marks and rows: 5, 6, 18, 7, 9, record by record, at `EN` 3, 8. Counts are those of the marks.
+    pub fn read_plan(&self, file: &[u8]) -> Result<Plan, Refusal> {
+        let (mut marks, mut list) = (vec![0; MARKS], FetchList::room(FILE_ROWS));
+        let rows = with_job!(
+            read_plan, self, &self.forecast, file, &mut marks, &mut list.slots, &mut list.chunks, &mut list.layers, &mut list.bytes
+        )?;
+        marks.truncate(usize::from(self.chunks));
+        let counts = [0, 1, 2, 3].map(|n| crate::count_marks(&marks, n) as u16);
+        Ok(Plan { marks, list: list.cut(rows), counts })
+    }
+
+    /// The file of some marks and rows, the rows as handed: 5, 6, 18, 7, 8, 9.
+    pub fn write_plan(&self, marks: &[u8], list: &FetchList) -> Result<Vec<u8>, Refusal> {
+        let mut out = vec![0; FILE];
+        let n = with_job!(
+            write_plan, self, &self.forecast, marks, &list.slots, &list.chunks, &list.layers, &list.bytes, &mut out
+        )?;
+        out.truncate(n);
+        Ok(out)
+    }
+
+    /// Plans the job: 5, 6, 18, 7.
+    pub fn plan(&self) -> Result<Plan, Refusal> {
+        let (mut marks, mut list, mut counts) = (vec![0; MARKS], FetchList::room(ROWS), [0; 4]);
+        let rows = with_job!(
+            plan, self, &self.forecast, &mut marks, &mut list.slots, &mut list.chunks, &mut list.layers, &mut list.bytes, &mut counts
+        )?;
+        marks.truncate(usize::from(self.chunks));
+        Ok(Plan { marks, list: list.cut(rows), counts })
+    }
+
+    /// Plans afresh at slot p: the rows fetched before it, and the forecast from it on. The plan's list has the rows from p on.
+    /// 5, 6, 18, 7, 8, 21, 7, 22.
+    pub fn replan(&self, p: u16, fetched: &FetchList, onward: &[u32]) -> Result<Plan, Refusal> {
+        let (mut marks, mut list, mut counts) = (vec![0; MARKS], FetchList::room(ROWS), [0; 4]);
+        let rows = with_job!(
+            replan, self, &self.forecast, p, &fetched.slots, &fetched.chunks, &fetched.layers, &fetched.bytes, onward, &mut marks,
+            &mut list.slots, &mut list.chunks, &mut list.layers, &mut list.bytes, &mut counts
+        )?;
+        marks.truncate(usize::from(self.chunks));
+        Ok(Plan { marks, list: list.cut(rows), counts })
+    }
+
+    /// Searches the best set of bases within a budget of steps, and plans over it: 5, 6, 18, 7.
+    pub fn search(&self, budget: u32) -> Result<Found, Refusal> {
+        let (mut marks, mut list, mut counts, mut walk) = (vec![0; MARKS], FetchList::room(ROWS), [0; 4], [0; 3]);
+        let rows = with_job!(
+            search, self, &self.forecast, budget, &mut marks, &mut list.slots, &mut list.chunks, &mut list.layers, &mut list.bytes,
+            &mut counts, &mut walk
+        )?;
+        marks.truncate(usize::from(self.chunks));
+        Ok(Found { plan: Plan { marks, list: list.cut(rows), counts }, steps: walk[0], ended: walk[1] == 1, shortfall: walk[2] as u16 })
+    }
+
+    /// Judges a fetch list with its marks: 5, 6, 18, 7, 8.
+    pub fn check(&self, marks: &[u8], list: &FetchList) -> Result<Verdict, Refusal> {
+        let n = with_job!(check, self, &self.forecast, marks, &list.slots, &list.chunks, &list.layers, &list.bytes)?;
+        Ok(Verdict::of(n))
+    }
+
+    /// The second call, for lists made afresh at slot p, on the joined forecast: 5, 6, 18, 7, 8, 21.
+    pub fn check_from(&self, p: u16, marks: &[u8], list: &FetchList) -> Result<Verdict, Refusal> {
+        let n = with_job!(check_from, self, &self.forecast, p, marks, &list.slots, &list.chunks, &list.layers, &list.bytes)?;
+        Ok(Verdict::of(n))
+    }
+
+    /// The report of the job's plan: 5, 6, 18, 7.
+    pub fn report(&self) -> Result<String, Refusal> {
+        let mut out = vec![0; REPORT];
+        let n = with_job!(report, self, &self.forecast, &mut out)?;
+        out.truncate(n);
+        Ok(String::from_utf8(out).expect("a report is words, digits and line feeds"))
+    }
+
+    /// The reason under each layer that the job's plan doesn't carry: 5, 6, 18, 7.
+    pub fn reasons(&self) -> Result<String, Refusal> {
+        let mut out = vec![0; REASONS];
+        let n = with_job!(reasons, self, &self.forecast, &mut out)?;
+        out.truncate(n);
+        Ok(String::from_utf8(out).expect("reasons are words, digits and line feeds"))
+    }
+
+    /// Takes a passing list's bytes off the forecast: 5, 6, 18, 7, 8, 19.
+    pub fn book(&mut self, marks: &[u8], list: &FetchList) -> Result<(), Refusal> {
+        with_job!(book, self, &mut self.forecast, marks, &list.slots, &list.chunks, &list.layers, &list.bytes).map(|_| ())
+    }
+
+    /// Adds a list's bytes back to the forecast: 5, 6, 18, 7, 8, 20.
+    pub fn release(&mut self, list: &FetchList) -> Result<(), Refusal> {
+        with_job!(release, self, &mut self.forecast, &list.slots, &list.chunks, &list.layers, &list.bytes).map(|_| ())
+    }
+
+    /// The smallest start delay for which the plan skips no base, whatever the job's own is: 5 (C, L and the limit alone), 6, 18, 7, 16.
+    /// The forecast may have from 1 to 3,600 slots.
+    pub fn wait(&self) -> Result<u16, Refusal> {
+        let Columns(chunks, layers, bytes) = columns(&self.overrides);
+        let answer = ffi::wait(self.chunks, self.span, self.limit, &self.sizes, &chunks, &layers, &bytes, &self.forecast);
+        Refusal::settle(answer).map(|s| s as u16)
+    }
+}

@@ -1,0 +1,114 @@
+//! The layered film planner of the winch desk, proved in Rattle, for callers in Rust. A call answers a value or a `Refusal`, which carries
+//! document 01's or 02's number and sentence; nothing is changed by a call that refuses. `include/film_planner.h` says what every call
+//! needs and answers; here buffers are of the largest size a result can have, so that refusal 11 never arises.
+#![deny(unsafe_code)]
+
+mod ffi;
+mod job;
+mod list;
+mod meter;
+mod refusal;
+mod trace;
+
+use std::cmp::Ordering;
+
+pub use job::{Job, Override};
+pub use list::{FetchList, Row};
+pub use meter::Meter;
+pub use refusal::Refusal;
+pub use trace::{read_trace, write_trace};
+
+/// The largest results: layers, slots, marks, rows, SZs, bytes of any file, rows of any plan
+/// file, bytes of a report and of the reasons.
+pub const LAYERS: usize = 4;
+pub const SLOTS: usize = 3600;
+pub const MARKS: usize = 500;
+pub const ROWS: usize = 5599;
+pub const SZS: usize = 1996;
+pub const FILE: usize = 65536;
+pub const FILE_ROWS: usize = 5957;
+pub const REPORT: usize = 7633;
+pub const REASONS: usize = 94000;
+
+/// A plan: a mark byte a chunk, whose bit n says that layer n is carried; its fetch list; how many chunks carry each layer.
+#[derive(Clone, Debug, PartialEq, Eq)]
+pub struct Plan {
+    pub marks: Vec<u8>,
+    pub list: FetchList,
+    pub counts: [u16; 4],
+}
+
+/// What a search within a budget found: the plan over the best set of bases met, the steps taken, whether the walk ended, and by how many
+/// bases at most another list in playing order can be better.
+#[derive(Clone, Debug, PartialEq, Eq)]
+pub struct Found {
+    pub plan: Plan,
+    pub steps: u32,
+    pub ended: bool,
+    pub shortfall: u16,
+}
+
+/// What the checker says of a list: it passes, or the lowest rule it breaks.
+#[derive(Clone, Copy, Debug, PartialEq, Eq, Hash)]
+pub enum Verdict {
+    Passes,
+    Breaks(Rule),
+}
+
+/// Rules 1 to 7 of document 01.
+#[derive(Clone, Copy, Debug, PartialEq, Eq, PartialOrd, Ord, Hash)]
+pub enum Rule {
+    /// Slot 1 to d(C), chunk 1 to C, layer below the layer count, bytes at least 1.
+    InRange = 1,
+    /// Each layer of each chunk sums to 0 or its full size.
+    WholeLayers,
+    /// A carried layer has the layer below carried.
+    LowerCarried,
+    /// A slot's rows sum to at most the forecast of the slot.
+    WithinForecast,
+    /// No row is later than its chunk's due slot.
+    OnTime,
+    /// At the end of each slot at most H chunks are held.
+    FewHeld,
+    /// The marks of the plan say the layers carried.
+    MarksSay,
+}
+
+impl Verdict {
+    fn of(n: usize) -> Verdict {
+        use Rule::*;
+        match n {
+            0 => Verdict::Passes,
+            _ => Verdict::Breaks([InRange, WholeLayers, LowerCarried, WithinForecast, OnTime, FewHeld, MarksSay][n - 1]),
+        }
+    }
+
+    /// Document 01's number.
+    pub fn number(self) -> u8 {
+        match self {
+            Verdict::Passes => 0,
+            Verdict::Breaks(rule) => rule as u8,
+        }
+    }
+}
+
+/// Two plans' counts, entry by entry from the base.
+pub fn compare(a: [u16; 4], b: [u16; 4]) -> Ordering {
+    match ffi::compare(&a, &b) {
+        0 => Ordering::Equal,
+        1 => Ordering::Less,
+        _ => Ordering::Greater,
+    }
+}
+
+/// How many marks have bit n; 0 for n above 7.
+pub fn count_marks(marks: &[u8], n: u8) -> u64 {
+    let mut count = [0];
+    Refusal::settle(ffi::count_marks(marks, n, &mut count)).expect("one number has room for a count");
+    count[0]
+}
+
+/// How many of a word's eight bytes have bit n; 0 for n above 7.
+pub fn count_word(word: u64, n: u8) -> u8 {
+    ffi::count_word(word, n) as u8
+}
