@@ -46,7 +46,7 @@ enum {
     FILM_COUNTS = 4,           /* counts of a plan */
     FILM_WALK = 3,             /* steps, ended, shortfall of a search */
     FILM_FILE = 65536,         /* bytes of any file that is read or written */
-    FILM_FILE_ROWS = 5957,     /* rows of any plan file that is read: (65,536 - 2 - 5) / 11 */
+    FILM_FILE_ROWS = 5957,     /* rows of any plan file that is read: 11 bytes each */
     FILM_JOB_FILE = 46800,     /* bytes of a job file as written */
     FILM_PLAN_FILE = 64091,    /* bytes of the file of a plan of at most FILM_ROWS rows */
     FILM_REPORT = 7633,        /* bytes of a report */
@@ -55,35 +55,39 @@ enum {
     FILM_SAMPLES = 10          /* cells of a meter */
 };
 
-/* ---- refusals: the number, and the sentence of document 01 (1 to 13) or 02 (14 to 22) */
+/* ---- refusals: the number, its name (FILM_REFUSED_ENDS_EARLY and so on), and the sentence of document 01 (1 to 13) or 02 (14 to 22) */
+
+#define FILM_REFUSALS(X) \
+    X(1, ENDS_EARLY, "A file ends before a mark, within a record or without `EN`.") \
+    X(2, UNKNOWN_MARK, "Unknown mark for this kind of file.") \
+    X(3, BYTES_AFTER, "Bytes after `EN`.") \
+    X(4, PROGRAMMES, "A second `PG`, or none by `EN`.") \
+    X(5, PROGRAMME_FIELD, "A programme field out of range, or d(C) above 3,600.") \
+    X(6, LAYER_SIZE, "A layer size out of range, a fifth layer, or no layer by `EN`.") \
+    X(7, FORECAST, "A run of 0 slots, runs beyond 3,600 slots, bytes out of range, or a slot total other than d(C).") \
+    X(8, NOT_WHOLE, "`KP` records not for 1 to C in turn, before every `FT`, and complete by `EN`; in a direct call marks that aren't " \
+                    "one byte a chunk or a row not handed whole.") \
+    X(9, LONG_FILE, "A file above 65,536 bytes, read or to be written.") \
+    X(10, SAMPLE, "A sample's slot or bytes out of range, handed or kept; a meter with more than ten samples or slots not rising.") \
+    X(11, SHORT_BUFFER, "A lent buffer is shorter than the whole result, after all input refusals.") \
+    X(12, NO_SAMPLES, "A forecast from a meter without samples.") \
+    X(13, LATE_SAMPLE, "A sample whose slot is not above the last one's, after 10.") \
+    X(14, TRACE_LINE, "A line that isn't 1 to 7 digits, lacks its line feed, or has a time below the line before.") \
+    X(15, TRACE_SLOT, "A slot above 16,777,216 bytes, or a slot not a multiple of 1,500 in writing.") \
+    X(16, NO_WAIT, "No s within the forecast works, a forecast too short for s = 1 included.") \
+    X(17, SEQUENCE, "A record out of sequence or a run of the same bytes as the one before.") \
+    X(18, SZ, "An `SZ` naming chunk 1, or a chunk or layer that isn't in the job, not rising, or of size out of range or equal to the " \
+              "layer's own; in a direct call also an `SZ` not handed whole.") \
+    X(19, NOT_PASSING, "Booking a list whose verdict isn't 0.") \
+    X(20, RELEASE, "Releasing a row for a slot that isn't there or beyond 16,777,216 bytes in a slot.") \
+    X(21, SLOT, "p not from 1 to d(C), or in planning a handed row not before p.") \
+    X(22, FETCHED, "Handed rows that break rule 1, 3, 4, 5 or 6, with rule 2 only where a sum exceeds its size, or that begin a chunk " \
+                   "in an earlier slot than a handed one that plays before it.")
 
 enum {
-    FILM_ENDS_EARLY = 1,     /* A file ends before a mark, within a record or without `EN`. */
-    FILM_UNKNOWN_MARK = 2,   /* Unknown mark for this kind of file. */
-    FILM_BYTES_AFTER = 3,    /* Bytes after `EN`. */
-    FILM_PROGRAMMES = 4,     /* A second `PG`, or none by `EN`. */
-    FILM_PROGRAMME_FIELD = 5,/* A programme field out of range, or d(C) above 3,600. */
-    FILM_LAYER_SIZE = 6,     /* A layer size out of range, a fifth layer, or no layer by `EN`. */
-    FILM_FORECAST = 7,       /* A run of 0 slots, runs beyond 3,600 slots, bytes out of range, or a slot total other than d(C). */
-    FILM_NOT_WHOLE = 8,      /* `KP` records not for 1 to C in turn, before every `FT`, and complete by `EN`; in a direct call marks that
-                              * aren't one byte a chunk or a row not handed whole. */
-    FILM_LONG_FILE = 9,      /* A file above 65,536 bytes, read or to be written. */
-    FILM_SAMPLE = 10,        /* A sample's slot or bytes out of range, handed or kept; a meter with more than ten samples or slots not
-                              * rising. */
-    FILM_SHORT_BUFFER = 11,  /* A lent buffer is shorter than the whole result, after all input refusals. */
-    FILM_NO_SAMPLES = 12,    /* A forecast from a meter without samples. */
-    FILM_LATE_SAMPLE = 13,   /* A sample whose slot is not above the last one's, after 10. */
-    FILM_TRACE_LINE = 14,    /* A line that isn't 1 to 7 digits, lacks its line feed, or has a time below the line before. */
-    FILM_TRACE_SLOT = 15,    /* A slot above 16,777,216 bytes, or a slot not a multiple of 1,500 in writing. */
-    FILM_NO_WAIT = 16,       /* No s within the forecast works, a forecast too short for s = 1 included. */
-    FILM_SEQUENCE = 17,      /* A record out of sequence or a run of the same bytes as the one before. */
-    FILM_SZ = 18,            /* An `SZ` naming chunk 1, or a chunk or layer that isn't in the job, not rising, or of size out of range or
-                              * equal to the layer's own; in a direct call also an `SZ` not handed whole. */
-    FILM_NOT_PASSING = 19,   /* Booking a list whose verdict isn't 0. */
-    FILM_RELEASE = 20,       /* Releasing a row for a slot that isn't there or beyond 16,777,216 bytes in a slot. */
-    FILM_SLOT = 21,          /* p not from 1 to d(C), or in planning a handed row not before p. */
-    FILM_FETCHED = 22        /* Handed rows that break rule 1, 3, 4, 5 or 6, with rule 2 only where a sum exceeds its size, or that begin a
-                              * chunk in an earlier slot than a handed one that plays before it. */
+#define FILM_NAMED(number, name, sentence) FILM_REFUSED_##name = number,
+    FILM_REFUSALS(FILM_NAMED)
+#undef FILM_NAMED
 };
 
 /* The refusal's number, or 0 for a result. */
@@ -95,35 +99,13 @@ static inline uint32_t film_refused(uint64_t answer)
 /* The sentence of a refusal, or of 0. */
 static inline const char *film_sentence(uint32_t refusal)
 {
-    static const char *const sentences[] = {
-        "Not refused.",
-        "A file ends before a mark, within a record or without `EN`.",
-        "Unknown mark for this kind of file.",
-        "Bytes after `EN`.",
-        "A second `PG`, or none by `EN`.",
-        "A programme field out of range, or d(C) above 3,600.",
-        "A layer size out of range, a fifth layer, or no layer by `EN`.",
-        "A run of 0 slots, runs beyond 3,600 slots, bytes out of range, or a slot total other than d(C).",
-        "`KP` records not for 1 to C in turn, before every `FT`, and complete by `EN`; in a direct call marks that aren't one byte a chunk or "
-        "a row not handed whole.",
-        "A file above 65,536 bytes, read or to be written.",
-        "A sample's slot or bytes out of range, handed or kept; a meter with more than ten samples or slots not rising.",
-        "A lent buffer is shorter than the whole result, after all input refusals.",
-        "A forecast from a meter without samples.",
-        "A sample whose slot is not above the last one's, after 10.",
-        "A line that isn't 1 to 7 digits, lacks its line feed, or has a time below the line before.",
-        "A slot above 16,777,216 bytes, or a slot not a multiple of 1,500 in writing.",
-        "No s within the forecast works, a forecast too short for s = 1 included.",
-        "A record out of sequence or a run of the same bytes as the one before.",
-        "An `SZ` naming chunk 1, or a chunk or layer that isn't in the job, not rising, or of size out of range or equal to the layer's own; "
-        "in a direct call also an `SZ` not handed whole.",
-        "Booking a list whose verdict isn't 0.",
-        "Releasing a row for a slot that isn't there or beyond 16,777,216 bytes in a slot.",
-        "p not from 1 to d(C), or in planning a handed row not before p.",
-        "Handed rows that break rule 1, 3, 4, 5 or 6, with rule 2 only where a sum exceeds its size, or that begin a chunk in an earlier slot "
-        "than a handed one that plays before it.",
-    };
-    return refusal < sizeof sentences / sizeof *sentences ? sentences[refusal] : "No refusal has this number.";
+    switch (refusal) {
+    case 0: return "Not refused.";
+#define FILM_SAID(number, name, sentence) case number: return sentence;
+    FILM_REFUSALS(FILM_SAID)
+#undef FILM_SAID
+    default: return "No refusal has this number.";
+    }
 }
 
 /* ---- types, for callers who want them: no call asks for one. The macros spread them as arguments. */

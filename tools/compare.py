@@ -12,6 +12,7 @@ import ctypes
 import json
 import os
 import random
+import re
 import subprocess
 import sys
 import time
@@ -55,6 +56,25 @@ CALLS = {
 }
 
 
+def declared():
+    """The arguments of each call as include/film_planner.h declares them, in the letters of CALLS; storage is lent room there."""
+    with open("include/film_planner.h") as f:
+        found = re.findall(r"^uint64_t (film_\w+)\((.*?)\);", f.read(), re.M | re.S)
+    letters = {"uint8_t": "b", "uint16_t": "h", "uint32_t": "w", "uint64_t": "q", "size_t": "z"}
+    slices = {"uint8_t": "B", "uint16_t": "H", "uint32_t": "I", "uint64_t": "Q"}
+    calls = {}
+    for name, args in found:
+        kinds = []
+        for arg in args.split(","):
+            const, kind, star, _ = re.fullmatch(r"\s*(const )?(\w+) (\*?)(\w+)\s*", arg).groups()
+            if star:
+                kinds.append(slices[kind] + ("" if const else "!"))
+            elif not arg.endswith("_len"):
+                kinds.append(letters[kind])
+        calls[name] = " ".join(kinds)
+    return calls
+
+
 # ---- the library
 
 def build(out="target/kit/libfilm.so"):
@@ -70,6 +90,7 @@ class Library:
     ROOM = 1 << 20
 
     def __init__(self, path):
+        assert declared() == {name: kinds.replace("?", "!") for name, kinds in CALLS.items()}, "the header declares other calls"
         self.calls = {}
         library = ctypes.CDLL(os.path.abspath(path))
         for name, kinds in CALLS.items():
@@ -632,7 +653,6 @@ class Cases:
             lines[i], lines[k] = lines[k], lines[i]
         data = bytearray(b"".join(x + b"\n" for x in lines))
         if self.odds(0.2):
-            data[r.randrange(len(data) + 1):][:0] = b""
             at = r.randrange(len(data) + 1)
             data[at:at + r.randrange(2)] = r.choice((b"", b"\n", b"\r\n", b" ", b"-", b"0", b"00000000", b"a", b"\xff", b"\0"))
         return [list(data), slots, None]

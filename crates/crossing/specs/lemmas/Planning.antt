@@ -28,7 +28,7 @@ use Rattle.schedule.specs.Plan.{plan}
 use Rattle.schedule.specs.Statement.{countsOf, marksOf}
 use Rattle.crossing.specs.Convention.{answered}
 use Rattle.crossing.specs.Plans.{PlanHanded, Slices, slices, slicesAfter, withCounts}
-use Rattle.crossing.specs.lemmas.Numbers.{countsHandedBy, plan-told, planNumber, refusedNumber, through}
+use Rattle.crossing.specs.lemmas.Numbers.{countsHandedBy, is-answered, planNumber, refusedNumber}
 use Rattle.crossing.specs.lemmas.Slices.{eleven-first, eleven-once, eleven-some, no-more, refused-keeps}
 
 -- The number of a plan made afresh without room.
@@ -63,7 +63,7 @@ pub whole-handed : (W refused : ℕ) (marks : List ℕ) (rows : List Row) (count
     → PlanHanded W marks rows counts (slices m s c l b k) r (slices m' s' c' l' b' k')
 whole-handed W refused marks rows counts zeros m s c l b k m' s' c' l' b' k' answer four r w is fours em es ec el eb ek er =
     record {
-      number = plan-told answer r refused (length rows) er is ∙ ap (λ (n : ℕ). answered n (length rows)) (sym w);
+      number = is-answered planNumber (Rows (length rows)) (Refused refused) answer r refused (length rows) er is refl refl ∙ ap (λ (n : ℕ). answered n (length rows)) (sym w);
       slices-are =
           same-slices em es ec el eb (ek ∙ ap₂ (λ (a : Answer) (f : List ℕ). countsHandedBy a f k) is fours ∙ counts-after (eqb refused 0) (length rows) refused counts zeros k)
           ∙ ap (λ (n : ℕ). slicesAfter n marks rows counts (slices m s c l b k)) (sym w);
@@ -149,7 +149,7 @@ replan-refused h o m' s' c' l' b' p r made er =
     let refused : ℕ = refusalOn h o (lentOf [] [] [] [] []) in
     let is = no-marks h o [] [] [] [] in
     let some : refused ≡ 0 → ⊥ = λ z. eleven-some (inputRefusal h o) (sym is ∙ z) in
-    plan-told (p .answer) r refused (length (rowsOn h o)) er (made .answer)
+    is-answered planNumber (Rows (length (rowsOn h o))) (Refused refused) (p .answer) r refused (length (rowsOn h o)) er (made .answer) refl refl
     ∙ ap (λ (t : Bool). cond t (length (rowsOn h o)) (refusedNumber refused)) (ne-eqb refused 0 some)
     ∙ ap refusedNumber is
 
