@@ -111,7 +111,7 @@ static inline const char *film_sentence(uint32_t refusal)
 
 /* ---- types, for callers who want them: no call asks for one. The macros spread them as arguments. */
 
-/* A job as handed: FILM_JOB(j) stands for its arguments in every call that takes one, FILM_FILM(j) in film_wait. */
+/* A job as handed: FILM_JOB(j) stands for its arguments in every call that takes one, FILM_WAIT(j) in film_wait. */
 struct film_job {
     uint16_t chunks, span, delay, limit; /* C 1 to 500, L 1 to 60, s 1 to 3,600, and the limit */
     const uint32_t *sizes;               /* 1 to 4, each 1 to 16,777,216 */
@@ -142,7 +142,7 @@ struct film_meter {
 #define FILM_SIZES(j) \
     (j).sizes, (j).layers, (j).size_chunks, (j).szs, (j).size_layers, (j).szs, (j).size_bytes, (j).szs, (j).forecast, (j).slots
 #define FILM_JOB(j) (j).chunks, (j).span, (j).delay, (j).limit, FILM_SIZES(j)
-#define FILM_FILM(j) (j).chunks, (j).span, (j).limit, FILM_SIZES(j)
+#define FILM_WAIT(j) (j).chunks, (j).span, (j).limit, FILM_SIZES(j)
 #define FILM_LIST(l) (l).slots, (l).rows, (l).chunks, (l).rows, (l).layers, (l).rows, (l).bytes, (l).rows
 #define FILM_METER(m) (m).slots, FILM_SAMPLES, (m).bytes, FILM_SAMPLES, (m).kept, 1
 
@@ -301,8 +301,8 @@ uint64_t film_replan(
 
 /* Searches the best set of bases within a budget of steps, and plans over it: each chunk from the last is tried kept and then skipped, each
  * try is a step. Answers the number of rows, at most FILM_ROWS; the set is bit 0 of the marks. Lent: the marks, the rows, the four counts,
- * and three numbers of the walk: the steps taken, 1 if it ended, else 0, and the shortfall, by which no passing list in playing order can
- * carry more bases; 0 if the walk ended. Refuses: 5, 6, 18, 7, 11. */
+ * and three numbers of the walk: the steps taken, 1 if it ended, else 0, and the shortfall: how many bases more a passing list in playing
+ * order can carry at the most, 0 if the walk ended. Refuses: 5, 6, 18, 7, 11. */
 uint64_t film_search(
     uint16_t chunks, uint16_t span, uint16_t delay, uint16_t limit,
     const uint32_t *sizes, size_t sizes_len,

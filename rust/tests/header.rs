@@ -62,13 +62,17 @@ fn every_call_is_declared_as_in_the_header() {
 fn constants_are_the_headers() {
     for (name, value) in film_planner::LARGEST {
         let line = format!("FILM_{name} = {value}");
-        assert!(HEADER.lines().any(|l| l.trim().split([',', ' ']).collect::<Vec<_>>().join(" ").starts_with(&format!("{line} "))), "{line}");
+        assert!(
+            HEADER.lines().any(|l| l.trim().split([',', ' ']).collect::<Vec<_>>().join(" ").starts_with(&format!("{line} "))),
+            "{line}"
+        );
     }
 }
 
 #[test]
 fn refusals_are_the_headers() {
-    let list = between(HEADER, "#define FILM_REFUSALS(X) \\\n", "\n\n").next().expect("the header lists the refusals").replace("\\\n", "\n");
+    let list =
+        between(HEADER, "#define FILM_REFUSALS(X) \\\n", "\n\n").next().expect("the header lists the refusals").replace("\\\n", "\n");
     let in_header: Vec<(u8, String, String)> = between(&list, "    X(", "\")")
         .map(|entry| {
             let (number, rest) = entry.split_once(", ").expect("a number");
@@ -78,7 +82,8 @@ fn refusals_are_the_headers() {
             (number.parse().expect("a number"), name.to_string(), sentence)
         })
         .collect();
-    let in_rust: Vec<(u8, String, String)> = Refusal::ALL.iter().map(|r| (r.number(), shouted(&format!("{r:?}")), r.sentence().to_string())).collect();
+    let in_rust: Vec<(u8, String, String)> =
+        Refusal::ALL.iter().map(|r| (r.number(), shouted(&format!("{r:?}")), r.sentence().to_string())).collect();
     assert_eq!(in_rust, in_header);
 }
 

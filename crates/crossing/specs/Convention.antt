@@ -2,8 +2,8 @@
 -- the refusal's number more. Whatever else a call hands over stands in lent slices, the result and then the old contents; on a refusal they
 -- keep their bytes (basics, Lent).
 use Prim.Native.Nat.{ℕ, _+_, _-_, _≤_, _<_}
-use mathlib.Core.Path.{_≡_, sym}
-use mathlib.Core.Bool.{Bool, cond}
+use mathlib.Core.Path.{_≡_}
+use mathlib.Core.Bool.{cond}
 use mathlib.Core.List.{List}
 use native.Mathlib.Omega.{arith}
 use lib.Dec.{eqb, eqb→eq}

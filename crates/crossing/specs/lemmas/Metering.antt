@@ -5,7 +5,7 @@ use mathlib.Core.Bool.{Bool, true, false, cond, not, _&&_}
 use mathlib.Core.List.{List, [], _∷_}
 use mathlib.Core.Logic.{⊎-elim}
 use native.Mathlib.Omega.{arith}
-use lib.Dec.{eqb, leb, ltb}
+use lib.Dec.{leb}
 use lib.ListN.{length}
 use borrow.Author.Tests.{lt-ltb, ne-eqb}
 use Rattle.basics.specs.Lent.{lentAfter, over}
@@ -18,7 +18,7 @@ use Rattle.meter.specs.Forecast.{answerOf, bytesOf, forecastOf, forecastRefusal
 use Rattle.meter.specs.Meter.{empty, inRange, lateRefusal, meterRefusal, sample, sampleRefusal, samplesOf, taken}
 use Rattle.meter.specs.lemmas.Order.{in-range-iff}
 use Rattle.crossing.specs.Convention.{answered}
-use Rattle.crossing.specs.Meters.{Begun, Sampled, Storage, cellsRefusal, meanNumber, meanRefusal, meterIn, sampleTaken, storage, storedIn}
+use Rattle.crossing.specs.Meters.{Begun, Sampled, Storage, cellsRefusal, meanNumber, meterIn, sampleTaken, storage, storedIn}
 use Rattle.crossing.specs.lemmas.Numbers.{forecastNumber, is-answered, refusedNumber}
 use Rattle.crossing.specs.lemmas.Slices.{eleven-some, first-twice, refused-keeps, test-false, test-true}
 

@@ -1,13 +1,13 @@
 -- Lemmas. What is written: its lines, its times, and how many of them a slot has. Assumes nothing.
 use Prim.Native.Nat.{ℕ, zero, suc, _+_, _*_, _-_, _/_, _≤_, _<_}
-use mathlib.Core.Path.{_≡_, refl, ap}
+use mathlib.Core.Path.{_≡_, refl}
 use mathlib.Core.Bool.{Bool, true, false, cond, and-false}
 use mathlib.Core.List.{List, [], _∷_, _++_, map}
 use mathlib.Core.Logic.{_↔_}
 use native.Mathlib.Omega.{arith}
 use borrow.Author.Tests.{le-leb, lt-leb, lt-ltb, le-ltb}
 use lib.ListN.{length, length-append, length-replicate, getD, replicate}
-use lib.Dec.{T, leb, ltb}
+use lib.Dec.{T, leb}
 use Rattle.basics.specs.Tests.{All}
 use Rattle.basics.specs.lemmas.Tests.{all-append, all-map, by-cond, tests}
 use Rattle.job.specs.Job.{Within}
