@@ -254,7 +254,7 @@ uint64_t film_check_from(
 /* ---- plans */
 
 /* Plans a job: the layers that documents 01 and 02 decide to carry, and the plan's own list by slot, chunk, layer. Answers the number of
- * rows, at most FILM_ROWS. Lent: the marks, the rows, the four counts. Refuses: 5, 6, 18, 7, 11. */
+ * rows, at most FILM_ROWS; with the marks they pass film_check. Lent: the marks, the rows, the four counts. Refuses: 5, 6, 18, 7, 11. */
 uint64_t film_plan(
     uint16_t chunks, uint16_t span, uint16_t delay, uint16_t limit,
     const uint32_t *sizes, size_t sizes_len,
@@ -277,7 +277,7 @@ uint64_t film_compare(const uint16_t *counts, size_t counts_len, const uint16_t 
 /* Plans afresh at slot p (`from`), during the act: the rows fetched before p, in any order, and the forecast from p on, d(C) - p + 1 slots
  * (`onward`); the job's own forecast says the slots before p. Layers whole before p are carried, chunks due before p are settled by what
  * they have, the others as in document 01, bases too, over lists that begin with the rows fetched. Answers the number of rows from p on, at
- * most FILM_ROWS; with the rows fetched they pass film_check_from. Lent: the marks, the rows from p on, the four counts.
+ * most FILM_ROWS; with the rows fetched before them they pass film_check_from. Lent: the marks, the rows from p on, the four counts.
  * Refuses: 5, 6, 18, 7, 8, 21, 7 (the forecast from p on), 22, 11. */
 uint64_t film_replan(
     uint16_t chunks, uint16_t span, uint16_t delay, uint16_t limit,
@@ -300,7 +300,7 @@ uint64_t film_replan(
     uint16_t *counts, size_t counts_len);
 
 /* Searches the best set of bases within a budget of steps, and plans over it: each chunk from the last is tried kept and then skipped, each
- * try is a step. Answers the number of rows, at most FILM_ROWS; the set is bit 0 of the marks. Lent: the marks, the rows, the four counts,
+ * try is a step. Answers the number of rows, at most FILM_ROWS; with the marks, whose bit 0 is the set, they pass film_check. Lent: the marks, the rows, the four counts,
  * and three numbers of the walk: the steps taken, 1 if it ended, else 0, and the shortfall: how many bases more a passing list in playing
  * order can carry at the most, 0 if the walk ended. Refuses: 5, 6, 18, 7, 11. */
 uint64_t film_search(

@@ -5,4 +5,5 @@ pub mod Plans
 pub mod Texts
 pub mod Meters
 pub mod Theorems
+pub mod Desk
 pub mod lemmas

@@ -1,20 +1,18 @@
 -- Theorems. How large the largest results are: the constants of include/film_planner.h, by call. A caller who lends so much never meets 11,
 -- and each result is below 2^32, so that "no result can be mistaken for" a refusal (Convention, never-mistaken).
-use Prim.Native.Nat.{ℕ, _+_, _≤_}
+use Prim.Native.Nat.{ℕ, _≤_}
 use mathlib.Core.Path.{_≡_}
 use mathlib.Core.Bool.{Bool, _&&_}
 use mathlib.Core.List.{List, []}
 use native.Mathlib.Omega.{arith}
-use lib.Dec.{leb, ltb}
+use lib.Dec.{leb}
 use lib.ListN.{length}
 use Rattle.basics.specs.Refusals.{_orElse_, unless}
-use Rattle.basics.specs.lemmas.Lists.{length-upTo}
 use Rattle.basics.specs.lemmas.Refusals.{orElse-iff}
 use Rattle.job.specs.Handed.{HandedJob, handed-iff, jobIn, jobRefusal}
 use Rattle.job.specs.Job.{Accepted, Job, layers}
 use Rattle.job.specs.Uneven.{overrides-few}
 use Rattle.fetch.specs.Handed.{handedRefusal}
-use Rattle.fetch.specs.Rows.{markByte}
 use Rattle.jobrecords.specs.Reader.{Buffers, readRefusal, roomRefusal}
 use Rattle.jobrecords.specs.Refusal.{jobOfFile, refusalOf}
 use Rattle.jobrecords.specs.Theorems.{file-accepted}
@@ -45,6 +43,7 @@ use Rattle.meter.specs.Meter.{samplesOf}
 use Rattle.meter.specs.Promises.{forecast-iff, forecast-says}
 use Rattle.crossing.specs.Files.{jobReadRefusal}
 use Rattle.crossing.specs.Meters.{Storage, cellsRefusal, meanRefusal, meterIn}
+use Rattle.crossing.specs.lemmas.Largest.{marks-long}
 pub use Rattle.crossing.specs.lemmas.Largest.{verdict-few, verdict-from-few, word-few}
 pub use Rattle.planfile.specs.Theorems.{rows-few}
 pub use Rattle.wait.specs.Theorems.{wait-few}
@@ -78,9 +77,7 @@ plan-written h s out e = accepts h s out e .fits
 
 -- FILM_MARKS.
 pub marks-few : (j : Job) (choice : ℕ → ℕ) → Accepted j → length (marksOf j choice) ≤ 500
-marks-few j choice a =
-    let e : length (marksOf j choice) ≡ j .programme .chunks = length-upTo (λ k. markByte (λ n. ltb n (choice (k + 1))) (layers j)) (j .programme .chunks) in
-    omega (arith, e, a .chunks-in .high)
+marks-few j choice a = omega (arith, marks-long j choice, a .chunks-in .high)
 
 -- FILM_ROWS.
 pub rows-planned : (h : HandedJob) (l : Lent) → planRefusal h l ≡ 0 → length (planRows (jobIn h)) ≤ 5599
