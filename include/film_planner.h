@@ -1,12 +1,12 @@
 /* The layered film planner of the winch desk, for callers in C.
  *
- * This header says all there is to know to link the proved library. Build the archive by `tools/archive` (`rt staticlib export`), which writes
- * target/staticlib/libexport.a, and link it after your own files; nothing else is needed. Every call below is proved to answer what is
- * said here, for every input: no call has a precondition on the numbers and slices it is handed, none keeps anything, none allocates, and
- * each ends. What the caller owes is what C owes any function: a pointer with at least so many elements behind it as its length says,
- * aligned for its type and not null (a slice of length 0 may point anywhere but to null), and no two slices of one call that overlap, if
- * one of them is lent for writing. The calls may run on several threads at once; none takes more than 256 KiB of stack (bench/run_stack
- * measures it: film_reasons takes the most, 182 KiB).
+ * This header says all there is to know to link the proved library. Build the archive by `tools/archive` (`rt staticlib export`), which
+ * writes target/staticlib/libexport.a, and link it after your own files; nothing else is needed. Every call below is proved to answer what
+ * is said here, for every input, in its source; the compiler that makes the archive is trusted. No call has a precondition on the numbers
+ * and slices it is handed, none keeps anything, none allocates, and each ends. What the caller owes is what C owes any function: a pointer
+ * with at least so many elements behind it as its length says, aligned for its type and not null (a slice of length 0 may point anywhere
+ * but to null), and no two slices of one call that overlap, if one of them is lent for writing. The calls may run on several threads at
+ * once; none takes more than 256 KiB of stack (bench/run_stack measures it: film_reasons takes the most, 182 KiB).
  *
  * ANSWERS. Every call answers one 64-bit number:
  *
@@ -299,10 +299,10 @@ uint64_t film_replan(
     uint32_t *row_bytes, size_t row_bytes_len,
     uint16_t *counts, size_t counts_len);
 
-/* Searches the best set of bases within a budget of steps, and plans over it: each chunk from the last is tried kept and then skipped, each
- * try is a step. Answers the number of rows, at most FILM_ROWS; with the marks, whose bit 0 is the set, they pass film_check. Lent: the marks, the rows, the four counts,
- * and three numbers of the walk: the steps taken, 1 if it ended, else 0, and the shortfall: how many bases more a passing list in playing
- * order can carry at the most, 0 if the walk ended. Refuses: 5, 6, 18, 7, 11. */
+/* Searches the best set of bases within a budget of steps, and plans over it: each chunk from the last is tried kept and then skipped,
+ * each try is a step. Answers the number of rows, at most FILM_ROWS; with the marks, whose bit 0 is the set, they pass film_check. Lent:
+ * the marks, the rows, the four counts, and three numbers of the walk: the steps taken, 1 if it ended, else 0, and the shortfall: how many
+ * bases more a passing list in playing order can carry at the most, 0 if the walk ended. Refuses: 5, 6, 18, 7, 11. */
 uint64_t film_search(
     uint16_t chunks, uint16_t span, uint16_t delay, uint16_t limit,
     const uint32_t *sizes, size_t sizes_len,
