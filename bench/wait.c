@@ -38,7 +38,7 @@ size_t plans(const struct film *w)
         for (int i = 0; i < 500; i++) all &= out.marks[i];
         if (all) return s;
     }
-    return ((size_t)1 << 32) + FILM_NO_WAIT;
+    return ((size_t)1 << 32) + FILM_REFUSED_NO_WAIT;
 }
 
 int main(int argc, char **argv)

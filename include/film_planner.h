@@ -1,11 +1,12 @@
 /* The layered film planner of the winch desk, for callers in C.
  *
- * This header says all there is to know to link the proved library. Build the archive by `rt staticlib export`, which writes
- * target/staticlib/libexport.a, and link it after your own files; nothing else is needed. Every call below is proved to answer what is
- * said here, for every input: no call has a precondition on the numbers and slices it is handed, none keeps anything, none allocates, and
- * each ends. What the caller owes is what C owes any function: a pointer with at least so many elements behind it as its length says,
- * aligned for its type and not null (a slice of length 0 may point anywhere but to null), and no two slices of one call that overlap, if
- * one of them is lent for writing. The calls may run on several threads at once.
+ * This header says all there is to know to link the proved library. Build the archive by `tools/archive` (`rt staticlib export`), which
+ * writes target/staticlib/libexport.a, and link it after your own files; nothing else is needed. Every call below is proved to answer what
+ * is said here, for every input, in its source; the compiler that makes the archive is trusted. No call has a precondition on the numbers
+ * and slices it is handed, none keeps anything, none allocates, and each ends. What the caller owes is what C owes any function: a pointer
+ * with at least so many elements behind it as its length says, aligned for its type and not null (a slice of length 0 may point anywhere
+ * but to null), and no two slices of one call that overlap, if one of them is lent for writing. The calls may run on several threads at
+ * once; none takes more than 256 KiB of stack (bench/run_stack measures it: film_reasons takes the most, 182 KiB).
  *
  * ANSWERS. Every call answers one 64-bit number:
  *
@@ -46,7 +47,7 @@ enum {
     FILM_COUNTS = 4,           /* counts of a plan */
     FILM_WALK = 3,             /* steps, ended, shortfall of a search */
     FILM_FILE = 65536,         /* bytes of any file that is read or written */
-    FILM_FILE_ROWS = 5957,     /* rows of any plan file that is read: (65,536 - 2 - 5) / 11 */
+    FILM_FILE_ROWS = 5957,     /* rows of any plan file that is read: 11 bytes each */
     FILM_JOB_FILE = 46800,     /* bytes of a job file as written */
     FILM_PLAN_FILE = 64091,    /* bytes of the file of a plan of at most FILM_ROWS rows */
     FILM_REPORT = 7633,        /* bytes of a report */
@@ -55,35 +56,39 @@ enum {
     FILM_SAMPLES = 10          /* cells of a meter */
 };
 
-/* ---- refusals: the number, and the sentence of document 01 (1 to 13) or 02 (14 to 22) */
+/* ---- refusals: the number, its name (FILM_REFUSED_ENDS_EARLY and so on), and the sentence of document 01 (1 to 13) or 02 (14 to 22) */
+
+#define FILM_REFUSALS(X) \
+    X(1, ENDS_EARLY, "A file ends before a mark, within a record or without `EN`.") \
+    X(2, UNKNOWN_MARK, "Unknown mark for this kind of file.") \
+    X(3, BYTES_AFTER, "Bytes after `EN`.") \
+    X(4, PROGRAMMES, "A second `PG`, or none by `EN`.") \
+    X(5, PROGRAMME_FIELD, "A programme field out of range, or d(C) above 3,600.") \
+    X(6, LAYER_SIZE, "A layer size out of range, a fifth layer, or no layer by `EN`.") \
+    X(7, FORECAST, "A run of 0 slots, runs beyond 3,600 slots, bytes out of range, or a slot total other than d(C).") \
+    X(8, NOT_WHOLE, "`KP` records not for 1 to C in turn, before every `FT`, and complete by `EN`; in a direct call marks that aren't " \
+                    "one byte a chunk or a row not handed whole.") \
+    X(9, LONG_FILE, "A file above 65,536 bytes, read or to be written.") \
+    X(10, SAMPLE, "A sample's slot or bytes out of range, handed or kept; a meter with more than ten samples or slots not rising.") \
+    X(11, SHORT_BUFFER, "A lent buffer is shorter than the whole result, after all input refusals.") \
+    X(12, NO_SAMPLES, "A forecast from a meter without samples.") \
+    X(13, LATE_SAMPLE, "A sample whose slot is not above the last one's, after 10.") \
+    X(14, TRACE_LINE, "A line that isn't 1 to 7 digits, lacks its line feed, or has a time below the line before.") \
+    X(15, TRACE_SLOT, "A slot above 16,777,216 bytes, or a slot not a multiple of 1,500 in writing.") \
+    X(16, NO_WAIT, "No s within the forecast works, a forecast too short for s = 1 included.") \
+    X(17, SEQUENCE, "A record out of sequence or a run of the same bytes as the one before.") \
+    X(18, SZ, "An `SZ` naming chunk 1, or a chunk or layer that isn't in the job, not rising, or of size out of range or equal to the " \
+              "layer's own; in a direct call also an `SZ` not handed whole.") \
+    X(19, NOT_PASSING, "Booking a list whose verdict isn't 0.") \
+    X(20, RELEASE, "Releasing a row for a slot that isn't there or beyond 16,777,216 bytes in a slot.") \
+    X(21, SLOT, "p not from 1 to d(C), or in planning a handed row not before p.") \
+    X(22, FETCHED, "Handed rows that break rule 1, 3, 4, 5 or 6, with rule 2 only where a sum exceeds its size, or that begin a chunk " \
+                   "in an earlier slot than a handed one that plays before it.")
 
 enum {
-    FILM_ENDS_EARLY = 1,     /* A file ends before a mark, within a record or without `EN`. */
-    FILM_UNKNOWN_MARK = 2,   /* Unknown mark for this kind of file. */
-    FILM_BYTES_AFTER = 3,    /* Bytes after `EN`. */
-    FILM_PROGRAMMES = 4,     /* A second `PG`, or none by `EN`. */
-    FILM_PROGRAMME_FIELD = 5,/* A programme field out of range, or d(C) above 3,600. */
-    FILM_LAYER_SIZE = 6,     /* A layer size out of range, a fifth layer, or no layer by `EN`. */
-    FILM_FORECAST = 7,       /* A run of 0 slots, runs beyond 3,600 slots, bytes out of range, or a slot total other than d(C). */
-    FILM_NOT_WHOLE = 8,      /* `KP` records not for 1 to C in turn, before every `FT`, and complete by `EN`; in a direct call marks that
-                              * aren't one byte a chunk or a row not handed whole. */
-    FILM_LONG_FILE = 9,      /* A file above 65,536 bytes, read or to be written. */
-    FILM_SAMPLE = 10,        /* A sample's slot or bytes out of range, handed or kept; a meter with more than ten samples or slots not
-                              * rising. */
-    FILM_SHORT_BUFFER = 11,  /* A lent buffer is shorter than the whole result, after all input refusals. */
-    FILM_NO_SAMPLES = 12,    /* A forecast from a meter without samples. */
-    FILM_LATE_SAMPLE = 13,   /* A sample whose slot is not above the last one's, after 10. */
-    FILM_TRACE_LINE = 14,    /* A line that isn't 1 to 7 digits, lacks its line feed, or has a time below the line before. */
-    FILM_TRACE_SLOT = 15,    /* A slot above 16,777,216 bytes, or a slot not a multiple of 1,500 in writing. */
-    FILM_NO_WAIT = 16,       /* No s within the forecast works, a forecast too short for s = 1 included. */
-    FILM_SEQUENCE = 17,      /* A record out of sequence or a run of the same bytes as the one before. */
-    FILM_SZ = 18,            /* An `SZ` naming chunk 1, or a chunk or layer that isn't in the job, not rising, or of size out of range or
-                              * equal to the layer's own; in a direct call also an `SZ` not handed whole. */
-    FILM_NOT_PASSING = 19,   /* Booking a list whose verdict isn't 0. */
-    FILM_RELEASE = 20,       /* Releasing a row for a slot that isn't there or beyond 16,777,216 bytes in a slot. */
-    FILM_SLOT = 21,          /* p not from 1 to d(C), or in planning a handed row not before p. */
-    FILM_FETCHED = 22        /* Handed rows that break rule 1, 3, 4, 5 or 6, with rule 2 only where a sum exceeds its size, or that begin a
-                              * chunk in an earlier slot than a handed one that plays before it. */
+#define FILM_NAMED(number, name, sentence) FILM_REFUSED_##name = number,
+    FILM_REFUSALS(FILM_NAMED)
+#undef FILM_NAMED
 };
 
 /* The refusal's number, or 0 for a result. */
@@ -95,40 +100,18 @@ static inline uint32_t film_refused(uint64_t answer)
 /* The sentence of a refusal, or of 0. */
 static inline const char *film_sentence(uint32_t refusal)
 {
-    static const char *const sentences[] = {
-        "Not refused.",
-        "A file ends before a mark, within a record or without `EN`.",
-        "Unknown mark for this kind of file.",
-        "Bytes after `EN`.",
-        "A second `PG`, or none by `EN`.",
-        "A programme field out of range, or d(C) above 3,600.",
-        "A layer size out of range, a fifth layer, or no layer by `EN`.",
-        "A run of 0 slots, runs beyond 3,600 slots, bytes out of range, or a slot total other than d(C).",
-        "`KP` records not for 1 to C in turn, before every `FT`, and complete by `EN`; in a direct call marks that aren't one byte a chunk or "
-        "a row not handed whole.",
-        "A file above 65,536 bytes, read or to be written.",
-        "A sample's slot or bytes out of range, handed or kept; a meter with more than ten samples or slots not rising.",
-        "A lent buffer is shorter than the whole result, after all input refusals.",
-        "A forecast from a meter without samples.",
-        "A sample whose slot is not above the last one's, after 10.",
-        "A line that isn't 1 to 7 digits, lacks its line feed, or has a time below the line before.",
-        "A slot above 16,777,216 bytes, or a slot not a multiple of 1,500 in writing.",
-        "No s within the forecast works, a forecast too short for s = 1 included.",
-        "A record out of sequence or a run of the same bytes as the one before.",
-        "An `SZ` naming chunk 1, or a chunk or layer that isn't in the job, not rising, or of size out of range or equal to the layer's own; "
-        "in a direct call also an `SZ` not handed whole.",
-        "Booking a list whose verdict isn't 0.",
-        "Releasing a row for a slot that isn't there or beyond 16,777,216 bytes in a slot.",
-        "p not from 1 to d(C), or in planning a handed row not before p.",
-        "Handed rows that break rule 1, 3, 4, 5 or 6, with rule 2 only where a sum exceeds its size, or that begin a chunk in an earlier slot "
-        "than a handed one that plays before it.",
-    };
-    return refusal < sizeof sentences / sizeof *sentences ? sentences[refusal] : "No refusal has this number.";
+    switch (refusal) {
+    case 0: return "Not refused.";
+#define FILM_SAID(number, name, sentence) case number: return sentence;
+    FILM_REFUSALS(FILM_SAID)
+#undef FILM_SAID
+    default: return "No refusal has this number.";
+    }
 }
 
 /* ---- types, for callers who want them: no call asks for one. The macros spread them as arguments. */
 
-/* A job as handed: FILM_JOB(j) stands for its arguments in every call that takes one, FILM_FILM(j) in film_wait. */
+/* A job as handed: FILM_JOB(j) stands for its arguments in every call that takes one, FILM_WAIT(j) in film_wait. */
 struct film_job {
     uint16_t chunks, span, delay, limit; /* C 1 to 500, L 1 to 60, s 1 to 3,600, and the limit */
     const uint32_t *sizes;               /* 1 to 4, each 1 to 16,777,216 */
@@ -159,7 +142,7 @@ struct film_meter {
 #define FILM_SIZES(j) \
     (j).sizes, (j).layers, (j).size_chunks, (j).szs, (j).size_layers, (j).szs, (j).size_bytes, (j).szs, (j).forecast, (j).slots
 #define FILM_JOB(j) (j).chunks, (j).span, (j).delay, (j).limit, FILM_SIZES(j)
-#define FILM_FILM(j) (j).chunks, (j).span, (j).limit, FILM_SIZES(j)
+#define FILM_WAIT(j) (j).chunks, (j).span, (j).limit, FILM_SIZES(j)
 #define FILM_LIST(l) (l).slots, (l).rows, (l).chunks, (l).rows, (l).layers, (l).rows, (l).bytes, (l).rows
 #define FILM_METER(m) (m).slots, FILM_SAMPLES, (m).bytes, FILM_SAMPLES, (m).kept, 1
 
@@ -271,7 +254,7 @@ uint64_t film_check_from(
 /* ---- plans */
 
 /* Plans a job: the layers that documents 01 and 02 decide to carry, and the plan's own list by slot, chunk, layer. Answers the number of
- * rows, at most FILM_ROWS. Lent: the marks, the rows, the four counts. Refuses: 5, 6, 18, 7, 11. */
+ * rows, at most FILM_ROWS; with the marks they pass film_check. Lent: the marks, the rows, the four counts. Refuses: 5, 6, 18, 7, 11. */
 uint64_t film_plan(
     uint16_t chunks, uint16_t span, uint16_t delay, uint16_t limit,
     const uint32_t *sizes, size_t sizes_len,
@@ -294,7 +277,7 @@ uint64_t film_compare(const uint16_t *counts, size_t counts_len, const uint16_t 
 /* Plans afresh at slot p (`from`), during the act: the rows fetched before p, in any order, and the forecast from p on, d(C) - p + 1 slots
  * (`onward`); the job's own forecast says the slots before p. Layers whole before p are carried, chunks due before p are settled by what
  * they have, the others as in document 01, bases too, over lists that begin with the rows fetched. Answers the number of rows from p on, at
- * most FILM_ROWS; with the rows fetched they pass film_check_from. Lent: the marks, the rows from p on, the four counts.
+ * most FILM_ROWS; with the rows fetched before them they pass film_check_from. Lent: the marks, the rows from p on, the four counts.
  * Refuses: 5, 6, 18, 7, 8, 21, 7 (the forecast from p on), 22, 11. */
 uint64_t film_replan(
     uint16_t chunks, uint16_t span, uint16_t delay, uint16_t limit,
@@ -316,10 +299,10 @@ uint64_t film_replan(
     uint32_t *row_bytes, size_t row_bytes_len,
     uint16_t *counts, size_t counts_len);
 
-/* Searches the best set of bases within a budget of steps, and plans over it: each chunk from the last is tried kept and then skipped, each
- * try is a step. Answers the number of rows, at most FILM_ROWS; the set is bit 0 of the marks. Lent: the marks, the rows, the four counts,
- * and three numbers of the walk: the steps taken, 1 if it ended, else 0, and the shortfall, by which no passing list in playing order can
- * carry more bases; 0 if the walk ended. Refuses: 5, 6, 18, 7, 11. */
+/* Searches the best set of bases within a budget of steps, and plans over it: each chunk from the last is tried kept and then skipped,
+ * each try is a step. Answers the number of rows, at most FILM_ROWS; with the marks, whose bit 0 is the set, they pass film_check. Lent:
+ * the marks, the rows, the four counts, and three numbers of the walk: the steps taken, 1 if it ended, else 0, and the shortfall: how many
+ * bases more a passing list in playing order can carry at the most, 0 if the walk ended. Refuses: 5, 6, 18, 7, 11. */
 uint64_t film_search(
     uint16_t chunks, uint16_t span, uint16_t delay, uint16_t limit,
     const uint32_t *sizes, size_t sizes_len,

@@ -1,4 +1,4 @@
-// Links the archive that `rt staticlib export` writes: from the folder that FILM_PLANNER_LIB names, or from the repository's target folder.
+// Links the archive that `tools/archive` makes: from the folder that FILM_PLANNER_LIB names, or from the repository's target folder.
 use std::{env, path::PathBuf};
 
 fn main() {
@@ -8,7 +8,7 @@ fn main() {
     let archive = folder.join("libexport.a");
     println!("cargo:rerun-if-changed={}", archive.display());
     if !archive.exists() {
-        panic!("{} is missing: run `rt staticlib export` at the root of the repository, or set FILM_PLANNER_LIB", archive.display());
+        panic!("{} is missing: run tools/archive at the root of the repository, or set FILM_PLANNER_LIB", archive.display());
     }
     println!("cargo:rustc-link-search=native={}", folder.display());
     println!("cargo:rustc-link-lib=static=export");

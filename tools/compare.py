@@ -12,6 +12,7 @@ import ctypes
 import json
 import os
 import random
+import re
 import subprocess
 import sys
 import time
@@ -55,6 +56,25 @@ CALLS = {
 }
 
 
+def declared():
+    """The arguments of each call as include/film_planner.h declares them, in the letters of CALLS; storage is lent room there."""
+    with open("include/film_planner.h") as f:
+        found = re.findall(r"^uint64_t (film_\w+)\((.*?)\);", f.read(), re.M | re.S)
+    letters = {"uint8_t": "b", "uint16_t": "h", "uint32_t": "w", "uint64_t": "q", "size_t": "z"}
+    slices = {"uint8_t": "B", "uint16_t": "H", "uint32_t": "I", "uint64_t": "Q"}
+    calls = {}
+    for name, args in found:
+        kinds = []
+        for arg in args.split(","):
+            const, kind, star, _ = re.fullmatch(r"\s*(const )?(\w+) (\*?)(\w+)\s*", arg).groups()
+            if star:
+                kinds.append(slices[kind] + ("" if const else "!"))
+            elif not arg.endswith("_len"):
+                kinds.append(letters[kind])
+        calls[name] = " ".join(kinds)
+    return calls
+
+
 # ---- the library
 
 def build(out="target/kit/libfilm.so"):
@@ -70,6 +90,7 @@ class Library:
     ROOM = 1 << 20
 
     def __init__(self, path):
+        assert declared() == {name: kinds.replace("?", "!") for name, kinds in CALLS.items()}, "the header declares other calls"
         self.calls = {}
         library = ctypes.CDLL(os.path.abspath(path))
         for name, kinds in CALLS.items():
@@ -246,7 +267,17 @@ def film_plan(*args):
 def film_replan(*args):
     job = job_of(args)
     p, columns, onward = args[9], args[10:14], list(args[14])
-    return plan_handed(*replan(job, p, onward, *columns), 15)
+    if small(job):
+        return plan_handed(*replan(job, p, onward, *columns), 15)
+    # Of larger jobs only a standing plan is made afresh, and goes on.
+    levels, rows = plan_fast(job)
+    assert not walked(job) and onward == job.forecast[p - 1:] and sorted(listed(*columns)) == [x for x in rows if x.slot < p]
+    return plan_handed(levels, [x for x in rows if x.slot >= p], 15)
+
+
+def walked(job):
+    """Request 9 settles the bases."""
+    return job.limit // job.span >= job.chunks and any(o.layer == 0 for o in job.overrides)
 
 
 def film_search(*args):
@@ -463,7 +494,7 @@ class Cases:
             rows = [self.row(job) for _ in range(r.choice((0, 1, 3, 8, 30)))]
         marks = marks_given(job, [Row(*x) for x in rows]) if small(job) and len(rows) < 60 else None
         while self.odds(0.5):
-            how = r.randrange(6)
+            how = r.randrange(7)
             if how == 0:
                 rows.insert(r.randrange(len(rows) + 1), self.row(job))
             elif how == 1 and rows:
@@ -479,6 +510,10 @@ class Cases:
             elif how == 4 and rows:
                 x = r.choice(rows)
                 x[0] = max(0, min(65535, x[0] + r.choice((-1, 1))))
+            elif how == 5 and rows:
+                # Late, where the link may well have the bytes.
+                x = r.choice(rows)
+                x[0] = r.randint(min(due(job, min(x[1], job.chunks)) + 1, len(job.forecast)), len(job.forecast))
             else:
                 r.shuffle(rows)
         if self.odds(0.004):
@@ -561,7 +596,9 @@ class Cases:
     def film_check_from(self):
         job = self.some_job()
         marks, columns = self.list_args(job)
-        p = self.r.choice((1, self.r.randint(1, len(job.forecast)), len(job.forecast), 0, len(job.forecast) + 1, 65535))
+        p = self.r.choice((1, self.r.randint(1, len(job.forecast)), self.r.randint(1, len(job.forecast)), len(job.forecast)))
+        if self.odds(0.08):
+            p = self.r.choice((0, len(job.forecast) + 1, 65535))
         return self.handed(job, 0.1) + [p, marks] + columns
 
     def film_plan(self):
@@ -569,7 +606,10 @@ class Cases:
 
     def film_replan(self):
         """A plan's own rows before p, changed or not, and the forecast from p on, as it was or another."""
-        r, job = self.r, self.job("small")
+        r = self.r
+        if self.odds(0.02):
+            return self.standing()
+        job = self.job("small")
         levels, rows = plan_fast(job if self.odds(0.8) else job._replace(limit=65535))
         p = r.choice((1, r.randint(1, len(job.forecast)), r.randint(1, len(job.forecast)), len(job.forecast)))
         rows = [x for x in rows if x.slot < p]
@@ -592,6 +632,17 @@ class Cases:
         if self.odds(0.06):
             p = r.choice((0, len(job.forecast) + 1, 65535))
         return self.handed(job, 0.1) + [p] + self.columns(rows) + [onward] + [None] * 6
+
+    def standing(self):
+        """A larger job, its plan's own rows before p in any order, and its forecast from p on."""
+        r, job = self.r, self.job(self.r.choices(("middle", "large"), (9, 1))[0])
+        if small(job) or walked(job):
+            job = job._replace(limit=job.span * r.randrange(job.chunks))
+        p = r.randint(1, len(job.forecast))
+        rows = [x for x in plan_fast(job)[1] if x.slot < p]
+        if self.odds(0.5):
+            r.shuffle(rows)
+        return self.handed(job, 0) + [p] + columns_of(rows) + [job.forecast[p - 1:]] + [None] * 6
 
     def film_search(self):
         job = self.job(self.r.choices(("small", "middle"), (97, 3))[0])
@@ -632,7 +683,6 @@ class Cases:
             lines[i], lines[k] = lines[k], lines[i]
         data = bytearray(b"".join(x + b"\n" for x in lines))
         if self.odds(0.2):
-            data[r.randrange(len(data) + 1):][:0] = b""
             at = r.randrange(len(data) + 1)
             data[at:at + r.randrange(2)] = r.choice((b"", b"\n", b"\r\n", b" ", b"-", b"0", b"00000000", b"a", b"\xff", b"\0"))
         return [list(data), slots, None]

@@ -1,4 +1,7 @@
-use crate::{ffi, FetchList, Found, Plan, Refusal, Verdict, FILE, FILE_ROWS, LAYERS, MARKS, REASONS, REPORT, ROWS, SLOTS, SZS};
+use crate::{
+    ffi, FetchList, Found, Plan, Refusal, Verdict, COUNTS, FILE, FILE_ROWS, JOB_FILE, LAYERS, LENGTHS, MARKS, PROGRAMME, REASONS, REPORT,
+    ROWS, SLOTS, SZS, WALK,
+};
 
 /// A size of one layer of one chunk that differs from the layer's own (`SZ`).
 #[derive(Clone, Copy, Debug, PartialEq, Eq, PartialOrd, Ord, Hash)]
@@ -45,24 +48,29 @@ macro_rules! with_job {
 impl Job {
     /// Reads a job file in one sequence: 9, record by record, at `EN` 3, 4, 6, 18, 7.
     pub fn read(file: &[u8]) -> Result<Job, Refusal> {
-        let (mut programme, mut lengths, mut sizes, mut forecast) = ([0; 4], [0; 2], vec![0; LAYERS], vec![0; SLOTS]);
+        let (mut programme, mut lengths, mut sizes, mut forecast) = ([0; PROGRAMME], [0; LENGTHS], vec![0; LAYERS], vec![0; SLOTS]);
         let (mut chunks, mut layers, mut bytes) = (vec![0; SZS], vec![0; SZS], vec![0; SZS]);
-        let answer =
-            ffi::read_job(file, &mut programme, &mut lengths, &mut sizes, &mut chunks, &mut layers, &mut bytes, &mut forecast);
+        let answer = ffi::read_job(file, &mut programme, &mut lengths, &mut sizes, &mut chunks, &mut layers, &mut bytes, &mut forecast);
         let slots = Refusal::settle(answer)?;
-        let overrides =
-            (0..lengths[1] as usize).map(|k| Override { chunk: chunks[k], layer: layers[k], bytes: bytes[k] }).collect();
+        let overrides = (0..lengths[1] as usize).map(|k| Override { chunk: chunks[k], layer: layers[k], bytes: bytes[k] }).collect();
         Ok(Job::read_as(programme, lengths, sizes, overrides, forecast, slots))
     }
 
     /// Reads a mixed job file, as document 01 has it: 9, record by record, at `EN` 3, 4, 6, 7.
     pub fn read_mixed(file: &[u8]) -> Result<Job, Refusal> {
-        let (mut programme, mut lengths, mut sizes, mut forecast) = ([0; 4], [0; 2], vec![0; LAYERS], vec![0; SLOTS]);
+        let (mut programme, mut lengths, mut sizes, mut forecast) = ([0; PROGRAMME], [0; LENGTHS], vec![0; LAYERS], vec![0; SLOTS]);
         let slots = Refusal::settle(ffi::read_mixed_job(file, &mut programme, &mut lengths, &mut sizes, &mut forecast))?;
         Ok(Job::read_as(programme, lengths, sizes, Vec::new(), forecast, slots))
     }
 
-    fn read_as(p: [u16; 4], lengths: [u64; 2], mut sizes: Vec<u32>, overrides: Vec<Override>, mut forecast: Vec<u32>, slots: usize) -> Job {
+    fn read_as(
+        p: [u16; PROGRAMME],
+        lengths: [u64; LENGTHS],
+        mut sizes: Vec<u32>,
+        overrides: Vec<Override>,
+        mut forecast: Vec<u32>,
+        slots: usize,
+    ) -> Job {
         sizes.truncate(lengths[0] as usize);
         forecast.truncate(slots);
         Job { chunks: p[0], span: p[1], delay: p[2], limit: p[3], sizes, overrides, forecast }
@@ -70,7 +78,7 @@ impl Job {
 
     /// The job's file, the only one it has in one sequence: 5, 6, 18, 7.
     pub fn write(&self) -> Result<Vec<u8>, Refusal> {
-        let mut out = vec![0; FILE];
+        let mut out = vec![0; JOB_FILE];
         let n = with_job!(write_job, self, &self.forecast, &mut out)?;
         out.truncate(n);
         Ok(out)
@@ -80,7 +88,15 @@ impl Job {
     pub fn read_plan(&self, file: &[u8]) -> Result<Plan, Refusal> {
         let (mut marks, mut list) = (vec![0; MARKS], FetchList::room(FILE_ROWS));
         let rows = with_job!(
-            read_plan, self, &self.forecast, file, &mut marks, &mut list.slots, &mut list.chunks, &mut list.layers, &mut list.bytes
+            read_plan,
+            self,
+            &self.forecast,
+            file,
+            &mut marks,
+            &mut list.slots,
+            &mut list.chunks,
+            &mut list.layers,
+            &mut list.bytes
         )?;
         marks.truncate(usize::from(self.chunks));
         let counts = [0, 1, 2, 3].map(|n| crate::count_marks(&marks, n) as u16);
@@ -90,18 +106,24 @@ impl Job {
     /// The file of some marks and rows, the rows as handed: 5, 6, 18, 7, 8, 9.
     pub fn write_plan(&self, marks: &[u8], list: &FetchList) -> Result<Vec<u8>, Refusal> {
         let mut out = vec![0; FILE];
-        let n = with_job!(
-            write_plan, self, &self.forecast, marks, &list.slots, &list.chunks, &list.layers, &list.bytes, &mut out
-        )?;
+        let n = with_job!(write_plan, self, &self.forecast, marks, &list.slots, &list.chunks, &list.layers, &list.bytes, &mut out)?;
         out.truncate(n);
         Ok(out)
     }
 
     /// Plans the job: 5, 6, 18, 7.
     pub fn plan(&self) -> Result<Plan, Refusal> {
-        let (mut marks, mut list, mut counts) = (vec![0; MARKS], FetchList::room(ROWS), [0; 4]);
+        let (mut marks, mut list, mut counts) = (vec![0; MARKS], FetchList::room(ROWS), [0; COUNTS]);
         let rows = with_job!(
-            plan, self, &self.forecast, &mut marks, &mut list.slots, &mut list.chunks, &mut list.layers, &mut list.bytes, &mut counts
+            plan,
+            self,
+            &self.forecast,
+            &mut marks,
+            &mut list.slots,
+            &mut list.chunks,
+            &mut list.layers,
+            &mut list.bytes,
+            &mut counts
         )?;
         marks.truncate(usize::from(self.chunks));
         Ok(Plan { marks, list: list.cut(rows), counts })
@@ -110,10 +132,23 @@ impl Job {
     /// Plans afresh at slot p: the rows fetched before it, and the forecast from it on. The plan's list has the rows from p on.
     /// 5, 6, 18, 7, 8, 21, 7, 22.
     pub fn replan(&self, p: u16, fetched: &FetchList, onward: &[u32]) -> Result<Plan, Refusal> {
-        let (mut marks, mut list, mut counts) = (vec![0; MARKS], FetchList::room(ROWS), [0; 4]);
+        let (mut marks, mut list, mut counts) = (vec![0; MARKS], FetchList::room(ROWS), [0; COUNTS]);
         let rows = with_job!(
-            replan, self, &self.forecast, p, &fetched.slots, &fetched.chunks, &fetched.layers, &fetched.bytes, onward, &mut marks,
-            &mut list.slots, &mut list.chunks, &mut list.layers, &mut list.bytes, &mut counts
+            replan,
+            self,
+            &self.forecast,
+            p,
+            &fetched.slots,
+            &fetched.chunks,
+            &fetched.layers,
+            &fetched.bytes,
+            onward,
+            &mut marks,
+            &mut list.slots,
+            &mut list.chunks,
+            &mut list.layers,
+            &mut list.bytes,
+            &mut counts
         )?;
         marks.truncate(usize::from(self.chunks));
         Ok(Plan { marks, list: list.cut(rows), counts })
@@ -121,10 +156,19 @@ impl Job {
 
     /// Searches the best set of bases within a budget of steps, and plans over it: 5, 6, 18, 7.
     pub fn search(&self, budget: u32) -> Result<Found, Refusal> {
-        let (mut marks, mut list, mut counts, mut walk) = (vec![0; MARKS], FetchList::room(ROWS), [0; 4], [0; 3]);
+        let (mut marks, mut list, mut counts, mut walk) = (vec![0; MARKS], FetchList::room(ROWS), [0; COUNTS], [0; WALK]);
         let rows = with_job!(
-            search, self, &self.forecast, budget, &mut marks, &mut list.slots, &mut list.chunks, &mut list.layers, &mut list.bytes,
-            &mut counts, &mut walk
+            search,
+            self,
+            &self.forecast,
+            budget,
+            &mut marks,
+            &mut list.slots,
+            &mut list.chunks,
+            &mut list.layers,
+            &mut list.bytes,
+            &mut counts,
+            &mut walk
         )?;
         marks.truncate(usize::from(self.chunks));
         Ok(Found { plan: Plan { marks, list: list.cut(rows), counts }, steps: walk[0], ended: walk[1] == 1, shortfall: walk[2] as u16 })

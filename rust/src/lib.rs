@@ -1,6 +1,18 @@
 //! The layered film planner of the winch desk, proved in Rattle, for callers in Rust. A call answers a value or a `Refusal`, which carries
 //! document 01's or 02's number and sentence; nothing is changed by a call that refuses. `include/film_planner.h` says what every call
 //! needs and answers; here buffers are of the largest size a result can have, so that refusal 11 never arises.
+//!
+//! ```
+//! use film_planner::{Job, Refusal, Verdict};
+//!
+//! let job = Job { chunks: 3, span: 2, delay: 2, limit: 2, sizes: vec![2, 1], overrides: vec![], forecast: vec![3, 0, 1, 0, 2, 0] };
+//! let plan = job.plan()?;
+//! assert_eq!(plan.counts, [2, 1, 0, 0]);
+//! assert_eq!(job.check(&plan.marks, &plan.list)?, Verdict::Passes);
+//! print!("{}", job.reasons()?); // chunk 1 layer 0: slots 2 to 4 carry 1, need 2 ..
+//! assert_eq!(Job::read(b"").unwrap_err(), Refusal::EndsEarly);
+//! # Ok::<(), Refusal>(())
+//! ```
 #![deny(unsafe_code)]
 
 mod ffi;
@@ -18,24 +30,55 @@ pub use meter::Meter;
 pub use refusal::Refusal;
 pub use trace::{read_trace, write_trace};
 
-/// The largest results: layers, slots, marks, rows, SZs, bytes of any file, rows of any plan
-/// file, bytes of a report and of the reasons.
-pub const LAYERS: usize = 4;
-pub const SLOTS: usize = 3600;
-pub const MARKS: usize = 500;
-pub const ROWS: usize = 5599;
-pub const SZS: usize = 1996;
-pub const FILE: usize = 65536;
-pub const FILE_ROWS: usize = 5957;
-pub const REPORT: usize = 7633;
-pub const REASONS: usize = 94000;
+/// The largest results, each with its name and its place in the header (`FILM_ROWS` and so on).
+macro_rules! largest {
+    ($($(#[$doc:meta])* $name:ident = $value:literal;)*) => {
+        $($(#[$doc])* pub const $name: usize = $value;)*
+
+        /// All of them, by name.
+        pub const LARGEST: &[(&str, usize)] = &[$((stringify!($name), $name),)*];
+    };
+}
+
+largest! {
+    /// Layer sizes of a job.
+    LAYERS = 4;
+    /// Slots of a forecast.
+    SLOTS = 3600;
+    /// Marks of a plan: one a chunk.
+    MARKS = 500;
+    /// Rows that planning hands over, also afresh.
+    ROWS = 5599;
+    /// `SZ`s of a job: four layers of 499 chunks.
+    SZS = 1996;
+    /// C, L, s and the limit.
+    PROGRAMME = 4;
+    /// How many layers, how many `SZ`s.
+    LENGTHS = 2;
+    /// Counts of a plan.
+    COUNTS = 4;
+    /// Steps, ended, shortfall of a search.
+    WALK = 3;
+    /// Bytes of any file that is read or written.
+    FILE = 65536;
+    /// Rows of any plan file that is read.
+    FILE_ROWS = 5957;
+    /// Bytes of a job file as written.
+    JOB_FILE = 46800;
+    /// Bytes of a report.
+    REPORT = 7633;
+    /// Bytes of the reasons.
+    REASONS = 94000;
+    /// Cells of a meter.
+    SAMPLES = 10;
+}
 
 /// A plan: a mark byte a chunk, whose bit n says that layer n is carried; its fetch list; how many chunks carry each layer.
 #[derive(Clone, Debug, PartialEq, Eq)]
 pub struct Plan {
     pub marks: Vec<u8>,
     pub list: FetchList,
-    pub counts: [u16; 4],
+    pub counts: [u16; COUNTS],
 }
 
 /// What a search within a budget found: the plan over the best set of bases met, the steps taken, whether the walk ended, and by how many
@@ -93,7 +136,7 @@ impl Verdict {
 }
 
 /// Two plans' counts, entry by entry from the base.
-pub fn compare(a: [u16; 4], b: [u16; 4]) -> Ordering {
+pub fn compare(a: [u16; COUNTS], b: [u16; COUNTS]) -> Ordering {
     match ffi::compare(&a, &b) {
         0 => Ordering::Equal,
         1 => Ordering::Less,

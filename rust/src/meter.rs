@@ -1,11 +1,11 @@
-use crate::{ffi, Refusal};
+use crate::{ffi, Refusal, SAMPLES};
 
 /// The link meter: the last ten samples, and a forecast from them. Its fields are the storage that the calls work in, so that a meter can be
 /// kept and brought back; whatever they hold, the calls answer or refuse.
 #[derive(Clone, Debug, PartialEq, Eq)]
 pub struct Meter {
-    pub slots: [u16; 10],
-    pub bytes: [u32; 10],
+    pub slots: [u16; SAMPLES],
+    pub bytes: [u32; SAMPLES],
     pub kept: u8,
 }
 
@@ -18,7 +18,7 @@ impl Default for Meter {
 impl Meter {
     /// A meter without samples.
     pub fn new() -> Meter {
-        let mut m = Meter { slots: [0; 10], bytes: [0; 10], kept: 0 };
+        let mut m = Meter { slots: [0; SAMPLES], bytes: [0; SAMPLES], kept: 0 };
         let mut kept = [0];
         let answer = ffi::meter_new(&mut m.slots, &mut m.bytes, &mut kept);
         Refusal::settle(answer).expect("ten cells and one are a meter");

@@ -190,7 +190,8 @@ fn marks_are_counted() {
 #[test]
 fn the_largest_job() {
     let forecast = (0..3600u32).map(|t| t * 7919 % 6000).collect();
-    let overrides = (2..=500).flat_map(|chunk| (0..4).map(move |layer| Override { chunk, layer, bytes: 4000 + 11 * u32::from(chunk) })).collect();
+    let overrides =
+        (2..=500).flat_map(|chunk| (0..4).map(move |layer| Override { chunk, layer, bytes: 4000 + 11 * u32::from(chunk) })).collect();
     let job = Job { chunks: 500, span: 7, delay: 107, limit: 28, sizes: vec![9000, 7000, 5000, 4000], overrides, forecast };
     assert_eq!(job.write().unwrap().len(), 46_800);
     let plan = job.plan().unwrap();

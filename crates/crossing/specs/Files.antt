@@ -1,5 +1,6 @@
--- Meaning. The readers of job files for callers in C or Rust: beside the buffers of the library's own readers (jobrecords, Reader) they are
--- lent four numbers for the programme and two for how many layers and SZs the job has; the answer is its number of slots.
+-- Meaning. Job and plan files for callers in C or Rust. Beside the buffers of the library's own readers of job files (jobrecords, Reader) these
+-- are lent four numbers for the programme and two for how many layers and SZs the job has; the answer is its number of slots. A reader of
+-- plan files answers the number of rows, a writer that of bytes.
 use Prim.Native.Nat.{ℕ}
 use mathlib.Core.Path.{_≡_}
 use mathlib.Core.Bool.{Bool, _&&_}
@@ -8,7 +9,11 @@ use lib.ListN.{length}
 use lib.Dec.{leb}
 use Rattle.basics.specs.Lent.{lentAfter}
 use Rattle.basics.specs.Refusals.{_orElse_, unless}
-use Rattle.job.specs.Job.{Job, layers}
+use Rattle.job.specs.Handed.{HandedJob, jobIn}
+use Rattle.job.specs.Job.{Job, chunks, layers}
+use Rattle.jobfile.specs.Writer.{jobFile, writeRefusal as jobWriteRefusal}
+use Rattle.planfile.specs.Calls.{Slices, planOf, readRefusal as planReadRefusal, writeRefusal as planWriteRefusal}
+use Rattle.planfile.specs.PlanFile.{fileOf, planIn}
 use Rattle.jobrecords.specs.Refusal.{jobOfFile}
 use Rattle.jobrecords.specs.Reader.{Buffers, lentBy, readRefusal}
 use Rattle.crossing.specs.Convention.{answered}
@@ -32,3 +37,14 @@ pub record JobHanded (sequenced : Bool) (file : List ℕ) (lent : Buffers) (prog
   pub buffers-are : lent' ≡ lentBy (jobReadRefusal sequenced file lent programme lengths) (jobOfFile sequenced file) lent
   pub programme-is : programme' ≡ lentAfter (jobReadRefusal sequenced file lent programme lengths) (programmeOf (jobOfFile sequenced file)) programme
   pub lengths-are : lengths' ≡ lentAfter (jobReadRefusal sequenced file lent programme lengths) (lengthsOf (jobOfFile sequenced file)) lengths
+
+-- ---- the other three: refusals, files and lent slices are the library's own
+
+abbrev pub jobWriteAnswer : HandedJob → (out : List ℕ) → ℕ
+jobWriteAnswer h out = answered (jobWriteRefusal h (length out)) (length (jobFile (jobIn h)))
+
+abbrev pub planReadAnswer : HandedJob → (file : List ℕ) (lent : Slices) → ℕ
+planReadAnswer h file lent = answered (planReadRefusal h file lent) (length (planIn (chunks (jobIn h)) file .rows))
+
+abbrev pub planWriteAnswer : HandedJob → (handed : Slices) (out : List ℕ) → ℕ
+planWriteAnswer h handed out = answered (planWriteRefusal h handed out) (length (fileOf (planOf handed)))

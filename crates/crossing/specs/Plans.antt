@@ -11,10 +11,12 @@ use Rattle.basics.specs.Lists.{upTo}
 use Rattle.basics.specs.Refusals.{_orElse_, unless}
 use Rattle.fetch.specs.Rows.{Row, rowBytes, rowChunk, rowLayer, rowSlot}
 use Rattle.job.specs.Handed.{HandedJob, jobIn}
+use Rattle.schedule.specs.Plan.{plan}
 use Rattle.schedule.specs.Statement.{countsOf, marksOf}
-use Rattle.planner.specs.Answer.{lentOf}
+use Rattle.planner.specs.Answer.{Lent, lentOf, planRefusal, planRows}
 use Rattle.planner.specs.declared.Order.{Order}
 use Rattle.planner.specs.declared.Order.the-variants.{Less, Same, More}
+use Rattle.replan.specs.Answer.{HandedOn, jobOn, planOn, refusalOn, rowsOn}
 use Rattle.budget.specs.Statement.{Found}
 use Rattle.budget.specs.Search.{found}
 use Rattle.search.specs.Answer.{planFound, rowsFound, searchRefusal}
@@ -37,6 +39,10 @@ abbrev pub slices : (marks slots chunks layers bytes counts : List ℕ) → Slic
 slices marks slots chunks layers bytes counts =
     record { marks = marks; slots = slots; chunks = chunks; layers = layers; bytes = bytes; counts = counts }
 
+-- The library's own of them.
+abbrev pub roomOf : Slices → Lent
+roomOf lent = lentOf (lent .marks) (lent .slots) (lent .chunks) (lent .layers) (lent .bytes)
+
 -- A plan's marks, rows and counts at the start of the lent slices; on a refusal they are as they were.
 abbrev pub slicesAfter : ℕ → (marks : List ℕ) (rows : List Row) (counts : List ℕ) → Slices → Slices
 slicesAfter refused marks rows counts lent =
@@ -53,6 +59,30 @@ slicesAfter refused marks rows counts lent =
 pub record PlanHanded (refused : ℕ) (marks : List ℕ) (rows : List Row) (counts : List ℕ) (lent : Slices) (r : ℕ) (lent' : Slices) : Type 0 where
   pub number : r ≡ answered refused (length rows)
   pub slices-are : lent' ≡ slicesAfter refused marks rows counts lent
+
+-- The plan of a job,
+abbrev pub Planned : HandedJob → (lent : Slices) (r : ℕ) (lent' : Slices) → Type 0
+Planned h lent r lent' =
+    PlanHanded
+    (withCounts (planRefusal h (roomOf lent)) (lent .counts))
+    (marksOf (jobIn h) (plan (jobIn h)))
+    (planRows (jobIn h))
+    (countsOf (jobIn h) (plan (jobIn h)))
+    lent
+    r
+    lent'
+
+-- and the plan made afresh, its rows from slot p on.
+abbrev pub Replanned : HandedJob → HandedOn → (lent : Slices) (r : ℕ) (lent' : Slices) → Type 0
+Replanned h o lent r lent' =
+    PlanHanded
+    (withCounts (refusalOn h o (roomOf lent)) (lent .counts))
+    (marksOf (jobOn h o) (planOn h o))
+    (rowsOn h o)
+    (countsOf (jobOn h o) (planOn h o))
+    lent
+    r
+    lent'
 
 -- ---- the search
 

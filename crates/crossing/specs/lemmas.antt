@@ -3,4 +3,5 @@ pub mod Slices
 pub mod Reading
 pub mod Planning
 pub mod Searching
+pub mod Largest
 pub mod Metering

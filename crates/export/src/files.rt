@@ -2,16 +2,12 @@
 use job::Programme;
 ghost use mathlib.Core.Path.{_≡_};
 ghost use mathlib.Core.List.{[]};
-ghost use lib.ListN.{length};
-ghost use Rattle.job.specs.Handed.{jobIn};
-ghost use Rattle.job.specs.Job.{chunks as chunksOf};
 ghost use Rattle.jobrecords.specs.Reader.{buffers};
 ghost use Rattle.jobrecords.specs.Refusal.{mixed, oneSequence};
-ghost use Rattle.jobfile.specs.Writer.{jobFile, fileWritten, writeRefusal};
-ghost use Rattle.planfile.specs.Calls.{planOf, readLent, readRefusal, slicesOf, writeLent, writeRefusal as planRefusal};
-ghost use Rattle.planfile.specs.PlanFile.{fileOf, planIn};
-ghost use Rattle.crossing.specs.Convention.{answered, film};
-ghost use Rattle.crossing.specs.Files.{JobHanded};
+ghost use Rattle.jobfile.specs.Writer.{fileWritten};
+ghost use Rattle.planfile.specs.Calls.{readLent, slicesOf, writeLent};
+ghost use Rattle.crossing.specs.Convention.{film};
+ghost use Rattle.crossing.specs.Files.{JobHanded, jobWriteAnswer, planReadAnswer, planWriteAnswer};
 
 #[no_mangle]
 pub extern "C" fn film_read_job(
@@ -65,7 +61,7 @@ pub extern "C" fn film_write_job(
     forecast: &[u32],
     out: &mut [u8],
 ) -> u64
-    ensures number { λ r. ⌜ r ≡ answered (writeRefusal (film chunks span delay limit (now (sizes .entry)) (now («size_chunks» .entry)) (now («size_layers» .entry)) (now («size_bytes» .entry)) (now (forecast .entry))) (length (now (out .entry)))) (length (jobFile (jobIn (film chunks span delay limit (now (sizes .entry)) (now («size_chunks» .entry)) (now («size_layers» .entry)) (now («size_bytes» .entry)) (now (forecast .entry)))))) ⌝ }
+    ensures number { λ r. ⌜ r ≡ jobWriteAnswer (film chunks span delay limit (now (sizes .entry)) (now («size_chunks» .entry)) (now («size_layers» .entry)) (now («size_bytes» .entry)) (now (forecast .entry))) (now (out .entry)) ⌝ }
     ensures file { λ _. ⌜ now (out .exit) ≡ fileWritten (film chunks span delay limit (now (sizes .entry)) (now («size_chunks» .entry)) (now («size_layers» .entry)) (now («size_bytes» .entry)) (now (forecast .entry))) (now (out .entry)) ⌝ }
 {
     let p = Programme {
@@ -103,7 +99,7 @@ pub extern "C" fn film_read_plan(
     row_layers: &mut [u8],
     row_bytes: &mut [u32],
 ) -> u64
-    ensures number { λ r. ⌜ r ≡ answered (readRefusal (film chunks span delay limit (now (sizes .entry)) (now («size_chunks» .entry)) (now («size_layers» .entry)) (now («size_bytes» .entry)) (now (forecast .entry))) (now (file .entry)) (slicesOf (now (marks .entry)) (now («row_slots» .entry)) (now («row_chunks» .entry)) (now («row_layers» .entry)) (now («row_bytes» .entry)))) (length (planIn (chunksOf (jobIn (film chunks span delay limit (now (sizes .entry)) (now («size_chunks» .entry)) (now («size_layers» .entry)) (now («size_bytes» .entry)) (now (forecast .entry))))) (now (file .entry)) .rows)) ⌝ }
+    ensures number { λ r. ⌜ r ≡ planReadAnswer (film chunks span delay limit (now (sizes .entry)) (now («size_chunks» .entry)) (now («size_layers» .entry)) (now («size_bytes» .entry)) (now (forecast .entry))) (now (file .entry)) (slicesOf (now (marks .entry)) (now («row_slots» .entry)) (now («row_chunks» .entry)) (now («row_layers» .entry)) (now («row_bytes» .entry))) ⌝ }
     ensures lent { λ _. ⌜ slicesOf (now (marks .exit)) (now («row_slots» .exit)) (now («row_chunks» .exit)) (now («row_layers» .exit)) (now («row_bytes» .exit)) ≡ readLent (film chunks span delay limit (now (sizes .entry)) (now («size_chunks» .entry)) (now («size_layers» .entry)) (now («size_bytes» .entry)) (now (forecast .entry))) (now (file .entry)) (slicesOf (now (marks .entry)) (now («row_slots» .entry)) (now («row_chunks» .entry)) (now («row_layers» .entry)) (now («row_bytes» .entry))) ⌝ }
 {
     let p = Programme {
@@ -146,7 +142,7 @@ pub extern "C" fn film_write_plan(
     row_bytes: &[u32],
     out: &mut [u8],
 ) -> u64
-    ensures number { λ r. ⌜ r ≡ answered (planRefusal (film chunks span delay limit (now (sizes .entry)) (now («size_chunks» .entry)) (now («size_layers» .entry)) (now («size_bytes» .entry)) (now (forecast .entry))) (slicesOf (now (marks .entry)) (now («row_slots» .entry)) (now («row_chunks» .entry)) (now («row_layers» .entry)) (now («row_bytes» .entry))) (now (out .entry))) (length (fileOf (planOf (slicesOf (now (marks .entry)) (now («row_slots» .entry)) (now («row_chunks» .entry)) (now («row_layers» .entry)) (now («row_bytes» .entry)))))) ⌝ }
+    ensures number { λ r. ⌜ r ≡ planWriteAnswer (film chunks span delay limit (now (sizes .entry)) (now («size_chunks» .entry)) (now («size_layers» .entry)) (now («size_bytes» .entry)) (now (forecast .entry))) (slicesOf (now (marks .entry)) (now («row_slots» .entry)) (now («row_chunks» .entry)) (now («row_layers» .entry)) (now («row_bytes» .entry))) (now (out .entry)) ⌝ }
     ensures file { λ _. ⌜ now (out .exit) ≡ writeLent (film chunks span delay limit (now (sizes .entry)) (now («size_chunks» .entry)) (now («size_layers» .entry)) (now («size_bytes» .entry)) (now (forecast .entry))) (slicesOf (now (marks .entry)) (now («row_slots» .entry)) (now («row_chunks» .entry)) (now («row_layers» .entry)) (now («row_bytes» .entry))) (now (out .entry)) ⌝ }
 {
     let p = Programme {

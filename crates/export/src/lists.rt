@@ -1,21 +1,10 @@
 // Fetch lists: the checker's two calls, bookings, counts of marks, and two plans' counts compared.
 use job::Programme;
 ghost use mathlib.Core.Path.{_≡_};
-ghost use mathlib.Core.List.{[], _∷_};
-ghost use lib.ListN.{length};
-ghost use lib.Dec.{leb};
-ghost use Rattle.basics.specs.Lent.{lentAfter};
-ghost use Rattle.basics.specs.Refusals.{unless};
-ghost use Rattle.job.specs.Handed.{jobIn};
-ghost use Rattle.fetch.specs.Counts.{markCount, wordCount};
-ghost use Rattle.fetch.specs.Rows.{rowsOf};
-ghost use Rattle.fetch.specs.Verdict.{verdict};
-ghost use Rattle.fetch.specs.VerdictFrom.{verdictFrom};
-ghost use Rattle.checker.specs.Checked.{checkFromRefusal, checkRefusal};
-ghost use Rattle.booking.specs.Answer.{bookRefusal, forecastAfter, releaseRefusal};
-ghost use Rattle.booking.specs.Booking.{addedBack, takenOff};
+ghost use Rattle.fetch.specs.Counts.{wordCount};
 ghost use Rattle.planner.specs.Answer.{compared};
 ghost use Rattle.crossing.specs.Convention.{answered, film};
+ghost use Rattle.crossing.specs.Lists.{bookAnswer, checkAnswer, checkFromAnswer, countAfter, countRefusal, forecastBooked, forecastReleased, releaseAnswer};
 ghost use Rattle.crossing.specs.Plans.{fourCounts, orderNumber};
 
 #[no_mangle]
@@ -35,7 +24,7 @@ pub extern "C" fn film_check(
     row_layers: &[u8],
     row_bytes: &[u32],
 ) -> u64
-    ensures { λ r. ⌜ r ≡ answered (checkRefusal (film chunks span delay limit (now (sizes .entry)) (now («size_chunks» .entry)) (now («size_layers» .entry)) (now («size_bytes» .entry)) (now (forecast .entry))) (now (marks .entry)) (now («row_slots» .entry)) (now («row_chunks» .entry)) (now («row_layers» .entry)) (now («row_bytes» .entry))) (verdict (jobIn (film chunks span delay limit (now (sizes .entry)) (now («size_chunks» .entry)) (now («size_layers» .entry)) (now («size_bytes» .entry)) (now (forecast .entry)))) (now (marks .entry)) (rowsOf (now («row_slots» .entry)) (now («row_chunks» .entry)) (now («row_layers» .entry)) (now («row_bytes» .entry)))) ⌝ }
+    ensures { λ r. ⌜ r ≡ checkAnswer (film chunks span delay limit (now (sizes .entry)) (now («size_chunks» .entry)) (now («size_layers» .entry)) (now («size_bytes» .entry)) (now (forecast .entry))) (now (marks .entry)) (now («row_slots» .entry)) (now («row_chunks» .entry)) (now («row_layers» .entry)) (now («row_bytes» .entry)) ⌝ }
 {
     let p = Programme {
         chunks,
@@ -76,7 +65,7 @@ pub extern "C" fn film_check_from(
     row_layers: &[u8],
     row_bytes: &[u32],
 ) -> u64
-    ensures { λ r. ⌜ r ≡ answered (checkFromRefusal (film chunks span delay limit (now (sizes .entry)) (now («size_chunks» .entry)) (now («size_layers» .entry)) (now («size_bytes» .entry)) (now (forecast .entry))) from (now (marks .entry)) (now («row_slots» .entry)) (now («row_chunks» .entry)) (now («row_layers» .entry)) (now («row_bytes» .entry))) (verdictFrom (jobIn (film chunks span delay limit (now (sizes .entry)) (now («size_chunks» .entry)) (now («size_layers» .entry)) (now («size_bytes» .entry)) (now (forecast .entry)))) from (now (marks .entry)) (rowsOf (now («row_slots» .entry)) (now («row_chunks» .entry)) (now («row_layers» .entry)) (now («row_bytes» .entry)))) ⌝ }
+    ensures { λ r. ⌜ r ≡ checkFromAnswer (film chunks span delay limit (now (sizes .entry)) (now («size_chunks» .entry)) (now («size_layers» .entry)) (now («size_bytes» .entry)) (now (forecast .entry))) from (now (marks .entry)) (now («row_slots» .entry)) (now («row_chunks» .entry)) (now («row_layers» .entry)) (now («row_bytes» .entry)) ⌝ }
 {
     let p = Programme {
         chunks,
@@ -117,8 +106,8 @@ pub extern "C" fn film_book(
     row_layers: &[u8],
     row_bytes: &[u32],
 ) -> u64
-    ensures number { λ r. ⌜ r ≡ answered (bookRefusal (film chunks span delay limit (now (sizes .entry)) (now («size_chunks» .entry)) (now («size_layers» .entry)) (now («size_bytes» .entry)) (now (forecast .entry))) (now (marks .entry)) (now («row_slots» .entry)) (now («row_chunks» .entry)) (now («row_layers» .entry)) (now («row_bytes» .entry))) 0 ⌝ }
-    ensures left { λ _. ⌜ now (forecast .exit) ≡ forecastAfter (bookRefusal (film chunks span delay limit (now (sizes .entry)) (now («size_chunks» .entry)) (now («size_layers» .entry)) (now («size_bytes» .entry)) (now (forecast .entry))) (now (marks .entry)) (now («row_slots» .entry)) (now («row_chunks» .entry)) (now («row_layers» .entry)) (now («row_bytes» .entry))) (takenOff (now (forecast .entry)) (rowsOf (now («row_slots» .entry)) (now («row_chunks» .entry)) (now («row_layers» .entry)) (now («row_bytes» .entry)))) (now (forecast .entry)) ⌝ }
+    ensures number { λ r. ⌜ r ≡ bookAnswer (film chunks span delay limit (now (sizes .entry)) (now («size_chunks» .entry)) (now («size_layers» .entry)) (now («size_bytes» .entry)) (now (forecast .entry))) (now (marks .entry)) (now («row_slots» .entry)) (now («row_chunks» .entry)) (now («row_layers» .entry)) (now («row_bytes» .entry)) ⌝ }
+    ensures left { λ _. ⌜ now (forecast .exit) ≡ forecastBooked (film chunks span delay limit (now (sizes .entry)) (now («size_chunks» .entry)) (now («size_layers» .entry)) (now («size_bytes» .entry)) (now (forecast .entry))) (now (marks .entry)) (now («row_slots» .entry)) (now («row_chunks» .entry)) (now («row_layers» .entry)) (now («row_bytes» .entry)) ⌝ }
 {
     let p = Programme {
         chunks,
@@ -157,8 +146,8 @@ pub extern "C" fn film_release(
     row_layers: &[u8],
     row_bytes: &[u32],
 ) -> u64
-    ensures number { λ r. ⌜ r ≡ answered (releaseRefusal (film chunks span delay limit (now (sizes .entry)) (now («size_chunks» .entry)) (now («size_layers» .entry)) (now («size_bytes» .entry)) (now (forecast .entry))) (now («row_slots» .entry)) (now («row_chunks» .entry)) (now («row_layers» .entry)) (now («row_bytes» .entry))) 0 ⌝ }
-    ensures left { λ _. ⌜ now (forecast .exit) ≡ forecastAfter (releaseRefusal (film chunks span delay limit (now (sizes .entry)) (now («size_chunks» .entry)) (now («size_layers» .entry)) (now («size_bytes» .entry)) (now (forecast .entry))) (now («row_slots» .entry)) (now («row_chunks» .entry)) (now («row_layers» .entry)) (now («row_bytes» .entry))) (addedBack (now (forecast .entry)) (rowsOf (now («row_slots» .entry)) (now («row_chunks» .entry)) (now («row_layers» .entry)) (now («row_bytes» .entry)))) (now (forecast .entry)) ⌝ }
+    ensures number { λ r. ⌜ r ≡ releaseAnswer (film chunks span delay limit (now (sizes .entry)) (now («size_chunks» .entry)) (now («size_layers» .entry)) (now («size_bytes» .entry)) (now (forecast .entry))) (now («row_slots» .entry)) (now («row_chunks» .entry)) (now («row_layers» .entry)) (now («row_bytes» .entry)) ⌝ }
+    ensures left { λ _. ⌜ now (forecast .exit) ≡ forecastReleased (film chunks span delay limit (now (sizes .entry)) (now («size_chunks» .entry)) (now («size_layers» .entry)) (now («size_bytes» .entry)) (now (forecast .entry))) (now («row_slots» .entry)) (now («row_chunks» .entry)) (now («row_layers» .entry)) (now («row_bytes» .entry)) ⌝ }
 {
     let p = Programme {
         chunks,
@@ -183,8 +172,8 @@ pub extern "C" fn film_release(
 // A count of marks of any length may pass 2^32, so it stands in a lent slice.
 #[no_mangle]
 pub extern "C" fn film_count_marks(marks: &[u8], n: u8, count: &mut [u64]) -> u64
-    ensures number { λ r. ⌜ r ≡ answered (unless 11 (leb 1 (length (now (count .entry))))) 0 ⌝ }
-    ensures count { λ _. ⌜ now (count .exit) ≡ lentAfter (unless 11 (leb 1 (length (now (count .entry))))) (markCount n (now (marks .entry)) ∷ []) (now (count .entry)) ⌝ }
+    ensures number { λ r. ⌜ r ≡ answered (countRefusal (now (count .entry))) 0 ⌝ }
+    ensures count { λ _. ⌜ now (count .exit) ≡ countAfter n (now (marks .entry)) (now (count .entry)) ⌝ }
 {
     if count.len() < 1 {
         return crossing::refused(11);

@@ -1,12 +1,8 @@
 // The calls that hand over a plan: its number of rows, the marks and rows, and the four counts.
 use job::Programme;
-ghost use Rattle.job.specs.Handed.{handed, jobIn};
-ghost use Rattle.planner.specs.Answer.{lentOf, planRefusal, planRows};
-ghost use Rattle.schedule.specs.Plan.{plan};
-ghost use Rattle.schedule.specs.Statement.{countsOf, marksOf};
+ghost use Rattle.replan.specs.Answer.{handedOn};
 ghost use Rattle.crossing.specs.Convention.{film};
-ghost use Rattle.replan.specs.Answer.{handedOn, jobOn, planOn, refusalOn, rowsOn};
-ghost use Rattle.crossing.specs.Plans.{PlanHanded, SearchHanded, slices, withCounts};
+ghost use Rattle.crossing.specs.Plans.{Planned, Replanned, SearchHanded, slices};
 
 #[no_mangle]
 pub extern "C" fn film_plan(
@@ -26,7 +22,7 @@ pub extern "C" fn film_plan(
     row_bytes: &mut [u32],
     counts: &mut [u16],
 ) -> u64
-    ensures { λ r. ⌜ PlanHanded (withCounts (planRefusal (film chunks span delay limit (now (sizes .entry)) (now («size_chunks» .entry)) (now («size_layers» .entry)) (now («size_bytes» .entry)) (now (forecast .entry))) (lentOf (now (marks .entry)) (now («row_slots» .entry)) (now («row_chunks» .entry)) (now («row_layers» .entry)) (now («row_bytes» .entry)))) (now (counts .entry))) (marksOf (jobIn (film chunks span delay limit (now (sizes .entry)) (now («size_chunks» .entry)) (now («size_layers» .entry)) (now («size_bytes» .entry)) (now (forecast .entry)))) (plan (jobIn (film chunks span delay limit (now (sizes .entry)) (now («size_chunks» .entry)) (now («size_layers» .entry)) (now («size_bytes» .entry)) (now (forecast .entry)))))) (planRows (jobIn (film chunks span delay limit (now (sizes .entry)) (now («size_chunks» .entry)) (now («size_layers» .entry)) (now («size_bytes» .entry)) (now (forecast .entry))))) (countsOf (jobIn (film chunks span delay limit (now (sizes .entry)) (now («size_chunks» .entry)) (now («size_layers» .entry)) (now («size_bytes» .entry)) (now (forecast .entry)))) (plan (jobIn (film chunks span delay limit (now (sizes .entry)) (now («size_chunks» .entry)) (now («size_layers» .entry)) (now («size_bytes» .entry)) (now (forecast .entry)))))) (slices (now (marks .entry)) (now («row_slots» .entry)) (now («row_chunks» .entry)) (now («row_layers» .entry)) (now («row_bytes» .entry)) (now (counts .entry))) r (slices (now (marks .exit)) (now («row_slots» .exit)) (now («row_chunks» .exit)) (now («row_layers» .exit)) (now («row_bytes» .exit)) (now (counts .exit))) ⌝ }
+    ensures { λ r. ⌜ Planned (film chunks span delay limit (now (sizes .entry)) (now («size_chunks» .entry)) (now («size_layers» .entry)) (now («size_bytes» .entry)) (now (forecast .entry))) (slices (now (marks .entry)) (now («row_slots» .entry)) (now («row_chunks» .entry)) (now («row_layers» .entry)) (now («row_bytes» .entry)) (now (counts .entry))) r (slices (now (marks .exit)) (now («row_slots» .exit)) (now («row_chunks» .exit)) (now («row_layers» .exit)) (now («row_bytes» .exit)) (now (counts .exit))) ⌝ }
 {
     let p = Programme {
         chunks,
@@ -87,7 +83,7 @@ pub extern "C" fn film_replan(
     row_bytes: &mut [u32],
     counts: &mut [u16],
 ) -> u64
-    ensures { λ r. ⌜ PlanHanded (withCounts (refusalOn (film chunks span delay limit (now (sizes .entry)) (now («size_chunks» .entry)) (now («size_layers» .entry)) (now («size_bytes» .entry)) (now (forecast .entry))) (handedOn from (now («fetched_slots» .entry)) (now («fetched_chunks» .entry)) (now («fetched_layers» .entry)) (now («fetched_bytes» .entry)) (now (onward .entry))) (lentOf (now (marks .entry)) (now («row_slots» .entry)) (now («row_chunks» .entry)) (now («row_layers» .entry)) (now («row_bytes» .entry)))) (now (counts .entry))) (marksOf (jobOn (film chunks span delay limit (now (sizes .entry)) (now («size_chunks» .entry)) (now («size_layers» .entry)) (now («size_bytes» .entry)) (now (forecast .entry))) (handedOn from (now («fetched_slots» .entry)) (now («fetched_chunks» .entry)) (now («fetched_layers» .entry)) (now («fetched_bytes» .entry)) (now (onward .entry)))) (planOn (film chunks span delay limit (now (sizes .entry)) (now («size_chunks» .entry)) (now («size_layers» .entry)) (now («size_bytes» .entry)) (now (forecast .entry))) (handedOn from (now («fetched_slots» .entry)) (now («fetched_chunks» .entry)) (now («fetched_layers» .entry)) (now («fetched_bytes» .entry)) (now (onward .entry))))) (rowsOn (film chunks span delay limit (now (sizes .entry)) (now («size_chunks» .entry)) (now («size_layers» .entry)) (now («size_bytes» .entry)) (now (forecast .entry))) (handedOn from (now («fetched_slots» .entry)) (now («fetched_chunks» .entry)) (now («fetched_layers» .entry)) (now («fetched_bytes» .entry)) (now (onward .entry)))) (countsOf (jobOn (film chunks span delay limit (now (sizes .entry)) (now («size_chunks» .entry)) (now («size_layers» .entry)) (now («size_bytes» .entry)) (now (forecast .entry))) (handedOn from (now («fetched_slots» .entry)) (now («fetched_chunks» .entry)) (now («fetched_layers» .entry)) (now («fetched_bytes» .entry)) (now (onward .entry)))) (planOn (film chunks span delay limit (now (sizes .entry)) (now («size_chunks» .entry)) (now («size_layers» .entry)) (now («size_bytes» .entry)) (now (forecast .entry))) (handedOn from (now («fetched_slots» .entry)) (now («fetched_chunks» .entry)) (now («fetched_layers» .entry)) (now («fetched_bytes» .entry)) (now (onward .entry))))) (slices (now (marks .entry)) (now («row_slots» .entry)) (now («row_chunks» .entry)) (now («row_layers» .entry)) (now («row_bytes» .entry)) (now (counts .entry))) r (slices (now (marks .exit)) (now («row_slots» .exit)) (now («row_chunks» .exit)) (now («row_layers» .exit)) (now («row_bytes» .exit)) (now (counts .exit))) ⌝ }
+    ensures { λ r. ⌜ Replanned (film chunks span delay limit (now (sizes .entry)) (now («size_chunks» .entry)) (now («size_layers» .entry)) (now («size_bytes» .entry)) (now (forecast .entry))) (handedOn from (now («fetched_slots» .entry)) (now («fetched_chunks» .entry)) (now («fetched_layers» .entry)) (now («fetched_bytes» .entry)) (now (onward .entry))) (slices (now (marks .entry)) (now («row_slots» .entry)) (now («row_chunks» .entry)) (now («row_layers» .entry)) (now («row_bytes» .entry)) (now (counts .entry))) r (slices (now (marks .exit)) (now («row_slots» .exit)) (now («row_chunks» .exit)) (now («row_layers» .exit)) (now («row_bytes» .exit)) (now (counts .exit))) ⌝ }
 {
     let p = Programme {
         chunks,

@@ -1,29 +1,25 @@
 -- Laws on a choice laid out: the queue that the tables hold is the choice's, and what the slices hold at the end. Assumes nothing.
-use mathlib.Core.Path.{_≡_, refl, sym, _∙_, ap, subst, fun-ext}
-use mathlib.Core.Bool.{Bool, true, false, cond}
+use mathlib.Core.Path.{_≡_, refl, sym, _∙_, ap, subst}
+use mathlib.Core.Bool.{cond}
 use mathlib.Core.List.{List, [], _∷_, _++_, map, append-nil}
-use mathlib.Core.Logic.{⊎-elim}
-use Prim.Native.Nat.{ℕ, zero, suc, _+_, _*_, _-_, _≤_, _<_, min}
+use Prim.Native.Nat.{ℕ, zero, suc, _+_, _*_, _-_, _≤_}
 use native.Mathlib.Omega.{arith}
-use lib.ListN.{length, getD, take, drop, replicate, length-drop}
-use lib.Dec.{leb, ltb, leb→le, nleb→lt, ltb→lt, nltb→le}
-use borrow.Author.Tests.{eq-eqb, ne-eqb, lt-ltb, le-ltb}
+use lib.ListN.{length, getD, take, drop, length-drop}
+use lib.Dec.{leb, ltb, leb→le, nleb→lt}
 use Rattle.basics.specs.Lists.{upTo}
 use Rattle.basics.specs.lemmas.Lists.{upTo-cong}
-use Rattle.basics.specs.Sums.{pre, sum, count}
+use Rattle.basics.specs.Sums.{count}
 use Rattle.basics.specs.Tests.{All}
-use Rattle.basics.specs.lemmas.Tests.{test, by-cond}
+use Rattle.basics.specs.lemmas.Tests.{by-cond}
 use Rattle.job.specs.Job.{Job, Accepted, Within, size, chunks, layers, due, forecast, heldMost, lastSlot}
-use Rattle.job.specs.lemmas.Within.{all-most}
 use Rattle.fetch.specs.Counts.{markCount}
-use Rattle.fetch.specs.lemmas.Marks.{mark-cong}
 use Rattle.fetch.specs.Rows.{Row, markByte, rowSlot, rowChunk, rowLayer, rowBytes}
 use Rattle.schedule.specs.lemmas.Ascending.{Asc, asc-within}
 use Rattle.schedule.specs.lemmas.Choice.{fits-weight, kept-asc}
 use Rattle.schedule.specs.Own.{ownList}
-use Rattle.schedule.specs.Plan.{kept, picked, after}
+use Rattle.schedule.specs.Plan.{kept, after}
 use Rattle.schedule.specs.lemmas.Fill.{Piece, Ready, fill, needs}
-use Rattle.schedule.specs.lemmas.Kept.{picked-asc, picked-each}
+use Rattle.schedule.specs.lemmas.Kept.{picked-each}
 use Rattle.schedule.specs.lemmas.Linear.{level-of, mark-level}
 use Rattle.schedule.specs.lemmas.Necessity.{Each}
 use Rattle.schedule.specs.lemmas.OwnFill.{own-list-is}
@@ -35,10 +31,11 @@ use Rattle.schedule.specs.lemmas.Words.{accepted-sized, due-by}
 use Rattle.listing.specs.declared.At.{At}
 use Rattle.schedule.specs.lemmas.Parts.{Part}
 use Rattle.settle.specs.lemmas.Accepted as accepted-job
-use Rattle.laying.specs.lemmas.Laying.{Decided, markIn}
+use Rattle.settle.specs.lemmas.Marks.{mark-picked, markOr}
+use Rattle.laying.specs.lemmas.Laying.{Decided}
 use Rattle.basics.specs.Lent.{over}
-use Rattle.listing.specs.lemmas.Listing.{lastOf, bytesAt, leftAt, onward, load, Fed, Made, Puts, levelOf, Levels, queueOf, AllFrom}
-use Rattle.laying.proofs.Marks.{asc-none, front-counts, front-long, marks-stay-long}
+use Rattle.listing.specs.lemmas.Listing.{lastOf, bytesAt, leftAt, onward, load, Fed, Made, Puts, Levels, queueOf, AllFrom}
+use Rattle.laying.proofs.Marks.{front-counts, front-long, marks-stay-long}
 use Rattle.basics.specs.lemmas.Tables.{all-take}
 use Rattle.listing.proofs.Pieces.{left-next, onward-next, same-refl}
 
@@ -199,41 +196,23 @@ module _
 
   -- ---- the marks
 
-  mark-picked : (q : ℕ → Bool) (g : ℕ → ℕ) (lo n i : ℕ) → lo < i → i ≤ n + lo → markIn i (picked q lo n) (map g (picked q lo n)) ≡ cond (q i) (g i) 0
-  mark-picked q g lo zero i u v = absurd (omega arith)
-  mark-picked q g lo (suc n) i u v =
-      ⊎-elim
-      (λ t.
-      let e : i ≡ suc lo = omega (arith, leb→le i (suc lo) t) in
-      rw e (here (q (suc lo))))
-      (λ t. let w = nleb→lt i (suc lo) t in there (q (suc lo)) w (mark-picked q g (suc lo) n i w (omega arith)))
-      (test (leb i (suc lo)))
-    where
-      here : (b : Bool) → markIn (suc lo) (cond b (suc lo ∷ picked q (suc lo) n) (picked q (suc lo) n)) (map g (cond b (suc lo ∷ picked q (suc lo) n) (picked q (suc lo) n))) ≡ cond b (g (suc lo)) 0
-      here true = rw (eq-eqb (suc lo) (suc lo) refl)
-      here false = asc-none (suc (suc lo)) (n + suc lo) (suc lo) (picked q (suc lo) n) (map g (picked q (suc lo) n)) (picked-asc q (suc lo) n (n + suc lo) (omega arith)) (omega arith)
-
-      there : (b : Bool) → suc lo < i → markIn i (picked q (suc lo) n) (map g (picked q (suc lo) n)) ≡ cond (q i) (g i) 0 → markIn i (cond b (suc lo ∷ picked q (suc lo) n) (picked q (suc lo) n)) (map g (cond b (suc lo ∷ picked q (suc lo) n) (picked q (suc lo) n))) ≡ cond (q i) (g i) 0
-      there true w e = rw (ne-eqb (suc lo) i (λ z. omega arith)) e
-      there false w e = e
-
-  pub marks-are : upTo (λ i. markIn (i + 1) (drop first ids) (drop first mark)) (chunks j) ≡ marksOf j x
+  pub marks-are : upTo (λ i. markOr 0 (i + 1) (drop first ids) (drop first mark)) (chunks j) ≡ marksOf j x
   marks-are =
       upTo-cong _ _ (chunks j) (λ i h.
-      ap (λ (l : List ℕ). markIn (i + 1) l (drop first mark)) (o .tables .chunks)
-      ∙ ap (markIn (i + 1) (kept j x)) (o .tables .marks)
-      ∙ mark-picked (λ i. leb 1 (x i)) (λ k. levelMark (x k)) 0 (chunks j) (i + 1) (omega arith) (omega arith)
+      ap (λ (l : List ℕ). markOr 0 (i + 1) l (drop first mark)) (o .tables .chunks)
+      ∙ ap (markOr 0 (i + 1) (kept j x)) (o .tables .marks)
+      ∙ mark-picked 0 (λ i. leb 1 (x i)) (λ k. levelMark (x k)) 0 (chunks j) (i + 1) (omega arith) (omega arith)
       ∙ one (x (i + 1)) (layers j) (c (i + 1) (omega arith) (omega arith)))
     where
       one : (c k : ℕ) → c ≤ k → cond (leb 1 c) (levelMark c) 0 ≡ markByte (λ n. ltb n c) k
       one c k h = by-cond (λ (x : ℕ). x ≡ markByte (λ n. ltb n c) k) (leb 1 c) (λ t. sym (mark-level c k h)) (λ t. let e : c ≡ 0 = omega (arith, nleb→lt 1 c t) in sym (mark-level c k h ∙ rw e))
 
   -- The marks stand at the start of their slice.
-  module _ (marks marks' : List ℕ) (fit : count ≤ length marks) (e : marks' ≡ over (upTo (λ i. markIn (i + 1) (drop first ids) (drop first mark)) count) marks) where
+  module _ (marks marks' : List ℕ) (fit : count ≤ length marks) (e : marks' ≡ over (upTo (λ i. markOr 0 (i + 1) (drop first ids) (drop first mark)) count) marks) where
     pub laid-marks : marks' ≡ over (marksOf j x) marks
     laid-marks =
         e
-        ∙ ap (λ (n : ℕ). over (upTo (λ i. markIn (i + 1) (drop first ids) (drop first mark)) n) marks) (o .counted)
+        ∙ ap (λ (n : ℕ). over (upTo (λ i. markOr 0 (i + 1) (drop first ids) (drop first mark)) n) marks) (o .counted)
         ∙ ap (λ (l : List ℕ). over l marks) marks-are
 
     pub laid-long : length marks' ≡ length marks

@@ -8,7 +8,8 @@ ghost use Rattle.basics.specs.Lists.{upTo};
 ghost use Rattle.basics.specs.Lent.{over};
 ghost use Rattle.job.specs.Table.{tableAt};
 ghost use Rattle.schedule.specs.lemmas.Ascending.{Asc};
-ghost use Rattle.laying.specs.lemmas.Laying.{markIn, LayFrom, AmpleFrom, Fills, Lays, Each};
+ghost use Rattle.laying.specs.lemmas.Laying.{LayFrom, AmpleFrom, Fills, Lays, Each};
+ghost use Rattle.settle.specs.lemmas.Marks.{markOr};
 
 // The rows made, and the counts.
 struct Filled {
@@ -43,7 +44,7 @@ fn is_at(ids: &[u16; 500], q: usize, chunk: usize) -> bool
 // A mark for each chunk: the one at its place among the kept chunks, or 0.
 fn spread(ids: &[u16; 500], mark: &[u8; 500], first: usize, count: usize, marks: &mut [u8])
     requires { ⌜ (first ≤ 500) × (count ≤ length (now marks)) × Asc 1 count (drop first (now ids)) × (length (now ids) ≡ 500) × (length (now mark) ≡ 500) ⌝ }
-    ensures { λ _. ⌜ now (marks .exit) ≡ over (upTo (λ i. markIn (i + 1) (drop first (now (ids .entry))) (drop first (now (mark .entry)))) count) (now (marks .entry)) ⌝ }
+    ensures { λ _. ⌜ now (marks .exit) ≡ over (upTo (λ i. markOr 0 (i + 1) (drop first (now (ids .entry))) (drop first (now (mark .entry)))) count) (now (marks .entry)) ⌝ }
 {
     let mut q = first;
     let mut i: usize = 0;

@@ -7,7 +7,9 @@ use mathlib.Core.Logic.{_↔_, ⊎-elim}
 use native.Mathlib.Omega.{arith}
 use lib.ListN.{length, drop}
 use lib.Dec.{T}
+use Rattle.basics.specs.Refusals.{unless, _orElse_}
 use Rattle.basics.specs.lemmas.Lists.{length-upTo}
+use Rattle.basics.specs.lemmas.Refusals.{orElse-iff}
 use Rattle.records.specs.File.{ended, split, fileRefusal}
 use Rattle.job.specs.Job.{Job, Accepted, chunks}
 use Rattle.job.specs.Handed.{HandedJob, jobIn, jobRefusal}
@@ -16,6 +18,7 @@ use Rattle.fetch.specs.Handed.{Whole, handed-iff}
 use Rattle.planfile.specs.PlanFile.{format, Plan, InWidth, InOrder, planIn, fileOf}
 use Rattle.planfile.specs.Calls.{Slices, slicesOf, room, readRefusal, readAnswer, readLent, planOf, writeRest, writeRefusal}
 use Rattle.planfile.specs.lemmas.Writing.{length-file}
+use Rattle.planfile.specs.lemmas.Few.{rows-inside}
 use Rattle.planfile.specs.lemmas.Back.{file-accepted, file-says, accepts, field, not-short, nine-by-size}
 use Rattle.planfile.specs.lemmas.Order.{in-order-accepted, accepted-in-order, none-or-eight}
 use Rattle.planfile.specs.declared.PlanRead.the-variants.{Rows}
@@ -68,6 +71,15 @@ eight-iff count file l e = (
 
 pub accepted-iff-in-order : (count : ℕ) (file : List ℕ) → length file ≤ 65536 → split (format count) file .stop ≡ ended 0 → (fileRefusal (format count) file ≡ 0) ↔ InOrder count (split (format count) file .records)
 accepted-iff-in-order count file l e = (in-order-accepted count file l e, accepted-in-order count file l e)
+
+-- A file that is read has at most 5,957 rows: 11 bytes each of 65,536.
+pub rows-few : (h : HandedJob) (file : List ℕ) (lent : Slices) → readRefusal h file lent ≡ 0 → length (planIn (chunks (jobIn h)) file .rows) ≤ 5957
+unfolding readRefusal
+rows-few h file lent e =
+    let count : ℕ = chunks (jobIn h) in
+    let own : ℕ = fileRefusal (format count) file in
+    let rest : ℕ = unless 11 (room lent count (length (planIn count file .rows))) in
+    omega (arith, rows-inside count file (orElse-iff own rest .0 (orElse-iff (jobRefusal h) (own orElse rest) .0 e .1) .0))
 
 -- ---- 9 of the writer
 

@@ -1,4 +1,5 @@
 pub mod Back
+pub mod Few
 pub mod Order
 pub mod Scan
 pub mod Writing

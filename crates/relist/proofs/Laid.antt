@@ -1,26 +1,24 @@
 -- Laws on the whole: what `lay_rest` asks of the decision, the fill and the marks, and what it hands over. Assumes nothing.
-use mathlib.Core.Path.{_≡_, refl, sym, _∙_, ap}
+use mathlib.Core.Path.{_≡_}
 use mathlib.Core.List.{List, [], _∷_, _++_}
-use Prim.Native.Nat.{ℕ, zero, suc, _+_, _*_, _-_, _≤_, _<_}
+use Prim.Native.Nat.{ℕ, zero, suc, _+_, _*_, _-_, _≤_}
 use native.Mathlib.Omega.{arith}
 use lib.ListN.{length, getD, drop, length-append}
 use Rattle.basics.specs.Lent.{over}
 use Rattle.basics.specs.Lists.{upTo}
 use Rattle.basics.specs.Tests.{All}
-use Rattle.job.specs.Job.{Accepted, chunks, Job, Within}
+use Rattle.job.specs.Job.{chunks, Job, Within}
 use Rattle.job.specs.declared.Programme.{Programme}
-use Rattle.fetch.specs.Rows.{Row}
-use Rattle.schedule.specs.lemmas.Ascending.{Asc}
 use Rattle.schedule.specs.lemmas.Parts.{Part, Small}
 use Rattle.afresh.specs.Plan.{replan}
-use Rattle.afresh.specs.Statement.{Acceptable, IsReplan}
+use Rattle.afresh.specs.Statement.{IsReplan}
 use Rattle.afresh.specs.Theorems.{replan-exists}
 use Rattle.listing.specs.declared.At.{At}
 use Rattle.listing.specs.lemmas.Listing.{Puts}
-use Rattle.relist.specs.lemmas.Handing.{Laid, LaidFrom, LaidOf, Real}
+use Rattle.relist.specs.lemmas.Handing.{Laid, LaidFrom, Real}
 use Rattle.relist.specs.lemmas.Left.{AllLeft, leftQueue}
-use Rattle.resettle.specs.lemmas.Decision.{Decided, DecideFrom, Decides, jobFrom, markOr}
-use Rattle.resettle.specs.lemmas.Tables.{Fine}
+use Rattle.settle.specs.lemmas.Marks.{markOr}
+use Rattle.resettle.specs.lemmas.Decision.{Decided, DecideFrom, Decides, jobFrom}
 use Rattle.relist.proofs.Rest as rest
 
 small-behind : (e part : List ℕ) → All (Within 0 16777216) (e ++ part) → Small part

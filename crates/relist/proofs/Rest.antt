@@ -1,14 +1,14 @@
 -- Laws on the rows laid out: the queue that the tables hold is what the handed rows leave of the plan, and what the slices hold at the
 -- end. Assumes nothing.
-use mathlib.Core.Path.{_≡_, refl, sym, _∙_, ap, subst, fun-ext}
+use mathlib.Core.Path.{_≡_, refl, sym, _∙_, ap, subst}
 use mathlib.Core.Bool.{Bool, true, false, not, cond, _&&_}
 use mathlib.Core.List.{List, [], _∷_, _++_, map, append-assoc, append-nil}
 use mathlib.Core.Logic.{⊎-elim}
-use Prim.Native.Nat.{ℕ, zero, suc, _+_, _*_, _-_, _≤_, _<_, max, min}
+use Prim.Native.Nat.{ℕ, zero, suc, _+_, _*_, _-_, _≤_, _<_, max}
 use native.Mathlib.Omega.{arith}
-use lib.ListN.{length, getD, take, drop, length-append, length-drop, length-map}
+use lib.ListN.{length, getD, take, drop, length-append, length-drop}
 use lib.Seq.{getD-append-add}
-use lib.Dec.{T, leb, ltb, eqb, leb→le, nleb→lt, ltb→lt, nltb→le}
+use lib.Dec.{T, leb, ltb, ltb→lt, nltb→le}
 use borrow.Author.Tests.{eq-eqb, ne-eqb, lt-ltb, le-ltb}
 use Rattle.basics.specs.Lent.{over}
 use Rattle.basics.specs.Lists.{upTo}
@@ -19,9 +19,7 @@ use Rattle.basics.specs.lemmas.Tables.{all-take}
 use Rattle.basics.specs.lemmas.Tests.{not-T-false, T-true, test}
 use Rattle.job.specs.Job.{Accepted, chunks, due, forecast, heldMost, Job, lastSlot, layers, Override, size, Within}
 use Rattle.job.specs.declared.Programme.{Programme}
-use Rattle.fetch.specs.Marks.{bit}
-use Rattle.fetch.specs.Rows.{bytesOfLayer, markByte, Row, rowBytes, rowChunk, rowLayer, rowSlot}
-use Rattle.fetch.specs.lemmas.Marks.{mark-cong}
+use Rattle.fetch.specs.Rows.{bytesOfLayer, Row, rowBytes, rowChunk, rowLayer, rowSlot}
 use Rattle.schedule.specs.Own.{carriedTo, wholeLayer}
 use Rattle.schedule.specs.Plan.{after, need, picked}
 use Rattle.schedule.specs.Statement.{marksOf}
@@ -29,15 +27,14 @@ use Rattle.schedule.specs.lemmas.Ascending.{Asc}
 use Rattle.schedule.specs.lemmas.Fill.{fill, Piece, take-slot}
 use Rattle.schedule.specs.lemmas.Kept.{picked-asc, picked-each}
 use Rattle.schedule.specs.lemmas.Level.{level, level-iff}
-use Rattle.schedule.specs.lemmas.Linear.{level-bit, level-of, mark-level}
-use Rattle.schedule.specs.lemmas.Parts.{padded, padded-at, Part}
+use Rattle.schedule.specs.lemmas.Linear.{level-of, mark-level}
+use Rattle.schedule.specs.lemmas.Parts.{Part}
 use Rattle.schedule.specs.lemmas.Queue.{all-ones, each, each-is, feas-relok, ones, releases, RelOk}
 use Rattle.schedule.specs.lemmas.Trials.{levelMark}
-use Rattle.schedule.specs.lemmas.Words.{accepted-sized, carries, due-by, layer-of}
+use Rattle.schedule.specs.lemmas.Words.{accepted-sized, due-by, layer-of}
 use Rattle.afresh.specs.Own.{ownRest, unfetched}
 use Rattle.afresh.specs.Plan.{afterFrom, busy, bytesLeft}
 use Rattle.afresh.specs.Statement.{Acceptable, IsReplan}
-use Rattle.afresh.specs.Theorems.{replan-exists}
 use Rattle.afresh.specs.lemmas.Base.{picked-split}
 use Rattle.afresh.specs.lemmas.Criterion.{busyFrom, feas-from-due}
 use Rattle.afresh.specs.lemmas.Fill.{readyOf, rest-is-fill}
@@ -46,15 +43,14 @@ use Rattle.afresh.specs.lemmas.Plan.{is-replan-fits}
 use Rattle.listing.proofs.Chunks.{load-append}
 use Rattle.listing.proofs.Pieces.{bytes-in, left-next, onward-next, same-refl}
 use Rattle.listing.specs.declared.At.{At}
-use Rattle.listing.specs.lemmas.Listing.{bytesAt, Fed, lastOf, leftAt, levelOf, load, Made, onward, piece, Puts}
+use Rattle.listing.specs.lemmas.Listing.{bytesAt, Fed, lastOf, leftAt, load, Made, onward, piece, Puts}
 use Rattle.relist.proofs.Chunks.{layerAt, pieces-next}
-use Rattle.relist.specs.lemmas.Handing.{Laid, LaidFrom, LaidOf, Real}
+use Rattle.relist.specs.lemmas.Handing.{LaidOf}
 use Rattle.relist.specs.lemmas.Left.{AllLeft, AnyLevels, piecesLeft, leftQueue}
 use Rattle.resettle.proofs.Decided.{left-from}
-use Rattle.resettle.proofs.Marks.{asc-none}
 use Rattle.resettle.specs.lemmas.Composed.{other-at, rest}
-use Rattle.resettle.specs.lemmas.Decision.{Decided, DecideFrom, Decides, jobFrom, markOr, Tabled}
-use Rattle.resettle.specs.lemmas.Tables.{Fine, Small}
+use Rattle.settle.specs.lemmas.Marks.{mark-picked, markOr}
+use Rattle.resettle.specs.lemmas.Decision.{Decided, jobFrom, Tabled}
 use Rattle.schedule.specs.Own as own
 
 -- ---- the queue of the tables
@@ -200,24 +196,6 @@ fill-cong B B′ (suc n) t q h =
 fill-none : (B : ℕ → ℕ) (n t : ℕ) → fill B n t [] ≡ []
 fill-none B zero t = refl
 fill-none B (suc n) t = fill-none B n (suc t)
-
-mark-picked : (w : ℕ) (q : ℕ → Bool) (g : ℕ → ℕ) (lo n i : ℕ) → lo < i → i ≤ n + lo → markOr w i (picked q lo n) (map g (picked q lo n)) ≡ cond (q i) (g i) w
-mark-picked w q g lo zero i u v = absurd (omega arith)
-mark-picked w q g lo (suc n) i u v =
-    ⊎-elim
-    (λ t.
-    let e : i ≡ suc lo = omega (arith, leb→le i (suc lo) t) in
-    rw e (here (q (suc lo))))
-    (λ t. let x = nleb→lt i (suc lo) t in there (q (suc lo)) x (mark-picked w q g (suc lo) n i x (omega arith)))
-    (test (leb i (suc lo)))
-  where
-    here : (b : Bool) → markOr w (suc lo) (cond b (suc lo ∷ picked q (suc lo) n) (picked q (suc lo) n)) (map g (cond b (suc lo ∷ picked q (suc lo) n) (picked q (suc lo) n))) ≡ cond b (g (suc lo)) w
-    here true = rw (eq-eqb (suc lo) (suc lo) refl)
-    here false = asc-none w (suc (suc lo)) (n + suc lo) (suc lo) (picked q (suc lo) n) (map g (picked q (suc lo) n)) (picked-asc q (suc lo) n (n + suc lo) (omega arith)) (omega arith)
-
-    there : (b : Bool) → suc lo < i → markOr w i (picked q (suc lo) n) (map g (picked q (suc lo) n)) ≡ cond (q i) (g i) w → markOr w i (cond b (suc lo ∷ picked q (suc lo) n) (picked q (suc lo) n)) (map g (cond b (suc lo ∷ picked q (suc lo) n) (picked q (suc lo) n))) ≡ cond (q i) (g i) w
-    there true x e = rw (ne-eqb (suc lo) i (λ z. omega arith)) e
-    there false x e = e
 
 all-of : (P : ℕ → Type 0) (g : ℕ → ℕ) (ks : List ℕ) → All (λ k. P (g k)) ks → All P (map g ks)
 all-of P g [] a = tt

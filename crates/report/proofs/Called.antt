@@ -22,7 +22,8 @@ use Rattle.planner.specs.declared.Answer.the-variants.{Rows as made, Refused as
 use Rattle.planner.specs.declared.Planned.{Planned}
 use Rattle.report.specs.declared.table.Spent.the-variants.{Bytes as sent, Refused as unsent}
 use Rattle.report.specs.lemmas.Tables.{Rows, Summed, Tabled}
-use Rattle.report.proofs.Own.{few, own-rows, rows-again, spent-again}
+use Rattle.report.specs.lemmas.Again.{rows-again}
+use Rattle.report.proofs.Own.{few, own-rows, spent-again}
 
 -- The slices that the report lends: zeros.
 abbrev pub zeros : ℕ → List ℕ

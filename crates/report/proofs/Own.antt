@@ -4,12 +4,10 @@ use mathlib.Core.Path.{_≡_, sym, ap, _∙_}
 use mathlib.Core.List.{List, [], _∷_, map}
 use native.Mathlib.Omega.{arith}
 use lib.ListN.{length, getD, length-map, List·getD-map}
-use lib.Seq.{ext-getD}
 use Rattle.basics.specs.Tests.{All}
 use Rattle.basics.specs.Sums.{sum}
-use Rattle.basics.specs.lemmas.Lists.{length-upTo, getD-upTo}
 use Rattle.job.specs.Job.{Job, Accepted}
-use Rattle.fetch.specs.Rows.{Row, rowAt, rowsOf, rowSlot, rowChunk, rowLayer, rowBytes}
+use Rattle.fetch.specs.Rows.{Row, rowSlot, rowChunk, rowLayer, rowBytes}
 use Rattle.fetch.specs.Rules.{InRange, Keeps}
 use Rattle.schedule.specs.Plan.{plan}
 use Rattle.schedule.specs.Theorems.{own-list-rows, plan-exists, plan-carried}
@@ -17,23 +15,12 @@ use Rattle.schedule.specs.Statement.{marksOf}
 use Rattle.schedule.specs.lemmas.Words.{accepted-sized}
 use Rattle.planner.specs.Answer.{planRows}
 use Rattle.report.specs.Report.{bytesInRows}
+use Rattle.report.specs.lemmas.Again.{rows-again}
 use Rattle.report.specs.lemmas.Tables.{Rows}
 use Rattle.report.proofs.ByTable.{spent-is}
 
 abbrev none : Row
 none = record { slot = 0; chunk = 0; layer = 0; bytes = 0 }
-
--- The fields of rows, slice by slice, are the rows again.
-pub rows-again : (l : List Row) → rowsOf (map rowSlot l) (map rowChunk l) (map rowLayer l) (map rowBytes l) ≡ l
-rows-again l =
-    ext-getD none (rowsOf (map rowSlot l) (map rowChunk l) (map rowLayer l) (map rowBytes l)) l (length-upTo f (length (map rowSlot l)) ∙ length-map l rowSlot)
-    (λ k h. getD-upTo f (length (map rowSlot l)) k none (omega (arith, length-upTo f (length (map rowSlot l)))) ∙ same k)
-  where
-    f : ℕ → Row
-    f = rowAt (map rowSlot l) (map rowChunk l) (map rowLayer l) (map rowBytes l)
-
-    same : (k : ℕ) → f k ≡ getD l k none
-    same k = rw (List·getD-map rowSlot l k none, List·getD-map rowChunk l k none, List·getD-map rowLayer l k none, List·getD-map rowBytes l k none)
 
 row-at : (P : Row → Type 0) (l : List Row) (k : ℕ) → All P l → k < length l → P (getD l k none)
 row-at P [] k a h = absurd (omega arith)

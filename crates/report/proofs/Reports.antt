@@ -14,16 +14,14 @@ use Rattle.job.specs.Table.{sizesTable}
 use Rattle.job.specs.lemmas.Table.{table-says}
 use Rattle.job.specs.lemmas.Within.{size-most}
 use Rattle.planner.specs.Answer.{planRows}
-use Rattle.report.specs.Answer.{Answered, Reported, planReport, reportRefusal, roomRefusal}
+use Rattle.report.specs.Answer.{Answered, Reported, plan-report-fits, planReport, reportRefusal, roomRefusal}
 use Rattle.report.specs.Report.{bytesInRows}
-use Rattle.report.specs.Theorems.{report-fits}
 use Rattle.report.specs.declared.Written.{Written}
 use Rattle.report.specs.declared.Written.the-variants.{Refused}
 use Rattle.report.specs.declared.table.Spent.{Spent}
 use Rattle.report.specs.declared.table.Spent.the-variants.{Bytes as sent, Refused as unsent}
 use Rattle.report.specs.lemmas.Tables.{SizesIn, Tabled, linesBy}
 use Rattle.report.proofs.ByTable.{forecast-is, lines-are}
-use Rattle.report.proofs.Own.{keeps}
 
 sent-case : (h : HandedJob) (b : Bool) (n : ℕ) → cond b (sent (bytesInRows (planRows (jobIn h)))) (unsent (jobRefusal h)) ≡ sent n → (b ≡ true) × (n ≡ bytesInRows (planRows (jobIn h)))
 sent-case h true n e = (cc, cc)
@@ -59,10 +57,6 @@ module _ {h : HandedJob} {table : List ℕ} {r : Spent} (t : Tabled h table r) w
       unfolding planReport
       lines-report = rw (f, s, case .1, forecast-is (jobIn h) (accepted .slots-in)) (lines-are (jobIn h) accepted (planRows (jobIn h)) table (t .by-rows none))
 
-      short : length (planReport (jobIn h)) ≤ 7633
-      unfolding planReport
-      short = report-fits (jobIn h) (planRows (jobIn h)) accepted (keeps accepted .in-range) (keeps accepted .within)
-
       pub lines-asked :
           (length (h .sizes) ≤ 4) × (1 ≤ h .programme .chunks) × (h .programme .chunks ≤ 500) × (1 ≤ h .programme .span)
           × (length (linesBy (h .programme) stored (length (h .sizes)) table n left) ≤ 7633) × SizesIn stored
@@ -71,7 +65,7 @@ module _ {h : HandedJob} {table : List ℕ} {r : Spent} (t : Tabled h table r) w
         accepted .chunks-in .low,
         accepted .chunks-in .high,
         accepted .span-in .low,
-        rw lines-report short,
+        rw lines-report (plan-report-fits (jobIn h) accepted),
         λ i k. rw (s, table-says (jobIn h) accepted i k) (size-most (jobIn h) accepted i k),
       )
 

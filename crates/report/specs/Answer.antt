@@ -1,6 +1,6 @@
--- Meaning, then its theorem. What the report call answers, and the lent buffer afterwards: document 01, "Direct calls without files
+-- Meaning, then its theorems. What the report call answers, and the lent buffer afterwards: document 01, "Direct calls without files
 -- check 5, 6, 7", with document 02's 18 before 7, then 11 where "a lent buffer is shorter than the whole result. In a longer one the bytes past the result stay unchanged."
-use Prim.Native.Nat.{ℕ}
+use Prim.Native.Nat.{ℕ, _≤_}
 use mathlib.Core.Path.{_≡_, ap}
 use mathlib.Core.Bool.{cond}
 use mathlib.Core.List.{List}
@@ -13,8 +13,10 @@ use Rattle.job.specs.Handed.{HandedJob, jobIn, jobRefusal}
 use Rattle.schedule.specs.Own.{ownList}
 use Rattle.schedule.specs.Plan.{plan}
 use Rattle.schedule.specs.Statement.{IsPlan}
-use Rattle.schedule.specs.Theorems.{plan-exists, plan-rows-unique}
+use Rattle.schedule.specs.Theorems.{plan-carried, plan-exists, plan-rows-unique}
+use Rattle.schedule.specs.lemmas.Words.{accepted-sized}
 use Rattle.report.specs.Report.{reportOf}
+use Rattle.report.specs.Theorems.{report-fits}
 use Rattle.report.specs.declared.Written.{Written}
 use Rattle.report.specs.declared.Written.the-variants.{Bytes, Refused}
 
@@ -48,3 +50,10 @@ pub record Reported (h : HandedJob) (old now : List ℕ) (r : Written) : Type 0 
 pub report-of-plan : (j : Job) (p : ℕ → ℕ) → Accepted j → IsPlan j p → planReport j ≡ reportOf j (ownList j p)
 unfolding planReport
 report-of-plan j p a is = ap (reportOf j) (plan-rows-unique j (plan j) p (plan-exists j a) is)
+
+-- It has at most 7,633 bytes: the plan's own list keeps rules 1 to 7.
+pub plan-report-fits : (j : Job) → Accepted j → length (planReport j) ≤ 7633
+unfolding planReport
+plan-report-fits j a =
+    let k = plan-carried j (accepted-sized j a) (plan j) (plan-exists j a) .0 in
+    report-fits j (ownList j (plan j)) a (k .in-range) (k .within)

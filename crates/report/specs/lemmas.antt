@@ -1,3 +1,4 @@
+pub mod Again
 pub mod Bounds
 pub mod Switches
 pub mod Tables

@@ -1,5 +1,4 @@
 pub mod Front
 pub mod Bases
 pub mod Begun
-pub mod Marks
 pub mod Decided

@@ -13,7 +13,8 @@ ghost use Rattle.job.specs.Table.{tableAt};
 ghost use Rattle.schedule.specs.lemmas.Ascending.{Asc};
 ghost use Rattle.resettle.specs.lemmas.Tables.{Falls, Roof, Fallen, LastBegun, FrontFrom, Front, TestFrom, Tested, NewFrom, NewBases};
 ghost use Rattle.resettle.specs.lemmas.Begun.{choose, BegunFrom, BegunBases};
-ghost use Rattle.resettle.specs.lemmas.Decision.{markOr, DecideFrom, Decides};
+ghost use Rattle.settle.specs.lemmas.Marks.{markOr};
+ghost use Rattle.resettle.specs.lemmas.Decision.{DecideFrom, Decides};
 
 // What is left of a after b, or 0.
 fn fewer(a: usize, b: usize) -> usize

@@ -21,7 +21,7 @@ use Rattle.job.specs.Refusal.{within, within-iff}
 use Rattle.trace.specs.Trace.{Means, NotBelow, aboveRefusal, forecastOf, forecastRefusal, found, howMany, inSlot, linesFrom, linesRefusal, slotBytes, slotsRefusal, time, times, traceOf, traceRefusal, writable}
 use Rattle.trace.specs.lemmas.Lines.{lines-found, means-found}
 use Rattle.trace.specs.lemmas.Lists.{All-replicate}
-use Rattle.trace.specs.lemmas.Times.{lines-are, many-at, times-are, times-rise, timesFrom}
+use Rattle.trace.specs.lemmas.Times.{bytes-few, lines-are, lines-few, many-at, times-are, times-rise, timesFrom}
 
 -- ---- refusals
 
@@ -142,6 +142,13 @@ no-leading-zeros t (b ∷ f) =
     first : (t : ℕ) → NoLeadingZero (digits (t * 1000))
     first zero = inl (digits-one 0 (omega arith))
     first (suc t) = inr (digits-first (suc t * 1000) (omega arith))
+
+-- It has at most 322,099,200 bytes: 11,184 lines of 8 bytes for each of 3,600 slots.
+pub trace-fits : (f : List ℕ) → forecastRefusal f ≡ 0 → length (traceOf f) ≤ 322099200
+unfolding traceOf
+trace-fits f e =
+    let u = write-iff f .0 e in
+    omega (arith, bytes-few (linesFrom 0 f) (lines-are 0 f (omega (arith, u .slots-in .high))), lines-few 0 f (all-map WholeLines (λ b. b ≤ 16777216) f (λ b l. l .high) (u .each)), u .slots-in .high)
 
 -- "reading it restores the forecast".
 pub reads-back : (f : List ℕ) → forecastRefusal f ≡ 0 → forecastOf (length f) (traceOf f) ≡ f

@@ -1,7 +1,7 @@
 -- Theorems. Document 02, request 5: the answer is the shortest wait, there is one at most, 16 says that there is none; and "the plan skips
 -- no base" is the same as "some passing list carries every base", for lists in playing order, and for equal chunks in any order.
 use Prim.Native.Nat.{ℕ, _+_, _≤_, _<_}
-use mathlib.Core.Path.{_≡_, sym, _∙_, subst}
+use mathlib.Core.Path.{_≡_, refl, sym, _∙_, subst}
 use mathlib.Core.Bool.{Bool, true, false, cond, _&&_}
 use mathlib.Core.Logic.{⊎-elim, _↔_}
 use native.Mathlib.Omega.{arith}
@@ -200,6 +200,13 @@ unfolding waitRefusal
 wait-iff h =
     let s : ℕ = shortest (filmIn h) in
     orElse-as (inputRefusal h) (sixteenRefusal (filmIn h)) (input-iff h) (unless-as 16 (ltb 0 s) (omega arith) (ltb-iff 0 s))
+
+-- A delay that is answered is within the forecast: at most 3,600.
+pub wait-few : (h : HandedFilm) → waitRefusal h ≡ 0 → shortest (filmIn h) ≤ 3600
+wait-few h e =
+    let u = wait-iff h .0 e in
+    let t = shortest-iff (filmIn h) (u .0 .1) (shortest (filmIn h)) .0 (refl, u .1) .works .tried in
+    omega (arith, t .reaches, u .0 .1 .slots-in .high)
 
 -- ---- the answer
 

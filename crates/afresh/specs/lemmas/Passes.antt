@@ -2,16 +2,16 @@
 -- ones from the last to the first; and that they keep the chunks of the plan made afresh and hand on its need.
 use Prim.Native.Nat.{ℕ, zero, suc, _+_, _-_, _≤_, _<_, max, min}
 use mathlib.Core.Path.{_≡_, refl, sym, ap, _∙_, subst}
-use mathlib.Core.Bool.{Bool, true, false, not, cond, _&&_, _||_}
+use mathlib.Core.Bool.{Bool, true, false, not, cond, _&&_}
 use mathlib.Core.List.{List, [], _∷_, _++_}
 use mathlib.Core.Logic.{_⊎_, inl, inr, ⊎-elim, _↔_}
 use native.Mathlib.Omega.{arith}
-use borrow.Author.Tests.{lt-leb, le-leb}
+use borrow.Author.Tests.{le-leb}
 use lib.ListN.{drop, getD, length}
-use lib.Dec.{T, T-not, leb, ltb, eqb, leb→le, nleb→lt, le→leb, eqb→eq}
+use lib.Dec.{T, leb, eqb, leb→le, nleb→lt, le→leb, eqb→eq}
 use Rattle.basics.specs.Sums.{sum}
 use Rattle.basics.specs.Tests.{All}
-use Rattle.basics.specs.lemmas.Tests.{all-map, and-T, at-row, by-cond, leb-iff, not-T-false, same-test, T-and, T-or-iff, T-true, test, tests}
+use Rattle.basics.specs.lemmas.Tests.{all-map, and-T, at-row, by-cond, not-T-false, same-test, T-and, T-or-iff, T-true, test}
 use Rattle.job.specs.Job.{chunks, due, heldMost, Job, layers, size}
 use Rattle.fetch.specs.Rows.{bytesOfLayer, Row}
 use Rattle.schedule.specs.Plan.{need, picked}
@@ -20,12 +20,35 @@ use Rattle.schedule.specs.lemmas.Kept.{picked-cong, picked-each}
 use Rattle.schedule.specs.lemmas.Level.{level}
 use Rattle.schedule.specs.lemmas.Linear.{needs-at, needs-of}
 use Rattle.schedule.specs.lemmas.Trials.{candidate, keeps, Stack}
-use Rattle.schedule.specs.lemmas.Words.{carries, due-mono, Sized}
-use Rattle.afresh.specs.Plan.{afterFrom, busy, bytesLeft}
+use Rattle.schedule.specs.lemmas.Words.{carries, Sized}
+use Rattle.afresh.specs.Plan.{afterFrom, busy}
 use Rattle.afresh.specs.Statement.{Acceptable, triedFrom}
-use Rattle.afresh.specs.lemmas.Base.{afterBases, base-begun, base-new, begunFrom, need-cong, no-base, no-bytes, picked-split, whole-begun, whole-left}
+use Rattle.afresh.specs.lemmas.Base.{afterBases, base-begun, base-new, need-cong, no-base, no-bytes, picked-split, whole-left}
 use Rattle.afresh.specs.lemmas.Criterion.{FrontOk}
 use Rattle.afresh.specs.lemmas.Fits.{FitsFrom}
+
+-- Up to the last begun chunk only begun ones are busy.
+pub busy-begun :
+    (j : Job) (p : ℕ) (handed : List Row) (plan : ℕ → ℕ) → FitsFrom j p handed plan → (last : ℕ) → (last ≡ 0) ⊎ T (carries handed last) →
+    last ≤ chunks j → (i : ℕ) → 1 ≤ i → i ≤ last → busy handed plan i && leb p (due j i) ≡ carries handed i && leb p (due j i)
+busy-begun j p handed plan fits last top in-job i u v =
+    ap (λ (b : Bool). b && leb p (due j i))
+    (same-test (busy handed plan i) (carries handed i)
+    (λ t.
+    ⊎-elim
+    (λ x. x)
+    (λ x.
+    ⊎-elim
+    (λ w. w)
+    (λ w.
+    absurd
+    (⊎-elim
+    (λ z. omega arith)
+    (λ z. let y = some-row (λ y. eqb (y .chunk) last) handed z in omega (arith, at-row (λ x. x .chunk < i) (y .1) w, eqb→eq (y .0 .chunk) last (y .2)))
+    top))
+    (fits .in-front i u (omega arith) (leb→le 1 (plan i) x)))
+    (T-or-iff (carries handed i) (leb 1 (plan i)) .0 t))
+    (λ t. T-or-iff (carries handed i) (leb 1 (plan i)) .1 (inl t)))
 
 -- ---- the passes
 
@@ -207,27 +230,6 @@ module _
     abbrev settledBytes : ℕ → ℕ
     settledBytes k = afterBases j sized p handed ok some q fq accepts k
 
-    -- Up to the last begun chunk only begun ones are busy.
-    busy-begun : (i : ℕ) → 1 ≤ i → i ≤ last → member i ≡ isBegun i
-    busy-begun i u v =
-        ap (λ (b : Bool). b && leb p (due j i))
-        (same-test (busy handed q i) (carries handed i)
-        (λ t.
-        ⊎-elim
-        (λ x. x)
-        (λ x.
-        ⊎-elim
-        (λ w. w)
-        (λ w.
-        absurd
-        (⊎-elim
-        (λ z. omega arith)
-        (λ z. let y = some-row (λ y. eqb (y .chunk) last) handed z in omega (arith, at-row (λ x. x .chunk < i) (y .1) w, eqb→eq (y .0 .chunk) last (y .2)))
-        top))
-        (fq .in-front i u (omega arith) (leb→le 1 (q i) x)))
-        (T-or-iff (carries handed i) (leb 1 (q i)) .0 t))
-        (λ t. T-or-iff (carries handed i) (leb 1 (q i)) .1 (inl t)))
-
     -- What is to be had of the chunks from lo + 1 on.
     abbrev done : ℕ → ℕ → Begun
     done lo n = record { need = need settledBytes (due j) A (picked member lo (chunks j - lo)); kept = picked (λ i. isBegun i && keptChunk i) lo n }
@@ -280,7 +282,7 @@ module _
         let i = suc lo in
         let next = bases-begun-are n i (omega arith) in
         let c : chunks j - lo ≡ suc (chunks j - i) = omega arith in
-        let m = busy-begun i (omega arith) (omega arith) in
+        let m = busy-begun j p handed q fq last top in-job i (omega arith) (omega arith) in
         ⊎-elim
         (λ t.
         rw (c, m, T-true (isBegun i) t) (ap (tryBegun rest (due j) A (λ b. leb 1 (base b)) (A 0) i) next ∙ one-begun i n (omega arith) (omega arith) t))

@@ -3,7 +3,7 @@
 -- argument of schedule's Plan and Unique, which have base 0.
 use Prim.Native.Nat.{ℕ, zero, suc, _+_, _-_, _≤_, _<_, min, max}
 use mathlib.Core.Path.{_≡_, refl, sym, ap, _∙_, subst}
-use mathlib.Core.Bool.{Bool, true, false, not, cond, _&&_}
+use mathlib.Core.Bool.{Bool, true, false, cond}
 use mathlib.Core.Logic.{_⊎_, inl, inr, ⊎-elim, _↔_}
 use native.Mathlib.Omega.{arith}
 use borrow.Author.Tests.{eq-eqb, ne-eqb, lt-ltb, le-ltb}
@@ -12,6 +12,7 @@ use Rattle.basics.specs.lemmas.Tests.{and-T, by-cond, not-T-false, T-and, T-tru
 use Rattle.schedule.specs.Plan.{raise}
 use Rattle.afresh.specs.Plan.{planTo, sweep, takes, try}
 use Rattle.schedule.specs.Statement.{settled}
+use Rattle.schedule.specs.lemmas.Unique.{below, same-down}
 
 -- Two choices agree at the chunks 1 to c.
 abbrev pub SameTo : ℕ → (ℕ → ℕ) → (ℕ → ℕ) → Type 0
@@ -31,9 +32,6 @@ pub record Settles (C N : ℕ) (base : ℕ → ℕ) (Ok : ℕ → (ℕ → ℕ) 
 
 module _ (C N : ℕ) (base : ℕ → ℕ) (Ok : ℕ → (ℕ → ℕ) → Type 0) (cong : (i : ℕ) (p q : ℕ → ℕ) → SameTo C p q → Ok i p → Ok i q) where
   -- ---- one choice only
-
-  abbrev below : (ℕ → ℕ) → ℕ → ℕ → ℕ
-  below p n k = min (p k) n
 
   module _ (n : ℕ) (h : n < N) where
     same-trial :
@@ -58,24 +56,7 @@ module _ (C N : ℕ) (base : ℕ → ℕ) (Ok : ℕ → (ℕ → ℕ) → Type 0
     same-sweep :
         (p q : ℕ → ℕ) → Settles C N base Ok p → Settles C N base Ok q → SameTo C (below p n) (below q n) → (m lo : ℕ) → lo + m ≡ C →
         (k : ℕ) → lo < k → k ≤ C → below p (suc n) k ≡ below q (suc n) k
-    same-sweep p q dp dq s zero lo e k u v = absurd (omega arith)
-    same-sweep p q dp dq s (suc m) lo e k u v =
-        let f : (k : ℕ) → suc lo < k → k ≤ C → below p (suc n) k ≡ below q (suc n) k = same-sweep p q dp dq s m (suc lo) (omega arith) in
-        let w = s (suc lo) (omega arith) (omega arith) in
-        ⊎-elim
-        (λ t. f k (ltb→lt (suc lo) k t) v)
-        (λ t.
-        let d : k ≡ suc lo = omega (arith, nltb→le (suc lo) k t) in
-        rw d
-        (⊎-elim
-        (λ x. omega (arith, w, ltb→lt n (p (suc lo)) x, same-trial p q (suc lo) dp dq s (omega arith) (omega arith) f (ltb→lt n (p (suc lo)) x)))
-        (λ x.
-        ⊎-elim
-        (λ y. omega (arith, w, ltb→lt n (q (suc lo)) y, same-trial q p (suc lo) dq dp (λ k a b. sym (s k a b)) (omega arith) (omega arith) (λ k a b. sym (f k a b)) (ltb→lt n (q (suc lo)) y)))
-        (λ y. omega (arith, w, nltb→le n (p (suc lo)) x, nltb→le n (q (suc lo)) y))
-        (test (ltb n (q (suc lo)))))
-        (test (ltb n (p (suc lo))))))
-        (test (ltb (suc lo) k))
+    same-sweep p q dp dq s = same-down C n p q (λ i u v. same-trial p q i dp dq s u v) (λ i u v. same-trial q p i dq dp (λ k x y. sym (s k x y)) u v) s
 
   same-layers : (p q : ℕ → ℕ) → Settles C N base Ok p → Settles C N base Ok q → (n : ℕ) → n ≤ N → SameTo C (below p n) (below q n)
   same-layers p q dp dq zero h k u v = omega arith

@@ -5,7 +5,7 @@ use mathlib.Core.Bool.{Bool, true, false, cond, not, _&&_}
 use mathlib.Core.List.{List, [], _∷_}
 use mathlib.Core.Logic.{⊎-elim}
 use native.Mathlib.Omega.{arith}
-use lib.Dec.{eqb, leb, ltb}
+use lib.Dec.{leb}
 use lib.ListN.{length}
 use borrow.Author.Tests.{lt-ltb, ne-eqb}
 use Rattle.basics.specs.Lent.{lentAfter, over}
@@ -18,8 +18,8 @@ use Rattle.meter.specs.Forecast.{answerOf, bytesOf, forecastOf, forecastRefusal
 use Rattle.meter.specs.Meter.{empty, inRange, lateRefusal, meterRefusal, sample, sampleRefusal, samplesOf, taken}
 use Rattle.meter.specs.lemmas.Order.{in-range-iff}
 use Rattle.crossing.specs.Convention.{answered}
-use Rattle.crossing.specs.Meters.{Begun, Sampled, Storage, cellsRefusal, meanNumber, meanRefusal, meterIn, sampleTaken, storage, storedIn}
-use Rattle.crossing.specs.lemmas.Numbers.{forecast-told, forecastNumber, refusedNumber}
+use Rattle.crossing.specs.Meters.{Begun, Sampled, Storage, cellsRefusal, meanNumber, meterIn, sampleTaken, storage, storedIn}
+use Rattle.crossing.specs.lemmas.Numbers.{forecastNumber, is-answered, refusedNumber}
 use Rattle.crossing.specs.lemmas.Slices.{eleven-some, first-twice, refused-keeps, test-false, test-true}
 
 -- ---- room
@@ -125,5 +125,5 @@ mean-short s r e f = f ∙ sym (ap (λ (n : ℕ). answered (n orElse forecastRef
 pub mean-whole : (s : Storage) (m : Meter) (a : Answer) (r : ℕ) → cellsRefusal s ≡ 0 → m ≡ meterIn s → a ≡ answerOf m → r ≡ forecastNumber a → r ≡ meanNumber s
 unfolding answerOf
 mean-whole s m a r e f g h =
-    forecast-told a r (forecastRefusal (samplesOf (meterIn s))) (forecastOf (bytesOf (samplesOf (meterIn s)))) h (g ∙ ap answerOf f)
+    is-answered forecastNumber _ _ a r (forecastRefusal (samplesOf (meterIn s))) (forecastOf (bytesOf (samplesOf (meterIn s)))) h (g ∙ ap answerOf f) refl refl
     ∙ sym (ap (λ (n : ℕ). answered (n orElse forecastRefusal (samplesOf (meterIn s))) (forecastOf (bytesOf (samplesOf (meterIn s))))) e)

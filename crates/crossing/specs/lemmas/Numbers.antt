@@ -1,6 +1,6 @@
 -- Lemmas. Each library's answer as one number, and that it is `answered` of what the answer is defined by. Assumes nothing.
 use Prim.Native.Nat.{ℕ, _+_}
-use mathlib.Core.Path.{_≡_, refl, ap, _∙_}
+use mathlib.Core.Path.{_≡_, refl, ap, ap₂, _∙_}
 use mathlib.Core.Bool.{Bool, true, false, cond}
 use mathlib.Core.List.{List, [], _∷_}
 use Rattle.basics.specs.Lent.{over}
@@ -115,50 +115,13 @@ pub through : {A B : Type 0} (f : A → B) (b : Bool) (x y : A) → f (cond b x 
 through f true x y = refl
 through f false x y = refl
 
-pub job-written-told : (a : JobWritten) (r refused n : ℕ) → r ≡ jobWrittenNumber a → a ≡ cond (eqb refused 0) (jobFile.Bytes n) (jobFile.Refused refused) → r ≡ answered refused n
+-- `number` is one of the functions above, `result` what a library answers with n, `refusal` what it answers with its refusal.
+pub is-answered : {A : Type 0} (number : A → ℕ) (result refusal a : A) (r refused n : ℕ)
+    → r ≡ number a
+    → a ≡ cond (eqb refused 0) result refusal
+    → number result ≡ n
+    → number refusal ≡ refusedNumber refused
+    → r ≡ answered refused n
 unfolding answered
-job-written-told a r refused n e f = e ∙ ap jobWrittenNumber f ∙ through jobWrittenNumber (eqb refused 0) (jobFile.Bytes n) (jobFile.Refused refused)
-
-pub plan-read-told : (a : PlanRead) (r refused n : ℕ) → r ≡ planReadNumber a → a ≡ cond (eqb refused 0) (planRead.Rows n) (planRead.Refused refused) → r ≡ answered refused n
-unfolding answered
-plan-read-told a r refused n e f = e ∙ ap planReadNumber f ∙ through planReadNumber (eqb refused 0) (planRead.Rows n) (planRead.Refused refused)
-
-pub plan-written-told : (a : PlanWritten) (r refused n : ℕ) → r ≡ planWrittenNumber a → a ≡ cond (eqb refused 0) (planFile.Bytes n) (planFile.Refused refused) → r ≡ answered refused n
-unfolding answered
-plan-written-told a r refused n e f = e ∙ ap planWrittenNumber f ∙ through planWrittenNumber (eqb refused 0) (planFile.Bytes n) (planFile.Refused refused)
-
-pub checked-told : (a : Checked) (r refused n : ℕ) → r ≡ checkedNumber a → a ≡ cond (eqb refused 0) (checked.Verdict n) (checked.Refused refused) → r ≡ answered refused n
-unfolding answered
-checked-told a r refused n e f = e ∙ ap checkedNumber f ∙ through checkedNumber (eqb refused 0) (checked.Verdict n) (checked.Refused refused)
-
-pub plan-told : (a : PlanAnswer) (r refused n : ℕ) → r ≡ planNumber a → a ≡ cond (eqb refused 0) (planned.Rows n) (planned.Refused refused) → r ≡ answered refused n
-unfolding answered
-plan-told a r refused n e f = e ∙ ap planNumber f ∙ through planNumber (eqb refused 0) (planned.Rows n) (planned.Refused refused)
-
-pub booked-told : (a : Booked) (r refused : ℕ) → r ≡ bookedNumber a → a ≡ cond (eqb refused 0) booked.Done (booked.Refused refused) → r ≡ answered refused 0
-unfolding answered
-booked-told a r refused e f = e ∙ ap bookedNumber f ∙ through bookedNumber (eqb refused 0) booked.Done (booked.Refused refused)
-
-pub report-told : (a : Reported) (r refused n : ℕ) → r ≡ reportNumber a → a ≡ cond (eqb refused 0) (reported.Bytes n) (reported.Refused refused) → r ≡ answered refused n
-unfolding answered
-report-told a r refused n e f = e ∙ ap reportNumber f ∙ through reportNumber (eqb refused 0) (reported.Bytes n) (reported.Refused refused)
-
-pub reason-told : (a : Told) (r refused n : ℕ) → r ≡ reasonNumber a → a ≡ cond (eqb refused 0) (told.Bytes n) (told.Refused refused) → r ≡ answered refused n
-unfolding answered
-reason-told a r refused n e f = e ∙ ap reasonNumber f ∙ through reasonNumber (eqb refused 0) (told.Bytes n) (told.Refused refused)
-
-pub trace-read-told : (a : TraceRead) (r refused n : ℕ) → r ≡ traceReadNumber a → a ≡ cond (eqb refused 0) (traceRead.Slots n) (traceRead.Refused refused) → r ≡ answered refused n
-unfolding answered
-trace-read-told a r refused n e f = e ∙ ap traceReadNumber f ∙ through traceReadNumber (eqb refused 0) (traceRead.Slots n) (traceRead.Refused refused)
-
-pub trace-written-told : (a : TraceWritten) (r refused n : ℕ) → r ≡ traceWrittenNumber a → a ≡ cond (eqb refused 0) (traceFile.Bytes n) (traceFile.Refused refused) → r ≡ answered refused n
-unfolding answered
-trace-written-told a r refused n e f = e ∙ ap traceWrittenNumber f ∙ through traceWrittenNumber (eqb refused 0) (traceFile.Bytes n) (traceFile.Refused refused)
-
-pub wait-told : (a : Waited) (r refused n : ℕ) → r ≡ waitNumber a → a ≡ cond (eqb refused 0) (waited.Delay n) (waited.Refused refused) → r ≡ answered refused n
-unfolding answered
-wait-told a r refused n e f = e ∙ ap waitNumber f ∙ through waitNumber (eqb refused 0) (waited.Delay n) (waited.Refused refused)
-
-pub forecast-told : (a : Forecast) (r refused n : ℕ) → r ≡ forecastNumber a → a ≡ cond (eqb refused 0) (forecast.Bytes n) (forecast.Refused refused) → r ≡ answered refused n
-unfolding answered
-forecast-told a r refused n e f = e ∙ ap forecastNumber f ∙ through forecastNumber (eqb refused 0) (forecast.Bytes n) (forecast.Refused refused)
+is-answered number result refusal a r refused n g h e f =
+    g ∙ ap number h ∙ through number (eqb refused 0) result refusal ∙ ap₂ (λ (x y : ℕ). cond (eqb refused 0) x y) e f

@@ -23,12 +23,12 @@ use Rattle.job.specs.Job.{chunks}
 use Rattle.planner.specs.Answer.{Handed, holds, lentOf, planRefusal, planRows}
 use Rattle.planner.specs.declared.Answer.{Answer}
 use Rattle.planner.specs.declared.Answer.the-variants.{Refused, Rows}
-use Rattle.planner.specs.declared.Planned.{Planned}
+use Rattle.planner.specs.declared.Planned.{Planned as Plan}
 use Rattle.schedule.specs.Plan.{plan}
 use Rattle.schedule.specs.Statement.{countsOf, marksOf}
 use Rattle.crossing.specs.Convention.{answered}
-use Rattle.crossing.specs.Plans.{PlanHanded, Slices, slices, slicesAfter, withCounts}
-use Rattle.crossing.specs.lemmas.Numbers.{countsHandedBy, plan-told, planNumber, refusedNumber, through}
+use Rattle.crossing.specs.Plans.{PlanHanded, Planned, Replanned, Slices, slices, slicesAfter, withCounts}
+use Rattle.crossing.specs.lemmas.Numbers.{countsHandedBy, is-answered, planNumber, refusedNumber}
 use Rattle.crossing.specs.lemmas.Slices.{eleven-first, eleven-once, eleven-some, no-more, refused-keeps}
 
 -- The number of a plan made afresh without room.
@@ -63,29 +63,29 @@ pub whole-handed : (W refused : ℕ) (marks : List ℕ) (rows : List Row) (count
     → PlanHanded W marks rows counts (slices m s c l b k) r (slices m' s' c' l' b' k')
 whole-handed W refused marks rows counts zeros m s c l b k m' s' c' l' b' k' answer four r w is fours em es ec el eb ek er =
     record {
-      number = plan-told answer r refused (length rows) er is ∙ ap (λ (n : ℕ). answered n (length rows)) (sym w);
+      number = is-answered planNumber (Rows (length rows)) (Refused refused) answer r refused (length rows) er is refl refl ∙ ap (λ (n : ℕ). answered n (length rows)) (sym w);
       slices-are =
           same-slices em es ec el eb (ek ∙ ap₂ (λ (a : Answer) (f : List ℕ). countsHandedBy a f k) is fours ∙ counts-after (eqb refused 0) (length rows) refused counts zeros k)
           ∙ ap (λ (n : ℕ). slicesAfter n marks rows counts (slices m s c l b k)) (sym w);
     }
 
-pub plan-whole : (h : HandedJob) (m s c l b k m' s' c' l' b' k' : List ℕ) (p : Planned) (r : ℕ)
+pub plan-whole : (h : HandedJob) (m s c l b k m' s' c' l' b' k' : List ℕ) (p : Plan) (r : ℕ)
     → 4 ≤ length k
     → Handed h m s c l b p m' s' c' l' b'
     → k' ≡ countsHandedBy (p .answer) (p .counts) k
     → r ≡ planNumber (p .answer)
-    → PlanHanded (withCounts (planRefusal h (lentOf m s c l b)) k) (marksOf (jobIn h) (plan (jobIn h))) (planRows (jobIn h)) (countsOf (jobIn h) (plan (jobIn h))) (slices m s c l b k) r (slices m' s' c' l' b' k')
+    → Planned h (slices m s c l b k) r (slices m' s' c' l' b' k')
 plan-whole h m s c l b k m' s' c' l' b' k' p r room made ek er =
     whole-handed (withCounts (planRefusal h (lentOf m s c l b)) k) (planRefusal h (lentOf m s c l b)) (marksOf (jobIn h) (plan (jobIn h))) (planRows (jobIn h)) (countsOf (jobIn h) (plan (jobIn h))) (0 ∷ 0 ∷ 0 ∷ 0 ∷ [])
     m s c l b k m' s' c' l' b' k' (p .answer) (p .counts) r (room-for-counts (planRefusal h (lentOf m s c l b)) k room)
     (made .answer) (made .counts) (made .marks-are) (made .slots-are) (made .chunks-are) (made .layers-are) (made .bytes-are) ek er
 
-pub replan-whole : (h : HandedJob) (o : HandedOn) (m s c l b k m' s' c' l' b' k' : List ℕ) (p : Planned) (r : ℕ)
+pub replan-whole : (h : HandedJob) (o : HandedOn) (m s c l b k m' s' c' l' b' k' : List ℕ) (p : Plan) (r : ℕ)
     → 4 ≤ length k
     → afresh.Handed h o m s c l b p m' s' c' l' b'
     → k' ≡ countsHandedBy (p .answer) (p .counts) k
     → r ≡ planNumber (p .answer)
-    → PlanHanded (withCounts (refusalOn h o (lentOf m s c l b)) k) (marksOf (jobOn h o) (planOn h o)) (rowsOn h o) (countsOf (jobOn h o) (planOn h o)) (slices m s c l b k) r (slices m' s' c' l' b' k')
+    → Replanned h o (slices m s c l b k) r (slices m' s' c' l' b' k')
 replan-whole h o m s c l b k m' s' c' l' b' k' p r room made ek er =
     whole-handed (withCounts (refusalOn h o (lentOf m s c l b)) k) (refusalOn h o (lentOf m s c l b)) (marksOf (jobOn h o) (planOn h o)) (rowsOn h o) (countsOf (jobOn h o) (planOn h o)) (0 ∷ 0 ∷ 0 ∷ 0 ∷ [])
     m s c l b k m' s' c' l' b' k' (p .answer) (p .counts) r (room-for-counts (refusalOn h o (lentOf m s c l b)) k room)
@@ -115,7 +115,7 @@ pub plan-short : (h : HandedJob) (m s c l b k : List ℕ) (before r : ℕ)
     → before ≡ jobRefusal h
     → length k < 4
     → r ≡ refusedNumber (before orElse 11)
-    → PlanHanded (withCounts (planRefusal h (lentOf m s c l b)) k) (marksOf (jobIn h) (plan (jobIn h))) (planRows (jobIn h)) (countsOf (jobIn h) (plan (jobIn h))) (slices m s c l b k) r (slices m s c l b k)
+    → Planned h (slices m s c l b k) r (slices m s c l b k)
 plan-short h m s c l b k before r e short er =
     short-handed (withCounts (planRefusal h (lentOf m s c l b)) k) (jobRefusal h) (marksOf (jobIn h) (plan (jobIn h))) (planRows (jobIn h)) (countsOf (jobIn h) (plan (jobIn h)))
     m s c l b k r (no-room-for-counts (jobRefusal h) (holds (jobIn h) (lentOf m s c l b)) k short) (er ∙ ap (λ (n : ℕ). refusedNumber (n orElse 11)) e)
@@ -140,7 +140,7 @@ no-marks h o s c l b =
     (test (eqb asked 0))
 
 -- What planning afresh without any room answers.
-pub replan-refused : (h : HandedJob) (o : HandedOn) (m' s' c' l' b' : List ℕ) (p : Planned) (r : ℕ)
+pub replan-refused : (h : HandedJob) (o : HandedOn) (m' s' c' l' b' : List ℕ) (p : Plan) (r : ℕ)
     → afresh.Handed h o [] [] [] [] [] p m' s' c' l' b'
     → r ≡ planNumber (p .answer)
     → r ≡ replanShort h o
@@ -149,14 +149,14 @@ replan-refused h o m' s' c' l' b' p r made er =
     let refused : ℕ = refusalOn h o (lentOf [] [] [] [] []) in
     let is = no-marks h o [] [] [] [] in
     let some : refused ≡ 0 → ⊥ = λ z. eleven-some (inputRefusal h o) (sym is ∙ z) in
-    plan-told (p .answer) r refused (length (rowsOn h o)) er (made .answer)
+    is-answered planNumber (Rows (length (rowsOn h o))) (Refused refused) (p .answer) r refused (length (rowsOn h o)) er (made .answer) refl refl
     ∙ ap (λ (t : Bool). cond t (length (rowsOn h o)) (refusedNumber refused)) (ne-eqb refused 0 some)
     ∙ ap refusedNumber is
 
 pub replan-short : (h : HandedJob) (o : HandedOn) (m s c l b k : List ℕ) (r : ℕ)
     → length k < 4
     → r ≡ replanShort h o
-    → PlanHanded (withCounts (refusalOn h o (lentOf m s c l b)) k) (marksOf (jobOn h o) (planOn h o)) (rowsOn h o) (countsOf (jobOn h o) (planOn h o)) (slices m s c l b k) r (slices m s c l b k)
+    → Replanned h o (slices m s c l b k) r (slices m s c l b k)
 unfolding replanShort
 replan-short h o m s c l b k r short er =
     short-handed (withCounts (refusalOn h o (lentOf m s c l b)) k) (inputRefusal h o) (marksOf (jobOn h o) (planOn h o)) (rowsOn h o) (countsOf (jobOn h o) (planOn h o)) m s c l b k r

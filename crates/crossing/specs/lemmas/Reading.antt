@@ -3,7 +3,7 @@
 use Prim.Native.Nat.{ℕ, _≤_, _<_}
 use mathlib.Core.Path.{_≡_, refl, sym, ap, _∙_}
 use mathlib.Core.Bool.{Bool, true, false, cond, not, _&&_}
-use mathlib.Core.List.{List, [], _∷_, map}
+use mathlib.Core.List.{List, [], map}
 use native.Mathlib.Omega.{arith}
 use mathlib.Core.Logic.{⊎-elim}
 use lib.Dec.{T-not, eqb, eqb→eq, leb}
@@ -14,10 +14,10 @@ use Rattle.basics.specs.Refusals.{_orElse_, unless}
 use Rattle.basics.specs.lemmas.Refusals.{orElse-none, orElse-some}
 use Rattle.basics.specs.lemmas.Tests.{eqb-iff, test, tests, true-T}
 use Rattle.job.specs.Handed.{bytesOf, chunksOf, layersOf}
-use Rattle.job.specs.Job.{Accepted, Job, Override, layers}
-use Rattle.jobrecords.specs.Reader.{Buffers, buffers, jobAnswer, lentBy, lentRead, readAnswer, readRefusal, roomRefusal}
+use Rattle.job.specs.Job.{Job, Override, layers}
+use Rattle.jobrecords.specs.Reader.{Buffers, buffers, jobAnswer, lentBy, readAnswer, readRefusal, roomRefusal}
 use Rattle.jobrecords.specs.Refusal.{jobOfFile, mixed, refusalOf}
-use Rattle.jobrecords.specs.Theorems.{file-accepted, no-overrides}
+use Rattle.jobrecords.specs.Theorems.{file-accepted}
 use Rattle.jobrecords.specs.declared.JobRead.{JobRead}
 use Rattle.jobrecords.specs.declared.JobRead.the-variants as jobRead
 use Rattle.crossing.specs.Convention.{answered}

@@ -17,7 +17,7 @@ use Rattle.schedule.specs.Statement.{countsOf, marksOf}
 use Rattle.budget.specs.Search.{found}
 use Rattle.search.specs.Answer.{Handed, holdsFound, planFound, rowsFound, searchRefusal}
 use Rattle.search.specs.declared.Searched.{Searched}
-use Rattle.crossing.specs.Plans.{PlanHanded, SearchHanded, slices, walkOf, withWalk}
+use Rattle.crossing.specs.Plans.{SearchHanded, walkOf, withWalk}
 use Rattle.crossing.specs.lemmas.Numbers.{countsHandedBy, planNumber, refusedNumber, walkHandedBy}
 use Rattle.crossing.specs.lemmas.Planning.{short-handed, whole-handed}
 use Rattle.crossing.specs.lemmas.Slices.{eleven-once, eleven-some, no-more, refused-keeps, test-false, test-true}

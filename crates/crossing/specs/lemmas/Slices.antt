@@ -11,9 +11,9 @@ use lib.Seq.{length-take-le, take-all}
 use Rattle.basics.specs.Lent.{lentAfter, over}
 use Rattle.basics.specs.Refusals.{_orElse_, unless}
 use Rattle.basics.specs.lemmas.Lent.{over-next}
-use Rattle.basics.specs.lemmas.Refusals.{orElse-none, orElse-some}
+use Rattle.basics.specs.lemmas.Refusals.{orElse-none}
 use Rattle.basics.specs.lemmas.Tests.{by-cond}
-use borrow.Author.Tests.{eq-eqb, ne-eqb}
+use borrow.Author.Tests.{ne-eqb}
 use Rattle.meter.specs.declared.Meter.{Meter}
 
 -- ---- results

@@ -3,11 +3,10 @@
 use Prim.Native.Nat.{ℕ, _≤_}
 use mathlib.Core.Path.{_≡_}
 use mathlib.Core.Bool.{Bool, cond}
-use mathlib.Core.List.{List, [], _∷_, map}
+use mathlib.Core.List.{List, map}
 use lib.ListN.{length}
-use lib.Dec.{eqb}
 use Rattle.basics.specs.Lent.{over}
-use Rattle.fetch.specs.Rows.{Row, rowSlot, rowChunk, rowLayer, rowBytes}
+use Rattle.fetch.specs.Rows.{rowSlot, rowChunk, rowLayer, rowBytes}
 use Rattle.job.specs.Job.{Job, Accepted, chunks, size}
 use Rattle.schedule.specs.Own.{ownList}
 use Rattle.schedule.specs.Statement.{Choice, countsOf, marksOf}
@@ -16,12 +15,6 @@ use Rattle.settle.specs.lemmas.Decision.{Decides}
 use Rattle.handing.specs.lemmas.Slices.{Result, rowsHold, Stands}
 use Rattle.laying.specs.declared.Filled.{Filled}
 use Rattle.laying.specs.declared.Laid.{Laid}
-
--- The mark that stands with chunk i, or 0.
-abbrev pub markIn : ℕ → List ℕ → List ℕ → ℕ
-markIn i [] ms = 0
-markIn i (k ∷ ks) [] = 0
-markIn i (k ∷ ks) (m ∷ ms) = cond (eqb k i) m (markIn i ks ms)
 
 -- The numbers handed are a job's, and the tables say a choice for it that fits.
 pub record Decided (count : ℕ) (forecast : List ℕ) (own : ℕ → ℕ → ℕ) (first : ℕ) (ids ready mark : List ℕ) (j : Job) (x : ℕ → ℕ) : Type 0 where

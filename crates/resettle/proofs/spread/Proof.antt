@@ -1,6 +1,6 @@
 -- `spread` meets its contract: the marks of the chunks up to i are stored.
 use Rattle.resettle.proofs.spread.Statement.{statement}
-use Rattle.resettle.proofs.Marks.{kept-place, Spreading, spreading-end, spreading-kept, spreading-skipped, spreading-start}
+use Rattle.settle.specs.lemmas.Marks.{kept-place, Spreading, spreading-end, spreading-kept, spreading-skipped, spreading-start}
 use Rattle.resettle.proofs.spread.Tie as tie
 use mathlib.Core.Path.{sym, _∙_}
 use Prim.Native.Nat.{_-_}

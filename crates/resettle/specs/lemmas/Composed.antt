@@ -1,13 +1,12 @@
 -- Lemmas. `passes-are-plan`: the passes of afresh, Linear, one after the other, make the plan made afresh. New bases, begun
 -- bases, then layer by layer, over the chunks begun or kept that are due from p on.
 use Prim.Native.Nat.{ℕ, zero, suc, _+_, _-_, _≤_, _<_, max, min}
-use mathlib.Core.Path.{_≡_, refl, sym, ap, _∙_, subst}
-use mathlib.Core.Bool.{Bool, true, false, not, cond, _&&_, _||_}
+use mathlib.Core.Path.{_≡_, refl, sym, ap, _∙_}
+use mathlib.Core.Bool.{Bool, true, false, not, cond, _&&_}
 use mathlib.Core.List.{List, [], _∷_, map}
-use mathlib.Core.Logic.{_⊎_, inl, inr, ⊎-elim, _↔_}
+use mathlib.Core.Logic.{_⊎_, inr, ⊎-elim, _↔_}
 use native.Mathlib.Omega.{arith}
 use lib.Dec.{T, T-not, eqb, leb, ltb, eqb→eq, leb→le, nleb→lt, ltb→lt, nltb→le, le→leb}
-use borrow.Author.Tests.{le-leb, lt-leb}
 use Rattle.basics.specs.Sums.{sum}
 use Rattle.basics.specs.Tests.{All}
 use Rattle.basics.specs.lemmas.Tests.{and-T, at-row, not-T-false, same-test, T-and, T-or-iff, T-true, test}
@@ -26,11 +25,11 @@ use Rattle.schedule.specs.lemmas.Trials.{back, bytesOf, Kept, levelMark, onLaye
 use Rattle.schedule.specs.lemmas.Words.{accepted-sized, carries, layer-of, Sized}
 use Rattle.afresh.specs.Plan.{afterFrom, busy, bytesLeft}
 use Rattle.afresh.specs.Statement.{Acceptable, IsReplan, triedFrom}
-use Rattle.afresh.specs.lemmas.Base.{base-begun, picked-split, whole-begun, whole-left}
+use Rattle.afresh.specs.lemmas.Base.{base-begun, whole-begun, whole-left}
 use Rattle.afresh.specs.lemmas.Criterion.{busyFrom}
 use Rattle.afresh.specs.lemmas.Fits.{FitsFrom}
 use Rattle.afresh.specs.lemmas.Linear.{layer-pass}
-use Rattle.afresh.specs.lemmas.Passes.{new-need}
+use Rattle.afresh.specs.lemmas.Passes.{busy-begun, new-need}
 use Rattle.afresh.specs.lemmas.Plan.{is-replan-accepts, is-replan-fits}
 use Rattle.settle.specs.lemmas.Decision.{keptOf}
 use Rattle.resettle.specs.declared.Chosen.{Chosen}
@@ -107,27 +106,6 @@ module _
   nothing-fetched k n h =
       bytes-none (λ x. eqb (x .chunk) k && eqb (x .layer) n) handed (λ x i t.
       omega (arith, at-row (λ x. x .chunk ≤ last) i behind, eqb→eq (x .chunk) k (and-T (eqb (x .chunk) k) (eqb (x .layer) n) t .0)))
-
-  -- Up to the last begun chunk only begun ones are busy.
-  busy-begun : (i : ℕ) → 1 ≤ i → i ≤ last → member i ≡ isBegunHere i
-  busy-begun i u v =
-      ap (λ (b : Bool). b && leb p (due j i))
-      (same-test (busy handed plan i) (carries handed i)
-      (λ t.
-      ⊎-elim
-      (λ x. x)
-      (λ x.
-      ⊎-elim
-      (λ w. w)
-      (λ w.
-      absurd
-      (⊎-elim
-      (λ z. omega arith)
-      (λ z. let y = some-row (λ y. eqb (y .chunk) last) handed z in omega (arith, at-row (λ x. x .chunk < i) (y .1) w, eqb→eq (y .0 .chunk) last (y .2)))
-      top))
-      (fits .in-front i u (omega arith) (leb→le 1 (plan i) x)))
-      (T-or-iff (carries handed i) (leb 1 (plan i)) .0 t))
-      (λ t. T-or-iff (carries handed i) (leb 1 (plan i)) .1 (inl t)))
 
   -- Behind it only kept ones are.
   busy-new : (k : ℕ) → last < k → k ≤ chunks j → member k ≡ isKept k
@@ -234,7 +212,7 @@ module _
       let i = suc lo in
       let next = walk-are n i (omega arith) in
       let c : chunks j - lo ≡ suc (chunks j - i) = omega arith in
-      let m = busy-begun i (omega arith) (omega arith) in
+      let m = busy-begun j p handed plan fits last top in-job i (omega arith) (omega arith) in
       ⊎-elim
       (λ t.
       rw (c, m, T-true (isBegunHere i) t)

@@ -1,9 +1,8 @@
 -- Lemmas. The decision made afresh at slot start, over tables by chunk: what the handed rows leave of each layer, which chunks they begin,
 -- and the marks of the layers whole in them. For every job with these tables: the plan of afresh, Statement.
-use Prim.Native.Nat.{ℕ, suc, _+_, _-_, _≤_, _<_}
+use Prim.Native.Nat.{ℕ, suc, _+_, _-_, _≤_}
 use mathlib.Core.Path.{_≡_}
-use mathlib.Core.Bool.{cond}
-use mathlib.Core.List.{List, [], _∷_, _++_, map}
+use mathlib.Core.List.{List, _++_, map}
 use lib.Dec.{eqb}
 use lib.ListN.{length, take, drop}
 use Rattle.job.specs.Job.{Accepted, chunks, due, heldMost, Job, jobOf, Layer, Override, size}
@@ -18,12 +17,6 @@ use Rattle.schedule.specs.lemmas.Words.{carries}
 use Rattle.afresh.specs.Statement.{Acceptable, IsReplan}
 use Rattle.afresh.specs.lemmas.Criterion.{busyFrom}
 use Rattle.resettle.specs.lemmas.Tables.{Fine, of, Small}
-
--- The mark that stands with chunk i, or w.
-abbrev pub markOr : ℕ → ℕ → List ℕ → List ℕ → ℕ
-markOr w i [] ms = w
-markOr w i (k ∷ ks) [] = w
-markOr w i (k ∷ ks) (m ∷ ms) = cond (eqb k i) m (markOr w i ks ms)
 
 -- The tables are those of the handed rows.
 pub record Tabled (j : Job) (handed : List Row) (left : ℕ → ℕ → ℕ) (begun whole : List ℕ) : Type 0 where

@@ -37,8 +37,35 @@ own-list-cong j p q e = ap (λ (f : Fetched). f .rows) (fetched-cong j p q e (la
 -- ---- trial by trial
 
 -- The layers below n of a choice.
-abbrev below : (ℕ → ℕ) → ℕ → ℕ → ℕ
+abbrev pub below : (ℕ → ℕ) → ℕ → ℕ → ℕ
 below p n k = min (p k) n
+
+-- q has layer n of a chunk where p has it and the later chunks agree up to it.
+abbrev pub Follows : (c n : ℕ) (p q : ℕ → ℕ) → Type 0
+Follows c n p q = (i : ℕ) → 1 ≤ i → i ≤ c → ((k : ℕ) → i < k → k ≤ c → below p (suc n) k ≡ below q (suc n) k) → n < p i → n < q i
+
+-- Where each follows the other, and they agree below n, they agree up to it: from the last of c chunks down to lo + 1.
+pub same-down :
+    (c n : ℕ) (p q : ℕ → ℕ) → Follows c n p q → Follows c n q p → ((k : ℕ) → 1 ≤ k → k ≤ c → below p n k ≡ below q n k) → (m lo : ℕ) →
+    lo + m ≡ c → (k : ℕ) → lo < k → k ≤ c → below p (suc n) k ≡ below q (suc n) k
+same-down c n p q pq qp s zero lo e k u v = absurd (omega arith)
+same-down c n p q pq qp s (suc m) lo e k u v =
+    let f : (k : ℕ) → suc lo < k → k ≤ c → below p (suc n) k ≡ below q (suc n) k = same-down c n p q pq qp s m (suc lo) (omega arith) in
+    let w = s (suc lo) (omega arith) (omega arith) in
+    ⊎-elim
+    (λ t. f k (ltb→lt (suc lo) k t) v)
+    (λ t.
+    let d : k ≡ suc lo = omega (arith, nltb→le (suc lo) k t) in
+    rw d
+    (⊎-elim
+    (λ x. omega (arith, w, ltb→lt n (p (suc lo)) x, pq (suc lo) (omega arith) (omega arith) f (ltb→lt n (p (suc lo)) x)))
+    (λ x.
+    ⊎-elim
+    (λ y. omega (arith, w, ltb→lt n (q (suc lo)) y, qp (suc lo) (omega arith) (omega arith) (λ k a b. sym (f k a b)) (ltb→lt n (q (suc lo)) y)))
+    (λ y. omega (arith, w, nltb→le n (p (suc lo)) x, nltb→le n (q (suc lo)) y))
+    (test (ltb n (q (suc lo)))))
+    (test (ltb n (p (suc lo))))))
+    (test (ltb (suc lo) k))
 
 module _ (j : Job) (n : ℕ) (h : n < layers j) where
   -- One trial.
@@ -63,24 +90,8 @@ module _ (j : Job) (n : ℕ) (h : n < layers j) where
   same-sweep :
       (p q : ℕ → ℕ) → Settles j p n → Settles j q n → Same j (below p n) (below q n) → (m lo : ℕ) → lo + m ≡ chunks j → (k : ℕ) → lo < k →
       k ≤ chunks j → below p (suc n) k ≡ below q (suc n) k
-  same-sweep p q dp dq s zero lo e k u v = absurd (omega arith)
-  same-sweep p q dp dq s (suc m) lo e k u v =
-      let f : (k : ℕ) → suc lo < k → k ≤ chunks j → below p (suc n) k ≡ below q (suc n) k = same-sweep p q dp dq s m (suc lo) (omega arith) in
-      let w = s (suc lo) (omega arith) (omega arith) in
-      ⊎-elim
-      (λ t. f k (ltb→lt (suc lo) k t) v)
-      (λ t.
-      let d : k ≡ suc lo = omega (arith, nltb→le (suc lo) k t) in
-      rw d
-      (⊎-elim
-      (λ x. omega (arith, w, ltb→lt n (p (suc lo)) x, same-trial p q (suc lo) dp dq s (omega arith) (omega arith) f (ltb→lt n (p (suc lo)) x)))
-      (λ x.
-      ⊎-elim
-      (λ y. omega (arith, w, ltb→lt n (q (suc lo)) y, same-trial q p (suc lo) dq dp (λ k a b. sym (s k a b)) (omega arith) (omega arith) (λ k a b. sym (f k a b)) (ltb→lt n (q (suc lo)) y)))
-      (λ y. omega (arith, w, nltb→le n (p (suc lo)) x, nltb→le n (q (suc lo)) y))
-      (test (ltb n (q (suc lo)))))
-      (test (ltb n (p (suc lo))))))
-      (test (ltb (suc lo) k))
+  same-sweep p q dp dq s =
+      same-down (chunks j) n p q (λ i u v. same-trial p q i dp dq s u v) (λ i u v. same-trial q p i dq dp (λ k x y. sym (s k x y)) u v) s
 
 -- The bases, from one trial after the other,
 same-tried : (j : Job) (p q : ℕ → ℕ) → Settles j p 0 → Settles j q 0 → 0 < layers j → Same j (below p 1) (below q 1)

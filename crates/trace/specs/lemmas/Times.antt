@@ -1,20 +1,20 @@
 -- Lemmas. What is written: its lines, its times, and how many of them a slot has. Assumes nothing.
 use Prim.Native.Nat.{ℕ, zero, suc, _+_, _*_, _-_, _/_, _≤_, _<_}
-use mathlib.Core.Path.{_≡_, refl, ap}
+use mathlib.Core.Path.{_≡_, refl}
 use mathlib.Core.Bool.{Bool, true, false, cond, and-false}
 use mathlib.Core.List.{List, [], _∷_, _++_, map}
 use mathlib.Core.Logic.{_↔_}
 use native.Mathlib.Omega.{arith}
 use borrow.Author.Tests.{le-leb, lt-leb, lt-ltb, le-ltb}
-use lib.ListN.{length, getD, replicate}
-use lib.Dec.{T, leb, ltb}
+use lib.ListN.{length, length-append, length-replicate, getD, replicate}
+use lib.Dec.{T, leb}
 use Rattle.basics.specs.Tests.{All}
 use Rattle.basics.specs.lemmas.Tests.{all-append, all-map, by-cond, tests}
 use Rattle.job.specs.Job.{Within}
 use Rattle.basics.specs.lemmas.Digits.{digits-are, digits-few, digits-read, digits-some}
 use Rattle.basics.specs.Text.{digits}
 use Rattle.trace.specs.lemmas.Lists.{All-replicate}
-use Rattle.trace.specs.Trace.{Line, NotBelow, howMany, inSlot, linesFrom, time}
+use Rattle.trace.specs.Trace.{Line, NotBelow, bytesOf, howMany, inSlot, linesFrom, time}
 
 -- ---- digits
 
@@ -105,6 +105,19 @@ many-at (suc m) t (b ∷ f) =
     let r = many-repeat (inSlot (k + 1)) (b / 1500) (t * 1000) in
     let e : cond (inSlot (k + 1) (t * 1000)) (b / 1500) 0 ≡ 0 = rw (in-later k t (omega arith)) in
     rw o (omega (arith, many-append (inSlot (k + 1)) (replicate (b / 1500) (t * 1000)) (timesFrom (suc t) f), r, e, many-at m (suc t) f))
+
+-- ---- how many bytes
+
+-- A line and its line feed are at most 8 bytes.
+pub bytes-few : (ls : List (List ℕ)) → All Line ls → length (bytesOf ls) ≤ 8 * length ls
+bytes-few [] a = omega arith
+bytes-few (l ∷ ls) a = omega (arith, length-append l (10 ∷ bytesOf ls), a .0 .few .high, bytes-few ls (a .1))
+
+-- A slot has at most 11,184 lines.
+pub lines-few : (t : ℕ) (f : List ℕ) → All (λ b. b ≤ 16777216) f → length (linesFrom t f) ≤ 11184 * length f
+lines-few t [] a = omega arith
+lines-few t (b ∷ f) a =
+    omega (arith, a .0, length-append (replicate (b / 1500) (digits (t * 1000))) (linesFrom (suc t) f), length-replicate (b / 1500) (digits (t * 1000)), lines-few (suc t) f (a .1))
 
 -- ---- for the code
 

@@ -1,8 +1,9 @@
 -- `export::files::film_read_plan` meets its contract. Assumes nothing.
+use mathlib.Core.Path.{refl}
 use borrow.Author.Needs.{needs}
 use Rattle.export.proofs.files.film_read_plan.Statement.{statement}
 use Rattle.export.proofs.files.film_read_plan.Tie as tie
-use Rattle.crossing.specs.lemmas.Numbers.{plan-read-told}
+use Rattle.crossing.specs.lemmas.Numbers.{planReadNumber, is-answered}
 
 read-plan-requires : tie.Need-read-plan-requires
 read-plan-requires c κs = search needs
@@ -26,7 +27,7 @@ same-length-5 : tie.Need-same-length-5
 same-length-5 c = search needs
 
 returns : tie.Need-returns
-returns c = (plan-read-told _ _ _ _ (c .plan-read .ensures) (c .before .before .before .before .before .before .before .before .before .before .before .read-plan .ensures .0), c .before .before .before .before .before .before .before .before .before .before .before .read-plan .ensures .1)
+returns c = (is-answered planReadNumber _ _ _ _ _ _ (c .plan-read .ensures) (c .before .before .before .before .before .before .before .before .before .before .before .read-plan .ensures .0) refl refl, c .before .before .before .before .before .before .before .before .before .before .before .read-plan .ensures .1)
 
 pub film-read-plan-spec : {M : Type 1} → statement M
 film-read-plan-spec =

@@ -1,8 +1,9 @@
 -- `export::files::film_write_job` meets its contract. Assumes nothing.
+use mathlib.Core.Path.{refl}
 use borrow.Author.Needs.{needs}
 use Rattle.export.proofs.files.film_write_job.Statement.{statement}
 use Rattle.export.proofs.files.film_write_job.Tie as tie
-use Rattle.crossing.specs.lemmas.Numbers.{job-written-told}
+use Rattle.crossing.specs.lemmas.Numbers.{jobWrittenNumber, is-answered}
 use Rattle.jobfile.specs.Writer.{writeAnswer}
 
 write-job-requires : tie.Need-write-job-requires
@@ -16,7 +17,7 @@ same-length c = search needs
 
 returns : tie.Need-returns
 unfolding writeAnswer
-returns c = (job-written-told _ _ _ _ (c .job-written .ensures) (c .before .before .before .write-job .ensures .0), c .before .before .before .write-job .ensures .1)
+returns c = (is-answered jobWrittenNumber _ _ _ _ _ _ (c .job-written .ensures) (c .before .before .before .write-job .ensures .0) refl refl, c .before .before .before .write-job .ensures .1)
 
 pub film-write-job-spec : {M : Type 1} → statement M
 film-write-job-spec =

@@ -1,8 +1,9 @@
 -- `export::files::film_write_plan` meets its contract. Assumes nothing.
+use mathlib.Core.Path.{refl}
 use borrow.Author.Needs.{needs}
 use Rattle.export.proofs.files.film_write_plan.Statement.{statement}
 use Rattle.export.proofs.files.film_write_plan.Tie as tie
-use Rattle.crossing.specs.lemmas.Numbers.{plan-written-told}
+use Rattle.crossing.specs.lemmas.Numbers.{planWrittenNumber, is-answered}
 
 write-plan-requires : tie.Need-write-plan-requires
 write-plan-requires c κs = search needs
@@ -14,7 +15,7 @@ same-length : tie.Need-same-length
 same-length c = search needs
 
 returns : tie.Need-returns
-returns c = (plan-written-told _ _ _ _ (c .plan-written .ensures) (c .before .before .before .write-plan .ensures .0), c .before .before .before .write-plan .ensures .1)
+returns c = (is-answered planWrittenNumber _ _ _ _ _ _ (c .plan-written .ensures) (c .before .before .before .write-plan .ensures .0) refl refl, c .before .before .before .write-plan .ensures .1)
 
 pub film-write-plan-spec : {M : Type 1} → statement M
 film-write-plan-spec =

@@ -1,8 +1,9 @@
 -- `export::lists::film_check` meets its contract. Assumes nothing.
+use mathlib.Core.Path.{refl}
 use borrow.Author.Needs.{needs}
 use Rattle.export.proofs.lists.film_check.Statement.{statement}
 use Rattle.export.proofs.lists.film_check.Tie as tie
-use Rattle.crossing.specs.lemmas.Numbers.{checked-told}
+use Rattle.crossing.specs.lemmas.Numbers.{checkedNumber, is-answered}
 
 check-requires : tie.Need-check-requires
 check-requires c κs = search needs
@@ -11,7 +12,7 @@ checked-requires : tie.Need-checked-requires
 checked-requires c κs = search needs
 
 returns : tie.Need-returns
-returns c = checked-told _ _ _ _ (c .checked .ensures) (c .before .check .ensures)
+returns c = is-answered checkedNumber _ _ _ _ _ _ (c .checked .ensures) (c .before .check .ensures) refl refl
 
 pub film-check-spec : {M : Type 1} → statement M
 film-check-spec = tie.close (tie.spec check-requires checked-requires returns)

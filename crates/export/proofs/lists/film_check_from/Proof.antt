@@ -1,8 +1,9 @@
 -- `export::lists::film_check_from` meets its contract. Assumes nothing.
+use mathlib.Core.Path.{refl}
 use borrow.Author.Needs.{needs}
 use Rattle.export.proofs.lists.film_check_from.Statement.{statement}
 use Rattle.export.proofs.lists.film_check_from.Tie as tie
-use Rattle.crossing.specs.lemmas.Numbers.{checked-told}
+use Rattle.crossing.specs.lemmas.Numbers.{checkedNumber, is-answered}
 
 check-from-requires : tie.Need-check-from-requires
 check-from-requires c κs = search needs
@@ -11,7 +12,7 @@ checked-requires : tie.Need-checked-requires
 checked-requires c κs = search needs
 
 returns : tie.Need-returns
-returns c = checked-told _ _ _ _ (c .checked .ensures) (c .before .check-from .ensures)
+returns c = is-answered checkedNumber _ _ _ _ _ _ (c .checked .ensures) (c .before .check-from .ensures) refl refl
 
 pub film-check-from-spec : {M : Type 1} → statement M
 film-check-from-spec = tie.close (tie.spec check-from-requires checked-requires returns)

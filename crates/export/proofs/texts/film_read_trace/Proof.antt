@@ -1,8 +1,9 @@
 -- `export::texts::film_read_trace` meets its contract. Assumes nothing.
+use mathlib.Core.Path.{refl}
 use borrow.Author.Needs.{needs}
 use Rattle.export.proofs.texts.film_read_trace.Statement.{statement}
 use Rattle.export.proofs.texts.film_read_trace.Tie as tie
-use Rattle.crossing.specs.lemmas.Numbers.{trace-read-told}
+use Rattle.crossing.specs.lemmas.Numbers.{traceReadNumber, is-answered}
 
 read-trace-requires : tie.Need-read-trace-requires
 read-trace-requires c κs = search needs
@@ -14,7 +15,7 @@ same-length : tie.Need-same-length
 same-length c = search needs
 
 returns : tie.Need-returns
-returns c = (trace-read-told _ _ _ _ (c .trace-read .ensures) (c .before .before .before .read-trace .ensures .answer), c .before .before .before .read-trace .ensures .buffer)
+returns c = (is-answered traceReadNumber _ _ _ _ _ _ (c .trace-read .ensures) (c .before .before .before .read-trace .ensures .answer) refl refl, c .before .before .before .read-trace .ensures .buffer)
 
 pub film-read-trace-spec : {M : Type 1} → statement M
 film-read-trace-spec =

@@ -1,8 +1,9 @@
 -- `export::texts::film_reasons` meets its contract. Assumes nothing.
+use mathlib.Core.Path.{refl}
 use borrow.Author.Needs.{needs}
 use Rattle.export.proofs.texts.film_reasons.Statement.{statement}
 use Rattle.export.proofs.texts.film_reasons.Tie as tie
-use Rattle.crossing.specs.lemmas.Numbers.{reason-told}
+use Rattle.crossing.specs.lemmas.Numbers.{reasonNumber, is-answered}
 
 reasons-requires : tie.Need-reasons-requires
 reasons-requires c κs = search needs
@@ -14,7 +15,7 @@ same-length : tie.Need-same-length
 same-length c = search needs
 
 returns : tie.Need-returns
-returns c = (reason-told _ _ _ _ (c .told .ensures) (c .before .before .before .reasons .ensures .0 .result), c .before .before .before .reasons .ensures .0 .buffer)
+returns c = (is-answered reasonNumber _ _ _ _ _ _ (c .told .ensures) (c .before .before .before .reasons .ensures .0 .result) refl refl, c .before .before .before .reasons .ensures .0 .buffer)
 
 pub film-reasons-spec : {M : Type 1} → statement M
 film-reasons-spec = tie.close (tie.spec reasons-requires told-requires same-length returns)

@@ -1,8 +1,9 @@
 -- `export::texts::film_wait` meets its contract. Assumes nothing.
+use mathlib.Core.Path.{refl}
 use borrow.Author.Needs.{needs}
 use Rattle.export.proofs.texts.film_wait.Statement.{statement}
 use Rattle.export.proofs.texts.film_wait.Tie as tie
-use Rattle.crossing.specs.lemmas.Numbers.{wait-told}
+use Rattle.crossing.specs.lemmas.Numbers.{waitNumber, is-answered}
 
 wait-requires : tie.Need-wait-requires
 wait-requires c κs = search needs
@@ -11,7 +12,7 @@ waited-requires : tie.Need-waited-requires
 waited-requires c κs = search needs
 
 returns : tie.Need-returns
-returns c = wait-told _ _ _ _ (c .waited .ensures) (c .before .wait .ensures .0)
+returns c = is-answered waitNumber _ _ _ _ _ _ (c .waited .ensures) (c .before .wait .ensures .0) refl refl
 
 pub film-wait-spec : {M : Type 1} → statement M
 film-wait-spec = tie.close (tie.spec wait-requires waited-requires returns)

@@ -1,8 +1,9 @@
 -- `export::texts::film_write_trace` meets its contract. Assumes nothing.
+use mathlib.Core.Path.{refl}
 use borrow.Author.Needs.{needs}
 use Rattle.export.proofs.texts.film_write_trace.Statement.{statement}
 use Rattle.export.proofs.texts.film_write_trace.Tie as tie
-use Rattle.crossing.specs.lemmas.Numbers.{trace-written-told}
+use Rattle.crossing.specs.lemmas.Numbers.{traceWrittenNumber, is-answered}
 
 write-trace-requires : tie.Need-write-trace-requires
 write-trace-requires c κs = search needs
@@ -14,7 +15,7 @@ same-length : tie.Need-same-length
 same-length c = search needs
 
 returns : tie.Need-returns
-returns c = (trace-written-told _ _ _ _ (c .trace-written .ensures) (c .before .before .before .write-trace .ensures .answer), c .before .before .before .write-trace .ensures .buffer)
+returns c = (is-answered traceWrittenNumber _ _ _ _ _ _ (c .trace-written .ensures) (c .before .before .before .write-trace .ensures .answer) refl refl, c .before .before .before .write-trace .ensures .buffer)
 
 pub film-write-trace-spec : {M : Type 1} → statement M
 film-write-trace-spec =

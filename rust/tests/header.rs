@@ -1,0 +1,100 @@
+//! The wrapper against include/film_planner.h: every call is declared with the header's own types, every constant and every refusal's name and
+//! sentence are the header's.
+use film_planner::Refusal;
+
+const HEADER: &str = include_str!("../../include/film_planner.h");
+const FFI: &str = include_str!("../src/ffi.rs");
+
+/// What stands between two texts, for each time the first one stands there.
+fn between<'a>(text: &'a str, open: &'a str, close: &'a str) -> impl Iterator<Item = &'a str> + 'a {
+    text.split(open).skip(1).map(move |rest| rest.split_once(close).expect("what is opened is closed").0)
+}
+
+/// A text with every stretch of blanks as one.
+fn folded(text: &str) -> String {
+    text.split_whitespace().collect::<Vec<_>>().join(" ")
+}
+
+fn c_type(rust: &str) -> &str {
+    match rust {
+        "u8" => "uint8_t",
+        "u16" => "uint16_t",
+        "u32" => "uint32_t",
+        "u64" => "uint64_t",
+        "usize" => "size_t",
+        other => panic!("{other} does not cross"),
+    }
+}
+
+#[test]
+fn every_call_is_declared_as_in_the_header() {
+    let in_header: Vec<String> = between(HEADER, "\nuint64_t film_", ");").map(|call| folded(&call.replace('(', "( "))).collect();
+    let block = FFI.rsplit_once("\ncalls! {").expect("the calls stand in one block").1;
+    let in_ffi: Vec<String> = between(block, " = film_", ");")
+        .map(|call| {
+            let (name, args) = call.split_once('(').expect("a call has arguments");
+            let args: Vec<String> = args
+                .split(',')
+                .filter(|arg| !arg.trim().is_empty())
+                .map(|arg| {
+                    let words: Vec<&str> = arg.split_whitespace().collect();
+                    let (name, ty) = (words[0].trim_end_matches(':'), c_type(words[2]));
+                    match words[1] {
+                        "number" => format!("{ty} {name}"),
+                        "handed" => format!("const {ty} *{name}, size_t {name}_len"),
+                        "lent" => format!("{ty} *{name}, size_t {name}_len"),
+                        other => panic!("{other} is no way to cross"),
+                    }
+                })
+                .collect();
+            format!("{name}( {}", args.join(", "))
+        })
+        .collect();
+    let sorted = |mut calls: Vec<String>| {
+        calls.sort();
+        calls
+    };
+    assert_eq!(in_header.len(), 23);
+    assert_eq!(sorted(in_ffi), sorted(in_header));
+}
+
+#[test]
+fn constants_are_the_headers() {
+    for (name, value) in film_planner::LARGEST {
+        let line = format!("FILM_{name} = {value}");
+        assert!(
+            HEADER.lines().any(|l| l.trim().split([',', ' ']).collect::<Vec<_>>().join(" ").starts_with(&format!("{line} "))),
+            "{line}"
+        );
+    }
+}
+
+#[test]
+fn refusals_are_the_headers() {
+    let list =
+        between(HEADER, "#define FILM_REFUSALS(X) \\\n", "\n\n").next().expect("the header lists the refusals").replace("\\\n", "\n");
+    let in_header: Vec<(u8, String, String)> = between(&list, "    X(", "\")")
+        .map(|entry| {
+            let (number, rest) = entry.split_once(", ").expect("a number");
+            let (name, sentence) = rest.split_once(", \"").expect("a name");
+            // A long sentence stands in several strings, one after the other.
+            let sentence: String = sentence.split('"').step_by(2).collect();
+            (number.parse().expect("a number"), name.to_string(), sentence)
+        })
+        .collect();
+    let in_rust: Vec<(u8, String, String)> =
+        Refusal::ALL.iter().map(|r| (r.number(), shouted(&format!("{r:?}")), r.sentence().to_string())).collect();
+    assert_eq!(in_rust, in_header);
+}
+
+/// A name in the header's letters: EndsEarly is ENDS_EARLY.
+fn shouted(name: &str) -> String {
+    let mut out = String::new();
+    for c in name.chars() {
+        if c.is_uppercase() && !out.is_empty() {
+            out.push('_');
+        }
+        out.push(c.to_ascii_uppercase());
+    }
+    out
+}
