@@ -226,8 +226,8 @@ pub fn mean_number(answer: meter::Answer) -> u64
     }
 }
 
-// Where the counts have no room: all that comes before 11, or 11.
-pub fn short_counts(before: u8) -> u64
+// Where a slice lent beside the library's own is too short: what comes before 11, or 11.
+pub fn or_eleven(before: u8) -> u64
     ensures { λ r. ⌜ r ≡ refusedNumber (before orElse 11) ⌝ }
 {
     refused(job::or_else(before, 11))

@@ -28,7 +28,7 @@ pub extern "C" fn film_meter_take(
     ensures { λ r. ⌜ Sampled (storage (now (slots .entry)) (now (bytes .entry)) (now (kept .entry))) slot sample r (storage (now (slots .exit)) (now (bytes .exit)) (now (kept .exit))) ⌝ }
 {
     if !crossing::holds_meter(slots.len(), bytes.len(), kept.len()) {
-        return crossing::refused(job::or_else(crossing::sample_refusal(slot, sample), 11));
+        return crossing::or_eleven(crossing::sample_refusal(slot, sample));
     }
     let taken = meter::take(crossing::meter_in(slots, bytes, kept), slot, sample);
     let code = taken.code;

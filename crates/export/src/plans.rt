@@ -31,7 +31,7 @@ pub extern "C" fn film_plan(
         limit,
     };
     if counts.len() < 4 {
-        return crossing::short_counts(job::refusal(
+        return crossing::or_eleven(job::refusal(
             p,
             sizes,
             size_chunks,
@@ -161,7 +161,7 @@ pub extern "C" fn film_search(
         limit,
     };
     if !crossing::holds_walk(counts.len(), walk.len()) {
-        return crossing::short_counts(job::refusal(
+        return crossing::or_eleven(job::refusal(
             p,
             sizes,
             size_chunks,

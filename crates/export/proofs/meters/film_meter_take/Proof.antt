@@ -1,4 +1,5 @@
 -- `export::meters::film_meter_take` meets its contract. Assumes nothing.
+use mathlib.Core.Path.{refl}
 use borrow.Author.Needs.{needs}
 use Rattle.export.proofs.meters.film_meter_take.Statement.{statement}
 use Rattle.export.proofs.meters.film_meter_take.Tie as tie
@@ -11,14 +12,11 @@ holds-meter-requires c κs = search needs
 sample-refusal-requires : tie.Need-sample-refusal-requires
 sample-refusal-requires c κs = search needs
 
-or-else-requires : tie.Need-or-else-requires
-or-else-requires c κs = search needs
-
-refused-requires : tie.Need-refused-requires
-refused-requires c κs = search needs
+or-eleven-requires : tie.Need-or-eleven-requires
+or-eleven-requires c κs = search needs
 
 returns : tie.Need-returns
-returns c = sampled-short (storage (c .before .before .before .before .before .before .before .before .args .slots .now) (c .before .before .before .before .before .before .before .before .args .bytes .now) (c .before .before .before .before .before .before .before .before .args .kept .now)) _ _ _ _ _ (no-cells (storage (c .before .before .before .before .before .before .before .before .args .slots .now) (c .before .before .before .before .before .before .before .before .args .bytes .now) (c .before .before .before .before .before .before .before .before .args .kept .now)) _ (c .before .before .before .before .holds-meter .ensures) (c .before .before .before .if1 .taken)) (c .before .before .sample-refusal .ensures) (c .before .or-else .ensures) (c .refused .ensures)
+returns c = sampled-short (storage (c .before .before .before .before .before .before .before .args .slots .now) (c .before .before .before .before .before .before .before .args .bytes .now) (c .before .before .before .before .before .before .before .args .kept .now)) _ _ _ _ _ (no-cells (storage (c .before .before .before .before .before .before .before .args .slots .now) (c .before .before .before .before .before .before .before .args .bytes .now) (c .before .before .before .before .before .before .before .args .kept .now)) _ (c .before .before .before .holds-meter .ensures) (c .before .before .if1 .taken)) (c .before .sample-refusal .ensures) refl (c .or-eleven .ensures)
 
 meter-in-requires : tie.Need-meter-in-requires
 meter-in-requires c κs = cells-room _ _ _ _ (c .before .before .before .before .holds-meter .ensures) (c .before .before .before .if1 .left)
@@ -26,8 +24,8 @@ meter-in-requires c κs = cells-room _ _ _ _ (c .before .before .before .before 
 take-requires : tie.Need-take-requires
 take-requires c κs = search needs
 
-refused-requires-2 : tie.Need-refused-requires-2
-refused-requires-2 c κs = search needs
+refused-requires : tie.Need-refused-requires
+refused-requires c κs = search needs
 
 same-length : tie.Need-same-length
 same-length c = search needs
@@ -39,7 +37,7 @@ same-length-3 : tie.Need-same-length-3
 same-length-3 c = search needs
 
 returns-2 : tie.Need-returns-2
-returns-2 c = sampled-refused (storage (c .before .before .before .before .before .before .before .before .before .before .before .before .args .slots .now) (c .before .before .before .before .before .before .before .before .before .before .before .before .args .bytes .now) (c .before .before .before .before .before .before .before .before .before .before .before .before .args .kept .now)) _ _ _ _ _ (cells (storage (c .before .before .before .before .before .before .before .before .before .before .before .before .args .slots .now) (c .before .before .before .before .before .before .before .before .before .before .before .before .args .bytes .now) (c .before .before .before .before .before .before .before .before .before .before .before .before .args .kept .now)) _ (c .before .before .before .before .before .before .before .before .holds-meter .ensures) (c .before .before .before .before .before .before .before .if1 .left)) (c .before .before .before .meter-in .ensures) (c .before .before .take .ensures) (c .before .if2 .taken) (c .refused2 .ensures)
+returns-2 c = sampled-refused (storage (c .before .before .before .before .before .before .before .before .before .before .before .before .args .slots .now) (c .before .before .before .before .before .before .before .before .before .before .before .before .args .bytes .now) (c .before .before .before .before .before .before .before .before .before .before .before .before .args .kept .now)) _ _ _ _ _ (cells (storage (c .before .before .before .before .before .before .before .before .before .before .before .before .args .slots .now) (c .before .before .before .before .before .before .before .before .before .before .before .before .args .bytes .now) (c .before .before .before .before .before .before .before .before .before .before .before .before .args .kept .now)) _ (c .before .before .before .before .before .before .before .before .holds-meter .ensures) (c .before .before .before .before .before .before .before .if1 .left)) (c .before .before .before .meter-in .ensures) (c .before .before .take .ensures) (c .before .if2 .taken) (c .refused .ensures)
 
 store-requires : tie.Need-store-requires
 store-requires c κs = cells-room _ _ _ _ (c .before .before .before .before .before .before .before .before .before .before .before .before .before .holds-meter .ensures) (c .before .before .before .before .before .before .before .before .before .before .before .before .if1 .left)
@@ -62,12 +60,11 @@ film-meter-take-spec =
     (tie.spec
     holds-meter-requires
     sample-refusal-requires
-    or-else-requires
-    refused-requires
+    or-eleven-requires
     returns
     meter-in-requires
     take-requires
-    refused-requires-2
+    refused-requires
     same-length
     same-length-2
     same-length-3

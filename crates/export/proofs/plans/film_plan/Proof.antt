@@ -7,11 +7,11 @@ use Rattle.crossing.specs.lemmas.Planning.{plan-short, plan-whole}
 refusal-requires : tie.Need-refusal-requires
 refusal-requires c κs = search needs
 
-short-counts-requires : tie.Need-short-counts-requires
-short-counts-requires c κs = search needs
+or-eleven-requires : tie.Need-or-eleven-requires
+or-eleven-requires c κs = search needs
 
 returns : tie.Need-returns
-returns c = plan-short _ _ _ _ _ _ _ _ _ (c .before .refusal .ensures) (c .before .before .if1 .taken) (c .short-counts .ensures)
+returns c = plan-short _ _ _ _ _ _ _ _ _ (c .before .refusal .ensures) (c .before .before .if1 .taken) (c .or-eleven .ensures)
 
 plan-requires : tie.Need-plan-requires
 plan-requires c κs = search needs
@@ -48,7 +48,7 @@ film-plan-spec =
     tie.close
     (tie.spec
     refusal-requires
-    short-counts-requires
+    or-eleven-requires
     returns
     plan-requires
     hand-counts-requires

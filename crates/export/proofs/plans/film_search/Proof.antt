@@ -11,11 +11,11 @@ holds-walk-requires c κs = search needs
 refusal-requires : tie.Need-refusal-requires
 refusal-requires c κs = search needs
 
-short-counts-requires : tie.Need-short-counts-requires
-short-counts-requires c κs = search needs
+or-eleven-requires : tie.Need-or-eleven-requires
+or-eleven-requires c κs = search needs
 
 returns : tie.Need-returns
-returns c = search-short _ _ _ _ _ _ _ _ _ _ _ _ (c .before .before .before .holds-walk .ensures) (c .before .before .if1 .taken) (c .before .refusal .ensures) (c .short-counts .ensures)
+returns c = search-short _ _ _ _ _ _ _ _ _ _ _ _ (c .before .before .before .holds-walk .ensures) (c .before .before .if1 .taken) (c .before .refusal .ensures) (c .or-eleven .ensures)
 
 search-requires : tie.Need-search-requires
 search-requires c κs = search needs
@@ -59,7 +59,7 @@ film-search-spec =
     (tie.spec
     holds-walk-requires
     refusal-requires
-    short-counts-requires
+    or-eleven-requires
     returns
     search-requires
     hand-counts-requires
