@@ -41,12 +41,12 @@ pub record Begun (s : Storage) (r : ℕ) (s' : Storage) : Type 0 where
   pub storage-is : s' ≡ storedIn (cellsRefusal s) empty s
 
 -- .. and of a sample: the sample's 10, 11, then 10 and 13 as the meter gives them.
-abbrev pub sampleTaken : Storage → (slot bytes : ℕ) → ℕ
-sampleTaken s slot bytes = sampleRefusal (sample slot bytes) orElse cellsRefusal s orElse taken (meterIn s) slot bytes .code
+abbrev pub sampledRefusal : Storage → (slot bytes : ℕ) → ℕ
+sampledRefusal s slot bytes = sampleRefusal (sample slot bytes) orElse cellsRefusal s orElse taken (meterIn s) slot bytes .code
 
 pub record Sampled (s : Storage) (slot bytes : ℕ) (r : ℕ) (s' : Storage) : Type 0 where
-  pub number : r ≡ answered (sampleTaken s slot bytes) 0
-  pub storage-is : s' ≡ storedIn (sampleTaken s slot bytes) (taken (meterIn s) slot bytes .meter) s
+  pub number : r ≡ answered (sampledRefusal s slot bytes) 0
+  pub storage-is : s' ≡ storedIn (sampledRefusal s slot bytes) (taken (meterIn s) slot bytes .meter) s
 
 -- The forecast: 11, then 10 and 12 as the meter gives them.
 abbrev pub meanRefusal : Storage → ℕ

@@ -18,7 +18,7 @@ use Rattle.meter.specs.Forecast.{answerOf, bytesOf, forecastOf, forecastRefusal
 use Rattle.meter.specs.Meter.{empty, inRange, lateRefusal, meterRefusal, sample, sampleRefusal, samplesOf, taken}
 use Rattle.meter.specs.lemmas.Order.{in-range-iff}
 use Rattle.crossing.specs.Convention.{answered}
-use Rattle.crossing.specs.Meters.{Begun, Sampled, Storage, cellsRefusal, meanNumber, meterIn, sampleTaken, storage, storedIn}
+use Rattle.crossing.specs.Meters.{Begun, Sampled, Storage, cellsRefusal, meanNumber, meterIn, sampledRefusal, storage, storedIn}
 use Rattle.crossing.specs.lemmas.Numbers.{forecastNumber, is-answered, refusedNumber}
 use Rattle.crossing.specs.lemmas.Slices.{eleven-some, first-twice, refused-keeps, test-false, test-true}
 
@@ -82,16 +82,16 @@ taken-code m slot bytes = first-twice (sampleRefusal (sample slot bytes)) (meter
 
 pub sampled-short : (s : Storage) (slot bytes x y r : ℕ) → cellsRefusal s ≡ 11 → x ≡ sampleRefusal (sample slot bytes) → y ≡ x orElse 11 → r ≡ refusedNumber y → Sampled s slot bytes r s
 sampled-short s slot bytes x y r e f g h =
-    let is : sampleTaken s slot bytes ≡ y =
+    let is : sampledRefusal s slot bytes ≡ y =
     ap (λ (n : ℕ). sampleRefusal (sample slot bytes) orElse n orElse taken (meterIn s) slot bytes .code) e ∙ sym (g ∙ ap (λ (n : ℕ). n orElse 11) f) in
-    let some : sampleTaken s slot bytes ≡ 0 → ⊥ = λ z. eleven-some x (sym g ∙ sym is ∙ z) in
+    let some : sampledRefusal s slot bytes ≡ 0 → ⊥ = λ z. eleven-some x (sym g ∙ sym is ∙ z) in
     record {
-      number = h ∙ sym (ap refusedNumber is) ∙ refused-answer (sampleTaken s slot bytes) 0 some;
-      storage-is = kept-storage (sampleTaken s slot bytes) (taken (meterIn s) slot bytes .meter) s some;
+      number = h ∙ sym (ap refusedNumber is) ∙ refused-answer (sampledRefusal s slot bytes) 0 some;
+      storage-is = kept-storage (sampledRefusal s slot bytes) (taken (meterIn s) slot bytes .meter) s some;
     }
 
 -- With room, the refusal is the meter's own.
-meter-own : (s : Storage) (slot bytes : ℕ) → cellsRefusal s ≡ 0 → sampleTaken s slot bytes ≡ taken (meterIn s) slot bytes .code
+meter-own : (s : Storage) (slot bytes : ℕ) → cellsRefusal s ≡ 0 → sampledRefusal s slot bytes ≡ taken (meterIn s) slot bytes .code
 meter-own s slot bytes e =
     ap (λ (n : ℕ). sampleRefusal (sample slot bytes) orElse n orElse taken (meterIn s) slot bytes .code) e ∙ taken-code (meterIn s) slot bytes
 
@@ -100,17 +100,17 @@ took s slot bytes m t e f = f ∙ ap (λ (w : Meter). taken w slot bytes) e
 
 pub sampled-refused : (s : Storage) (slot bytes r : ℕ) (m : Meter) (t : Taken) → cellsRefusal s ≡ 0 → m ≡ meterIn s → t ≡ taken m slot bytes → (t .code ≡ 0 → ⊥) → r ≡ refusedNumber (t .code) → Sampled s slot bytes r s
 sampled-refused s slot bytes r m t e f g n h =
-    let is : sampleTaken s slot bytes ≡ t .code = meter-own s slot bytes e ∙ sym (ap (λ (w : Taken). w .code) (took s slot bytes m t f g)) in
-    let some : sampleTaken s slot bytes ≡ 0 → ⊥ = λ z. n (sym is ∙ z) in
+    let is : sampledRefusal s slot bytes ≡ t .code = meter-own s slot bytes e ∙ sym (ap (λ (w : Taken). w .code) (took s slot bytes m t f g)) in
+    let some : sampledRefusal s slot bytes ≡ 0 → ⊥ = λ z. n (sym is ∙ z) in
     record {
-      number = h ∙ sym (ap refusedNumber is) ∙ refused-answer (sampleTaken s slot bytes) 0 some;
-      storage-is = kept-storage (sampleTaken s slot bytes) (taken (meterIn s) slot bytes .meter) s some;
+      number = h ∙ sym (ap refusedNumber is) ∙ refused-answer (sampledRefusal s slot bytes) 0 some;
+      storage-is = kept-storage (sampledRefusal s slot bytes) (taken (meterIn s) slot bytes .meter) s some;
     }
 
 pub sampled-whole : (s : Storage) (slot bytes : ℕ) (m : Meter) (t : Taken) (a b k : List ℕ) → cellsRefusal s ≡ 0 → m ≡ meterIn s → t ≡ taken m slot bytes → t .code ≡ 0 → a ≡ over (t .meter .slots) (s .slots) → b ≡ over (t .meter .bytes) (s .bytes) → k ≡ over (t .meter .kept ∷ []) (s .kept) → Sampled s slot bytes 0 (storage a b k)
 unfolding answered
 sampled-whole s slot bytes m t a b k e f g z ea eb ek =
-    let is : sampleTaken s slot bytes ≡ 0 = meter-own s slot bytes e ∙ sym (ap (λ (w : Taken). w .code) (took s slot bytes m t f g)) ∙ z in
+    let is : sampledRefusal s slot bytes ≡ 0 = meter-own s slot bytes e ∙ sym (ap (λ (w : Taken). w .code) (took s slot bytes m t f g)) ∙ z in
     record {
       number = sym (ap (λ (n : ℕ). answered n 0) is);
       storage-is = same-storage ea eb ek ∙ ap (λ (w : Taken). storedIn 0 (w .meter) s) (took s slot bytes m t f g) ∙ sym (ap (λ (n : ℕ). storedIn n (taken (meterIn s) slot bytes .meter) s) is);
