@@ -5,7 +5,7 @@ use mathlib.Core.Path.{_≡_}
 use mathlib.Core.Bool.{cond}
 use mathlib.Core.List.{List, []}
 use lib.Dec.{eqb}
-use Rattle.basics.specs.Refusals.{_orElse_}
+use Rattle.theory_basics.specs.Refusals.{_orElse_}
 use Rattle.job.specs.Handed.{HandedJob, handed, jobIn, jobRefusal}
 use Rattle.fetch.specs.Rows.{rowsOf}
 use Rattle.fetch.specs.Handed.{handedRefusal}

@@ -7,10 +7,10 @@ use mathlib.Core.Logic.{_↔_}
 use native.Mathlib.Omega.{arith}
 use lib.ListN.{length}
 use lib.Dec.{leb, eqb}
-use Rattle.basics.specs.Tests.{All, all, allTo}
-use Rattle.basics.specs.lemmas.Tests.{all-iff, allTo-iff, eqb-iff, leb-iff, tests}
-use Rattle.basics.specs.Refusals.{_orElse_}
-use Rattle.basics.specs.lemmas.Refusals.{unless-as, and-as, orElse-iff}
+use Rattle.theory_basics.specs.Tests.{All, all, allTo}
+use Rattle.theory_basics.specs.lemmas.Tests.{all-iff, allTo-iff, eqb-iff, leb-iff, tests}
+use Rattle.theory_basics.specs.Refusals.{_orElse_}
+use Rattle.theory_basics.specs.lemmas.Refusals.{unless-as, and-as, orElse-iff}
 use Rattle.job.specs.Job.{Job, Accepted, EqualChunks, Within, lastSlot, withForecast}
 use Rattle.job.specs.Handed.{HandedJob, handed-iff, jobIn, jobRefusal}
 use Rattle.fetch.specs.Rows.{Row, bytesInSlot, rowsOf}
@@ -18,11 +18,11 @@ use Rattle.fetch.specs.Handed.{Whole, handedRefusal}
 use Rattle.fetch.specs.Handed
 use Rattle.fetch.specs.Rules.{Keeps}
 use Rattle.fetch.specs.Verdict.{verdict, verdict-iff}
-use Rattle.schedule.specs.Statement.{Best, IsPlan, MostPictures, marksOf}
-use Rattle.schedule.specs.Pictures.{most-pictures}
-use Rattle.schedule.specs.Own.{ownList}
-use Rattle.schedule.specs.Theorems.{best, plan-carried}
-use Rattle.schedule.specs.lemmas.Words.{accepted-sized}
+use Rattle.theory_plan.specs.Statement.{Best, IsPlan, MostPictures, marksOf}
+use Rattle.theory_plan.specs.Pictures.{most-pictures}
+use Rattle.theory_plan.specs.Own.{ownList}
+use Rattle.theory_plan.specs.Theorems.{best, plan-carried}
+use Rattle.theory_plan.specs.lemmas.Words.{accepted-sized}
 use Rattle.booking.specs.Booking.{slotHas, takenOff, addedBack, passRefusal, slotThere, roomRefusal, SlotsThere, Releasable, Bookable, Without, Run, start, booking, Balanced}
 use Rattle.booking.specs.Booking
 use Rattle.checker.specs.Checked.{checkRefusal}

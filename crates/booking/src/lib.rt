@@ -6,7 +6,7 @@ ghost use mathlib.Core.Path.{_≡_};
 ghost use Prim.Native.Nat.{_+_, _≤_, _<_};
 ghost use lib.Dec.{leb};
 ghost use lib.ListN.{length};
-ghost use Rattle.basics.specs.Tests.{All};
+ghost use Rattle.theory_basics.specs.Tests.{All};
 ghost use Rattle.job.specs.Job.{Within};
 ghost use Rattle.job.specs.Handed.{handed};
 ghost use Rattle.booking.specs.Booking.{takenOff};

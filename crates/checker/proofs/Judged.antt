@@ -7,8 +7,8 @@ use mathlib.Core.Logic.{inl, inr, ⊎-elim}
 use native.Mathlib.Omega.{arith}
 use lib.ListN.{length, getD}
 use lib.Dec.{T, leb, ltb, eqb}
-use Rattle.basics.specs.Tests.{allBelow, allTo}
-use Rattle.basics.specs.lemmas.Tests.{T-or-iff, allBelow-cong, allTo-cong, same-test}
+use Rattle.theory_basics.specs.Tests.{allBelow, allTo}
+use Rattle.theory_basics.specs.lemmas.Tests.{T-or-iff, allBelow-cong, allTo-cong, same-test}
 use Rattle.job.specs.Job.{Accepted, Job, chunks, jobOf, lastDue, layers, size}
 use Rattle.job.specs.Table.{tableAt}
 use Rattle.job.specs.declared.Programme.{Programme}
@@ -16,10 +16,10 @@ use Rattle.job.specs.lemmas.Within.{size-most}
 use Rattle.fetch.specs.Rows.{Row, bytesOfLayer}
 use Rattle.fetch.specs.Verdict.{lowest, rule2, rule2-iff}
 use Rattle.fetch.specs.VerdictFrom.{layerBefore, rule2-from-iff, rule2From, verdictFrom, wholeFrom}
-use Rattle.rules.proofs.Exact.{carried-is, eqb-cap, ltb-cap, rule1-is, rule2-is, rule3-is, rule4-is, rule6-is, rule7-is}
-use Rattle.rules.specs.declared.Layers.{Layers}
-use Rattle.rules.specs.declared.Pass.{Pass}
-use Rattle.rules.specs.lemmas.Tables.{Passed, SeenAll, Shown, Tallied, heldBy}
+use Rattle.core_rules.proofs.Exact.{carried-is, eqb-cap, ltb-cap, rule1-is, rule2-is, rule3-is, rule4-is, rule6-is, rule7-is}
+use Rattle.core_rules.specs.declared.Layers.{Layers}
+use Rattle.core_rules.specs.declared.Pass.{Pass}
+use Rattle.core_rules.specs.lemmas.Tables.{Passed, SeenAll, Shown, Tallied, heldBy}
 use Rattle.checker.specs.lemmas.Judged.{Judged, Late, allowedBy, allowedSum, early}
 
 -- The flags say what the rows say.

@@ -10,13 +10,13 @@ use lib.ListN.{length, getD, set, replicate, length-set, length-replicate, getD-
 use lib.Seq.{getD-set-other, getD-set-same}
 use lib.Dec.{T, eqb, ltb}
 use borrow.Author.Tests.{eqb-false, eqb-true, le-ltb, lt-ltb}
-use Rattle.basics.specs.Lists.{upTo}
-use Rattle.basics.specs.Tests.{all}
-use Rattle.basics.specs.lemmas.Tests.{T-true, all-snoc, and-T, last, true-T}
+use Rattle.theory_basics.specs.Lists.{upTo}
+use Rattle.theory_basics.specs.Tests.{all}
+use Rattle.theory_basics.specs.lemmas.Tests.{T-true, all-snoc, and-T, last, true-T}
 use Rattle.fetch.specs.Rows.{Row, rowAt, rowsOf}
 use Rattle.fetch.specs.VerdictFrom.{layerBefore}
-use Rattle.rules.proofs.Rows.{Places, places}
-use Rattle.rules.specs.lemmas.Tables.{inRange}
+use Rattle.core_rules.proofs.Rows.{Places, places}
+use Rattle.core_rules.specs.lemmas.Tables.{inRange}
 use Rattle.checker.specs.lemmas.Judged.{InTables, Late, early}
 
 -- A test that every row of a run passes, each passes.

@@ -4,7 +4,7 @@ use Prim.Native.Nat.{ℕ}
 use mathlib.Core.Bool.{cond}
 use mathlib.Core.List.{List}
 use lib.Dec.{eqb}
-use Rattle.basics.specs.Refusals.{_orElse_}
+use Rattle.theory_basics.specs.Refusals.{_orElse_}
 use Rattle.job.specs.Job.{chunks}
 use Rattle.job.specs.Handed.{HandedJob, jobIn, jobRefusal}
 use Rattle.fetch.specs.Rows.{rowsOf}

@@ -7,7 +7,7 @@ ghost use mathlib.Core.List.{[], _∷_};
 ghost use Prim.Native.Nat.{ℕ, _+_, _*_, _-_, _<_, _≤_};
 ghost use lib.ListN.{length, getD, replicate};
 ghost use lib.Dec.{eqb};
-ghost use Rattle.basics.specs.Tests.{allBelow, allTo};
+ghost use Rattle.theory_basics.specs.Tests.{allBelow, allTo};
 ghost use Rattle.job.specs.Job.{lastDue};
 ghost use Rattle.job.specs.Handed.{handed};
 ghost use Rattle.job.specs.Table.{tableAt};
@@ -84,7 +84,7 @@ fn mark_late(
     let mut k: usize = 0;
     while k < slots.len() {
         let s = slots[k];
-        let i = rules::wide(chunks[k]);
+        let i = core_rules::wide(chunks[k]);
         let n = layers[k] as usize;
         let at = 4 * (i - 1) + n;
         if from <= s {
@@ -107,13 +107,13 @@ fn allowed_chunk(
     requires { ⌜ (depth ≤ 4) × (1 ≤ i) × (i ≤ 500) ⌝ }
     ensures { λ r. ⌜ r ≡ allBelow depth (allowedBy (tableAt (now (table .entry))) (now (layersum .entry)) (early (now (late .entry))) i) ⌝ }
 {
-    let from = 4 * (rules::wide(i) - 1);
+    let from = 4 * (core_rules::wide(i) - 1);
     let mut all = true;
     let mut n: usize = 0;
     while n < depth {
         let at = from + n;
         let z = job::size_at(table, i, n);
-        all = rules::both(allowed(layersum[at], z, late[at]), all);
+        all = core_rules::both(allowed(layersum[at], z, late[at]), all);
         n = n + 1;
     }
     all
@@ -134,7 +134,7 @@ fn allowed_all(
     let mut i: u16 = 0;
     while i < count {
         let next = i + 1;
-        all = rules::both(allowed_chunk(table, depth, layersum, late, next), all);
+        all = core_rules::both(allowed_chunk(table, depth, layersum, late, next), all);
         i = next;
     }
     all
@@ -196,7 +196,7 @@ fn verdict_of(
     let mut slotsum = [0u64; 3601];
     let mut layersum = [0u64; 2000];
     let mut first = [65535u16; 501];
-    let pass = rules::tally(
+    let pass = core_rules::tally(
         p,
         last,
         depth,
@@ -209,9 +209,9 @@ fn verdict_of(
         &mut first,
     );
     if pass.ranged {
-        let seen = rules::see_all(table, depth, &layersum, marks, p.chunks);
-        let room = rules::within(forecast, &slotsum);
-        let few = rules::sweep(p, last, &first);
+        let seen = core_rules::see_all(table, depth, &layersum, marks, p.chunks);
+        let room = core_rules::within(forecast, &slotsum);
+        let few = core_rules::sweep(p, last, &first);
         let whole = whole_from(
             seen.whole,
             last,

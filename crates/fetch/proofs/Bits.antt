@@ -5,8 +5,8 @@ use mathlib.Core.Bool.{Bool, true, false, not, cond, _&&_, _||_}
 use native.Mathlib.Omega.{arith}
 use lib.Bits.{bitAnd, bitOr, or-shr, or-mod, or-lt, and-shr, and-mod, and-lt}
 use lib.Dec.{T, eqb, eqb→eq}
-use Rattle.basics.specs.Tests.{allBelow}
-use Rattle.basics.specs.lemmas.Tests.{allBelow-iff}
+use Rattle.theory_basics.specs.Tests.{allBelow}
+use Rattle.theory_basics.specs.lemmas.Tests.{allBelow-iff}
 use Rattle.fetch.specs.Marks.{bit, withLayer, withoutLayer}
 use Rattle.fetch.specs.lemmas.Marks.{with-bit, without-bit, with-lt, without-lt, same-bits}
 

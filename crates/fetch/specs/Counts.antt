@@ -4,7 +4,7 @@ use mathlib.Core.Bool.{cond}
 use mathlib.Core.List.{List, [], _∷_}
 use lib.ListN.{length, take, drop}
 use lib.Dec.{ltb}
-use Rattle.basics.specs.Sums.{sum}
+use Rattle.theory_basics.specs.Sums.{sum}
 use Rattle.fetch.specs.Marks.{bit}
 
 -- How many marks have layer n.

@@ -4,7 +4,7 @@ use Prim.Native.Nat.{ℕ, _<_}
 use mathlib.Core.Path.{_≡_}
 use mathlib.Core.List.{List}
 use mathlib.Core.Logic.{_⊎_}
-use Rattle.basics.specs.Tests.{All, In}
+use Rattle.theory_basics.specs.Tests.{All, In}
 use Rattle.job.specs.Job.{Job, Layer, size}
 use Rattle.fetch.specs.Rows.{Row, Carried, bytesOfLayer, marksGiven}
 use Rattle.fetch.specs.Rules.{InRange, LowerCarried, WithinForecast, OnTime, FewHeld, MarksSay}

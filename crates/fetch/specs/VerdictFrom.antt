@@ -7,10 +7,10 @@ use mathlib.Core.List.{List, [], _∷_}
 use mathlib.Core.Logic.{inl, inr, ⊎-elim, _↔_}
 use native.Mathlib.Omega.{arith}
 use lib.Dec.{T, ltb, eqb, eqb→eq, ltb→lt, lt→ltb}
-use Rattle.basics.specs.Refusals.{unless}
-use Rattle.basics.specs.Tests.{All, In, all, any}
-use Rattle.basics.specs.lemmas.Refusals.{unless-as}
-use Rattle.basics.specs.lemmas.Tests.{T-and, T-or-iff, all-iff, all-map, allBelow-cong, allTo-cong, and-T, at-row, each-row, eqb-iff, if-iff, not-T-false, same-test, test}
+use Rattle.theory_basics.specs.Refusals.{unless}
+use Rattle.theory_basics.specs.Tests.{All, In, all, any}
+use Rattle.theory_basics.specs.lemmas.Refusals.{unless-as}
+use Rattle.theory_basics.specs.lemmas.Tests.{T-and, T-or-iff, all-iff, all-map, allBelow-cong, allTo-cong, and-T, at-row, each-row, eqb-iff, if-iff, not-T-false, same-test, test}
 use Rattle.job.specs.Job.{Job, Layer, Within, chunks, lastDue, layers, size}
 use Rattle.job.specs.Refusal.{within, within-iff}
 use Rattle.job.specs.declared.Programme.{Programme}

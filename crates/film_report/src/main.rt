@@ -12,7 +12,7 @@ fn refused(n: u8) {
 }
 
 fn write_first(out: &[u8; 8192], n: usize) {
-    io::write_all(STDOUT_FILENO, parts::bytes(out, n));
+    io::write_all(STDOUT_FILENO, core_prefix::bytes(out, n));
 }
 
 fn print_report(
@@ -45,7 +45,7 @@ fn job_file(file: &[u8; 65537], n: usize) {
     let mut size_bytes = [0u32; 1996];
     let mut forecast = [0u32; 3600];
     match jobfile::read_job(
-        parts::bytes(file, n),
+        core_prefix::bytes(file, n),
         &mut sizes,
         &mut size_chunks,
         &mut size_layers,
@@ -60,11 +60,11 @@ fn job_file(file: &[u8; 65537], n: usize) {
             slots,
         } => print_report(
             programme,
-            parts::words(&sizes, layers),
-            parts::halves(&size_chunks, overrides),
-            parts::bytes(&size_layers, overrides),
-            parts::words(&size_bytes, overrides),
-            parts::words(&forecast, slots),
+            core_prefix::words(&sizes, layers),
+            core_prefix::halves(&size_chunks, overrides),
+            core_prefix::bytes(&size_layers, overrides),
+            core_prefix::words(&size_bytes, overrides),
+            core_prefix::words(&forecast, slots),
         ),
     }
 }

@@ -10,7 +10,7 @@ use lib.Seq.{set-out}
 use borrow.Author.Tests.{lt-ltb, le-ltb}
 use Rattle.job.specs.declared.Programme.{Programme}
 use Rattle.job.specs.Job.{Override}
-use Rattle.basics.specs.Refusals.{unless}
+use Rattle.theory_basics.specs.Refusals.{unless}
 use Rattle.job.specs.Refusal.{named, sized, comes, overridesRefusal}
 use Rattle.job.specs.Handed.{overridesOf}
 use Rattle.job.specs.lemmas.Run.{runs, runs-all, from, from-end, from-more}

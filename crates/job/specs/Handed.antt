@@ -8,9 +8,9 @@ use mathlib.Core.Logic.{_↔_}
 use native.Mathlib.Omega.{arith}
 use lib.ListN.{length}
 use lib.Dec.{eqb}
-use Rattle.basics.specs.lemmas.Tests.{eqb-iff}
-use Rattle.basics.specs.Refusals.{unless, _orElse_}
-use Rattle.basics.specs.lemmas.Refusals.{and-as, unless-as, orElse-iff, orElse-none}
+use Rattle.theory_basics.specs.lemmas.Tests.{eqb-iff}
+use Rattle.theory_basics.specs.Refusals.{unless, _orElse_}
+use Rattle.theory_basics.specs.lemmas.Refusals.{and-as, unless-as, orElse-iff, orElse-none}
 use Rattle.job.specs.declared.Programme.{Programme}
 use Rattle.job.specs.Job.{Job, Override, Accepted, jobOf}
 use Rattle.job.specs.Refusal.{fieldsRefusal, lastDueRefusal, sizesRefusal, overridesRefusal, forecastRefusal, refusal, accepted-iff}

@@ -9,10 +9,10 @@ use mathlib.Core.Logic.{_↔_, _⊎_, inl, inr, ⊎-elim}
 use native.Mathlib.Omega.{arith}
 use lib.ListN.{length, getD}
 use lib.Dec.{T, leb, ltb, eqb, T-not, not-T}
-use Rattle.basics.specs.Tests.{All, all}
-use Rattle.basics.specs.lemmas.Tests.{all-iff, leb-iff, ltb-iff, eqb-iff, T-or-iff, tests}
-use Rattle.basics.specs.Refusals.{unless, _orElse_}
-use Rattle.basics.specs.lemmas.Refusals.{and-as, unless-as, orElse-as}
+use Rattle.theory_basics.specs.Tests.{All, all}
+use Rattle.theory_basics.specs.lemmas.Tests.{all-iff, leb-iff, ltb-iff, eqb-iff, T-or-iff, tests}
+use Rattle.theory_basics.specs.Refusals.{unless, _orElse_}
+use Rattle.theory_basics.specs.lemmas.Refusals.{and-as, unless-as, orElse-as}
 use Rattle.job.specs.declared.Programme.{Programme}
 use Rattle.job.specs.Job.{Job, Override, Within, Named, Before, Rising, Accepted, lastDue}
 

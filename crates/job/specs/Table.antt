@@ -5,7 +5,7 @@ use mathlib.Core.Bool.{cond}
 use mathlib.Core.List.{List, [], _∷_}
 use lib.ListN.{getD, set}
 use lib.Dec.{ltb}
-use Rattle.basics.specs.Lists.{upTo}
+use Rattle.theory_basics.specs.Lists.{upTo}
 use Rattle.job.specs.Job.{Override}
 
 -- Layer n of chunk i stands at 4 × (i - 1) + n.

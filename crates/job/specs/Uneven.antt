@@ -6,8 +6,8 @@ use mathlib.Core.List.{List, [], _∷_}
 use mathlib.Core.Logic.{_↔_, inl}
 use native.Mathlib.Omega.{arith}
 use lib.ListN.{length, getD}
-use Rattle.basics.specs.Tests.{All}
-use Rattle.basics.specs.lemmas.Tests.{all-map}
+use Rattle.theory_basics.specs.Tests.{All}
+use Rattle.theory_basics.specs.lemmas.Tests.{all-map}
 use Rattle.job.specs.Job.{Job, Override, Named, Layer, Accepted, EqualBases, EqualChunks, chunks, layers, size}
 use Rattle.job.specs.Table.{sizesTable, tableAt}
 use Rattle.job.specs.lemmas.Table.{table-says}

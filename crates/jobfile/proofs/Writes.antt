@@ -5,8 +5,8 @@ use mathlib.Core.List.{List, [], _∷_, _++_, map, append-assoc}
 use native.Mathlib.Omega.{arith}
 use lib.ListN.{length, length-append}
 use borrow.Author.Tests.{ne-eqb, le-leb, lt-leb}
-use Rattle.basics.specs.Refusals.{_orElse_}
-use Rattle.basics.specs.lemmas.Refusals.{orElse-none, orElse-some}
+use Rattle.theory_basics.specs.Refusals.{_orElse_}
+use Rattle.theory_basics.specs.lemmas.Refusals.{orElse-none, orElse-some}
 use Rattle.job.specs.Job.{Job, Accepted}
 use Rattle.job.specs.Handed.{HandedJob, WholeSizes, jobIn, jobRefusal, handed-iff, overridesOf}
 use Rattle.jobrecords.specs.declared.Record.the-variants.{Pg}

@@ -7,7 +7,7 @@ use mathlib.Core.Logic.{_↔_}
 use native.Mathlib.Omega.{arith}
 use lib.ListN.{length}
 use borrow.Author.Tests.{le-leb}
-use Rattle.basics.specs.lemmas.Refusals.{orElse-none}
+use Rattle.theory_basics.specs.lemmas.Refusals.{orElse-none}
 use Rattle.records.specs.Fields.{Bytes}
 use Rattle.records.specs.File.{split, encodeAll}
 use Rattle.records.specs.lemmas.Written.{split-written, refusal-written}

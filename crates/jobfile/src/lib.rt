@@ -2,13 +2,13 @@
 // as they are. What the reader takes is what the writer puts, byte for byte. The reading is crate jobrecords'.
 ghost use mathlib.Core.Path.{_≡_};
 ghost use Prim.Native.Nat.{_+_, _≤_, _<_};
-ghost use mathlib.Core.List.{map};
+ghost use mathlib.Core.List.{[], map};
 ghost use lib.ListN.{length};
 ghost use Rattle.records.specs.Fields.{h, w};
 ghost use Rattle.job.specs.Handed.{WholeSizes, handed, jobIn, overridesOf};
 ghost use Rattle.jobrecords.specs.declared.Record.the-variants.{Pg, Ly, Sz, Bw};
 ghost use Rattle.jobrecords.specs.Records.{b, encode};
-ghost use Rattle.jobrecords.specs.Refusal.{oneSequence};
+ghost use Rattle.jobrecords.specs.Refusal.{mixed, oneSequence};
 ghost use Rattle.jobrecords.specs.Reader.{buffers, readAnswer, lentRead};
 ghost use Rattle.jobfile.specs.lemmas.Puts.{Puts, bytesOf};
 ghost use Rattle.jobfile.specs.Writer.{runs, layerRecord, overrideRecord, runRecord, jobFile, writeAnswer, fileWritten};
@@ -48,6 +48,16 @@ pub fn read_job(
         size_bytes,
         forecast,
     )
+}
+
+// Reads a mixed job file, which has no SZ, into the lent sizes and forecast. Refusals: 9, then record by record, at EN 3, 4, 6, 7; then 11
+// where a buffer is shorter than the job's sizes or slots. On a refusal both buffers stay as they are.
+pub fn read_mixed_job(file: &[u8], sizes: &mut [u32], forecast: &mut [u32]) -> JobRead
+    ensures answer { λ r. ⌜ r ≡ readAnswer mixed (now (file .entry)) (buffers (now (sizes .entry)) [] [] [] (now (forecast .entry))) ⌝ }
+    ensures sizes { λ r. ⌜ now (sizes .exit) ≡ lentRead mixed (now (file .entry)) (buffers (now (sizes .entry)) [] [] [] (now (forecast .entry))) .sizes ⌝ }
+    ensures forecast { λ r. ⌜ now (forecast .exit) ≡ lentRead mixed (now (file .entry)) (buffers (now (sizes .entry)) [] [] [] (now (forecast .entry))) .forecast ⌝ }
+{
+    jobrecords::read_job(false, file, sizes, &mut [], &mut [], &mut [], forecast)
 }
 
 // Bytes go to a place of a buffer; the answer is the place after them.

@@ -8,10 +8,10 @@ use lib.ListN.{length, take}
 use lib.Seq.{length-take-le}
 use lib.Dec.{leb}
 use borrow.Author.Tests.{ne-eqb, le-leb, lt-leb}
-use Rattle.basics.specs.Lent.{over}
-use Rattle.basics.specs.Refusals.{unless}
-use Rattle.basics.specs.lemmas.Tests.{and-T, leb-iff}
-use Rattle.basics.specs.lemmas.Refusals.{unless-iff, orElse-none, orElse-some}
+use Rattle.theory_basics.specs.Lent.{over}
+use Rattle.theory_basics.specs.Refusals.{unless}
+use Rattle.theory_basics.specs.lemmas.Tests.{and-T, leb-iff}
+use Rattle.theory_basics.specs.lemmas.Refusals.{unless-iff, orElse-none, orElse-some}
 use Rattle.records.specs.File.{recordsRefusal, fileRefusal}
 use Rattle.job.specs.Job.{Job}
 use Rattle.job.specs.Handed.{chunksOf, layersOf, bytesOf}

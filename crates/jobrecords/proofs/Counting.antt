@@ -9,10 +9,10 @@ use native.Mathlib.Numerals.{add-one}
 use lib.ListN.{length, getD, drop}
 use lib.Seq.{getD-drop}
 use lib.Dec.{T, leb, eqb→eq}
-use Rattle.basics.specs.Lists.{upTo}
-use Rattle.basics.specs.lemmas.Lists.{length-upTo}
-use Rattle.basics.specs.lemmas.Tests.{by-cond, last}
-use Rattle.basics.specs.lemmas.Refusals.{unless-iff}
+use Rattle.theory_basics.specs.Lists.{upTo}
+use Rattle.theory_basics.specs.lemmas.Lists.{length-upTo}
+use Rattle.theory_basics.specs.lemmas.Tests.{by-cond, last}
+use Rattle.theory_basics.specs.lemmas.Refusals.{unless-iff}
 use Rattle.records.specs.Fields.{hAt, wAt, marked}
 use Rattle.records.specs.File.{Front, got, none}
 use Rattle.records.specs.lemmas.Reading.{Reads}

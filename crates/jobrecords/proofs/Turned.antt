@@ -8,8 +8,8 @@ use lib.ListN.{length, take, drop, length-drop}
 use lib.Seq.{length-take-le}
 use lib.Dec.{eqb}
 use borrow.Author.Tests.{eqb-true, eqb-false}
-use Rattle.basics.specs.Refusals.{_orElse_}
-use Rattle.basics.specs.lemmas.Refusals.{orElse-iff}
+use Rattle.theory_basics.specs.Refusals.{_orElse_}
+use Rattle.theory_basics.specs.lemmas.Refusals.{orElse-iff}
 use Rattle.records.specs.File.{Front, got, none, recordsRefusal, split}
 use Rattle.records.specs.lemmas.Reading.{reads-start, reads-none, reads-end, reads-fault, reads-more}
 use Rattle.job.specs.Refusal.{overridesRefusal}

@@ -5,8 +5,8 @@ use mathlib.Core.List.{List, map}
 use native.Mathlib.Omega.{arith}
 use lib.ListN.{length, take, drop, length-map}
 use lib.Seq.{take-at}
-use Rattle.basics.specs.Lent.{over}
-use Rattle.basics.specs.lemmas.Lists.{length-upTo}
+use Rattle.theory_basics.specs.Lent.{over}
+use Rattle.theory_basics.specs.lemmas.Lists.{length-upTo}
 use Rattle.job.specs.declared.Programme.{Programme}
 use Rattle.job.specs.Job.{Override}
 use Rattle.job.specs.Refusal.{overridesRefusal}

@@ -6,9 +6,9 @@ use mathlib.Core.Bool.{Bool, cond, _&&_}
 use mathlib.Core.List.{List}
 use lib.ListN.{length, drop}
 use lib.Dec.{leb, eqb}
-use Rattle.basics.specs.Lent.{lentAfter}
+use Rattle.theory_basics.specs.Lent.{lentAfter}
 use Rattle.records.specs.File.{Front, got, none}
-use Rattle.basics.specs.Refusals.{unless, _orElse_}
+use Rattle.theory_basics.specs.Refusals.{unless, _orElse_}
 use Rattle.job.specs.Job.{Job, layers}
 use Rattle.job.specs.Handed.{chunksOf, layersOf, bytesOf}
 use Rattle.jobrecords.specs.declared.JobRead.{JobRead}

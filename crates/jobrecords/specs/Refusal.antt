@@ -7,7 +7,7 @@ use mathlib.Core.Bool.{Bool, true, false, not, _&&_, _||_}
 use mathlib.Core.List.{List, [], _∷_}
 use lib.ListN.{length}
 use lib.Dec.{leb, eqb}
-use Rattle.basics.specs.Refusals.{unless, _orElse_}
+use Rattle.theory_basics.specs.Refusals.{unless, _orElse_}
 use Rattle.records.specs.File.{Format, split, fileRefusal}
 use Rattle.job.specs.declared.Programme.{Programme}
 use Rattle.job.specs.Job.{Job}

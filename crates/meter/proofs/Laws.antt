@@ -9,9 +9,9 @@ use lib.ListN.{length, getD, take, drop, length-append, length-drop, drop-of-len
 use lib.Seq.{drop-cons, take-suc, set-split}
 use lib.Dec.{T-not, ltb, ltb→lt, nltb→le}
 use borrow.Author.Tests.{lt-ltb, le-ltb}
-use Rattle.basics.specs.lemmas.Tests.{by-cond, true-T}
-use Rattle.basics.specs.Lists.{upTo}
-use Rattle.basics.specs.lemmas.Lists.{length-upTo}
+use Rattle.theory_basics.specs.lemmas.Tests.{by-cond, true-T}
+use Rattle.theory_basics.specs.Lists.{upTo}
+use Rattle.theory_basics.specs.lemmas.Lists.{length-upTo}
 use Rattle.meter.specs.declared.Meter.{Meter}
 use Rattle.meter.specs.declared.Taken.{Taken}
 use Rattle.meter.specs.Meter.{Sample, sample, samplesOf, storing, InRange, inRange, lastSlot, InOrder, inOrder, with-sample, taken}

@@ -4,9 +4,9 @@ use mathlib.Core.Bool.{Bool, cond}
 use mathlib.Core.List.{List, [], _∷_, map}
 use lib.ListN.{length}
 use lib.Dec.{ltb, eqb}
-use Rattle.basics.specs.Division.{dividedUp}
-use Rattle.basics.specs.Tests.{any}
-use Rattle.basics.specs.Refusals.{unless, _orElse_}
+use Rattle.theory_basics.specs.Division.{dividedUp}
+use Rattle.theory_basics.specs.Tests.{any}
+use Rattle.theory_basics.specs.Refusals.{unless, _orElse_}
 use Rattle.meter.specs.declared.Meter.{Meter}
 use Rattle.meter.specs.declared.Answer.{Answer}
 use Rattle.meter.specs.declared.Answer.the-variants.{Bytes, Refused}

@@ -8,10 +8,10 @@ use native.Mathlib.Omega.{arith}
 use lib.ListN.{length, replicate, length-append, length-drop, length-map}
 use lib.Dec.{T-not, ltb, eqb, eqb→eq}
 use borrow.Author.Tests.{eq-eqb, ne-eqb}
-use Rattle.basics.specs.lemmas.Tests.{T-true, not-T-false, eqb-iff, test, ltb-iff, by-cond, any-row}
-use Rattle.basics.specs.Tests.{In, any}
-use Rattle.basics.specs.Refusals.{unless, _orElse_}
-use Rattle.basics.specs.lemmas.Refusals.{unless-as, orElse-as}
+use Rattle.theory_basics.specs.lemmas.Tests.{T-true, not-T-false, eqb-iff, test, ltb-iff, by-cond, any-row}
+use Rattle.theory_basics.specs.Tests.{In, any}
+use Rattle.theory_basics.specs.Refusals.{unless, _orElse_}
+use Rattle.theory_basics.specs.lemmas.Refusals.{unless-as, orElse-as}
 use Rattle.meter.specs.declared.Meter.{Meter}
 use Rattle.meter.specs.declared.Answer.the-variants.{Bytes, Refused}
 use Rattle.meter.specs.Meter.{Sample, sample, samplesOf, empty, InRange, inRange, lastSlot, InOrder, inOrder, lastTen, sampleRefusal, meterRefusal, lateRefusal, takeRefusal, with-sample, taken}

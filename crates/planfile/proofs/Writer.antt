@@ -6,10 +6,10 @@ use native.Mathlib.Omega.{arith}
 use lib.ListN.{length, drop, length-append}
 use lib.Dec.{leb}
 use borrow.Author.Tests.{ne-eqb, le-leb, lt-leb}
-use Rattle.basics.specs.lemmas.Lists.{length-upTo}
-use Rattle.basics.specs.Lent.{lentAfter}
-use Rattle.basics.specs.Refusals.{unless, _orElse_}
-use Rattle.basics.specs.lemmas.Refusals.{orElse-some, orElse-none}
+use Rattle.theory_basics.specs.lemmas.Lists.{length-upTo}
+use Rattle.theory_basics.specs.Lent.{lentAfter}
+use Rattle.theory_basics.specs.Refusals.{unless, _orElse_}
+use Rattle.theory_basics.specs.lemmas.Refusals.{orElse-some, orElse-none}
 use Rattle.records.specs.Fields.{written}
 use Rattle.job.specs.Job.{chunks}
 use Rattle.job.specs.Handed.{HandedJob, jobIn, jobRefusal}

@@ -6,8 +6,8 @@ use mathlib.Core.Bool.{Bool, cond, _&&_}
 use mathlib.Core.List.{List, map}
 use lib.ListN.{length}
 use lib.Dec.{leb, eqb}
-use Rattle.basics.specs.Lent.{lentAfter}
-use Rattle.basics.specs.Refusals.{unless, _orElse_}
+use Rattle.theory_basics.specs.Lent.{lentAfter}
+use Rattle.theory_basics.specs.Refusals.{unless, _orElse_}
 use Rattle.records.specs.File.{fileRefusal}
 use Rattle.job.specs.Job.{chunks}
 use Rattle.job.specs.Handed.{HandedJob, jobIn, jobRefusal}

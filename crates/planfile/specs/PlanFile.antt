@@ -7,9 +7,9 @@ use mathlib.Core.Bool.{_&&_}
 use mathlib.Core.List.{List, [], _∷_, _++_, map, flatMap}
 use lib.ListN.{length, getD}
 use lib.Dec.{leb, eqb}
-use Rattle.basics.specs.Tests.{All}
-use Rattle.basics.specs.Lists.{upTo}
-use Rattle.basics.specs.Refusals.{unless}
+use Rattle.theory_basics.specs.Tests.{All}
+use Rattle.theory_basics.specs.Lists.{upTo}
+use Rattle.theory_basics.specs.Refusals.{unless}
 use Rattle.records.specs.File.{Format, split}
 use Rattle.fetch.specs.Rows.{Row}
 use Rattle.planfile.specs.Records.{encode, front, isEnd}

@@ -7,9 +7,9 @@ use mathlib.Core.Logic.{_↔_, ⊎-elim}
 use native.Mathlib.Omega.{arith}
 use lib.ListN.{length, drop}
 use lib.Dec.{T}
-use Rattle.basics.specs.Refusals.{unless, _orElse_}
-use Rattle.basics.specs.lemmas.Lists.{length-upTo}
-use Rattle.basics.specs.lemmas.Refusals.{orElse-iff}
+use Rattle.theory_basics.specs.Refusals.{unless, _orElse_}
+use Rattle.theory_basics.specs.lemmas.Lists.{length-upTo}
+use Rattle.theory_basics.specs.lemmas.Refusals.{orElse-iff}
 use Rattle.records.specs.File.{ended, split, fileRefusal}
 use Rattle.job.specs.Job.{Job, Accepted, chunks}
 use Rattle.job.specs.Handed.{HandedJob, jobIn, jobRefusal}

@@ -7,7 +7,7 @@ ghost use lib.ListN.{length};
 ghost use lib.Dec.{leb};
 ghost use Rattle.job.specs.Handed.{handed};
 ghost use Rattle.records.specs.File.{fileRefusal};
-ghost use Rattle.basics.specs.Lent.{lentAfter};
+ghost use Rattle.theory_basics.specs.Lent.{lentAfter};
 ghost use Rattle.records.specs.Fields.{written};
 ghost use Rattle.fetch.specs.Rows.{rowsOf};
 ghost use Rattle.planfile.specs.Records.{encode, readAt};

@@ -8,25 +8,25 @@ use native.Mathlib.Omega.{arith}
 use lib.ListN.{length}
 use lib.Dec.{eqb}
 use borrow.Author.Tests.{eq-eqb, ne-eqb, le-leb, lt-leb}
-use Rattle.basics.specs.Refusals.{unless}
-use Rattle.basics.specs.lemmas.Refusals.{orElse-none, orElse-some}
-use Rattle.basics.specs.lemmas.Tests.{T-true, not-T-false, test}
+use Rattle.theory_basics.specs.Refusals.{unless}
+use Rattle.theory_basics.specs.lemmas.Refusals.{orElse-none, orElse-some}
+use Rattle.theory_basics.specs.lemmas.Tests.{T-true, not-T-false, test}
 use Rattle.job.specs.Job.{Job, Accepted, chunks, size}
 use Rattle.job.specs.Handed.{HandedJob, jobIn, jobRefusal, handed-iff}
-use Rattle.schedule.specs.Plan.{plan}
-use Rattle.schedule.specs.lemmas.Plan.{plan-choice, plan-fits}
-use Rattle.schedule.specs.Theorems.{best, elsewhere-iff, plan-exists}
-use Rattle.schedule.specs.Pictures.{most-pictures}
-use Rattle.settle.specs.lemmas.Decision.{Decides}
-use Rattle.handing.specs.lemmas.Slices.{Result, rowsHold, Stands}
-use Rattle.laying.specs.declared.Laid.{Laid}
-use Rattle.laying.specs.lemmas.Laying.{Decided, Lays, ownResult}
-use Rattle.laying.proofs.Laying.{unlaid}
+use Rattle.theory_plan.specs.Plan.{plan}
+use Rattle.theory_plan.specs.lemmas.Plan.{plan-choice, plan-fits}
+use Rattle.theory_plan.specs.Theorems.{best, elsewhere-iff, plan-exists}
+use Rattle.theory_plan.specs.Pictures.{most-pictures}
+use Rattle.core_decide.specs.lemmas.Decision.{Decides}
+use Rattle.core_slices.specs.lemmas.Slices.{Result, rowsHold, Stands}
+use Rattle.core_output.specs.declared.Laid.{Laid}
+use Rattle.core_output.specs.lemmas.Laying.{Decided, Lays, ownResult}
+use Rattle.core_output.proofs.Laying.{unlaid}
 use Rattle.planner.specs.declared.Answer.the-variants.{Rows, Refused}
 use Rattle.planner.specs.declared.Planned.{Planned}
 use Rattle.planner.specs.Answer.{planRows, Lent, lentOf, holds, planRefusal, Handed, DecidedByLists, PicturesOfLists, BestOfLists, SteadyBases}
 use Rattle.planner.specs.lemmas.Handing.{HandsOver, shortRefusal}
-use Rattle.steady.specs.Theorems.{steady}
+use Rattle.theory_sensitivity.specs.Theorems.{steady}
 
 -- ---- what is handed over, by the refusal
 

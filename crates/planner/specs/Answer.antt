@@ -6,20 +6,20 @@ use mathlib.Core.Bool.{Bool, cond, _&&_}
 use mathlib.Core.List.{List, [], _∷_, map}
 use lib.ListN.{length}
 use lib.Dec.{leb, ltb, eqb}
-use Rattle.basics.specs.Refusals.{unless, _orElse_}
+use Rattle.theory_basics.specs.Refusals.{unless, _orElse_}
 use Rattle.job.specs.Job.{Job, EqualChunks, chunks, EqualBases}
 use Rattle.job.specs.Handed.{HandedJob, jobIn, jobRefusal}
 use Rattle.fetch.specs.Rows.{Row, rowSlot, rowChunk, rowLayer, rowBytes}
-use Rattle.schedule.specs.Own.{ownList}
-use Rattle.schedule.specs.Plan.{plan}
-use Rattle.schedule.specs.Statement.{Best, IsPlan, MostPictures, SettledByTrials, countsOf, marksOf}
-use Rattle.steady.specs.Statement.{Steady}
+use Rattle.theory_plan.specs.Own.{ownList}
+use Rattle.theory_plan.specs.Plan.{plan}
+use Rattle.theory_plan.specs.Statement.{Best, IsPlan, MostPictures, SettledByTrials, countsOf, marksOf}
+use Rattle.theory_sensitivity.specs.Statement.{Steady}
 use Rattle.planner.specs.declared.Answer.{Answer}
 use Rattle.planner.specs.declared.Answer.the-variants.{Rows, Refused}
 use Rattle.planner.specs.declared.Order.{Order}
 use Rattle.planner.specs.declared.Order.the-variants.{Less, Same, More}
 use Rattle.planner.specs.declared.Planned.{Planned}
-use Rattle.basics.specs.Lent.{lentAfter}
+use Rattle.theory_basics.specs.Lent.{lentAfter}
 
 -- The plan's own list.
 abbrev pub planRows : Job → List Row

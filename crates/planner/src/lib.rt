@@ -1,6 +1,6 @@
 // The planner: marks, rows and counts of a job's plan, as document 01 decides and lists them.
 use job::Programme;
-use laying::Laid;
+use core_output::Laid;
 ghost use mathlib.Core.Path.{_≡_};
 ghost use mathlib.Core.List.{[], _∷_};
 ghost use Prim.Native.Nat.{_≤_};
@@ -93,7 +93,7 @@ fn lay_plan(
     let mut ready = [0u16; 500];
     let mut mark = [1u8; 500];
     let count = p.chunks as usize;
-    let first = settle::decide(
+    let first = core_decide::decide(
         p,
         sizes.len(),
         &table,
@@ -103,7 +103,7 @@ fn lay_plan(
         &mut ready,
         &mut mark,
     );
-    let made = laying::lay(
+    let made = core_output::lay(
         count,
         forecast,
         &table,

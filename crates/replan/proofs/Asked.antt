@@ -8,17 +8,17 @@ use native.Mathlib.Omega.{arith}
 use lib.Dec.{T-not, eqb, eqb-refl, eqb→eq, ltb}
 use lib.ListN.{getD, length, take}
 use lib.Seq.{take-length, take-suc}
-use Rattle.basics.specs.Lists.{upTo}
-use Rattle.basics.specs.Refusals.{_orElse_, unless}
-use Rattle.basics.specs.Tests.{All, all}
-use Rattle.basics.specs.lemmas.Refusals.{orElse-iff, orElse-none, orElse-some}
-use Rattle.basics.specs.lemmas.Tests.{all-snoc, test}
+use Rattle.theory_basics.specs.Lists.{upTo}
+use Rattle.theory_basics.specs.Refusals.{_orElse_, unless}
+use Rattle.theory_basics.specs.Tests.{All, all}
+use Rattle.theory_basics.specs.lemmas.Refusals.{orElse-iff, orElse-none, orElse-some}
+use Rattle.theory_basics.specs.lemmas.Tests.{all-snoc, test}
 use Rattle.job.specs.Handed.{HandedJob, jobIn, jobRefusal}
 use Rattle.job.specs.Job.{Within, lastDue}
 use Rattle.fetch.specs.Handed.{Whole, handed-iff, handedRefusal}
 use Rattle.fetch.specs.Rows.{rowAt}
 use Rattle.fetch.specs.VerdictFrom.{slot-iff, slotRefusal}
-use Rattle.afresh.specs.Refusal.{before-iff, beforeRefusal, handedKept, onward-iff, replanRefusal}
+use Rattle.theory_replan.specs.Refusal.{before-iff, beforeRefusal, handedKept, onward-iff, replanRefusal}
 use Rattle.replan.specs.Answer.{HandedOn, fetched, inputRefusal, jobOn}
 use Rattle.replan.specs.lemmas.Asked.{askedRefusal, partRefusal}
 

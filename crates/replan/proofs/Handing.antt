@@ -7,25 +7,25 @@ use native.Mathlib.Omega.{arith}
 use lib.ListN.{length, take}
 use lib.Seq.{length-take-le}
 use borrow.Author.Tests.{le-leb, lt-leb}
-use Rattle.basics.specs.Refusals.{_orElse_, unless}
-use Rattle.basics.specs.Tests.{All}
-use Rattle.basics.specs.lemmas.Refusals.{orElse-none, orElse-some}
+use Rattle.theory_basics.specs.Refusals.{_orElse_, unless}
+use Rattle.theory_basics.specs.Tests.{All}
+use Rattle.theory_basics.specs.lemmas.Refusals.{orElse-none, orElse-some}
 use Rattle.job.specs.Handed.{HandedJob, handed-iff, jobIn}
 use Rattle.job.specs.Job.{Accepted, chunks}
 use Rattle.job.specs.Table.{sizesTable, tableAt}
 use Rattle.job.specs.Uneven.{table-is}
 use Rattle.fetch.specs.Rows.{Row}
-use Rattle.afresh.specs.Desk.{replans}
-use Rattle.afresh.specs.Refusal.{handedKept, joined-in, replan-refusal-iff, Replannable}
-use Rattle.rules.specs.lemmas.Tables.{Shown}
-use Rattle.gather.specs.lemmas.Gather.{Gathered, GatherFrom}
+use Rattle.theory_replan.specs.Desk.{replans}
+use Rattle.theory_replan.specs.Refusal.{handedKept, joined-in, replan-refusal-iff, Replannable}
+use Rattle.core_rules.specs.lemmas.Tables.{Shown}
+use Rattle.core_replan_input.specs.lemmas.Gather.{Gathered, GatherFrom}
 use Rattle.planner.proofs.Handing.{OnlyNumber, over-refused}
 use Rattle.planner.specs.Answer.{Lent, lentOf}
 use Rattle.planner.specs.declared.Planned.{Planned}
 use Rattle.planner.specs.lemmas.Handing.{HandsOver, shortRefusal}
-use Rattle.handing.specs.lemmas.Slices.{Result}
+use Rattle.core_slices.specs.lemmas.Slices.{Result}
 use Rattle.replan.specs.Answer.{fetched, Handed, HandedOn, holdsOn, inputRefusal, jobOn, planOn, refusalOn, rowsOn}
-use Rattle.relay.specs.lemmas.Laying.{Each, LayFrom, madeAfresh, Tight}
+use Rattle.core_replan_output.specs.lemmas.Laying.{Each, LayFrom, madeAfresh, Tight}
 use Rattle.replan.specs.lemmas.Asked.{askedRefusal}
 use Rattle.replan.specs.Theorems.{afresh-none, settled-afresh}
 use Rattle.replan.proofs.Asked.{Asked, asked-none, input-is}

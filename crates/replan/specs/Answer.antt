@@ -6,24 +6,24 @@ use mathlib.Core.Bool.{Bool, cond, _&&_}
 use mathlib.Core.List.{List, [], _∷_, _++_, map}
 use lib.ListN.{length, drop}
 use lib.Dec.{leb, eqb}
-use Rattle.basics.specs.Lent.{lentAfter}
-use Rattle.basics.specs.Refusals.{_orElse_, unless}
+use Rattle.theory_basics.specs.Lent.{lentAfter}
+use Rattle.theory_basics.specs.Refusals.{_orElse_, unless}
 use Rattle.job.specs.Handed.{HandedJob, jobIn, jobRefusal}
 use Rattle.job.specs.Job.{Job, chunks, lastSlot}
 use Rattle.fetch.specs.Handed.{handedRefusal}
 use Rattle.fetch.specs.Rows.{Permuted, Row, rowBytes, rowChunk, rowLayer, rowSlot, rowsOf}
 use Rattle.fetch.specs.VerdictFrom.{verdictFrom}
-use Rattle.schedule.specs.Own.{ownList}
-use Rattle.schedule.specs.Statement.{Same, SettledByTrials, countsOf, marksOf}
+use Rattle.theory_plan.specs.Own.{ownList}
+use Rattle.theory_plan.specs.Statement.{Same, SettledByTrials, countsOf, marksOf}
 use Rattle.planner.specs.Answer.{Lent, lentOf}
 use Rattle.planner.specs.declared.Answer.the-variants.{Refused, Rows}
 use Rattle.planner.specs.declared.Answer.{Answer}
 use Rattle.planner.specs.declared.Planned.{Planned}
-use Rattle.afresh.specs.Desk.{Replans}
-use Rattle.afresh.specs.Own.{ownRest}
-use Rattle.afresh.specs.Plan.{replan}
-use Rattle.afresh.specs.Refusal.{replanRefusal}
-use Rattle.afresh.specs.Statement.{joined, rowsBefore, rowsFrom}
+use Rattle.theory_replan.specs.Desk.{Replans}
+use Rattle.theory_replan.specs.Own.{ownRest}
+use Rattle.theory_replan.specs.Plan.{replan}
+use Rattle.theory_replan.specs.Refusal.{replanRefusal}
+use Rattle.theory_replan.specs.Statement.{joined, rowsBefore, rowsFrom}
 
 -- ---- what is handed on
 

@@ -7,24 +7,24 @@ use mathlib.Core.List.{List, [], _∷_, map}
 use mathlib.Core.Logic.{⊎-elim}
 use lib.Dec.{eqb, eqb→eq, leb}
 use lib.ListN.{length}
-use Rattle.basics.specs.Lent.{lentAfter, over}
-use Rattle.basics.specs.Refusals.{_orElse_, unless}
-use Rattle.basics.specs.lemmas.Refusals.{orElse-iff}
-use Rattle.basics.specs.lemmas.Tests.{not-T-false, test}
+use Rattle.theory_basics.specs.Lent.{lentAfter, over}
+use Rattle.theory_basics.specs.Refusals.{_orElse_, unless}
+use Rattle.theory_basics.specs.lemmas.Refusals.{orElse-iff}
+use Rattle.theory_basics.specs.lemmas.Tests.{not-T-false, test}
 use Rattle.job.specs.Handed.{HandedJob, handed-iff, jobIn, jobRefusal}
 use Rattle.job.specs.Job.{Accepted, Job, chunks}
 use Rattle.fetch.specs.Handed.{handedRefusal}
 use Rattle.fetch.specs.Rows.{Permuted, Row, rowBytes, rowChunk, rowLayer, rowSlot, rowsOf}
 use Rattle.fetch.specs.VerdictFrom.{verdict-from-iff}
-use Rattle.schedule.specs.Statement.{Same, countsOf, marksOf}
-use Rattle.schedule.specs.Theorems.{same-counts, same-marks}
+use Rattle.theory_plan.specs.Statement.{Same, countsOf, marksOf}
+use Rattle.theory_plan.specs.Theorems.{same-counts, same-marks}
 use Rattle.planner.specs.Answer.{Lent, lentOf}
 use Rattle.planner.specs.declared.Answer.the-variants.{Refused, Rows}
 use Rattle.planner.specs.declared.Planned.{Planned}
-use Rattle.afresh.specs.Desk.{Continues, replans, standing-continues}
-use Rattle.afresh.specs.Refusal.{replanRefusal}
-use Rattle.afresh.specs.Theorems.{order-free}
-use Rattle.afresh.specs.lemmas.Standing.{own-rest-cong}
+use Rattle.theory_replan.specs.Desk.{Continues, replans, standing-continues}
+use Rattle.theory_replan.specs.Refusal.{replanRefusal}
+use Rattle.theory_replan.specs.Theorems.{order-free}
+use Rattle.theory_replan.specs.lemmas.Standing.{own-rest-cong}
 use Rattle.replan.specs.Answer.{Handed, HandedOn, SettledAfresh, StandingGoesOn, fetched, handedOn, inputRefusal, jobOn, planOn, refusalOn, rowsOn}
 
 -- ---- the clauses

@@ -5,8 +5,8 @@ use planner::Planned;
 ghost use mathlib.Core.Path.{_≡_};
 ghost use Prim.Native.Nat.{_≤_};
 ghost use lib.Dec.{ltb};
-ghost use Rattle.basics.specs.Refusals.{unless};
-ghost use Rattle.basics.specs.Tests.{all};
+ghost use Rattle.theory_basics.specs.Refusals.{unless};
+ghost use Rattle.theory_basics.specs.Tests.{all};
 ghost use Rattle.job.specs.Handed.{handed};
 ghost use Rattle.job.specs.Job.{lastDue};
 ghost use Rattle.replan.specs.Answer.{handedOn, Handed, SettledAfresh, StandingGoesOn};
@@ -133,7 +133,7 @@ pub fn replan(
     let mut begun = [0u8; 500];
     let mut whole = [0u8; 500];
     job::fill_sizes(sizes, size_chunks, size_layers, size_bytes, &mut table);
-    let kept = gather::gather(
+    let kept = core_replan_input::gather(
         p,
         &table,
         depth,
@@ -152,7 +152,7 @@ pub fn replan(
     if marks.len() < p.chunks as usize {
         return planner::refused(11);
     }
-    relay::lay(
+    core_replan_output::lay(
         p,
         depth,
         onward,

@@ -9,11 +9,11 @@ use lib.Dec.{T, T-not, eqb, eqb→eq}
 use lib.ListN.{length, getD, take, drop, length-append, length-map, replicate, length-replicate}
 use lib.Seq.{take-at, length-take-le}
 use borrow.Author.Tests.{eq-eqb, le-leb, ne-eqb}
-use Rattle.basics.specs.Lent.{over}
-use Rattle.basics.specs.Sums.{sum}
-use Rattle.basics.specs.lemmas.Refusals.{orElse-some}
-use Rattle.basics.specs.lemmas.Tests.{eqb-iff, test}
-use Rattle.basics.specs.Refusals.{unless}
+use Rattle.theory_basics.specs.Lent.{over}
+use Rattle.theory_basics.specs.Sums.{sum}
+use Rattle.theory_basics.specs.lemmas.Refusals.{orElse-some}
+use Rattle.theory_basics.specs.lemmas.Tests.{eqb-iff, test}
+use Rattle.theory_basics.specs.Refusals.{unless}
 use Rattle.job.specs.Handed.{HandedJob, handed-iff, jobIn, jobRefusal}
 use Rattle.job.specs.Job.{Accepted, chunks}
 use Rattle.fetch.specs.Rows.{Row, rowsOf, rowSlot, rowChunk, rowLayer, rowBytes}

@@ -4,15 +4,15 @@ use mathlib.Core.Path.{_≡_, sym, ap, _∙_}
 use mathlib.Core.List.{List, [], _∷_, map}
 use native.Mathlib.Omega.{arith}
 use lib.ListN.{length, getD, length-map, List·getD-map}
-use Rattle.basics.specs.Tests.{All}
-use Rattle.basics.specs.Sums.{sum}
+use Rattle.theory_basics.specs.Tests.{All}
+use Rattle.theory_basics.specs.Sums.{sum}
 use Rattle.job.specs.Job.{Job, Accepted}
 use Rattle.fetch.specs.Rows.{Row, rowSlot, rowChunk, rowLayer, rowBytes}
 use Rattle.fetch.specs.Rules.{InRange, Keeps}
-use Rattle.schedule.specs.Plan.{plan}
-use Rattle.schedule.specs.Theorems.{own-list-rows, plan-exists, plan-carried}
-use Rattle.schedule.specs.Statement.{marksOf}
-use Rattle.schedule.specs.lemmas.Words.{accepted-sized}
+use Rattle.theory_plan.specs.Plan.{plan}
+use Rattle.theory_plan.specs.Theorems.{own-list-rows, plan-exists, plan-carried}
+use Rattle.theory_plan.specs.Statement.{marksOf}
+use Rattle.theory_plan.specs.lemmas.Words.{accepted-sized}
 use Rattle.planner.specs.Answer.{planRows}
 use Rattle.report.specs.Report.{bytesInRows}
 use Rattle.report.specs.lemmas.Again.{rows-again}

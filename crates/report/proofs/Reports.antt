@@ -6,8 +6,8 @@ use mathlib.Core.List.{List}
 use native.Mathlib.Omega.{arith}
 use lib.Dec.{T, eqb, eqb→eq}
 use lib.ListN.{length, getD}
-use Rattle.basics.specs.Sums.{sum}
-use Rattle.basics.specs.lemmas.Refusals.{orElse-none, orElse-some}
+use Rattle.theory_basics.specs.Sums.{sum}
+use Rattle.theory_basics.specs.lemmas.Refusals.{orElse-none, orElse-some}
 use Rattle.job.specs.Handed.{HandedJob, handed-iff, jobIn, jobRefusal}
 use Rattle.job.specs.Job.{Accepted}
 use Rattle.job.specs.Table.{sizesTable}

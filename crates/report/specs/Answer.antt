@@ -6,15 +6,15 @@ use mathlib.Core.Bool.{cond}
 use mathlib.Core.List.{List}
 use lib.ListN.{length}
 use lib.Dec.{leb, eqb}
-use Rattle.basics.specs.Lent.{lentAfter}
-use Rattle.basics.specs.Refusals.{unless, _orElse_}
+use Rattle.theory_basics.specs.Lent.{lentAfter}
+use Rattle.theory_basics.specs.Refusals.{unless, _orElse_}
 use Rattle.job.specs.Job.{Job, Accepted}
 use Rattle.job.specs.Handed.{HandedJob, jobIn, jobRefusal}
-use Rattle.schedule.specs.Own.{ownList}
-use Rattle.schedule.specs.Plan.{plan}
-use Rattle.schedule.specs.Statement.{IsPlan}
-use Rattle.schedule.specs.Theorems.{plan-carried, plan-exists, plan-rows-unique}
-use Rattle.schedule.specs.lemmas.Words.{accepted-sized}
+use Rattle.theory_plan.specs.Own.{ownList}
+use Rattle.theory_plan.specs.Plan.{plan}
+use Rattle.theory_plan.specs.Statement.{IsPlan}
+use Rattle.theory_plan.specs.Theorems.{plan-carried, plan-exists, plan-rows-unique}
+use Rattle.theory_plan.specs.lemmas.Words.{accepted-sized}
 use Rattle.report.specs.Report.{reportOf}
 use Rattle.report.specs.Theorems.{report-fits}
 use Rattle.report.specs.declared.Written.{Written}

@@ -4,11 +4,11 @@
 use Prim.Native.Nat.{ℕ, zero, suc, _+_, _*_, _-_, _/_, _%_}
 use mathlib.Core.Bool.{Bool, cond, true}
 use mathlib.Core.List.{List, [], _∷_, _++_}
-use Rattle.basics.specs.Lists.{upTo}
-use Rattle.basics.specs.Sums.{pre, sum}
+use Rattle.theory_basics.specs.Lists.{upTo}
+use Rattle.theory_basics.specs.Sums.{pre, sum}
 use Rattle.job.specs.Job.{Job, chunks, layers, forecast, lastSlot, heldMost}
 use Rattle.fetch.specs.Rows.{Row, bytesIf, bytesOfLayer, carried, layerCount}
-use Rattle.basics.specs.Text.{ascii, digits, line, text}
+use Rattle.theory_basics.specs.Text.{ascii, digits, line, text}
 
 -- "Line 1: d(C), C, H." H itself, also above C.
 abbrev pub slotsLine : Job → List ℕ

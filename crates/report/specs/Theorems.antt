@@ -8,13 +8,13 @@ use native.Mathlib.Omega.{arith}
 use native.Mathlib.Nat.{div-add-mod', mod-lt, mod-eq-of-lt, div-eq-of-lt, mul-add-div-right, mul-add-mod-self-right}
 use lib.ListN.{length, length-append}
 use borrow.Author.Tests.{eq-eqb}
-use Rattle.basics.specs.Tests.{All}
-use Rattle.basics.specs.lemmas.Tests.{by-cond}
-use Rattle.basics.specs.Sums.{pre, sum}
+use Rattle.theory_basics.specs.Tests.{All}
+use Rattle.theory_basics.specs.lemmas.Tests.{by-cond}
+use Rattle.theory_basics.specs.Sums.{pre, sum}
 use Rattle.job.specs.Job.{Job, Layer, Accepted, chunks, layers, size}
 use Rattle.fetch.specs.Rows.{Row, bytesOfLayer, Carried, carried, layerCount}
 use Rattle.fetch.specs.Rules.{InRange, WholeLayers, WithinForecast}
-use Rattle.basics.specs.lemmas.Ranges.{pre-cong, sum-cong}
+use Rattle.theory_basics.specs.lemmas.Ranges.{pre-cong, sum-cong}
 use Rattle.report.specs.lemmas.Bounds.{rows-within, layers-sum}
 use Rattle.report.specs.lemmas.Switches.{those-length, differences-few, differences-all}
 use Rattle.report.specs.lemmas.Widths.{slots-width, chunks-width, layers-width, bytes-width, switch-width, film-some, rate-width}

@@ -10,11 +10,11 @@ ghost use mathlib.Core.Path.{_≡_};
 ghost use mathlib.Core.List.{_∷_};
 ghost use Prim.Native.Nat.{_+_, _*_, _-_, _≤_};
 ghost use lib.ListN.{length, replicate};
-ghost use Rattle.basics.specs.Lists.{upTo};
+ghost use Rattle.theory_basics.specs.Lists.{upTo};
 ghost use Rattle.job.specs.Handed.{handed};
-ghost use Rattle.basics.specs.Text.{ascii, digits, line, text};
+ghost use Rattle.theory_basics.specs.Text.{ascii, digits, line, text};
 ghost use Rattle.report.specs.Answer.{Answered, Reported};
-ghost use Rattle.text.specs.lemmas.Places.{Put};
+ghost use Rattle.core_text.specs.lemmas.Places.{Put};
 ghost use Rattle.report.specs.lemmas.Tables.{SizesIn, Tabled, chunkLineBy, countBy, linesBy};
 
 // The number of bytes written, or the number of a refusal.

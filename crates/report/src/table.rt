@@ -4,7 +4,7 @@ ghost use mathlib.Core.Bool.{cond};
 ghost use Prim.Native.Nat.{_+_, _*_, _-_, _≤_, _<_};
 ghost use lib.ListN.{length, getD, set, replicate};
 ghost use lib.Dec.{eqb};
-ghost use Rattle.basics.specs.Sums.{sum};
+ghost use Rattle.theory_basics.specs.Sums.{sum};
 ghost use Rattle.fetch.specs.Rows.{rowsOf};
 ghost use Rattle.report.specs.Report.{apart};
 ghost use Rattle.report.specs.lemmas.Tables.{Rows, SizesIn, Summed, bytesAt, carriedBy, ChunkBy, countBy, pictureBy, changeOf, heldOf, switchBy};

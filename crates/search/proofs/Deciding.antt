@@ -8,24 +8,24 @@ use native.Mathlib.Omega.{arith}
 use lib.ListN.{length, drop, length-drop}
 use Rattle.job.specs.declared.Programme.{Programme}
 use Rattle.job.specs.Job.{Accepted, Job, Override, chunks, sizeIn}
-use Rattle.schedule.specs.Bases.{keptAtEnd}
-use Rattle.schedule.specs.Plan.{after}
-use Rattle.schedule.specs.lemmas.Choice.{Fits, can-carry-fits}
-use Rattle.schedule.specs.lemmas.Parts.{at}
-use Rattle.schedule.specs.lemmas.Trials.{decidedOn}
-use Rattle.schedule.specs.lemmas.Walked.{kept-by-after}
-use Rattle.schedule.specs.lemmas.Words.{accepted-sized}
-use Rattle.pictures.specs.lemmas.Walking.{Fit, KeptIn, walkedIn}
-use Rattle.settle.specs.lemmas.Decision.{DecideFrom, Decides, DecidesKept, SumTable, jobFrom}
-use Rattle.settle.proofs.Decided.{sums-are, sums-small}
-use Rattle.budget.specs.Search.{Walked, fitting, found, planOver, search, start}
-use Rattle.budget.specs.Statement.{basesOf, mostWithoutLimit, shortfallOf}
-use Rattle.budget.specs.Theorems.{found-carried, found-is-found, over-exists}
-use Rattle.budget.specs.lemmas.Fitting.{bases-choice, fitting-good, good-nil}
-use Rattle.budget.specs.lemmas.Over.{over-decided, over-kept, planned-fits}
-use Rattle.budget.specs.lemmas.Stack.{stack-same}
-use Rattle.walk.specs.declared.Outcome.{Outcome}
-use Rattle.walk.specs.lemmas.Walking.{FindFrom, Finds, walkIn}
+use Rattle.theory_plan.specs.Bases.{keptAtEnd}
+use Rattle.theory_plan.specs.Plan.{after}
+use Rattle.theory_plan.specs.lemmas.Choice.{Fits, can-carry-fits}
+use Rattle.theory_plan.specs.lemmas.Parts.{at}
+use Rattle.theory_plan.specs.lemmas.Trials.{decidedOn}
+use Rattle.theory_plan.specs.lemmas.Walked.{kept-by-after}
+use Rattle.theory_plan.specs.lemmas.Words.{accepted-sized}
+use Rattle.core_moore_hodgson.specs.lemmas.Walking.{Fit, KeptIn, walkedIn}
+use Rattle.core_decide.specs.lemmas.Decision.{DecideFrom, Decides, DecidesKept, SumTable, jobFrom}
+use Rattle.core_decide.proofs.Decided.{sums-are, sums-small}
+use Rattle.theory_search.specs.Search.{Walked, fitting, found, planOver, search, start}
+use Rattle.theory_search.specs.Statement.{basesOf, mostWithoutLimit, shortfallOf}
+use Rattle.theory_search.specs.Theorems.{found-carried, found-is-found, over-exists}
+use Rattle.theory_search.specs.lemmas.Fitting.{bases-choice, fitting-good, good-nil}
+use Rattle.theory_search.specs.lemmas.Over.{over-decided, over-kept, planned-fits}
+use Rattle.theory_search.specs.lemmas.Stack.{stack-same}
+use Rattle.core_search.specs.declared.Outcome.{Outcome}
+use Rattle.core_search.specs.lemmas.Walking.{FindFrom, Finds, walkIn}
 use Rattle.search.specs.declared.Decision.{Decision}
 use Rattle.search.specs.Answer.{planFound}
 use Rattle.search.specs.lemmas.Deciding.{DecidesFound, EachFound, ShortFrom}

@@ -8,27 +8,27 @@ use native.Mathlib.Omega.{arith}
 use borrow.Author.Tests.{eq-eqb, ne-eqb, le-leb, lt-leb}
 use lib.ListN.{length, getD}
 use lib.Dec.{eqb, leb, ltb, ltb→lt, lt→ltb}
-use Rattle.basics.specs.Lent.{over}
-use Rattle.basics.specs.Lists.{has}
-use Rattle.basics.specs.Refusals.{unless}
-use Rattle.basics.specs.lemmas.Lists.{getD-upTo}
-use Rattle.basics.specs.lemmas.Refusals.{orElse-none, orElse-some}
-use Rattle.basics.specs.lemmas.Tests.{T-true, not-T-false, same-test, test}
+use Rattle.theory_basics.specs.Lent.{over}
+use Rattle.theory_basics.specs.Lists.{has}
+use Rattle.theory_basics.specs.Refusals.{unless}
+use Rattle.theory_basics.specs.lemmas.Lists.{getD-upTo}
+use Rattle.theory_basics.specs.lemmas.Refusals.{orElse-none, orElse-some}
+use Rattle.theory_basics.specs.lemmas.Tests.{T-true, not-T-false, same-test, test}
 use Rattle.fetch.specs.Marks.{bit}
 use Rattle.fetch.specs.Rows.{markByte, rowSlot, rowChunk, rowLayer, rowBytes}
 use Rattle.fetch.specs.lemmas.Marks.{mark-bit}
 use Rattle.job.specs.Handed.{HandedJob, jobIn, jobRefusal, handed-iff}
 use Rattle.job.specs.Job.{Accepted, Job, chunks, layers, size}
-use Rattle.schedule.specs.Statement.{countsOf, marksOf}
-use Rattle.settle.specs.lemmas.Decision.{Decides}
-use Rattle.laying.specs.declared.Laid.{Laid}
-use Rattle.laying.specs.lemmas.Laying.{Decided, Lays}
-use Rattle.laying.proofs.Laying.{unlaid}
+use Rattle.theory_plan.specs.Statement.{countsOf, marksOf}
+use Rattle.core_decide.specs.lemmas.Decision.{Decides}
+use Rattle.core_output.specs.declared.Laid.{Laid}
+use Rattle.core_output.specs.lemmas.Laying.{Decided, Lays}
+use Rattle.core_output.proofs.Laying.{unlaid}
 use Rattle.planner.specs.Answer.{Lent, lentOf}
 use Rattle.planner.specs.declared.Answer.the-variants.{Rows}
-use Rattle.budget.specs.Search.{found, planOver}
-use Rattle.budget.specs.Statement.{IsPlanOver}
-use Rattle.budget.specs.Theorems.{as-document-01, equal-plan, found-is-found, found-unique, good-enough, larger-budget, over-exists, over-unique}
+use Rattle.theory_search.specs.Search.{found, planOver}
+use Rattle.theory_search.specs.Statement.{IsPlanOver}
+use Rattle.theory_search.specs.Theorems.{as-document-01, equal-plan, found-is-found, found-unique, good-enough, larger-budget, over-exists, over-unique}
 use Rattle.search.specs.declared.Searched.{Searched}
 use Rattle.search.specs.Answer.{FoundByWalk, GoodEnoughFound, Handed, MoreSteps, given, holdsFound, planFound, rowsFound, searchRefusal}
 use Rattle.search.specs.lemmas.Deciding.{AllOf, Answers, OnlyNumber}

@@ -7,20 +7,20 @@ use mathlib.Core.Bool.{Bool, false, cond, _&&_}
 use mathlib.Core.List.{List, [], _∷_, map}
 use lib.ListN.{length, getD}
 use lib.Dec.{leb, eqb}
-use Rattle.basics.specs.Lent.{lentAfter}
-use Rattle.basics.specs.Lists.{has}
-use Rattle.basics.specs.Refusals.{unless, _orElse_}
+use Rattle.theory_basics.specs.Lent.{lentAfter}
+use Rattle.theory_basics.specs.Lists.{has}
+use Rattle.theory_basics.specs.Refusals.{unless, _orElse_}
 use Rattle.job.specs.Job.{EqualChunks, Job, chunks}
 use Rattle.job.specs.Handed.{HandedJob, jobIn, jobRefusal}
 use Rattle.fetch.specs.Marks.{bit}
 use Rattle.fetch.specs.Rows.{Row, rowSlot, rowChunk, rowLayer, rowBytes}
-use Rattle.schedule.specs.Own.{ownList}
-use Rattle.schedule.specs.Statement.{Same, SettledByTrials, countOf, countsOf, marksOf}
+use Rattle.theory_plan.specs.Own.{ownList}
+use Rattle.theory_plan.specs.Statement.{Same, SettledByTrials, countOf, countsOf, marksOf}
 use Rattle.planner.specs.Answer.{Lent, lentOf}
 use Rattle.planner.specs.declared.Answer.{Answer}
 use Rattle.planner.specs.declared.Answer.the-variants.{Rows, Refused}
-use Rattle.budget.specs.Statement.{Found, GoodEnough, IsFound, IsPlanOver}
-use Rattle.budget.specs.Search.{found, planOver}
+use Rattle.theory_search.specs.Statement.{Found, GoodEnough, IsFound, IsPlanOver}
+use Rattle.theory_search.specs.Search.{found, planOver}
 use Rattle.search.specs.declared.Searched.{Searched}
 
 -- ---- the plan that is handed over

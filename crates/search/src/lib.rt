@@ -1,7 +1,7 @@
 // Request 13, "Good enough before the curtain": the best set of bases met within a budget of steps, and the plan over it. The search itself is
 // walk's; this crate adds the shortfall, the layers above the bases, and the hand-over.
 use job::Programme;
-use laying::Laid;
+use core_output::Laid;
 use planner::Answer;
 ghost use mathlib.Core.Path.{_≡_};
 ghost use mathlib.Core.Bool.{cond};
@@ -9,9 +9,9 @@ ghost use Prim.Native.Nat.{_-_, _≤_};
 ghost use lib.ListN.{length};
 ghost use Rattle.job.specs.Handed.{handed, jobRefusal};
 ghost use Rattle.job.specs.Table.{tableAt};
-ghost use Rattle.schedule.specs.lemmas.Parts.{at};
-ghost use Rattle.pictures.specs.lemmas.Walking.{walkedIn};
-ghost use Rattle.settle.specs.lemmas.Decision.{DecideFrom};
+ghost use Rattle.theory_plan.specs.lemmas.Parts.{at};
+ghost use Rattle.core_moore_hodgson.specs.lemmas.Walking.{walkedIn};
+ghost use Rattle.core_decide.specs.lemmas.Decision.{DecideFrom};
 ghost use Rattle.search.specs.Answer.{Handed, FoundByWalk, GoodEnoughFound, MoreSteps};
 ghost use Rattle.search.specs.lemmas.Deciding.{Answers, EachFound, OnlyNumber, ShortFrom};
 
@@ -63,7 +63,7 @@ fn shortfall(
     let mut ids = [0u16; 500];
     let mut dues = [0u16; 500];
     let mut bytes = [0u32; 500];
-    let most = pictures::keep_most(p, table, after, &mut ids, &mut dues, &mut bytes);
+    let most = core_moore_hodgson::keep_most(p, table, after, &mut ids, &mut dues, &mut bytes);
     // Both sets stand at the end of 500 places. The first is never the smaller one; the proof needs no such thing here.
     if first < most {
         return 0;
@@ -90,13 +90,13 @@ fn decide(
     let mut room = [0u64; 500];
     let mut dues = [0u16; 500];
     let mut bytes = [0u32; 500];
-    settle::sum_after(forecast, 1, &mut after);
-    let out = walk::find(p, table, &after, budget, ids, &mut dues, &mut bytes);
+    core_decide::sum_after(forecast, 1, &mut after);
+    let out = core_search::find(p, table, &after, budget, ids, &mut dues, &mut bytes);
     let first = out.first;
     let steps = out.steps;
     let ended = out.ended;
     let short = shortfall(p, table, &after, first, ended);
-    settle::settle_kept(
+    core_decide::settle_kept(
         p,
         layers,
         table,
@@ -169,7 +169,7 @@ fn lay_found(
         &mut mark,
     );
     let first = out.first;
-    let made = laying::lay(
+    let made = core_output::lay(
         count,
         forecast,
         &table,

@@ -8,13 +8,13 @@ use native.Mathlib.Omega.{arith}
 use lib.ListN.{length, getD, take, replicate}
 use lib.Dec.{T, leb, leb→le, nleb→lt}
 use borrow.Author.Tests.{ne-eqb, le-leb, lt-leb}
-use Rattle.basics.specs.Lent.{over}
-use Rattle.basics.specs.Lists.{upTo}
-use Rattle.basics.specs.lemmas.Lists.{getD-upTo, upTo-cong}
-use Rattle.basics.specs.Refusals.{unless, _orElse_}
-use Rattle.basics.specs.lemmas.Refusals.{unless-iff, orElse-iff, orElse-none, orElse-some}
-use Rattle.basics.specs.Tests.{all}
-use Rattle.basics.specs.lemmas.Tests.{T-true, test}
+use Rattle.theory_basics.specs.Lent.{over}
+use Rattle.theory_basics.specs.Lists.{upTo}
+use Rattle.theory_basics.specs.lemmas.Lists.{getD-upTo, upTo-cong}
+use Rattle.theory_basics.specs.Refusals.{unless, _orElse_}
+use Rattle.theory_basics.specs.lemmas.Refusals.{unless-iff, orElse-iff, orElse-none, orElse-some}
+use Rattle.theory_basics.specs.Tests.{all}
+use Rattle.theory_basics.specs.lemmas.Tests.{T-true, test}
 use Rattle.job.specs.Refusal.{within}
 use Rattle.trace.specs.declared.TraceRead.the-variants.{Slots, Refused}
 use Rattle.trace.specs.Answer.{Read, readRefusal}

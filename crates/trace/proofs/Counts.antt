@@ -9,10 +9,10 @@ use lib.ListN.{length, getD, set, take, drop, length-set, length-map}
 use lib.Seq.{drop-cons, getD-take, length-take-le, set-out, take-suc}
 use lib.Dec.{leb, leb→le}
 use borrow.Author.Tests.{le-leb, lt-leb}
-use Rattle.basics.specs.Lent.{over}
-use Rattle.basics.specs.lemmas.Lent.{map-snoc, over-next}
-use Rattle.basics.specs.lemmas.Tables.{all-at}
-use Rattle.basics.specs.lemmas.Tests.{all-All, true-T}
+use Rattle.theory_basics.specs.Lent.{over}
+use Rattle.theory_basics.specs.lemmas.Lent.{map-snoc, over-next}
+use Rattle.theory_basics.specs.lemmas.Tables.{all-at}
+use Rattle.theory_basics.specs.lemmas.Tests.{all-All, true-T}
 use Rattle.trace.specs.lemmas.Tally.{bump}
 use Rattle.trace.specs.lemmas.Passes.{fewLines, linesForecast}
 

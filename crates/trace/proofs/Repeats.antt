@@ -9,7 +9,7 @@ use lib.ListN.{length, getD, take, drop, set, replicate, length-append, length-s
 use lib.Seq.{take-length, paste, paste-zero, paste-suc, length-take-le, getD-take, getD-drop, take-at, drop-at, drop-append-add, drop-drop}
 use Rattle.trace.specs.Trace.{bytesOf}
 use Rattle.records.specs.lemmas.Puts.{written-fits}
-use Rattle.text.specs.lemmas.Places.{Put, put-between, put-length, put-none, put-then}
+use Rattle.core_text.specs.lemmas.Places.{Put, put-between, put-length, put-none, put-then}
 
 -- ---- a copy
 

@@ -9,11 +9,11 @@ use native.Mathlib.Numerals.{add-one}
 use lib.ListN.{length, getD, drop, drop-of-length-le}
 use lib.Seq.{drop-cons}
 use borrow.Author.Tests.{not-true, not-false}
-use Rattle.basics.specs.Tests.{all}
-use Rattle.basics.specs.lemmas.Tables.{drop-next}
-use Rattle.basics.specs.lemmas.Digits.{digits-one, digits-length}
+use Rattle.theory_basics.specs.Tests.{all}
+use Rattle.theory_basics.specs.lemmas.Tables.{drop-next}
+use Rattle.theory_basics.specs.lemmas.Digits.{digits-one, digits-length}
 use Rattle.trace.specs.lemmas.Tally.{widthFrom}
-use Rattle.basics.specs.Text.{digits}
+use Rattle.theory_basics.specs.Text.{digits}
 use Rattle.trace.specs.Trace.{writable}
 
 -- ---- whole lines

@@ -9,16 +9,16 @@ use lib.ListN.{length, getD, drop, replicate, length-append, drop-of-length-le}
 use lib.Seq.{drop-cons}
 use lib.Dec.{leb}
 use borrow.Author.Tests.{ne-eqb, le-leb, lt-leb, not-true, not-false}
-use Rattle.basics.specs.Refusals.{unless}
-use Rattle.basics.specs.lemmas.Refusals.{orElse-none, orElse-some}
-use Rattle.basics.specs.Tests.{all}
+use Rattle.theory_basics.specs.Refusals.{unless}
+use Rattle.theory_basics.specs.lemmas.Refusals.{orElse-none, orElse-some}
+use Rattle.theory_basics.specs.Tests.{all}
 use Rattle.trace.specs.lemmas.Tally.{widthFrom, written-length}
-use Rattle.basics.specs.Text.{digits}
+use Rattle.theory_basics.specs.Text.{digits}
 use Rattle.trace.specs.Trace.{linesFrom, writable, bytesOf, forecastRefusal, traceOf}
 use Rattle.job.specs.Refusal.{within}
 use Rattle.trace.specs.declared.Written.the-variants.{Bytes, Refused}
 use Rattle.trace.specs.Answer.{Wrote, writeRefusal}
-use Rattle.text.specs.lemmas.Places.{Put, put-length, put-none, put-room, put-then, put-whole}
+use Rattle.core_text.specs.lemmas.Places.{Put, put-length, put-none, put-room, put-then, put-whole}
 use Rattle.trace.proofs.Repeats.{bytes-append}
 
 -- ---- slot by slot

@@ -6,8 +6,8 @@ use mathlib.Core.Bool.{cond}
 use mathlib.Core.List.{List}
 use lib.ListN.{length}
 use lib.Dec.{leb, eqb}
-use Rattle.basics.specs.Lent.{lentAfter}
-use Rattle.basics.specs.Refusals.{unless, _orElse_}
+use Rattle.theory_basics.specs.Lent.{lentAfter}
+use Rattle.theory_basics.specs.Refusals.{unless, _orElse_}
 use Rattle.trace.specs.Trace.{forecastOf, traceRefusal, forecastRefusal, traceOf}
 use Rattle.trace.specs.declared.TraceRead.{TraceRead}
 use Rattle.trace.specs.declared.TraceRead.the-variants as read

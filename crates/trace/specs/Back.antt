@@ -8,9 +8,9 @@ use lib.ListN.{length, drop, take}
 use lib.Seq.{take-at}
 use lib.Dec.{T, eqb, eqb→eq, leb}
 use borrow.Author.Tests.{le-leb}
-use Rattle.basics.specs.Lent.{over}
-use Rattle.basics.specs.Refusals.{unless}
-use Rattle.basics.specs.lemmas.Refusals.{orElse-iff, orElse-none}
+use Rattle.theory_basics.specs.Lent.{over}
+use Rattle.theory_basics.specs.Refusals.{unless}
+use Rattle.theory_basics.specs.lemmas.Refusals.{orElse-iff, orElse-none}
 use Rattle.trace.specs.declared.TraceRead.{TraceRead}
 use Rattle.trace.specs.declared.TraceRead.the-variants as read
 use Rattle.trace.specs.declared.Written.the-variants as wrote

@@ -2,7 +2,7 @@
 use Prim.Native.Nat.{ℕ, _*_}
 use mathlib.Core.Path.{_≡_, refl}
 use mathlib.Core.List.{List, [], _∷_, _++_}
-use Rattle.basics.specs.Text.{ascii, digits}
+use Rattle.theory_basics.specs.Text.{ascii, digits}
 use Rattle.trace.specs.Trace.{aboveRefusal, forecastOf, forecastRefusal, times, traceOf, traceRefusal}
 
 -- `0`, `0999`, `1000`, `5000`.

@@ -7,15 +7,15 @@ use native.Mathlib.Omega.{arith}
 use lib.ListN.{length, getD, replicate, length-replicate, getD-replicate}
 use lib.Seq.{ext-getD}
 use lib.Dec.{T, eqb}
-use Rattle.basics.specs.Lists.{upTo}
-use Rattle.basics.specs.lemmas.Lists.{length-upTo, getD-upTo}
-use Rattle.basics.specs.Refusals.{unless, _orElse_}
-use Rattle.basics.specs.lemmas.Refusals.{and-as, orElse-as, unless-as}
-use Rattle.basics.specs.Tests.{All, all}
-use Rattle.basics.specs.Text.{digits}
-use Rattle.basics.specs.lemmas.Digits.{digits-first, digits-one}
-use Rattle.basics.specs.lemmas.Tables.{all-at}
-use Rattle.basics.specs.lemmas.Tests.{all-append, all-iff, all-map, eqb-iff}
+use Rattle.theory_basics.specs.Lists.{upTo}
+use Rattle.theory_basics.specs.lemmas.Lists.{length-upTo, getD-upTo}
+use Rattle.theory_basics.specs.Refusals.{unless, _orElse_}
+use Rattle.theory_basics.specs.lemmas.Refusals.{and-as, orElse-as, unless-as}
+use Rattle.theory_basics.specs.Tests.{All, all}
+use Rattle.theory_basics.specs.Text.{digits}
+use Rattle.theory_basics.specs.lemmas.Digits.{digits-first, digits-one}
+use Rattle.theory_basics.specs.lemmas.Tables.{all-at}
+use Rattle.theory_basics.specs.lemmas.Tests.{all-append, all-iff, all-map, eqb-iff}
 use Rattle.job.specs.Job.{Within}
 use Rattle.job.specs.Refusal.{within, within-iff}
 use Rattle.trace.specs.Trace.{Means, NotBelow, aboveRefusal, forecastOf, forecastRefusal, found, howMany, inSlot, linesFrom, linesRefusal, slotBytes, slotsRefusal, time, times, traceOf, traceRefusal, writable}

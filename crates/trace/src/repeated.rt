@@ -3,8 +3,8 @@ ghost use mathlib.Core.List.{[], _∷_, _++_};
 ghost use Prim.Native.Nat.{_+_, _≤_, min};
 ghost use mathlib.Core.Path.{_≡_};
 ghost use lib.ListN.{length, take, drop, replicate};
-ghost use Rattle.basics.specs.Text.{digits};
-ghost use Rattle.text.specs.lemmas.Places.{Put};
+ghost use Rattle.theory_basics.specs.Text.{digits};
+ghost use Rattle.core_text.specs.lemmas.Places.{Put};
 ghost use Rattle.trace.specs.Trace.{bytesOf};
 
 fn smaller(a: usize, b: usize) -> usize
@@ -21,7 +21,7 @@ fn put_line(out: &mut [u8], at: usize, n: u64) -> usize
     requires { ⌜ at + length (digits n ++ (10 ∷ [])) ≤ length (now out) ⌝ }
     ensures { λ r. ⌜ Put (now (out .entry)) at (digits n ++ (10 ∷ [])) (now (out .exit)) r ⌝ }
 {
-    let end = text::put_number(out, at, n);
+    let end = core_text::put_number(out, at, n);
     out[end] = b'\n';
     end + 1
 }

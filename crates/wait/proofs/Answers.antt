@@ -3,7 +3,7 @@ use Prim.Native.Nat.{ℕ, _≤_, _<_}
 use mathlib.Core.Path.{_≡_, sym, _∙_, ap, subst}
 use native.Mathlib.Omega.{arith}
 use borrow.Author.Tests.{le-ltb, lt-ltb}
-use Rattle.basics.specs.lemmas.Refusals.{orElse-none}
+use Rattle.theory_basics.specs.lemmas.Refusals.{orElse-none}
 use Rattle.wait.specs.declared.Answer.{Answer}
 use Rattle.wait.specs.declared.Answer.the-variants.{Delay, Refused}
 use Rattle.wait.specs.Answer.{DelayMeans, HandedFilm, SixteenMeans, answerOf, filmIn, inputRefusal, shortest, sixteenRefusal, waitRefusal}

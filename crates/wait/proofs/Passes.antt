@@ -9,12 +9,12 @@ use native.Mathlib.Omega.{arith}
 use lib.ListN.{length, getD, set, length-set}
 use lib.Dec.{leb, leb→le, nleb→lt}
 use borrow.Author.Tests.{le-leb, lt-leb}
-use Rattle.basics.specs.lemmas.Tests.{test}
-use Rattle.schedule.specs.lemmas.Trials.{keeps}
-use Rattle.schedule.specs.lemmas.Words.{due-by}
+use Rattle.theory_basics.specs.lemmas.Tests.{test}
+use Rattle.theory_plan.specs.lemmas.Trials.{keeps}
+use Rattle.theory_plan.specs.lemmas.Words.{due-by}
 use Rattle.wait.specs.lemmas.Scan.{keepsAll, needsFrom}
 use Rattle.wait.specs.lemmas.Table.{Free, PassDone, PassFrom, dueAt, keptBy, leftAt, never, sizeAt}
-use Rattle.basics.specs.lemmas.Tables.{at-set}
+use Rattle.theory_basics.specs.lemmas.Tables.{at-set}
 
 -- To begin when the forecast has brought x at most is the same as to need n of what it brings after that, up to total.
 abbrev pub Same : ℕ → ℕ → ℕ → Type 0

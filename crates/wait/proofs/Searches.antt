@@ -8,17 +8,17 @@ use native.Mathlib.Omega.{arith}
 use native.Mathlib.Numerals.{add-one}
 use lib.ListN.{length, getD, replicate, getD-replicate, length-replicate, List·getD-eq-default}
 use lib.Dec.{leb, ltb, ltb→lt, nltb→le}
-use Rattle.basics.specs.lemmas.Ranges.{pre-mono, pre-most}
-use Rattle.basics.specs.lemmas.Tests.{same-test, test}
+use Rattle.theory_basics.specs.lemmas.Ranges.{pre-mono, pre-most}
+use Rattle.theory_basics.specs.lemmas.Tests.{same-test, test}
 use Rattle.job.specs.Job.{Override, sizeIn}
 use Rattle.job.specs.Table.{sizesTable}
 use Rattle.job.specs.lemmas.Table.{table-says}
 use Rattle.job.specs.lemmas.Within.{all-most}
-use Rattle.schedule.specs.Plan.{plan}
-use Rattle.schedule.specs.Theorems.{plan-exists}
-use Rattle.schedule.specs.lemmas.Parts.{Small}
-use Rattle.schedule.specs.lemmas.Trials.{candidate}
-use Rattle.schedule.specs.lemmas.Words.{accepted-sized}
+use Rattle.theory_plan.specs.Plan.{plan}
+use Rattle.theory_plan.specs.Theorems.{plan-exists}
+use Rattle.theory_plan.specs.lemmas.Parts.{Small}
+use Rattle.theory_plan.specs.lemmas.Trials.{candidate}
+use Rattle.theory_plan.specs.lemmas.Words.{accepted-sized}
 use Rattle.wait.specs.Answer.{firstFrom, shortest, skipsNone, tries}
 use Rattle.wait.specs.Theorems.{job-accepted, skips-none-iff, works-iff-plan}
 use Rattle.wait.specs.Wait.{Film, InRange, Tried, filmOf, jobAt}

@@ -7,12 +7,12 @@ use mathlib.Core.List.{List}
 use mathlib.Core.Logic.{_↔_}
 use lib.ListN.{length}
 use lib.Dec.{eqb, ltb}
-use Rattle.basics.specs.Tests.{allTo}
-use Rattle.basics.specs.Refusals.{unless, _orElse_}
+use Rattle.theory_basics.specs.Tests.{allTo}
+use Rattle.theory_basics.specs.Refusals.{unless, _orElse_}
 use Rattle.job.specs.Handed.{WholeSizes, overridesOf, wholeRefusal}
 use Rattle.job.specs.Job.{Accepted, Job, chunks}
 use Rattle.job.specs.Refusal.{bytesRefusal, filmRefusal, overridesRefusal, sizesRefusal, within}
-use Rattle.schedule.specs.Plan.{plan}
+use Rattle.theory_plan.specs.Plan.{plan}
 use Rattle.wait.specs.declared.Answer.{Answer}
 use Rattle.wait.specs.declared.Answer.the-variants.{Delay, Refused}
 use Rattle.wait.specs.Wait.{Film, InRange, NoneWorks, ShortestWait, filmOf, jobAt, programmeAt}

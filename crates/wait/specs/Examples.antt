@@ -6,7 +6,7 @@ use mathlib.Core.List.{List, [], _∷_}
 use lib.Dec.{T}
 use native.Mathlib.Omega.{arith}
 use Rattle.job.specs.Job.{sizeIn}
-use Rattle.schedule.specs.Plan.{plan}
+use Rattle.theory_plan.specs.Plan.{plan}
 use Rattle.wait.specs.declared.Answer.the-variants.{Delay, Refused}
 use Rattle.wait.specs.Answer.{HandedFilm, answerOf, filmIn, handedFilm, inputRefusal, shortest, skipsNone, waitRefusal}
 use Rattle.wait.specs.Theorems.{input-iff, skips-none-iff}

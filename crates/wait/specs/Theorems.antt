@@ -9,18 +9,18 @@ use lib.ListN.{length}
 use lib.Seq.{length-take-le}
 use lib.Dec.{T, T-not, eqb, ltb, eqb→eq, ltb→lt, lt→ltb, nltb→le}
 use borrow.Author.Tests.{ne-eqb}
-use Rattle.basics.specs.Refusals.{_orElse_, unless}
-use Rattle.basics.specs.Tests.{all}
-use Rattle.basics.specs.lemmas.Refusals.{orElse-as, orElse-none, orElse-some, unless-as}
-use Rattle.basics.specs.lemmas.Tables.{all-take}
-use Rattle.basics.specs.lemmas.Tests.{all-map, allTo-iff, by-cond, eqb-iff, ltb-iff, test}
+use Rattle.theory_basics.specs.Refusals.{_orElse_, unless}
+use Rattle.theory_basics.specs.Tests.{all}
+use Rattle.theory_basics.specs.lemmas.Refusals.{orElse-as, orElse-none, orElse-some, unless-as}
+use Rattle.theory_basics.specs.lemmas.Tables.{all-take}
+use Rattle.theory_basics.specs.lemmas.Tests.{all-map, allTo-iff, by-cond, eqb-iff, ltb-iff, test}
 use Rattle.job.specs.Handed.{whole-iff, wholeRefusal}
 use Rattle.job.specs.Job.{Accepted, EqualChunks, Named, Within, chunks, lastDue}
 use Rattle.job.specs.Refusal.{bytes-iff, bytesRefusal, film-iff, named, overrides-iff, rising, sized, sizes-iff, within, within-iff}
-use Rattle.schedule.specs.Plan.{plan}
-use Rattle.schedule.specs.Statement.{CanCarry, IsPlan}
-use Rattle.schedule.specs.Theorems.{plan-exists, plan-unique}
-use Rattle.schedule.specs.lemmas.Words.{accepted-sized}
+use Rattle.theory_plan.specs.Plan.{plan}
+use Rattle.theory_plan.specs.Statement.{CanCarry, IsPlan}
+use Rattle.theory_plan.specs.Theorems.{plan-exists, plan-unique}
+use Rattle.theory_plan.specs.lemmas.Words.{accepted-sized}
 use Rattle.wait.specs.declared.Answer.the-variants.{Delay, Refused}
 use Rattle.wait.specs.Answer.{DelayMeans, HandedFilm, HandedWhole, SixteenMeans, answerOf, eighteenRefusal, filmIn, fiveRefusal, inputRefusal, numbersRefusal, sevenRefusal, shortest, sixRefusal, sixteenRefusal, skipsNone, slotsRefusal, tries, waitRefusal}
 use Rattle.wait.specs.Wait.{Film, InRange, NoSkip, NoneWorks, ShortestWait, SomeList, SomeOrdered, Tried, Works, jobAt, programmeAt}

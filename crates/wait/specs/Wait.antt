@@ -3,13 +3,13 @@
 use Prim.Native.Nat.{ℕ, _≤_, _<_}
 use mathlib.Core.List.{List}
 use lib.ListN.{length, take}
-use Rattle.basics.specs.Tests.{All}
+use Rattle.theory_basics.specs.Tests.{All}
 use Rattle.job.specs.declared.Programme.{Programme}
 use Rattle.job.specs.Job.{Job, Named, Override, Rising, Within, chunks, jobOf, lastDue}
 use Rattle.fetch.specs.Rows.{Row, Carried}
 use Rattle.fetch.specs.Rules.{Passes, PlayingOrder}
-use Rattle.schedule.specs.Statement.{IsPlan}
-pub use Rattle.schedule.specs.Statement.{NoSkip}
+use Rattle.theory_plan.specs.Statement.{IsPlan}
+pub use Rattle.theory_plan.specs.Statement.{NoSkip}
 
 -- A job without s, and a forecast of any length.
 pub record Film : Type 0 where

@@ -4,7 +4,7 @@ use job::Programme;
 ghost use mathlib.Core.Path.{_≡_};
 ghost use Prim.Native.Nat.{_*_, _-_, _/_, _≤_, min};
 ghost use lib.ListN.{length};
-ghost use Rattle.schedule.specs.lemmas.Parts.{Small};
+ghost use Rattle.theory_plan.specs.lemmas.Parts.{Small};
 ghost use Rattle.job.specs.Handed.{overridesOf};
 ghost use Rattle.job.specs.Table.{sizesTable};
 ghost use Rattle.wait.specs.Wait.{InRange};

@@ -4,8 +4,8 @@ use mathlib.Core.Path.{_≡_}
 use mathlib.Core.List.{List, []}
 use lib.ListN.{length}
 use lib.Dec.{eqb}
-use Rattle.basics.specs.Refusals.{unless}
-use Rattle.basics.specs.Lists.{upTo}
+use Rattle.theory_basics.specs.Refusals.{unless}
+use Rattle.theory_basics.specs.Lists.{upTo}
 use Rattle.fetch.specs.Rows.{Row, bytesInSlot, rowAt}
 use Rattle.checker.specs.declared.Checked.{Checked}
 use Rattle.checker.specs.declared.Checked.the-variants as check

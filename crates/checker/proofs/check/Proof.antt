@@ -12,7 +12,7 @@ use Rattle.fetch.specs.Handed as rows
 use Rattle.fetch.specs.Rows.{rowsOf}
 use Rattle.fetch.specs.VerdictFrom.{first-slot}
 use Rattle.checker.specs.declared.Checked.the-variants.{Verdict}
-use Rattle.rules.proofs.Exact.{shown}
+use Rattle.core_rules.proofs.Exact.{shown}
 
 refusal-requires : tie.Need-refusal-requires
 refusal-requires c κs = search needs

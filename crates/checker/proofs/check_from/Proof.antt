@@ -10,7 +10,7 @@ use borrow.Author.Tests.{ne-eqb, eq-eqb}
 use Rattle.job.specs.Handed.{handed, jobIn, handed-iff}
 use Rattle.fetch.specs.Handed as rows
 use Rattle.checker.specs.declared.Checked.the-variants.{Verdict}
-use Rattle.rules.proofs.Exact.{shown}
+use Rattle.core_rules.proofs.Exact.{shown}
 
 refusal-requires : tie.Need-refusal-requires
 refusal-requires c κs = search needs

@@ -5,12 +5,12 @@ use mathlib.Core.Bool.{Bool, true, _&&_, _||_}
 use mathlib.Core.List.{List}
 use lib.ListN.{length, getD}
 use lib.Dec.{ltb, eqb}
-use Rattle.basics.specs.Tests.{all}
+use Rattle.theory_basics.specs.Tests.{all}
 use Rattle.job.specs.declared.Programme.{Programme}
 use Rattle.job.specs.Job.{Override, jobOf}
 use Rattle.fetch.specs.Rows.{Row, rowsOf}
 use Rattle.fetch.specs.VerdictFrom.{layerBefore, verdictFrom}
-use Rattle.rules.specs.lemmas.Tables.{Shown, inRange}
+use Rattle.core_rules.specs.lemmas.Tables.{Shown, inRange}
 
 -- ---- rule 2 of the second call
 

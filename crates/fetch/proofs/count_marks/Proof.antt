@@ -4,7 +4,7 @@ use mathlib.Core.Path.{_≡_, sym, _∙_, ap₂}
 use native.Mathlib.Omega.{arith}
 use borrow.Author.Needs.{needs}
 use denote.Ref.{now}
-use Rattle.basics.specs.lemmas.Tables.{all-each}
+use Rattle.theory_basics.specs.lemmas.Tables.{all-each}
 use Rattle.fetch.specs.Words.{words-and-rest}
 use Rattle.fetch.specs.lemmas.Counts.{Byte, count-le}
 use Rattle.fetch.proofs.count_marks.Statement.{statement}

@@ -6,8 +6,8 @@ use mathlib.Core.List.{List, [], _∷_, _++_}
 use mathlib.Core.Logic.{⊎-elim}
 use native.Mathlib.Omega.{arith}
 use lib.Dec.{T, eqb}
-use Rattle.basics.specs.Tests.{all, any, In, here, there}
-use Rattle.basics.specs.lemmas.Tests.{by-cond, test, T-or-iff}
+use Rattle.theory_basics.specs.Tests.{all, any, In, here, there}
+use Rattle.theory_basics.specs.lemmas.Tests.{by-cond, test, T-or-iff}
 use Rattle.job.specs.Job.{Job, Layer, Accepted, size}
 use Rattle.job.specs.lemmas.Within.{size-least}
 use Rattle.fetch.specs.Rows.{Row, bytesIf, Carried, Permuted, none, keep, swap, next}

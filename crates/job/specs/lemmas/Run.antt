@@ -9,9 +9,9 @@ use native.Mathlib.Numerals.{add-one}
 use lib.ListN.{length, getD, drop, drop-of-length-le}
 use lib.Seq.{drop-cons}
 use lib.Dec.{T, leb, leb→le, nleb→lt}
-use Rattle.basics.specs.Tests.{All, all}
-use Rattle.basics.specs.lemmas.Tests.{same-test, test}
-use Rattle.basics.specs.lemmas.Refusals.{and-as}
+use Rattle.theory_basics.specs.Tests.{All, all}
+use Rattle.theory_basics.specs.lemmas.Tests.{same-test, test}
+use Rattle.theory_basics.specs.lemmas.Refusals.{and-as}
 use Rattle.job.specs.declared.Programme.{Programme}
 use Rattle.job.specs.Job.{Override, Within, Named, Rising}
 use Rattle.job.specs.Refusal.{named, sized, comes, rising, named-iff, before-iff, within-iff, overrides-test}

@@ -5,7 +5,7 @@ use mathlib.Core.List.{List, [], _∷_, _++_, map}
 use native.Mathlib.Omega.{arith}
 use lib.ListN.{length, length-append}
 use lib.Dec.{eqb}
-use Rattle.basics.specs.lemmas.Tests.{by-cond}
+use Rattle.theory_basics.specs.lemmas.Tests.{by-cond}
 use Rattle.job.specs.Job.{Job, Override, layers, Accepted}
 use Rattle.job.specs.Uneven.{overrides-few}
 use Rattle.jobrecords.specs.declared.Record.the-variants.{Pg, En}

@@ -7,10 +7,10 @@ use native.Mathlib.Omega.{arith}
 use lib.ListN.{replicate}
 use lib.Dec.{T, leb, eqb, eqb→eq}
 use borrow.Author.Tests.{eq-eqb}
-use Rattle.basics.specs.Tests.{All}
-use Rattle.basics.specs.lemmas.Tests.{and-T, T-true, not-T-false}
-use Rattle.basics.specs.Refusals.{_orElse_}
-use Rattle.basics.specs.lemmas.Refusals.{unless-iff, orElse-iff}
+use Rattle.theory_basics.specs.Tests.{All}
+use Rattle.theory_basics.specs.lemmas.Tests.{and-T, T-true, not-T-false}
+use Rattle.theory_basics.specs.Refusals.{_orElse_}
+use Rattle.theory_basics.specs.lemmas.Refusals.{unless-iff, orElse-iff}
 use Rattle.records.specs.File.{firstFault}
 use Rattle.records.specs.lemmas.Exact.{NoEnd}
 use Rattle.job.specs.Refusal.{within-iff, overridesRefusal, slotsRefusal}

@@ -7,7 +7,7 @@ use native.Mathlib.Omega.{arith}
 use lib.ListN.{length, getD, drop}
 use lib.Seq.{drop-cons}
 use lib.Dec.{T, leb, leb→le}
-use Rattle.basics.specs.lemmas.Tests.{by-cond, and-T}
+use Rattle.theory_basics.specs.lemmas.Tests.{by-cond, and-T}
 use Rattle.records.specs.Fields.{Bytes, h, w, hAt, marked}
 use Rattle.records.specs.File.{Front, got, none, encodeAll}
 use Rattle.records.specs.lemmas.Exact.{h-bytes, w-bytes, bytes-append, h-exact, w-exact, mark-exact, Exact}

@@ -6,8 +6,8 @@ use mathlib.Core.List.{List, [], _∷_}
 use native.Mathlib.Omega.{arith}
 use lib.ListN.{length}
 use lib.Dec.{not-T}
-use Rattle.basics.specs.Tests.{all}
-use Rattle.basics.specs.lemmas.Tests.{all-map, not-T-false}
+use Rattle.theory_basics.specs.Tests.{all}
+use Rattle.theory_basics.specs.lemmas.Tests.{all-map, not-T-false}
 use Rattle.job.specs.declared.Programme.{Programme}
 use Rattle.job.specs.Job.{Override, Named}
 use Rattle.job.specs.Refusal.{named, rising, sized, overridesRefusal, overrides-test}

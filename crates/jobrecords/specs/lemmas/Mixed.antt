@@ -7,8 +7,8 @@ use mathlib.Core.List.{List, [], _∷_, _++_}
 use native.Mathlib.Omega.{arith}
 use lib.ListN.{length, drop}
 use lib.Dec.{T, leb}
-use Rattle.basics.specs.lemmas.Tests.{by-cond}
-use Rattle.basics.specs.lemmas.Refusals.{orElse-iff}
+use Rattle.theory_basics.specs.lemmas.Tests.{by-cond}
+use Rattle.theory_basics.specs.lemmas.Refusals.{orElse-iff}
 use Rattle.records.specs.Fields.{marked}
 use Rattle.records.specs.File.{Front, got, none, Stop, ended, broken, Split, splitBy, splitUpTo, split, firstFault}
 use Rattle.jobrecords.specs.declared.Record.{Record}

@@ -6,9 +6,9 @@ use mathlib.Core.Bool.{Bool, true, false, not, _&&_, _||_, cond}
 use mathlib.Core.List.{List, [], _∷_, _++_}
 use lib.ListN.{length, getD, take}
 use lib.Dec.{leb, eqb, eqb→eq}
-use Rattle.basics.specs.Lists.{upTo}
-use Rattle.basics.specs.Refusals.{unless, _orElse_}
-use Rattle.basics.specs.lemmas.Tests.{by-cond}
+use Rattle.theory_basics.specs.Lists.{upTo}
+use Rattle.theory_basics.specs.Refusals.{unless, _orElse_}
+use Rattle.theory_basics.specs.lemmas.Tests.{by-cond}
 use Rattle.records.specs.Fields.{hAt, wAt, marked}
 use Rattle.records.specs.File.{Front, none, split, recordsRefusal}
 use Rattle.records.specs.lemmas.Reading.{Reads}

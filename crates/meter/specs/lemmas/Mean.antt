@@ -8,9 +8,9 @@ use native.Mathlib.Omega.{arith}
 use native.Mathlib.Nat.{mul-le-mul-left, mul-le-mul-right, mul-pos, le-of-mul-le-mul-right, lt-of-mul-lt-mul-right, div-mul-le-self, lt-div-mul-add, le-div-iff-mul-le, div-lt-iff-lt-mul, mul-div-right}
 use lib.ListN.{length}
 use lib.Dec.{T, T-not, leb, leb→le, nleb→lt, eqb→eq}
-use Rattle.basics.specs.lemmas.Division.{divided-up-enough, divided-up-near}
-use Rattle.basics.specs.Tests.{All, any, In, here, there}
-use Rattle.basics.specs.lemmas.Tests.{test, T-or-iff, eqb-iff}
+use Rattle.theory_basics.specs.lemmas.Division.{divided-up-enough, divided-up-near}
+use Rattle.theory_basics.specs.Tests.{All, any, In, here, there}
+use Rattle.theory_basics.specs.lemmas.Tests.{test, T-or-iff, eqb-iff}
 use Rattle.meter.specs.Forecast.{bytesOf, isZero, total, share, meanOf}
 use Rattle.meter.specs.Meter.{Sample, InRange}
 use Rattle.meter.specs.Harmonic.{product, others, NotAbove, WholePart}

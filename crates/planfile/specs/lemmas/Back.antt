@@ -9,12 +9,12 @@ use lib.ListN.{length, getD}
 use lib.Seq.{ext-getD}
 use lib.Dec.{T, leb, eqb, leb→le, nleb→lt}
 use borrow.Author.Tests.{eq-eqb, le-leb, lt-leb}
-use Rattle.basics.specs.Tests.{All}
-use Rattle.basics.specs.lemmas.Tests.{all-append, test, T-true, not-T-false}
-use Rattle.basics.specs.Lists.{upTo}
-use Rattle.basics.specs.lemmas.Lists.{length-upTo, getD-upTo, upTo-cong}
-use Rattle.basics.specs.Refusals.{unless, _orElse_}
-use Rattle.basics.specs.lemmas.Refusals.{unless-iff, orElse-iff}
+use Rattle.theory_basics.specs.Tests.{All}
+use Rattle.theory_basics.specs.lemmas.Tests.{all-append, test, T-true, not-T-false}
+use Rattle.theory_basics.specs.Lists.{upTo}
+use Rattle.theory_basics.specs.lemmas.Lists.{length-upTo, getD-upTo, upTo-cong}
+use Rattle.theory_basics.specs.Refusals.{unless, _orElse_}
+use Rattle.theory_basics.specs.lemmas.Refusals.{unless-iff, orElse-iff}
 use Rattle.records.specs.File.{Format, got, split, firstFault, fileRefusal, encodeAll}
 use Rattle.records.specs.lemmas.Written.{h-back, w-back, ReadsBack, Plain, split-written, refusal-written}
 use Rattle.job.specs.Job.{chunks}

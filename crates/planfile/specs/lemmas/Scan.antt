@@ -10,11 +10,11 @@ use lib.ListN.{length, getD, set, drop, length-drop, length-append, length-set}
 use lib.Seq.{getD-drop, drop-cons, set-at}
 use lib.Dec.{T, leb, eqb, leb→le, eqb→eq}
 use borrow.Author.Tests.{ne-eqb, le-leb, lt-leb}
-use Rattle.basics.specs.lemmas.Tests.{by-cond, T-true, not-T-false, same-test, eqb-iff, tests}
-use Rattle.basics.specs.Lists.{upTo}
-use Rattle.basics.specs.lemmas.Lists.{length-upTo}
-use Rattle.basics.specs.Refusals.{unless, _orElse_}
-use Rattle.basics.specs.lemmas.Refusals.{unless-iff, orElse-iff}
+use Rattle.theory_basics.specs.lemmas.Tests.{by-cond, T-true, not-T-false, same-test, eqb-iff, tests}
+use Rattle.theory_basics.specs.Lists.{upTo}
+use Rattle.theory_basics.specs.lemmas.Lists.{length-upTo}
+use Rattle.theory_basics.specs.Refusals.{unless, _orElse_}
+use Rattle.theory_basics.specs.lemmas.Refusals.{unless-iff, orElse-iff}
 use Rattle.records.specs.Fields.{hAt, wAt, marked}
 use Rattle.records.specs.File.{Front, got, none, recordsRefusal, fileRefusal}
 use Rattle.records.specs.lemmas.Reading.{Reads, reads-start, reads-none, reads-fault, reads-more, reads-end}

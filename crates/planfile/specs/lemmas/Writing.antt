@@ -5,10 +5,10 @@ use mathlib.Core.List.{List, [], _∷_, _++_, map, map-append, flatMap, append-a
 use native.Mathlib.Omega.{arith}
 use native.Mathlib.Numerals.{add-one}
 use lib.ListN.{length, getD, length-append, length-map}
-use Rattle.basics.specs.Tests.{All}
-use Rattle.basics.specs.lemmas.Tests.{all-append}
-use Rattle.basics.specs.Lists.{upTo}
-use Rattle.basics.specs.lemmas.Lists.{length-upTo}
+use Rattle.theory_basics.specs.Tests.{All}
+use Rattle.theory_basics.specs.lemmas.Tests.{all-append}
+use Rattle.theory_basics.specs.Lists.{upTo}
+use Rattle.theory_basics.specs.lemmas.Lists.{length-upTo}
 use Rattle.records.specs.Fields.{written}
 use Rattle.records.specs.File.{encodeAll}
 use Rattle.records.specs.lemmas.Puts.{length-written, written-append, written-none}

@@ -6,7 +6,7 @@ use mathlib.Core.Path.{refl}
 use Prim.Native.Nat.{ℕ}
 use lib.ListN.{length-replicate}
 use Rattle.job.specs.Handed.{handed-iff}
-use Rattle.settle.specs.lemmas.Accepted.{decide-from, filled}
+use Rattle.core_decide.specs.lemmas.Accepted.{decide-from, filled}
 use Rattle.planner.proofs.Handing.{decided, handed-laid}
 
 cast-unset : tie.Need-cast-unset

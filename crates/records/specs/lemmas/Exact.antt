@@ -9,8 +9,8 @@ use native.Mathlib.Numerals.{add-one}
 use lib.ListN.{length, getD, drop, drop-of-length-le}
 use lib.Seq.{drop-cons}
 use lib.Dec.{T, eqb, eqb→eq}
-use Rattle.basics.specs.Tests.{All}
-use Rattle.basics.specs.lemmas.Tests.{by-cond, and-T, T-true, not-T-false, all-append}
+use Rattle.theory_basics.specs.Tests.{All}
+use Rattle.theory_basics.specs.lemmas.Tests.{by-cond, and-T, T-true, not-T-false, all-append}
 use Rattle.records.specs.Fields.{Bytes, h, w, hAt, wAt, marked}
 use Rattle.records.specs.File.{Front, got, none, Format, ended, broken, Split, splitBy, splitUpTo, split, encodeAll}
 

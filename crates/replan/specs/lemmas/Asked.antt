@@ -3,8 +3,8 @@ use Prim.Native.Nat.{ℕ, suc, _-_}
 use mathlib.Core.List.{List, []}
 use lib.Dec.{eqb, ltb}
 use lib.ListN.{length}
-use Rattle.basics.specs.Refusals.{_orElse_, unless}
-use Rattle.basics.specs.Tests.{all}
+use Rattle.theory_basics.specs.Refusals.{_orElse_, unless}
+use Rattle.theory_basics.specs.Tests.{all}
 use Rattle.job.specs.Handed.{HandedJob, jobRefusal}
 use Rattle.job.specs.Job.{lastDue}
 use Rattle.job.specs.Refusal.{bytesRefusal}

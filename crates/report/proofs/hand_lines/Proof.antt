@@ -4,7 +4,7 @@ use Rattle.report.proofs.hand_lines.Statement.{statement}
 use Rattle.report.proofs.hand_lines.Tie as tie
 use mathlib.Core.Path.{sym}
 use lib.Seq.{length-take-le}
-use Rattle.text.specs.lemmas.Places.{put-front}
+use Rattle.core_text.specs.lemmas.Places.{put-front}
 
 slice-aggregate-put-lines : tie.Need-slice-aggregate-put-lines
 slice-aggregate-put-lines c = search needs

@@ -5,7 +5,7 @@ use mathlib.Core.List.{List, map}
 use native.Mathlib.Omega.{arith}
 use lib.ListN.{length, getD, length-map, List·getD-map}
 use lib.Seq.{ext-getD}
-use Rattle.basics.specs.lemmas.Lists.{length-upTo, getD-upTo}
+use Rattle.theory_basics.specs.lemmas.Lists.{length-upTo, getD-upTo}
 use Rattle.fetch.specs.Rows.{Row, rowAt, rowsOf, rowSlot, rowChunk, rowLayer, rowBytes}
 
 abbrev none : Row

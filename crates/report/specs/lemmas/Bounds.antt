@@ -5,15 +5,15 @@ use mathlib.Core.Bool.{true, cond}
 use mathlib.Core.List.{List, [], _∷_}
 use native.Mathlib.Omega.{arith}
 use lib.Dec.{eqb, eqb→eq}
-use Rattle.basics.specs.Tests.{All}
-use Rattle.basics.specs.lemmas.Tests.{all-map, by-cond}
-use Rattle.basics.specs.Sums.{pre, sum}
-use Rattle.basics.specs.lemmas.Ranges.{pre-add, pre-step, point, point-in, pre-cong, pre-zero}
+use Rattle.theory_basics.specs.Tests.{All}
+use Rattle.theory_basics.specs.lemmas.Tests.{all-map, by-cond}
+use Rattle.theory_basics.specs.Sums.{pre, sum}
+use Rattle.theory_basics.specs.lemmas.Ranges.{pre-add, pre-step, point, point-in, pre-cong, pre-zero}
 use Rattle.job.specs.Job.{Job, chunks, layers, forecast, lastSlot}
 use Rattle.fetch.specs.Rows.{Row, bytesInSlot, bytesOfLayer}
 use Rattle.fetch.specs.Rules.{InRange, WithinForecast}
-use Rattle.schedule.specs.lemmas.Words.{bytesOfChunk}
-use Rattle.schedule.specs.lemmas.Count.{bytes-between, chunk-by-layers}
+use Rattle.theory_plan.specs.lemmas.Words.{bytesOfChunk}
+use Rattle.theory_plan.specs.lemmas.Count.{bytes-between, chunk-by-layers}
 use Rattle.report.specs.Report.{apart, bytesInRows, forecastSum}
 
 -- ---- at most so much each

@@ -7,10 +7,10 @@ use mathlib.Core.List.{List, [], _∷_, _++_, append-nil}
 use native.Mathlib.Omega.{arith}
 use native.Mathlib.Nat.{mul-le-mul-right}
 use lib.ListN.{length, length-append}
-use Rattle.basics.specs.Tests.{All}
-use Rattle.basics.specs.lemmas.Tests.{all-append}
-use Rattle.basics.specs.Sums.{pre, count}
-use Rattle.basics.specs.lemmas.Ranges.{count-small}
+use Rattle.theory_basics.specs.Tests.{All}
+use Rattle.theory_basics.specs.lemmas.Tests.{all-append}
+use Rattle.theory_basics.specs.Sums.{pre, count}
+use Rattle.theory_basics.specs.lemmas.Ranges.{count-small}
 use Rattle.report.specs.Report.{apart, differences, those}
 use Rattle.report.specs.lemmas.Bounds.{apart-most}
 use Rattle.report.specs.lemmas.Tables.{changeOf, heldOf, lastOf}

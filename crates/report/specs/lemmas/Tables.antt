@@ -6,15 +6,15 @@ use mathlib.Core.Bool.{Bool, cond}
 use mathlib.Core.List.{List, [], _∷_, _++_}
 use lib.ListN.{length, getD}
 use lib.Dec.{eqb}
-use Rattle.basics.specs.Sums.{sum, count}
-use Rattle.basics.specs.Lists.{upTo}
+use Rattle.theory_basics.specs.Sums.{sum, count}
+use Rattle.theory_basics.specs.Lists.{upTo}
 use Rattle.job.specs.declared.Programme.{Programme}
 use Rattle.job.specs.Handed.{HandedJob, jobIn, jobRefusal}
 use Rattle.job.specs.Job.{lastDue}
 use Rattle.job.specs.Table.{tableAt}
 use Rattle.fetch.specs.Rows.{Row, bytesOfLayer}
 use Rattle.planner.specs.Answer.{planRows}
-use Rattle.basics.specs.Text.{ascii, digits, line, text}
+use Rattle.theory_basics.specs.Text.{ascii, digits, line, text}
 use Rattle.report.specs.Report.{apart, bytesInRows, differences, those}
 use Rattle.report.specs.declared.table.Spent.{Spent}
 use Rattle.report.specs.declared.table.Spent.the-variants.{Bytes as sent, Refused as refused}

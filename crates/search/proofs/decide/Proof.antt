@@ -7,7 +7,7 @@ use Prim.Native.Nat.{ℕ}
 use lib.ListN.{length-replicate}
 use denote.Ref.{now}
 use Rattle.job.specs.Table.{tableAt}
-use Rattle.settle.proofs.Decided.{kept-from}
+use Rattle.core_decide.proofs.Decided.{kept-from}
 use Rattle.search.proofs.Deciding.{find-from, found-each, short-from}
 
 sum-after-requires : tie.Need-sum-after-requires

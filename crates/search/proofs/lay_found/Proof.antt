@@ -6,7 +6,7 @@ use mathlib.Core.Path.{refl}
 use Prim.Native.Nat.{ℕ}
 use native.Mathlib.Omega.{arith}
 use lib.ListN.{length-replicate}
-use Rattle.settle.specs.lemmas.Accepted.{decide-from, filled}
+use Rattle.core_decide.specs.lemmas.Accepted.{decide-from, filled}
 use Rattle.search.proofs.Handing.{accepted, decided, handed-laid}
 
 fill-sizes-requires : tie.Need-fill-sizes-requires

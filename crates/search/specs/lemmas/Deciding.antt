@@ -6,11 +6,11 @@ use mathlib.Core.List.{List, [], _∷_}
 use lib.ListN.{length}
 use Rattle.job.specs.declared.Programme.{Programme}
 use Rattle.job.specs.Job.{Accepted, Job, Override, sizeIn}
-use Rattle.pictures.specs.lemmas.Walking.{Fit}
-use Rattle.settle.specs.lemmas.Decision.{Decides, jobFrom}
-use Rattle.laying.specs.declared.Laid.{Laid}
+use Rattle.core_moore_hodgson.specs.lemmas.Walking.{Fit}
+use Rattle.core_decide.specs.lemmas.Decision.{Decides, jobFrom}
+use Rattle.core_output.specs.declared.Laid.{Laid}
 use Rattle.planner.specs.declared.Answer.the-variants.{Rows, Refused}
-use Rattle.budget.specs.Search.{found}
+use Rattle.theory_search.specs.Search.{found}
 use Rattle.search.specs.declared.Decision.{Decision}
 use Rattle.search.specs.declared.Searched.{Searched}
 use Rattle.search.specs.Answer.{planFound}

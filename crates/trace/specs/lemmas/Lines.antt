@@ -8,9 +8,9 @@ use native.Mathlib.Omega.{arith}
 use borrow.Author.Tests.{ne-eqb}
 use lib.ListN.{length}
 use lib.Dec.{T, leb, eqb, eqb→eq}
-use Rattle.basics.specs.lemmas.Refusals.{unless-as, and-as}
-use Rattle.basics.specs.Tests.{All, all}
-use Rattle.basics.specs.lemmas.Tests.{all-iff, all-map, by-cond, leb-iff}
+use Rattle.theory_basics.specs.lemmas.Refusals.{unless-as, and-as}
+use Rattle.theory_basics.specs.Tests.{All, all}
+use Rattle.theory_basics.specs.lemmas.Tests.{all-iff, all-map, by-cond, leb-iff}
 use Rattle.job.specs.Job.{Within}
 use Rattle.job.specs.Refusal.{within, within-iff}
 use Rattle.trace.specs.Trace.{Found, Line, Means, NotBelow, linesRefusal, found, front, line, notBelow, bytesOf, time}

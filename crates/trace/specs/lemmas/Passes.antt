@@ -5,7 +5,7 @@ use mathlib.Core.Bool.{Bool}
 use mathlib.Core.List.{List, map}
 use lib.Dec.{T, leb}
 use lib.ListN.{length, drop, getD}
-use Rattle.basics.specs.Tests.{all}
+use Rattle.theory_basics.specs.Tests.{all}
 use Rattle.trace.specs.lemmas.Scan.{scan}
 use Rattle.trace.specs.lemmas.Tally.{tally}
 use Rattle.job.specs.Refusal.{within}

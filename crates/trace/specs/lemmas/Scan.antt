@@ -8,10 +8,10 @@ use native.Mathlib.Omega.{arith}
 use borrow.Author.Tests.{lt-leb, ne-eqb}
 use lib.ListN.{length, length-append}
 use lib.Dec.{T-not, leb, eqb, eqb→eq, eqb-refl}
-use Rattle.basics.specs.Tests.{All, all}
-use Rattle.basics.specs.Text.{readOn}
-use Rattle.basics.specs.lemmas.Digits.{read-snoc}
-use Rattle.basics.specs.lemmas.Tests.{by-cond, not-T-false, test, all-append, all-snoc}
+use Rattle.theory_basics.specs.Tests.{All, all}
+use Rattle.theory_basics.specs.Text.{readOn}
+use Rattle.theory_basics.specs.lemmas.Digits.{read-snoc}
+use Rattle.theory_basics.specs.lemmas.Tests.{by-cond, not-T-false, test, all-append, all-snoc}
 use Rattle.job.specs.Refusal.{within}
 use Rattle.trace.specs.Trace.{Found, found, front, line, notBelow, time}
 use Rattle.trace.specs.lemmas.Lines.{found-line}

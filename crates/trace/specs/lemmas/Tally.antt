@@ -8,10 +8,10 @@ use native.Mathlib.Omega.{arith}
 use lib.ListN.{length, getD, set, replicate, length-append, length-set, length-replicate, getD-replicate}
 use lib.Seq.{ext-getD, getD-set-same, getD-set-other}
 use lib.Dec.{T-not}
-use Rattle.basics.specs.Lists.{upTo}
-use Rattle.basics.specs.lemmas.Lists.{getD-upTo, length-upTo}
-use Rattle.basics.specs.lemmas.Tests.{T-true, not-T-false, test}
-use Rattle.basics.specs.Text.{digits}
+use Rattle.theory_basics.specs.Lists.{upTo}
+use Rattle.theory_basics.specs.lemmas.Lists.{getD-upTo, length-upTo}
+use Rattle.theory_basics.specs.lemmas.Tests.{T-true, not-T-false, test}
+use Rattle.theory_basics.specs.Text.{digits}
 use Rattle.trace.specs.lemmas.Times.{in-slot-iff}
 use Rattle.trace.specs.Trace.{howMany, inSlot, linesFrom, bytesOf, traceOf}
 

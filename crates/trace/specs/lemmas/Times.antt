@@ -8,11 +8,11 @@ use native.Mathlib.Omega.{arith}
 use borrow.Author.Tests.{le-leb, lt-leb, lt-ltb, le-ltb}
 use lib.ListN.{length, length-append, length-replicate, getD, replicate}
 use lib.Dec.{T, leb}
-use Rattle.basics.specs.Tests.{All}
-use Rattle.basics.specs.lemmas.Tests.{all-append, all-map, by-cond, tests}
+use Rattle.theory_basics.specs.Tests.{All}
+use Rattle.theory_basics.specs.lemmas.Tests.{all-append, all-map, by-cond, tests}
 use Rattle.job.specs.Job.{Within}
-use Rattle.basics.specs.lemmas.Digits.{digits-are, digits-few, digits-read, digits-some}
-use Rattle.basics.specs.Text.{digits}
+use Rattle.theory_basics.specs.lemmas.Digits.{digits-are, digits-few, digits-read, digits-some}
+use Rattle.theory_basics.specs.Text.{digits}
 use Rattle.trace.specs.lemmas.Lists.{All-replicate}
 use Rattle.trace.specs.Trace.{Line, NotBelow, bytesOf, howMany, inSlot, linesFrom, time}
 

@@ -5,7 +5,7 @@ use mathlib.Core.Bool.{Bool, not}
 use mathlib.Core.Logic.{⊎-elim}
 use native.Mathlib.Omega.{arith}
 use lib.Dec.{T, ltb, ltb→lt, nltb→le}
-use Rattle.basics.specs.lemmas.Tests.{by-cond, test}
+use Rattle.theory_basics.specs.lemmas.Tests.{by-cond, test}
 use Rattle.wait.specs.Answer.{firstFrom}
 
 -- r is the first of s .. s + n - 1 that passes.

@@ -9,14 +9,14 @@ use native.Mathlib.Omega.{arith}
 use lib.ListN.{getD, drop}
 use lib.Seq.{getD-take}
 use lib.Dec.{T, leb, leb→le, nleb→lt}
-use Rattle.basics.specs.Sums.{pre}
-use Rattle.basics.specs.lemmas.Ranges.{pre-cong, pre-mono}
-use Rattle.basics.specs.lemmas.Tests.{T-and, and-T, test, tests}
+use Rattle.theory_basics.specs.Sums.{pre}
+use Rattle.theory_basics.specs.lemmas.Ranges.{pre-cong, pre-mono}
+use Rattle.theory_basics.specs.lemmas.Tests.{T-and, and-T, test, tests}
 use Rattle.job.specs.Job.{due, dueSlot, forecast, heldMost, lastDue, sizeIn}
-use Rattle.schedule.specs.Plan.{after, need}
-use Rattle.schedule.specs.lemmas.Linear.{needs-at, needs-of}
-use Rattle.schedule.specs.lemmas.Need.{Feas}
-use Rattle.schedule.specs.lemmas.Trials.{candidate, keeps}
+use Rattle.theory_plan.specs.Plan.{after, need}
+use Rattle.theory_plan.specs.lemmas.Linear.{needs-at, needs-of}
+use Rattle.theory_plan.specs.lemmas.Need.{Feas}
+use Rattle.theory_plan.specs.lemmas.Trials.{candidate, keeps}
 use Rattle.wait.specs.Wait.{Film, jobAt, programmeAt}
 use Rattle.wait.specs.lemmas.Bases.{AllFit, from}
 

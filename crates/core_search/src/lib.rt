@@ -1,0 +1,222 @@
+// Internal. The search of request 13 over tables of 500 places, the same time at each step: the kept chunks and their needs stand at the end
+// of ids and needs, from a first place on, and the best set met so far at the end of best.
+use job::Programme;
+ghost use mathlib.Core.Path.{_≡_};
+ghost use Prim.Native.Nat.{ℕ, _≤_};
+ghost use lib.ListN.{length, drop};
+ghost use Rattle.job.specs.Job.{lastDue};
+ghost use Rattle.job.specs.Table.{tableAt};
+ghost use Rattle.core_moore_hodgson.specs.lemmas.Walking.{KeptIn};
+ghost use Rattle.core_search.specs.lemmas.Walking.{Ending, Noted, Tested, TestFrom, SearchFrom, Searched, DueTable, PlacesFrom, FindFrom, Finds};
+
+// Where the best set begins, the steps taken, and whether the walk ended.
+pub struct Outcome {
+    pub first: usize,
+    pub steps: u32,
+    pub ended: bool,
+}
+
+// The end of a table, from place k on.
+fn copy_end(from: &[u16; 500], k: usize, to: &mut [u16; 500])
+    requires { ⌜ (k ≤ 500) × (length (now from) ≡ 500) × (length (now to) ≡ 500) ⌝ }
+    ensures { λ _. ⌜ Ending k (now (from .entry)) (now (to .exit)) ⌝ }
+{
+    let mut q: usize = 500;
+    while k < q {
+        let p = q - 1;
+        to[p] = from[p];
+        q = p;
+    }
+}
+
+// The set at the end of ids is met: it is copied if it has more chunks than the best one.
+fn note(k: usize, ids: &[u16; 500], best: &mut [u16; 500], count: &mut usize)
+    requires { ⌜ (k ≤ 500) × (now count ≤ 500) × (length (now ids) ≡ 500) × (length (now best) ≡ 500) ⌝ }
+    ensures { λ _. ⌜ Noted k (now (ids .entry)) (now (best .entry)) (now (count .entry)) (now (best .exit)) (now (count .exit)) ⌝ }
+{
+    let size = 500 - k;
+    let most = *count;
+    if size <= most {
+        return;
+    }
+    copy_end(ids, k, best);
+    *count = size;
+}
+
+// Whether chunk i can be kept in front of the kept ones. Its need is written one place before theirs.
+fn can_keep(
+    i: u16,
+    first: usize,
+    held: usize,
+    table: &[u32; 2000],
+    dues: &[u16; 500],
+    after: &[u64; 3601],
+    needs: &mut [u64; 500],
+) -> bool
+    requires { ⌜ TestFrom i first held (tableAt (now table)) (now dues) (now after) (now needs) ⌝ }
+    ensures { λ r. ⌜ Tested i first held (tableAt (now (table .entry))) (now (dues .entry)) (now (after .entry)) (now (needs .entry)) (now (needs .exit)) r ⌝ }
+{
+    let c = i as usize - 1;
+    let k = first - 1;
+    let d = dues[c] as usize;
+    let z = core_sizes::size_in(table, i, 0);
+    let cand = core_decide::wide(z) + core_decide::larger(after[d], core_decide::need_at(needs, first, 0));
+    let e = d - 1;
+    needs[k] = cand;
+    if after[0] < cand {
+        return false;
+    }
+    core_decide::need_at(needs, k, held) <= after[e]
+}
+
+// The chunks i down to 1, beside the kept ones: chunk i is tried kept and then skipped, each try a step. left is one more than the steps
+// of the budget not yet taken, and 0 once a step was wanted that the budget does not have; so is the result.
+fn search(
+    i: u16,
+    first: usize,
+    held: usize,
+    table: &[u32; 2000],
+    dues: &[u16; 500],
+    after: &[u64; 3601],
+    ids: &mut [u16; 500],
+    needs: &mut [u64; 500],
+    best: &mut [u16; 500],
+    count: &mut usize,
+    left: u64,
+) -> u64
+    requires { ⌜ SearchFrom i first held (tableAt (now table)) (now dues) (now after) (now ids) (now needs) (now best) (now count) ⌝ }
+    ensures { λ r. ⌜ Searched i first held (tableAt (now (table .entry))) (now (dues .entry)) (now (after .entry)) (now (ids .entry)) (now (needs .entry)) (now (best .entry)) (now (count .entry)) left (now (ids .exit)) (now (needs .exit)) (now (best .exit)) (now (count .exit)) r ⌝ }
+{
+    if i == 0 {
+        return left;
+    }
+    if left < 2 {
+        return 0;
+    }
+    let down = i - 1;
+    let next = left - 1;
+    let mut rest = next;
+    if can_keep(i, first, held, table, dues, after, needs) {
+        let k = first - 1;
+        ids[k] = i;
+        note(k, ids, best, count);
+        rest = search(
+            down,
+            k,
+            held,
+            table,
+            dues,
+            after,
+            ids,
+            needs,
+            best,
+            count,
+            next,
+        );
+    }
+    if rest < 2 {
+        return 0;
+    }
+    let skipped = rest - 1;
+    search(
+        down,
+        first,
+        held,
+        table,
+        dues,
+        after,
+        ids,
+        needs,
+        best,
+        count,
+        skipped,
+    )
+}
+
+// The due slot of each chunk, chunk 1's at place 0.
+fn set_dues(p: Programme, dues: &mut [u16; 500])
+    requires { ⌜ (p .chunks ≤ 500) × (lastDue p ≤ 3600) × (length (now dues) ≡ 500) ⌝ }
+    ensures { λ _. ⌜ DueTable p (p .chunks) (now (dues .exit)) ⌝ }
+{
+    let mut n: u16 = 0;
+    while n < p.chunks {
+        let i = n + 1;
+        let slot = job::due_slot(p, i);
+        let k = n as usize;
+        dues[k] = slot as u16;
+        n = i;
+    }
+}
+
+// The due slot and the base's bytes of each chunk of a set at the end of ids, at its place.
+fn place(
+    p: Programme,
+    table: &[u32; 2000],
+    first: usize,
+    ids: &[u16; 500],
+    dues: &mut [u16; 500],
+    bytes: &mut [u32; 500],
+)
+    requires { ⌜ PlacesFrom p first (now ids) (now dues) (now bytes) ⌝ }
+    ensures { λ _. ⌜ KeptIn p (tableAt (now (table .entry))) (drop first (now (ids .entry))) first (now (ids .entry)) (now (dues .exit)) (now (bytes .exit)) ⌝ }
+{
+    let mut q: usize = 500;
+    while first < q {
+        let k = q - 1;
+        let i = ids[k];
+        let slot = job::due_slot(p, i);
+        dues[k] = slot as u16;
+        bytes[k] = core_sizes::size_in(table, i, 0);
+        q = k;
+    }
+}
+
+// The best set met within the budget, at the end of ids, with its due slots and bases. The kept set is empty at the start.
+pub fn find(
+    p: Programme,
+    table: &[u32; 2000],
+    after: &[u64; 3601],
+    budget: u32,
+    ids: &mut [u16; 500],
+    dues: &mut [u16; 500],
+    bytes: &mut [u32; 500],
+) -> Outcome
+    requires { ⌜ FindFrom p (tableAt (now table)) (now after) (now ids) (now dues) (now bytes) ⌝ }
+    ensures { λ r. ⌜ Finds p (tableAt (now (table .entry))) (now (after .entry)) budget r (now (ids .exit)) (now (dues .exit)) (now (bytes .exit)) ⌝ }
+{
+    let held = job::held_most(p) as usize;
+    let mut stack = [0u16; 500];
+    let mut needs = [0u64; 500];
+    let mut count: usize = 0;
+    set_dues(p, dues);
+    let all = budget as u64 + 1;
+    let left = search(
+        p.chunks,
+        500,
+        held,
+        table,
+        dues,
+        after,
+        &mut stack,
+        &mut needs,
+        ids,
+        &mut count,
+        all,
+    );
+    let first = 500 - count;
+    place(p, table, first, ids, dues, bytes);
+    if left == 0 {
+        return Outcome {
+            first,
+            steps: budget,
+            ended: false,
+        };
+    }
+    let taken = all - left;
+    let steps = taken as u32;
+    Outcome {
+        first,
+        steps,
+        ended: true,
+    }
+}
