@@ -8,7 +8,7 @@ ghost use lib.Dec.{leb};
 ghost use lib.ListN.{length};
 ghost use Rattle.theory_basics.specs.Tests.{All};
 ghost use Rattle.job.specs.Job.{Within};
-ghost use Rattle.job.specs.Handed.{handed};
+ghost use Rattle.job.specs.Input.{jobInput};
 ghost use Rattle.booking.specs.Booking.{takenOff};
 ghost use Rattle.booking.specs.Answer.{Booked, Released};
 ghost use Rattle.booking.specs.lemmas.Passes.{Added, Covered, bare, refusedBy};
@@ -98,7 +98,7 @@ pub fn book(
     layers: &[u8],
     bytes: &[u32],
 ) -> Answer
-    ensures { λ r. ⌜ Booked (handed p (now (sizes .entry)) (now («size_chunks» .entry)) (now («size_layers» .entry)) (now («size_bytes» .entry)) (now (forecast .entry))) (now (marks .entry)) (now (slots .entry)) (now (chunks .entry)) (now (layers .entry)) (now (bytes .entry)) r (now (forecast .exit)) ⌝ }
+    ensures { λ r. ⌜ Booked (jobInput p (now (sizes .entry)) (now («size_chunks» .entry)) (now («size_layers» .entry)) (now («size_bytes» .entry)) (now (forecast .entry))) (now (marks .entry)) (now (slots .entry)) (now (chunks .entry)) (now (layers .entry)) (now (bytes .entry)) r (now (forecast .exit)) ⌝ }
 {
     let checked = checker::check(
         p,
@@ -135,13 +135,13 @@ pub fn release(
     layers: &[u8],
     bytes: &[u32],
 ) -> Answer
-    ensures { λ r. ⌜ Released (handed p (now (sizes .entry)) (now («size_chunks» .entry)) (now («size_layers» .entry)) (now («size_bytes» .entry)) (now (forecast .entry))) (now (slots .entry)) (now (chunks .entry)) (now (layers .entry)) (now (bytes .entry)) r (now (forecast .exit)) ⌝ }
+    ensures { λ r. ⌜ Released (jobInput p (now (sizes .entry)) (now («size_chunks» .entry)) (now («size_layers» .entry)) (now («size_bytes» .entry)) (now (forecast .entry))) (now (slots .entry)) (now (chunks .entry)) (now (layers .entry)) (now (bytes .entry)) r (now (forecast .exit)) ⌝ }
 {
     let job = job::refusal(p, sizes, size_chunks, size_layers, size_bytes, forecast);
     if job != 0 {
         return Answer::Refused(job);
     }
-    let list = fetch::handed_refusal(0, &[], slots, chunks, layers, bytes);
+    let list = fetch::list_refusal(0, &[], slots, chunks, layers, bytes);
     if list != 0 {
         return Answer::Refused(list);
     }

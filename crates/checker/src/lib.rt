@@ -1,5 +1,8 @@
 // The checker: document 01's verdict for any fetch list with its marks, and document 02's from a slot on, whose rule 2 allows a short sum
 // whose rows are all before that slot. At slot 1 the second is the first. The tables and what they say of the rules are those of rules.
+use job::SIZES;
+use job::SUMS;
+use job::SizeTable;
 use job::Programme;
 ghost use mathlib.Core.Path.{_≡_};
 ghost use mathlib.Core.Bool.{_||_};
@@ -9,14 +12,14 @@ ghost use lib.ListN.{length, getD, replicate};
 ghost use lib.Dec.{eqb};
 ghost use Rattle.theory_basics.specs.Tests.{allBelow, allTo};
 ghost use Rattle.job.specs.Job.{lastDue};
-ghost use Rattle.job.specs.Handed.{handed};
+ghost use Rattle.job.specs.Input.{jobInput};
 ghost use Rattle.job.specs.Table.{tableAt};
 ghost use Rattle.fetch.specs.Rows.{rowsOf};
-ghost use Rattle.fetch.specs.Handed.{Whole};
+ghost use Rattle.fetch.specs.Input.{Whole};
 ghost use Rattle.fetch.specs.Verdict.{lowest};
 ghost use Rattle.fetch.specs.VerdictFrom.{layerBefore};
 ghost use Rattle.checker.specs.Checked.{checked, checkedFrom};
-ghost use Rattle.checker.specs.lemmas.Judged.{allowedSum, allowedBy, early, InTables, Late, Judged};
+ghost use Rattle.checker.specs.lemmas.Judged.{allowedSum, allowedBy, early, InTables, MarkLatePost, Judged};
 
 // The verdict 0 to 7, or the number of a refusal.
 pub enum Checked {
@@ -76,10 +79,10 @@ fn mark_late(
     chunks: &[u16],
     layers: &[u8],
     bytes: &[u32],
-    late: &mut [u8; 2000],
+    late: &mut [u8; SIZES],
 )
     requires { ⌜ InTables last count depth (now slots) (now chunks) (now layers) (now bytes) × (now late ≡ replicate 2000 0) ⌝ }
-    ensures { λ _. ⌜ Late from (rowsOf (now (slots .entry)) (now (chunks .entry)) (now (layers .entry)) (now (bytes .entry))) (now (late .exit)) ⌝ }
+    ensures { λ _. ⌜ MarkLatePost from (rowsOf (now (slots .entry)) (now (chunks .entry)) (now (layers .entry)) (now (bytes .entry))) (now (late .exit)) ⌝ }
 {
     let mut k: usize = 0;
     while k < slots.len() {
@@ -98,10 +101,10 @@ fn mark_late(
 
 // Rule 2 of the second call for the layers of a chunk.
 fn allowed_chunk(
-    table: &[u32; 2000],
+    table: &SizeTable,
     depth: usize,
-    layersum: &[u64; 2000],
-    late: &[u8; 2000],
+    layersum: &[u64; SIZES],
+    late: &[u8; SIZES],
     i: u16,
 ) -> bool
     requires { ⌜ (depth ≤ 4) × (1 ≤ i) × (i ≤ 500) ⌝ }
@@ -121,10 +124,10 @@ fn allowed_chunk(
 
 // And for all chunks.
 fn allowed_all(
-    table: &[u32; 2000],
+    table: &SizeTable,
     depth: usize,
-    layersum: &[u64; 2000],
-    late: &[u8; 2000],
+    layersum: &[u64; SIZES],
+    late: &[u8; SIZES],
     count: u16,
 ) -> bool
     requires { ⌜ (depth ≤ 4) × (count ≤ 500) ⌝ }
@@ -147,8 +150,8 @@ fn whole_from(
     count: u16,
     depth: usize,
     from: u16,
-    table: &[u32; 2000],
-    layersum: &[u64; 2000],
+    table: &SizeTable,
+    layersum: &[u64; SIZES],
     slots: &[u16],
     chunks: &[u16],
     layers: &[u8],
@@ -160,7 +163,7 @@ fn whole_from(
     if whole {
         return true;
     }
-    let mut late = [0u8; 2000];
+    let mut late = [0u8; SIZES];
     mark_late(
         last,
         count,
@@ -179,7 +182,7 @@ fn whole_from(
 // table alone; `depth` is the number of layers.
 fn verdict_of(
     p: Programme,
-    table: &[u32; 2000],
+    table: &SizeTable,
     depth: usize,
     forecast: &[u32],
     from: u16,
@@ -193,8 +196,8 @@ fn verdict_of(
     ensures { λ r. ⌜ Judged p (now (table .entry)) depth (now (forecast .entry)) from (now (marks .entry)) (rowsOf (now (slots .entry)) (now (chunks .entry)) (now (layers .entry)) (now (bytes .entry))) r ⌝ }
 {
     let last = job::last_due(p);
-    let mut slotsum = [0u64; 3601];
-    let mut layersum = [0u64; 2000];
+    let mut slotsum = [0u64; SUMS];
+    let mut layersum = [0u64; SIZES];
     let mut first = [65535u16; 501];
     let pass = core_rules::tally(
         p,
@@ -245,19 +248,19 @@ pub fn check(
     layers: &[u8],
     bytes: &[u32],
 ) -> Checked
-    ensures { λ r. ⌜ r ≡ checked (handed p (now (sizes .entry)) (now («size_chunks» .entry)) (now («size_layers» .entry)) (now («size_bytes» .entry)) (now (forecast .entry))) (now (marks .entry)) (now (slots .entry)) (now (chunks .entry)) (now (layers .entry)) (now (bytes .entry)) ⌝ }
+    ensures { λ r. ⌜ r ≡ checked (jobInput p (now (sizes .entry)) (now («size_chunks» .entry)) (now («size_layers» .entry)) (now («size_bytes» .entry)) (now (forecast .entry))) (now (marks .entry)) (now (slots .entry)) (now (chunks .entry)) (now (layers .entry)) (now (bytes .entry)) ⌝ }
 {
     let job = job::refusal(p, sizes, size_chunks, size_layers, size_bytes, forecast);
     if job != 0 {
         return Checked::Refused(job);
     }
-    let list = fetch::handed_refusal(p.chunks, marks, slots, chunks, layers, bytes);
+    let list = fetch::list_refusal(p.chunks, marks, slots, chunks, layers, bytes);
     if list != 0 {
         return Checked::Refused(list);
     }
     let depth = sizes.len();
     let unset = p.chunks as u32;
-    let mut table = [unset; 2000];
+    let mut table = [unset; SIZES];
     job::fill_sizes(sizes, size_chunks, size_layers, size_bytes, &mut table);
     Checked::Verdict(verdict_of(
         p,
@@ -288,13 +291,13 @@ pub fn check_from(
     layers: &[u8],
     bytes: &[u32],
 ) -> Checked
-    ensures { λ r. ⌜ r ≡ checkedFrom (handed p (now (sizes .entry)) (now («size_chunks» .entry)) (now («size_layers» .entry)) (now («size_bytes» .entry)) (now (forecast .entry))) from (now (marks .entry)) (now (slots .entry)) (now (chunks .entry)) (now (layers .entry)) (now (bytes .entry)) ⌝ }
+    ensures { λ r. ⌜ r ≡ checkedFrom (jobInput p (now (sizes .entry)) (now («size_chunks» .entry)) (now («size_layers» .entry)) (now («size_bytes» .entry)) (now (forecast .entry))) from (now (marks .entry)) (now (slots .entry)) (now (chunks .entry)) (now (layers .entry)) (now (bytes .entry)) ⌝ }
 {
     let job = job::refusal(p, sizes, size_chunks, size_layers, size_bytes, forecast);
     if job != 0 {
         return Checked::Refused(job);
     }
-    let list = fetch::handed_refusal(p.chunks, marks, slots, chunks, layers, bytes);
+    let list = fetch::list_refusal(p.chunks, marks, slots, chunks, layers, bytes);
     if list != 0 {
         return Checked::Refused(list);
     }
@@ -304,7 +307,7 @@ pub fn check_from(
     }
     let depth = sizes.len();
     let unset = p.chunks as u32;
-    let mut table = [unset; 2000];
+    let mut table = [unset; SIZES];
     job::fill_sizes(sizes, size_chunks, size_layers, size_bytes, &mut table);
     Checked::Verdict(verdict_of(
         p,

@@ -13,8 +13,8 @@ use Rattle.job.specs.Job.{dueSlot}
 use Rattle.theory_plan.specs.lemmas.Ascending.{Asc, asc-lower}
 use Rattle.theory_plan.specs.lemmas.Trials.{Stack, candidate, keeps, push, bases}
 use Rattle.theory_plan.specs.lemmas.Parts.{at}
-use Rattle.core_decide.specs.lemmas.Decision.{BasesFrom, stackIn}
-use Rattle.core_moore_hodgson.specs.lemmas.Walking.{KeptIn}
+use Rattle.core_decide.specs.lemmas.Decision.{KeepBasesPre, stackIn}
+use Rattle.core_moore_hodgson.specs.lemmas.Tables.{KeptIn}
 use Rattle.theory_basics.specs.lemmas.Tables.{set-before}
 
 -- The chunk i is due by the last slot.
@@ -42,7 +42,7 @@ module _ (p : Programme) (size : ℕ → ℕ → ℕ) (after : List ℕ) where
     pub left : i ≤ p .chunks
     pub long : (length ids ≡ 500) × (length dues ≡ 500) × (length bytes ≡ 500) × (length needs ≡ 500)
 
-  pub basing-start : (ids dues bytes needs : List ℕ) → BasesFrom p size after ids dues bytes needs → Basing ids dues bytes needs 0 500 (p .chunks)
+  pub basing-start : (ids dues bytes needs : List ℕ) → KeepBasesPre p size after ids dues bytes needs → Basing ids dues bytes needs 0 500 (p .chunks)
   basing-start ids dues bytes needs o =
       let z : p .chunks - p .chunks ≡ 0 = omega arith in
       let e : drop 500 ids ≡ [] = drop-of-length-le ids {i = 500} (omega (arith, o .long .1)) in

@@ -13,15 +13,15 @@ use Rattle.fetch.specs.Marks.{bit}
 use Rattle.job.specs.declared.Programme.{Programme}
 use Rattle.job.specs.Job.{Job, Override, jobOf, sizeIn, size, due, dueSlot, heldMost, lastDue, layers, chunks}
 use Rattle.theory_plan.specs.lemmas.Ascending.{Asc, asc-within}
-use Rattle.theory_plan.specs.Plan.{byWalk, kept, plan}
-use Rattle.theory_plan.specs.lemmas.Walked.{kept-by-after}
-use Rattle.core_moore_hodgson.specs.lemmas.Walking.{KeptIn}
+use Rattle.theory_plan.specs.Plan.{byMooreHodgson, kept, plan}
+use Rattle.theory_plan.specs.lemmas.MooreHodgson.{kept-by-after}
+use Rattle.core_moore_hodgson.specs.lemmas.Tables.{KeptIn}
 use Rattle.theory_plan.specs.lemmas.Linear.{bases-kept, decided-is, map-map}
 use Rattle.theory_plan.specs.lemmas.Necessity.{after}
 use Rattle.theory_plan.specs.lemmas.Sufficiency.{ones, releases}
-use Rattle.theory_plan.specs.lemmas.Trials.{Kept, Tried, bases, rooms, back, bytesOf, markOf, keptAt, onLayer, onLayers, based, decidedOn, keptBases, stacked}
+use Rattle.theory_plan.specs.lemmas.Trials.{Kept, Tried, bases, rooms, back, bytesKept, markOf, keptAt, onLayer, onLayers, based, decidedOn, keptBases, stacked}
 use Rattle.theory_plan.specs.lemmas.Parts.{at, padded, padded-long, part-small}
-use Rattle.core_decide.specs.lemmas.Decision.{keptOf, Sums, Slot, SumTable, basesIn, LayersFrom, LayersDone, KeptFrom, Decides, DecidesKept, jobFrom, DecideFrom, DecidesEach}
+use Rattle.core_decide.specs.lemmas.Decision.{keptOf, Sums, Slot, SumTable, basesIn, SettleLayersPre, SettleLayersPost, SettleKeptPre, Decides, SettleKeptPost, jobFrom, DecidePre, DecidePost}
 use Rattle.theory_plan.specs.lemmas.Words.{due-by}
 use Rattle.theory_plan.specs.lemmas.Queue.{each-is, all-ones}
 use Rattle.theory_basics.specs.lemmas.Tables.{all-take}
@@ -54,10 +54,10 @@ module _ (size : ℕ → ℕ → ℕ) (A : ℕ → ℕ) where
   on-layers-take room rs zero ks = refl
   on-layers-take room rs (suc n) ks =
       let o = onLayers size A room rs n ks in
-      let e : length ks ≡ length (map bytesOf o) = sym (length-map o bytesOf ∙ on-layers-long room rs n ks) in
+      let e : length ks ≡ length (map bytesKept o) = sym (length-map o bytesKept ∙ on-layers-long room rs n ks) in
       ap (onLayer size A room (take (length ks) rs) (suc n)) (on-layers-take room rs n ks)
-      ∙ ap (λ (m : ℕ). back size A (suc n) (rooms A room (map bytesOf o) (take m rs)) o .kept) e
-      ∙ ap (λ (hs : List ℕ). back size A (suc n) hs o .kept) (rooms-take A room (map bytesOf o) rs)
+      ∙ ap (λ (m : ℕ). back size A (suc n) (rooms A room (map bytesKept o) (take m rs)) o .kept) e
+      ∙ ap (λ (hs : List ℕ). back size A (suc n) hs o .kept) (rooms-take A room (map bytesKept o) rs)
 
 -- ---- slots
 
@@ -91,7 +91,7 @@ all-small f b h (k ∷ ks) = (h k, all-small f b h ks)
 
 module _
     (p : Programme) (layers : ℕ) (size : ℕ → ℕ → ℕ) (left : List ℕ) (first : ℕ) (ids dues bytes room ready₀ mark : List ℕ)
-    (o : KeptFrom p layers size left first ids dues bytes room ready₀ mark)
+    (o : SettleKeptPre p layers size left first ids dues bytes room ready₀ mark)
     (ready : List ℕ) (lr : length ready ≡ 500) (r : drop first ready ≡ take (500 - first) (ones (p .limit / p .span) ++ drop first dues)) where
   abbrev ks : List ℕ
   ks = drop first ids
@@ -99,7 +99,7 @@ module _
   many : length ks ≡ 500 - first
   many = length-drop first ids ∙ ap (λ (n : ℕ). n - first) (o .kept .long .0)
 
-  pub layers-from : LayersFrom layers size left ids dues ready first bytes room mark
+  pub layers-from : SettleLayersPre layers size left ids dues ready first bytes room mark
   layers-from =
       let b = o .kept in
       let due-in : All Slot (drop first dues) = subst (All Slot) (sym (b .due-slots)) (due-slots p (o .late) (o .ends) 1 ks (b .ascending)) in
@@ -134,7 +134,7 @@ module _
 
     decides-choice :
         at left ≡ after j → (x : ℕ → ℕ) → ks ≡ kept j x → decidedOn j ks ≡ map (keptAt j x) (kept j x) → (all : ℕ) → all ≡ getD left 0 0 →
-        (bytes' mark' : List ℕ) → LayersDone layers size all left ids dues ready first bytes mark bytes' mark' → Decides j x first ids ready mark'
+        (bytes' mark' : List ℕ) → SettleLayersPost layers size all left ids dues ready first bytes mark bytes' mark' → Decides j x first ids ready mark'
     decides-choice sums-are x kept-are decided all a bytes' mark' y =
         let own : ℕ → ℕ → ℕ = sizeIn sizes overrides in
         let whole : keptOf ks (drop first dues) (drop first bytes') (drop first mark') ≡ map (keptAt j x) (kept j x) =
@@ -157,13 +157,13 @@ module _
           long = (o .kept .long .0, lr, y .long .1);
         }
 
-  pub decides-kept : (all : ℕ) → all ≡ getD left 0 0 → (bytes' mark' : List ℕ) → LayersDone layers size all left ids dues ready first bytes mark bytes' mark' → DecidesKept p layers size left first ids ready mark'
+  pub decides-kept : (all : ℕ) → all ≡ getD left 0 0 → (bytes' mark' : List ℕ) → SettleLayersPost layers size all left ids dues ready first bytes mark bytes' mark' → SettleKeptPost p layers size left first ids ready mark'
   decides-kept all a bytes' mark' y sizes overrides forecast count says sums-are x kept-are decided =
       decides-choice sizes overrides forecast count says sums-are x kept-are decided all a bytes' mark' y
 
 -- ---- the whole
 
-module _ (p : Programme) (layers : ℕ) (size : ℕ → ℕ → ℕ) (start : ℕ) (part ids₀ ready₀ mark₀ : List ℕ) (o : DecideFrom p layers size start part ids₀ ready₀ mark₀) where
+module _ (p : Programme) (layers : ℕ) (size : ℕ → ℕ → ℕ) (start : ℕ) (part ids₀ ready₀ mark₀ : List ℕ) (o : DecidePre p layers size start part ids₀ ready₀ mark₀) where
   pub sums-small : (left : List ℕ) → SumTable start part left → Sums left
   sums-small left s k = rw (s .is k) (part-small start part (o .part-in) k)
 
@@ -175,7 +175,7 @@ module _ (p : Programme) (layers : ℕ) (size : ℕ → ℕ → ℕ) (start : �
 
   pub kept-from :
       {left : List ℕ} → SumTable start part left → {ks : List ℕ} {first : ℕ} {ids dues bytes : List ℕ} → KeptIn p size ks first ids dues bytes →
-      (room : List ℕ) → length room ≡ 500 → KeptFrom p layers size left first ids dues bytes room ready₀ mark₀
+      (room : List ℕ) → length room ≡ 500 → SettleKeptPre p layers size left first ids dues bytes room ready₀ mark₀
   kept-from {left} s b room lr =
       record {
         few = o .few;
@@ -201,13 +201,13 @@ module _ (p : Programme) (layers : ℕ) (size : ℕ → ℕ → ℕ) (start : �
           b .kept
           ∙ ap (λ (z : ℕ → ℕ → ℕ). basesIn p z (at left)) says
           ∙ ap (basesIn p (sizeIn sizes overrides)) (sums-are left s sizes overrides)
-          ∙ ap (λ (l : List ℕ). cond (byWalk job) l (stacked job)) (kept-by-after job)
+          ∙ ap (λ (l : List ℕ). cond (byMooreHodgson job) l (stacked job)) (kept-by-after job)
 
-      decides-plan : (ready mark' : List ℕ) → DecidesKept p layers size left first ids ready mark' → Decides job (plan job) first ids ready mark'
+      decides-plan : (ready mark' : List ℕ) → SettleKeptPost p layers size left first ids ready mark' → Decides job (plan job) first ids ready mark'
       decides-plan ready mark' y =
           let some : 0 < length sizes = omega (arith, o .some) in
           y sizes overrides (padded start part) count says (sums-are left s sizes overrides) (plan job) (kept-are ∙ bases-kept job some)
           (ap (decidedOn job) kept-are ∙ decided-is job some (omega (arith, o .few-layers)))
 
-    pub decides : (ready mark' : List ℕ) → DecidesKept p layers size left first ids ready mark' → DecidesEach p layers size start part first ids ready mark'
+    pub decides : (ready mark' : List ℕ) → SettleKeptPost p layers size left first ids ready mark' → DecidePost p layers size start part first ids ready mark'
     decides ready mark' y sizes overrides count says = decides-plan sizes overrides count says ready mark' y

@@ -8,13 +8,13 @@ use Rattle.theory_basics.specs.Tests.{All}
 use Rattle.job.specs.Job.{layers}
 use Rattle.theory_plan.specs.Plan.{kept}
 use Rattle.theory_plan.specs.lemmas.Necessity.{after}
-use Rattle.theory_plan.specs.lemmas.Trials.{Kept, rooms, back, bytesOf, markOf, onLayer, onLayers}
+use Rattle.theory_plan.specs.lemmas.Trials.{Kept, rooms, back, bytesKept, markOf, onLayer, onLayers}
 use Rattle.theory_plan.specs.lemmas.Parts.{at}
-use Rattle.core_decide.specs.lemmas.Decision.{keptOf, LayerFrom, LayerDone, LayersFrom, LayersDone}
+use Rattle.core_decide.specs.lemmas.Decision.{keptOf, TryLayerPre, TryLayerPost, SettleLayersPre, SettleLayersPost}
 
 -- ---- four tables of one length
 
-bytes-of : (is ds bs ms : List ℕ) → length is ≡ length ds → length is ≡ length bs → length is ≡ length ms → map bytesOf (keptOf is ds bs ms) ≡ bs
+bytes-of : (is ds bs ms : List ℕ) → length is ≡ length ds → length is ≡ length bs → length is ≡ length ms → map bytesKept (keptOf is ds bs ms) ≡ bs
 bytes-of [] ds [] ms d b m = refl
 bytes-of [] ds (y ∷ bs) ms d b m = absurd (omega arith)
 bytes-of (i ∷ is) [] bs ms d b m = absurd (omega arith)
@@ -48,7 +48,7 @@ all-imp : (P Q : ℕ → Type 0) (l : List ℕ) → ((x : ℕ) → P x → Q x) 
 all-imp P Q [] f a = tt
 all-imp P Q (x ∷ l) f a = (f x (a .0), all-imp P Q l f (a .1))
 
-module _ (layers : ℕ) (size : ℕ → ℕ → ℕ) (all : ℕ) (after ids dues ready : List ℕ) (first : ℕ) (bytes₀ room₀ mark₀ : List ℕ) (o : LayersFrom layers size after ids dues ready first bytes₀ room₀ mark₀) where
+module _ (layers : ℕ) (size : ℕ → ℕ → ℕ) (all : ℕ) (after ids dues ready : List ℕ) (first : ℕ) (bytes₀ room₀ mark₀ : List ℕ) (o : SettleLayersPre layers size after ids dues ready first bytes₀ room₀ mark₀) where
   pub settling-start : Settling layers size all after ids dues ready first bytes₀ mark₀ bytes₀ room₀ mark₀ 1
   settling-start =
       record {
@@ -60,13 +60,13 @@ module _ (layers : ℕ) (size : ℕ → ℕ → ℕ) (all : ℕ) (after ids dues
       }
 
   module _ (bytes room mark : List ℕ) (n : ℕ) (s : Settling layers size all after ids dues ready first bytes₀ mark₀ bytes room mark n) where
-    pub settling-end : layers ≤ n → LayersDone layers size all after ids dues ready first bytes₀ mark₀ bytes mark
+    pub settling-end : layers ≤ n → SettleLayersPost layers size all after ids dues ready first bytes₀ mark₀ bytes mark
     settling-end h =
         let e : n ≡ layers = omega (arith, s .high) in
         record { kept = rw e at (s .says); long = (s .long .0, s .long .2) }
 
     module _ (h : n < layers) where
-      pub layer-from : (room' : List ℕ) → length room' ≡ 500 → LayerFrom size n after ids dues room' first bytes mark
+      pub layer-from : (room' : List ℕ) → length room' ≡ 500 → TryLayerPre size n after ids dues room' first bytes mark
       layer-from room' e =
           record {
             low = s .low;
@@ -82,12 +82,12 @@ module _ (layers : ℕ) (size : ℕ → ℕ → ℕ) (all : ℕ) (after ids dues
 
       pub settling-more : (room' bytes' mark' : List ℕ) → length room' ≡ 500
           → drop first room' ≡ rooms (at after) all (drop first bytes) (drop first ready)
-          → LayerDone size n after ids dues room' first bytes mark bytes' mark'
+          → TryLayerPost size n after ids dues room' first bytes mark bytes' mark'
           → Settling layers size all after ids dues ready first bytes₀ mark₀ bytes' room' mark' (n + 1)
       settling-more room' bytes' mark' e r y =
           let here : List Kept = keptOf (drop first ids) (drop first dues) (drop first bytes) (drop first mark) in
           let there : List Kept = keptOf (drop first ids) (drop first dues) (drop first bytes₀) (drop first mark₀) in
-          let b : map bytesOf here ≡ drop first bytes = bytes-of (drop first ids) (drop first dues) (drop first bytes) (drop first mark) (same-long ids dues first (o .long .1) (o .long .2)) (same-long ids bytes first (o .long .1) (s .long .0)) (same-long ids mark first (o .long .1) (s .long .2)) in
+          let b : map bytesKept here ≡ drop first bytes = bytes-of (drop first ids) (drop first dues) (drop first bytes) (drop first mark) (same-long ids dues first (o .long .1) (o .long .2)) (same-long ids bytes first (o .long .1) (s .long .0)) (same-long ids mark first (o .long .1) (s .long .2)) in
           let d : suc (n - 1) ≡ n = omega (arith, s .low) in
           let d′ : n + 1 - 1 ≡ suc (n - 1) = omega (arith, s .low) in
           let step : keptOf (drop first ids) (drop first dues) (drop first bytes') (drop first mark') ≡ onLayer size (at after) all (drop first ready) n here =

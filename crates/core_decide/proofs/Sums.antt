@@ -9,8 +9,8 @@ use lib.ListN.{length, getD, set, length-set, List·getD-eq-default}
 use lib.Dec.{leb, ltb, ltb→lt, nltb→le}
 use borrow.Author.Tests.{le-leb, lt-leb, lt-ltb, le-ltb}
 use Rattle.theory_basics.specs.lemmas.Tests.{test}
-use Rattle.theory_plan.specs.lemmas.Parts.{at, padded, leftAfter, Part, left-before, left-none, padded-long, left-step, padded-at}
-use Rattle.core_decide.specs.lemmas.Decision.{Placed, SumTable}
+use Rattle.theory_plan.specs.lemmas.Parts.{at, padded, leftAfter, ForecastPart, left-before, left-none, padded-long, left-step, padded-at}
+use Rattle.core_decide.specs.lemmas.Decision.{SetPlacesPost, SumTable}
 use Rattle.theory_basics.specs.lemmas.Tables.{at-set, above-next}
 
 -- ---- a value at places
@@ -19,11 +19,11 @@ and-false : (b : Bool) → b && false ≡ false
 and-false true = refl
 and-false false = refl
 
-pub placed-start : (from v : ℕ) (old : List ℕ) → length old ≡ 3601 → Placed from from v old old
+pub placed-start : (from v : ℕ) (old : List ℕ) → length old ≡ 3601 → SetPlacesPost from from v old old
 placed-start from v old h =
     record { reached = omega arith; long = h; places = λ m. ⊎-elim (λ t. rw (lt-ltb m from (ltb→lt m from t), lt-leb from m (ltb→lt m from t))) (λ t. rw (le-ltb m from (nltb→le m from t), and-false (leb from m))) (test (ltb m from)) }
 
-pub placed-more : (from k v : ℕ) (old new : List ℕ) → Placed from k v old new → k < 3601 → Placed from (k + 1) v old (set new k v)
+pub placed-more : (from k v : ℕ) (old new : List ℕ) → SetPlacesPost from k v old new → k < 3601 → SetPlacesPost from (k + 1) v old (set new k v)
 placed-more from k v old new p h =
     record {
       reached = omega (arith, p .reached);
@@ -49,8 +49,8 @@ pub record Summed (start : ℕ) (part after : List ℕ) (sum u : ℕ) : Type 0 w
   pub long : length after ≡ 3601
   pub table : (t : ℕ) → start - 1 + u ≤ t → getD after t 0 ≡ leftAfter (padded start part) t
 
-module _ (start : ℕ) (part : List ℕ) (p : Part start part) where
-  pub summed-start : (old after : List ℕ) → Placed (start - 1 + length part) 3601 0 old after → Summed start part after 0 (length part)
+module _ (start : ℕ) (part : List ℕ) (p : ForecastPart start part) where
+  pub summed-start : (old after : List ℕ) → SetPlacesPost (start - 1 + length part) 3601 0 old after → Summed start part after 0 (length part)
   summed-start old after z =
       let none : (t : ℕ) → start - 1 + length part ≤ t → leftAfter (padded start part) t ≡ 0 = λ t h. left-none (padded start part) t (omega (arith, padded-long start part)) in
       record {
@@ -84,7 +84,7 @@ module _ (start : ℕ) (part : List ℕ) (p : Part start part) where
               (λ o. s .table i (omega (arith, above-next i t w o, e)));
         }
 
-    pub summed-end : u ≤ 0 → (after' : List ℕ) → Placed 0 (start - 1) sum after after' → SumTable start part after'
+    pub summed-end : u ≤ 0 → (after' : List ℕ) → SetPlacesPost 0 (start - 1) sum after after' → SumTable start part after'
     summed-end h after' z =
         let e : start - 1 + u ≡ start - 1 = omega arith in
         let is : sum ≡ leftAfter (padded start part) (start - 1) = rw e at (s .is) in

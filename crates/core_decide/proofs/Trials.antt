@@ -12,7 +12,7 @@ use Rattle.job.specs.Job.{Within}
 use Rattle.fetch.specs.Marks.{bit, withLayer}
 use Rattle.theory_plan.specs.lemmas.Trials.{Kept, Tried, tryOne, back}
 use Rattle.theory_plan.specs.lemmas.Parts.{at}
-use Rattle.core_decide.specs.lemmas.Decision.{keptOf, Slot, LayerFrom, LayerDone}
+use Rattle.core_decide.specs.lemmas.Decision.{keptOf, Slot, TryLayerPre, TryLayerPost}
 use Rattle.theory_basics.specs.lemmas.Tables.{drop-before, set-before, all-from}
 
 pub record Backing (size : ℕ → ℕ → ℕ) (n : ℕ) (after ids dues room : List ℕ) (first : ℕ) (bytes₀ mark₀ bytes mark : List ℕ) (need q : ℕ) : Type 0 where
@@ -26,7 +26,7 @@ pub record Backing (size : ℕ → ℕ → ℕ) (n : ℕ) (after ids dues room :
   pub carried : All (λ b. b ≤ suc n * 16777216) (drop q bytes)
   pub long : (length bytes ≡ 500) × (length mark ≡ 500)
 
-module _ (size : ℕ → ℕ → ℕ) (n : ℕ) (after ids dues room : List ℕ) (first : ℕ) (bytes₀ mark₀ : List ℕ) (o : LayerFrom size n after ids dues room first bytes₀ mark₀) where
+module _ (size : ℕ → ℕ → ℕ) (n : ℕ) (after ids dues room : List ℕ) (first : ℕ) (bytes₀ mark₀ : List ℕ) (o : TryLayerPre size n after ids dues room first bytes₀ mark₀) where
   pub backing-start : Backing size n after ids dues room first bytes₀ mark₀ bytes₀ mark₀ 0 500
   unfolding back
   backing-start =
@@ -43,7 +43,7 @@ module _ (size : ℕ → ℕ → ℕ) (n : ℕ) (after ids dues room : List ℕ)
       }
 
   module _ (bytes mark : List ℕ) (need q : ℕ) (b : Backing size n after ids dues room first bytes₀ mark₀ bytes mark need q) where
-    pub backing-end : q ≤ first → LayerDone size n after ids dues room first bytes₀ mark₀ bytes mark
+    pub backing-end : q ≤ first → TryLayerPost size n after ids dues room first bytes₀ mark₀ bytes mark
     backing-end h =
         let e : q ≡ first = omega (arith, b .from) in
         record { kept = sym (ap (λ (o : Tried). o .kept) (rw e at (b .says))); carried = rw e at (b .carried); long = b .long }

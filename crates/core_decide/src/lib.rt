@@ -2,6 +2,10 @@
 // tables of 500 places, in playing order, from a first place on. The passes serve any ascending set of kept chunks, over a part of the
 // forecast that starts at any slot: sum_after and keep_bases for the base, then, for kept chunks with their due slots and bytes
 // however they were found, set_releases and settle_layers. Sizes are those of the table that job's fill_sizes fills.
+use job::CHUNKS;
+use job::SUMS;
+use job::SizeTable;
+use job::SlotSums;
 use job::Programme;
 ghost use mathlib.Core.Path.{_≡_};
 ghost use mathlib.Core.Bool.{cond, _&&_};
@@ -14,9 +18,9 @@ ghost use Rattle.fetch.specs.Marks.{bit};
 ghost use mathlib.Core.List.{_++_};
 ghost use Rattle.theory_plan.specs.lemmas.Sufficiency.{ones};
 ghost use Rattle.theory_plan.specs.lemmas.Trials.{rooms};
-ghost use Rattle.theory_plan.specs.lemmas.Parts.{at, Part};
-ghost use Rattle.core_moore_hodgson.specs.lemmas.Walking.{KeptIn};
-ghost use Rattle.core_decide.specs.lemmas.Decision.{Placed, SumTable, BasesFrom, SettleFrom, stackIn, basesIn, Slot, LayerFrom, LayerDone, LayersFrom, LayersDone, KeptFrom, DecidesKept, DecideFrom, DecidesEach};
+ghost use Rattle.theory_plan.specs.lemmas.Parts.{at, ForecastPart};
+ghost use Rattle.core_moore_hodgson.specs.lemmas.Tables.{KeptIn};
+ghost use Rattle.core_decide.specs.lemmas.Decision.{SetPlacesPost, SumTable, KeepBasesPre, SettleBasesPre, stackIn, basesIn, Slot, TryLayerPre, TryLayerPost, SettleLayersPre, SettleLayersPost, SettleKeptPre, SettleKeptPost, DecidePre, DecidePost};
 
 pub fn larger(a: u64, b: u64) -> u64
     ensures { λ r. ⌜ r ≡ max a b ⌝ }
@@ -53,9 +57,9 @@ pub fn less(a: u64, b: u64) -> u64
 }
 
 // A value at the places from and on, up to to.
-fn set_places(after: &mut [u64; 3601], from: usize, to: usize, v: u64)
+fn set_places(after: &mut SlotSums, from: usize, to: usize, v: u64)
     requires { ⌜ (from ≤ to) × (to ≤ 3601) × (length (now after) ≡ 3601) ⌝ }
-    ensures { λ _. ⌜ Placed from to v (now (after .entry)) (now (after .exit)) ⌝ }
+    ensures { λ _. ⌜ SetPlacesPost from to v (now (after .entry)) (now (after .exit)) ⌝ }
 {
     let mut k = from;
     while k < to {
@@ -65,14 +69,14 @@ fn set_places(after: &mut [u64; 3601], from: usize, to: usize, v: u64)
 }
 
 // The forecast left after each slot, for a part of the forecast that starts at slot start. Sums in 64 bits: 3,600 slots need 36.
-pub fn sum_after(part: &[u32], start: usize, after: &mut [u64; 3601])
-    requires { ⌜ Part start (now part) × (length (now after) ≡ 3601) ⌝ }
+pub fn sum_after(part: &[u32], start: usize, after: &mut SlotSums)
+    requires { ⌜ ForecastPart start (now part) × (length (now after) ≡ 3601) ⌝ }
     ensures { λ _. ⌜ SumTable start (now (part .entry)) (now (after .exit)) ⌝ }
 {
     let base = start - 1;
     let mut sum: u64 = 0;
     let mut u = part.len();
-    set_places(after, base + u, 3601, 0);
+    set_places(after, base + u, SUMS, 0);
     while 0 < u {
         let v = u - 1;
         sum = sum + (part[v] as u64);
@@ -84,12 +88,12 @@ pub fn sum_after(part: &[u32], start: usize, after: &mut [u64; 3601])
 }
 
 // The need of the kept chunk so many places on, or 0 past the last.
-pub fn need_at(needs: &[u64; 500], k: usize, held: usize) -> u64
+pub fn need_at(needs: &[u64; CHUNKS], k: usize, held: usize) -> u64
     requires { ⌜ (k ≤ 500) × (held ≤ 65535) × (length (now needs) ≡ 500) ⌝ }
     ensures { λ r. ⌜ r ≡ getD (now (needs .entry)) (k + held) 0 ⌝ }
 {
     let at = k + held;
-    if at < 500 {
+    if at < CHUNKS {
         return needs[at];
     }
     0
@@ -98,21 +102,21 @@ pub fn need_at(needs: &[u64; 500], k: usize, held: usize) -> u64
 // The base of each chunk from the last to the first. The kept chunks stand at the end of ids, in playing order.
 pub fn keep_bases(
     p: Programme,
-    table: &[u32; 2000],
-    after: &[u64; 3601],
-    ids: &mut [u16; 500],
-    dues: &mut [u16; 500],
-    bytes: &mut [u32; 500],
-    needs: &mut [u64; 500],
+    table: &SizeTable,
+    after: &SlotSums,
+    ids: &mut [u16; CHUNKS],
+    dues: &mut [u16; CHUNKS],
+    bytes: &mut [u32; CHUNKS],
+    needs: &mut [u64; CHUNKS],
 ) -> usize
-    requires { ⌜ BasesFrom p (tableAt (now table)) (now after) (now ids) (now dues) (now bytes) (now needs) ⌝ }
+    requires { ⌜ KeepBasesPre p (tableAt (now table)) (now after) (now ids) (now dues) (now bytes) (now needs) ⌝ }
     ensures { λ r. ⌜ KeptIn p (tableAt (now (table .entry))) (stackIn p (tableAt (now (table .entry))) (at (now (after .entry)))) r (now (ids .exit)) (now (dues .exit)) (now (bytes .exit)) ⌝ }
     ensures room { λ _. ⌜ length (now (needs .exit)) ≡ 500 ⌝ }
 {
     let held = job::held_most(p) as usize;
     let all = after[0];
     let mut last: u64 = 0;
-    let mut first: usize = 500;
+    let mut first: usize = CHUNKS;
     let mut i = p.chunks;
     while 0 < i {
         let d = job::due_slot(p, i);
@@ -140,30 +144,30 @@ pub fn keep_bases(
 // The bases of the plan: by request 9's walk where it settles them, else in document 01's way.
 fn settle_bases(
     p: Programme,
-    table: &[u32; 2000],
-    after: &[u64; 3601],
-    ids: &mut [u16; 500],
-    dues: &mut [u16; 500],
-    bytes: &mut [u32; 500],
-    needs: &mut [u64; 500],
+    table: &SizeTable,
+    after: &SlotSums,
+    ids: &mut [u16; CHUNKS],
+    dues: &mut [u16; CHUNKS],
+    bytes: &mut [u32; CHUNKS],
+    needs: &mut [u64; CHUNKS],
 ) -> usize
-    requires { ⌜ SettleFrom p (tableAt (now table)) (now after) (now ids) (now dues) (now bytes) (now needs) ⌝ }
+    requires { ⌜ SettleBasesPre p (tableAt (now table)) (now after) (now ids) (now dues) (now bytes) (now needs) ⌝ }
     ensures { λ r. ⌜ KeptIn p (tableAt (now (table .entry))) (basesIn p (tableAt (now (table .entry))) (at (now (after .entry)))) r (now (ids .exit)) (now (dues .exit)) (now (bytes .exit)) ⌝ }
     ensures room { λ _. ⌜ length (now (needs .exit)) ≡ 500 ⌝ }
 {
-    if core_moore_hodgson::by_walk(p, table) {
+    if core_moore_hodgson::applies(p, table) {
         return core_moore_hodgson::keep_most(p, table, after, ids, dues, bytes);
     }
     keep_bases(p, table, after, ids, dues, bytes, needs)
 }
 
 // The slot from which each kept chunk may begin.
-pub fn set_releases(held: usize, dues: &[u16; 500], first: usize, ready: &mut [u16; 500])
+pub fn set_releases(held: usize, dues: &[u16; CHUNKS], first: usize, ready: &mut [u16; CHUNKS])
     requires { ⌜ (first ≤ 500) × (length (now dues) ≡ 500) × (length (now ready) ≡ 500) ⌝ }
     ensures { λ _. ⌜ (length (now (ready .exit)) ≡ 500) × (drop first (now (ready .exit)) ≡ take (500 - first) (ones held ++ drop first (now (dues .entry)))) ⌝ }
 {
     let mut q = first;
-    while q < 500 {
+    while q < CHUNKS {
         if q - first < held {
             ready[q] = 1;
             q = q + 1;
@@ -178,18 +182,18 @@ pub fn set_releases(held: usize, dues: &[u16; 500], first: usize, ready: &mut [u
 // The room of each kept chunk, from the first to the last.
 fn find_rooms(
     all: u64,
-    after: &[u64; 3601],
-    ready: &[u16; 500],
-    bytes: &[u32; 500],
+    after: &SlotSums,
+    ready: &[u16; CHUNKS],
+    bytes: &[u32; CHUNKS],
     first: usize,
-    room: &mut [u64; 500],
+    room: &mut [u64; CHUNKS],
 )
     requires { ⌜ (first ≤ 500) × All Slot (drop first (now ready)) × (length (now after) ≡ 3601) × (length (now ready) ≡ 500) × (length (now bytes) ≡ 500) × (length (now room) ≡ 500) ⌝ }
     ensures { λ _. ⌜ (length (now (room .exit)) ≡ 500) × (drop first (now (room .exit)) ≡ rooms (at (now (after .entry))) all (drop first (now (bytes .entry))) (drop first (now (ready .entry)))) ⌝ }
 {
     let mut left = all;
     let mut q = first;
-    while q < 500 {
+    while q < CHUNKS {
         let r = ready[q] as usize - 1;
         let here = smaller(left, after[r]);
         room[q] = here;
@@ -210,22 +214,22 @@ fn takes(mark: u8, n: u8, more: u64, room: u64) -> bool
 
 // Layer n of each kept chunk, from the last to the first.
 fn try_layer(
-    table: &[u32; 2000],
+    table: &SizeTable,
     n: u8,
-    after: &[u64; 3601],
-    ids: &[u16; 500],
-    dues: &[u16; 500],
-    room: &[u64; 500],
+    after: &SlotSums,
+    ids: &[u16; CHUNKS],
+    dues: &[u16; CHUNKS],
+    room: &[u64; CHUNKS],
     first: usize,
-    bytes: &mut [u32; 500],
-    mark: &mut [u8; 500],
+    bytes: &mut [u32; CHUNKS],
+    mark: &mut [u8; CHUNKS],
 )
-    requires { ⌜ LayerFrom (tableAt (now table)) n (now after) (now ids) (now dues) (now room) first (now bytes) (now mark) ⌝ }
-    ensures { λ _. ⌜ LayerDone (tableAt (now (table .entry))) n (now (after .entry)) (now (ids .entry)) (now (dues .entry)) (now (room .entry)) first (now (bytes .entry)) (now (mark .entry)) (now (bytes .exit)) (now (mark .exit)) ⌝ }
+    requires { ⌜ TryLayerPre (tableAt (now table)) n (now after) (now ids) (now dues) (now room) first (now bytes) (now mark) ⌝ }
+    ensures { λ _. ⌜ TryLayerPost (tableAt (now (table .entry))) n (now (after .entry)) (now (ids .entry)) (now (dues .entry)) (now (room .entry)) first (now (bytes .entry)) (now (mark .entry)) (now (bytes .exit)) (now (mark .exit)) ⌝ }
 {
     let below = n - 1;
     let mut need: u64 = 0;
-    let mut q: usize = 500;
+    let mut q: usize = CHUNKS;
     while first < q {
         let k = q - 1;
         let b = bytes[k];
@@ -249,19 +253,19 @@ fn try_layer(
 // All layers above the base.
 pub fn settle_layers(
     layers: usize,
-    table: &[u32; 2000],
+    table: &SizeTable,
     all: u64,
-    after: &[u64; 3601],
-    ids: &[u16; 500],
-    dues: &[u16; 500],
-    ready: &[u16; 500],
+    after: &SlotSums,
+    ids: &[u16; CHUNKS],
+    dues: &[u16; CHUNKS],
+    ready: &[u16; CHUNKS],
     first: usize,
-    bytes: &mut [u32; 500],
-    room: &mut [u64; 500],
-    mark: &mut [u8; 500],
+    bytes: &mut [u32; CHUNKS],
+    room: &mut [u64; CHUNKS],
+    mark: &mut [u8; CHUNKS],
 )
-    requires { ⌜ LayersFrom layers (tableAt (now table)) (now after) (now ids) (now dues) (now ready) first (now bytes) (now room) (now mark) ⌝ }
-    ensures { λ _. ⌜ LayersDone layers (tableAt (now (table .entry))) all (now (after .entry)) (now (ids .entry)) (now (dues .entry)) (now (ready .entry)) first (now (bytes .entry)) (now (mark .entry)) (now (bytes .exit)) (now (mark .exit)) ⌝ }
+    requires { ⌜ SettleLayersPre layers (tableAt (now table)) (now after) (now ids) (now dues) (now ready) first (now bytes) (now room) (now mark) ⌝ }
+    ensures { λ _. ⌜ SettleLayersPost layers (tableAt (now (table .entry))) all (now (after .entry)) (now (ids .entry)) (now (dues .entry)) (now (ready .entry)) first (now (bytes .entry)) (now (mark .entry)) (now (bytes .exit)) (now (mark .exit)) ⌝ }
 {
     let mut n: usize = 1;
     while n < layers {
@@ -276,18 +280,18 @@ pub fn settle_layers(
 pub fn settle_kept(
     p: Programme,
     layers: usize,
-    table: &[u32; 2000],
-    after: &[u64; 3601],
+    table: &SizeTable,
+    after: &SlotSums,
     first: usize,
-    ids: &[u16; 500],
-    dues: &[u16; 500],
-    bytes: &mut [u32; 500],
-    room: &mut [u64; 500],
-    ready: &mut [u16; 500],
-    mark: &mut [u8; 500],
+    ids: &[u16; CHUNKS],
+    dues: &[u16; CHUNKS],
+    bytes: &mut [u32; CHUNKS],
+    room: &mut [u64; CHUNKS],
+    ready: &mut [u16; CHUNKS],
+    mark: &mut [u8; CHUNKS],
 )
-    requires { ⌜ KeptFrom p layers (tableAt (now table)) (now after) first (now ids) (now dues) (now bytes) (now room) (now ready) (now mark) ⌝ }
-    ensures { λ _. ⌜ DecidesKept p layers (tableAt (now (table .entry))) (now (after .entry)) first (now (ids .entry)) (now (ready .exit)) (now (mark .exit)) ⌝ }
+    requires { ⌜ SettleKeptPre p layers (tableAt (now table)) (now after) first (now ids) (now dues) (now bytes) (now room) (now ready) (now mark) ⌝ }
+    ensures { λ _. ⌜ SettleKeptPost p layers (tableAt (now (table .entry))) (now (after .entry)) first (now (ids .entry)) (now (ready .exit)) (now (mark .exit)) ⌝ }
 {
     let held = job::held_most(p) as usize;
     let total = after[0];
@@ -312,22 +316,22 @@ pub fn settle_kept(
 pub fn decide(
     p: Programme,
     layers: usize,
-    table: &[u32; 2000],
+    table: &SizeTable,
     part: &[u32],
     start: usize,
-    ids: &mut [u16; 500],
-    ready: &mut [u16; 500],
-    mark: &mut [u8; 500],
+    ids: &mut [u16; CHUNKS],
+    ready: &mut [u16; CHUNKS],
+    mark: &mut [u8; CHUNKS],
 ) -> usize
-    requires { ⌜ DecideFrom p layers (tableAt (now table)) start (now part) (now ids) (now ready) (now mark) ⌝ }
-    ensures { λ r. ⌜ DecidesEach p layers (tableAt (now (table .entry))) start (now (part .entry)) r (now (ids .exit)) (now (ready .exit)) (now (mark .exit)) ⌝ }
+    requires { ⌜ DecidePre p layers (tableAt (now table)) start (now part) (now ids) (now ready) (now mark) ⌝ }
+    ensures { λ r. ⌜ DecidePost p layers (tableAt (now (table .entry))) start (now (part .entry)) r (now (ids .exit)) (now (ready .exit)) (now (mark .exit)) ⌝ }
 {
     // Both tables are written before they are read. A filling that is no constant is stored in wide words, faster than cleared.
     let unset = part.len() as u64;
-    let mut after = [unset; 3601];
-    let mut room = [unset; 500];
-    let mut dues = [0u16; 500];
-    let mut bytes = [0u32; 500];
+    let mut after = [unset; SUMS];
+    let mut room = [unset; CHUNKS];
+    let mut dues = [0u16; CHUNKS];
+    let mut bytes = [0u32; CHUNKS];
     sum_after(part, start, &mut after);
     let first = settle_bases(p, table, &after, ids, &mut dues, &mut bytes, &mut room);
     settle_kept(

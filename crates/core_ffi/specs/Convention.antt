@@ -8,7 +8,7 @@ use mathlib.Core.List.{List}
 use native.Mathlib.Omega.{arith}
 use lib.Dec.{eqb, eqb→eq}
 use Rattle.theory_basics.specs.lemmas.Tests.{by-cond}
-use Rattle.job.specs.Handed.{HandedJob, handed}
+use Rattle.job.specs.Input.{JobInput, jobInput}
 
 unfoldable pub answered : ℕ → ℕ → ℕ
 answered refused result = cond (eqb refused 0) result (4294967296 + refused)
@@ -18,9 +18,9 @@ abbrev pub refusalIn : ℕ → ℕ
 refusalIn answer = answer - 4294967296
 
 -- A job as numbers and slices.
-abbrev pub film : (chunks span delay limit : ℕ) (sizes size-chunks size-layers size-bytes forecast : List ℕ) → HandedJob
+abbrev pub film : (chunks span delay limit : ℕ) (sizes size-chunks size-layers size-bytes forecast : List ℕ) → JobInput
 film chunks span delay limit sizes cs ls bs forecast =
-    handed (record { chunks = chunks; span = span; delay = delay; limit = limit }) sizes cs ls bs forecast
+    jobInput (record { chunks = chunks; span = span; delay = delay; limit = limit }) sizes cs ls bs forecast
 
 -- "no result can be mistaken for" a refusal: whatever a call answers, the refusal read off it is the call's, if what it answers where it
 -- refuses nothing is below 2^32. That it is stands in Theorems, call by call.

@@ -7,9 +7,9 @@ use native.Mathlib.Omega.{arith}
 use lib.ListN.{getD, length, length-append, length-map, take}
 use Rattle.theory_basics.specs.Refusals.{_orElse_}
 use Rattle.theory_basics.specs.lemmas.Refusals.{orElse-iff}
-use Rattle.job.specs.Handed.{HandedJob, handed, handed-iff, jobIn, jobRefusal}
+use Rattle.job.specs.Input.{JobInput, jobInput, input-iff, jobIn, jobRefusal}
 use Rattle.job.specs.Job.{Job, chunks}
-use Rattle.fetch.specs.Handed.{Whole, handed-iff as whole-iff, handedRefusal}
+use Rattle.fetch.specs.Input.{Whole, input-iff as whole-iff, listRefusal}
 use Rattle.fetch.specs.Rows.{Row, rowAt, rowBytes, rowChunk, rowLayer, rowSlot, rowsOf}
 use Rattle.fetch.specs.Verdict.{verdict, verdict-iff}
 use Rattle.fetch.specs.VerdictFrom.{slot-iff, slotRefusal, verdictFrom}
@@ -25,7 +25,7 @@ use Rattle.theory_search.specs.Search.{found}
 use Rattle.theory_search.specs.Theorems.{found-is-found, good-enough, over-exists}
 use Rattle.search.specs.Answer.{planFound, rowsFound}
 use Rattle.theory_replan.specs.Refusal.{joined-accepted, replan-refusal-iff, replanRefusal}
-use Rattle.replan.specs.Answer.{HandedOn, fetched, inputRefusal, jobOn, planOn, rowsOn}
+use Rattle.replan.specs.Answer.{ReplanInput, fetched, inputRefusal, jobOn, planAfresh, rowsOn}
 use Rattle.replan.specs.Theorems.{settled-afresh}
 use Rattle.report.specs.lemmas.Again.{rows-again}
 use Rattle.core_ffi.specs.Convention.{answered}
@@ -43,47 +43,47 @@ whole-list j choice rows =
       bytes-each = length-map rows rowSlot ∙ sym (length-map rows rowBytes);
     }
 
-passes-in-slices : (h : HandedJob) (choice : ℕ → ℕ) (rows : List Row) → jobRefusal h ≡ 0 → verdict (jobIn h) (marksOf (jobIn h) choice) rows ≡ 0 → checkAnswer h (marksOf (jobIn h) choice) (map rowSlot rows) (map rowChunk rows) (map rowLayer rows) (map rowBytes rows) ≡ 0
+passes-in-slices : (h : JobInput) (choice : ℕ → ℕ) (rows : List Row) → jobRefusal h ≡ 0 → verdict (jobIn h) (marksOf (jobIn h) choice) rows ≡ 0 → checkAnswer h (marksOf (jobIn h) choice) (map rowSlot rows) (map rowChunk rows) (map rowLayer rows) (map rowBytes rows) ≡ 0
 unfolding answered
 passes-in-slices h choice rows e v =
     let marks = marksOf (jobIn h) choice in
     let fine : checkRefusal h marks (map rowSlot rows) (map rowChunk rows) (map rowLayer rows) (map rowBytes rows) ≡ 0 =
-    orElse-iff (jobRefusal h) (handedRefusal (chunks (jobIn h)) marks (map rowSlot rows) (map rowChunk rows) (map rowLayer rows) (map rowBytes rows)) .1 (e, whole-iff (chunks (jobIn h)) marks (map rowSlot rows) (map rowChunk rows) (map rowLayer rows) (map rowBytes rows) .1 (whole-list (jobIn h) choice rows)) in
+    orElse-iff (jobRefusal h) (listRefusal (chunks (jobIn h)) marks (map rowSlot rows) (map rowChunk rows) (map rowLayer rows) (map rowBytes rows)) .1 (e, whole-iff (chunks (jobIn h)) marks (map rowSlot rows) (map rowChunk rows) (map rowLayer rows) (map rowBytes rows) .1 (whole-list (jobIn h) choice rows)) in
     rw fine (ap (verdict (jobIn h) marks) (rows-again rows) ∙ v)
 
 -- ---- film_plan, then film_check
 
-pub plan-passes : (h : HandedJob) → jobRefusal h ≡ 0 → let j = jobIn h in let rows = planRows j in checkAnswer h (marksOf j (plan j)) (map rowSlot rows) (map rowChunk rows) (map rowLayer rows) (map rowBytes rows) ≡ 0
+pub plan-passes : (h : JobInput) → jobRefusal h ≡ 0 → let j = jobIn h in let rows = planRows j in checkAnswer h (marksOf j (plan j)) (map rowSlot rows) (map rowChunk rows) (map rowLayer rows) (map rowBytes rows) ≡ 0
 plan-passes h e =
     let j = jobIn h in
-    let a = handed-iff h .0 e .1 in
+    let a = input-iff h .0 e .1 in
     passes-in-slices h (plan j) (planRows j) e (verdict-iff j (marksOf j (plan j)) (planRows j) .1 (plan-carried j (accepted-sized j a) (plan j) (plan-exists j a) .0))
 
 -- ---- film_search, then film_check
 
-pub search-passes : (h : HandedJob) (budget : ℕ) → jobRefusal h ≡ 0 → let j = jobIn h in let rows = rowsFound j budget in checkAnswer h (marksOf j (planFound j budget)) (map rowSlot rows) (map rowChunk rows) (map rowLayer rows) (map rowBytes rows) ≡ 0
+pub search-passes : (h : JobInput) (budget : ℕ) → jobRefusal h ≡ 0 → let j = jobIn h in let rows = rowsFound j budget in checkAnswer h (marksOf j (planFound j budget)) (map rowSlot rows) (map rowChunk rows) (map rowLayer rows) (map rowBytes rows) ≡ 0
 search-passes h budget e =
     let j = jobIn h in
-    let a = handed-iff h .0 e .1 in
+    let a = input-iff h .0 e .1 in
     let good = good-enough j a budget (found j budget) (found-is-found j a budget) (planFound j budget) (over-exists j a (found j budget .kept)) in
     passes-in-slices h (planFound j budget) (rowsFound j budget) e (verdict-iff j (marksOf j (planFound j budget)) (rowsFound j budget) .1 (good .passes))
 
 -- ---- film_replan, then film_check_from
 
 -- The job on the joined forecast, "earlier slots keep the job's forecast", as it is handed to the second call.
-abbrev pub rejoined : HandedJob → HandedOn → HandedJob
-rejoined h o = handed (h .programme) (h .sizes) (h .size-chunks) (h .size-layers) (h .size-bytes) (take (o .from - 1) (h .forecast) ++ o .onward)
+abbrev pub rejoined : JobInput → ReplanInput → JobInput
+rejoined h o = jobInput (h .programme) (h .sizes) (h .size-chunks) (h .size-layers) (h .size-bytes) (take (o .from - 1) (h .forecast) ++ o .onward)
 
-module _ (h : HandedJob) (o : HandedOn) (e : inputRefusal h o ≡ 0) where
+module _ (h : JobInput) (o : ReplanInput) (e : inputRefusal h o ≡ 0) where
   abbrev rows : List Row
   rows = rowsOn h o
 
   abbrev marks : List ℕ
-  marks = marksOf (jobOn h o) (planOn h o)
+  marks = marksOf (jobOn h o) (planAfresh h o)
 
-  parts : (jobRefusal h ≡ 0) × (handedRefusal 0 [] (o .slots) (o .chunks) (o .layers) (o .bytes) ≡ 0) × (replanRefusal (jobIn h) (o .from) (fetched o) (o .onward) ≡ 0)
+  parts : (jobRefusal h ≡ 0) × (listRefusal 0 [] (o .slots) (o .chunks) (o .layers) (o .bytes) ≡ 0) × (replanRefusal (jobIn h) (o .from) (fetched o) (o .onward) ≡ 0)
   parts =
-      let eight : ℕ = handedRefusal 0 [] (o .slots) (o .chunks) (o .layers) (o .bytes) in
+      let eight : ℕ = listRefusal 0 [] (o .slots) (o .chunks) (o .layers) (o .bytes) in
       let own : ℕ = replanRefusal (jobIn h) (o .from) (fetched o) (o .onward) in
       let a = orElse-iff (jobRefusal h) (eight orElse own) .0 e in
       let b = orElse-iff eight own .0 (a .1) in
@@ -108,15 +108,15 @@ module _ (h : HandedJob) (o : HandedOn) (e : inputRefusal h o ≡ 0) where
 
   not-refused : checkFromRefusal (rejoined h o) (o .from) marks (o .slots ++ map rowSlot rows) (o .chunks ++ map rowChunk rows) (o .layers ++ map rowLayer rows) (o .bytes ++ map rowBytes rows) ≡ 0
   not-refused =
-      let fine = handed-iff h .0 (parts .0) in
+      let fine = input-iff h .0 (parts .0) in
       let r = replan-refusal-iff (jobIn h) (o .from) (fetched o) (o .onward) .0 (parts .2) in
-      let job : jobRefusal (rejoined h o) ≡ 0 = handed-iff (rejoined h o) .1 (fine .0, joined-accepted (jobIn h) (fine .1) (o .from) (fetched o) (o .onward) r) in
+      let job : jobRefusal (rejoined h o) ≡ 0 = input-iff (rejoined h o) .1 (fine .0, joined-accepted (jobIn h) (fine .1) (o .from) (fetched o) (o .onward) r) in
       let a = o .slots ++ map rowSlot rows in
       let b = o .chunks ++ map rowChunk rows in
       let c = o .layers ++ map rowLayer rows in
       let d = o .bytes ++ map rowBytes rows in
       let w : Whole (chunks (jobOn h o)) marks a b c d = record {
-        byte-each = marks-long (jobOn h o) (planOn h o);
+        byte-each = marks-long (jobOn h o) (planAfresh h o);
         chunk-each = omega (arith, longer rowSlot (o .slots), longer rowChunk (o .chunks), whole .chunk-each);
         layer-each = omega (arith, longer rowSlot (o .slots), longer rowLayer (o .layers), whole .layer-each);
         bytes-each = omega (arith, longer rowSlot (o .slots), longer rowBytes (o .bytes), whole .bytes-each);
@@ -124,7 +124,7 @@ module _ (h : HandedJob) (o : HandedOn) (e : inputRefusal h o ≡ 0) where
       let eight = whole-iff (chunks (jobOn h o)) marks a b c d .1 w in
       let slot = slot-iff (h .programme) (o .from) .1 (record { low = r .acceptable .p-low; high = r .acceptable .p-high }) in
       orElse-iff (checkRefusal (rejoined h o) marks a b c d) (slotRefusal (h .programme) (o .from)) .1
-      (orElse-iff (jobRefusal (rejoined h o)) (handedRefusal (chunks (jobOn h o)) marks a b c d) .1 (job, eight), slot)
+      (orElse-iff (jobRefusal (rejoined h o)) (listRefusal (chunks (jobOn h o)) marks a b c d) .1 (job, eight), slot)
 
   pub afresh-passes : checkFromAnswer (rejoined h o) (o .from) marks (o .slots ++ map rowSlot rows) (o .chunks ++ map rowChunk rows) (o .layers ++ map rowLayer rows) (o .bytes ++ map rowBytes rows) ≡ 0
   unfolding answered

@@ -9,13 +9,13 @@ use lib.ListN.{length}
 use lib.Dec.{leb}
 use Rattle.theory_basics.specs.Lent.{lentAfter}
 use Rattle.theory_basics.specs.Refusals.{_orElse_, unless}
-use Rattle.job.specs.Handed.{HandedJob, jobIn}
+use Rattle.job.specs.Input.{JobInput, jobIn}
 use Rattle.job.specs.Job.{Job, chunks, layers}
 use Rattle.jobfile.specs.Writer.{jobFile, writeRefusal as jobWriteRefusal}
-use Rattle.planfile.specs.Calls.{Slices, planOf, readRefusal as planReadRefusal, writeRefusal as planWriteRefusal}
+use Rattle.planfile.specs.Calls.{ListSlices, planOf, planReadRefusal, writeRefusal as planWriteRefusal}
 use Rattle.planfile.specs.PlanFile.{fileOf, planIn}
 use Rattle.jobrecords.specs.Refusal.{jobOfFile}
-use Rattle.jobrecords.specs.Reader.{Buffers, lentBy, readRefusal}
+use Rattle.jobrecords.specs.Reader.{Buffers, lentBy, jobReadRefusal}
 use Rattle.core_ffi.specs.Convention.{answered}
 
 -- C, L, s and the limit.
@@ -27,24 +27,24 @@ abbrev pub lengthsOf : Job → List ℕ
 lengthsOf j = layers j ∷ length (j .overrides) ∷ []
 
 -- 11 also for the programme and these two.
-abbrev pub jobReadRefusal : Bool → List ℕ → Buffers → (programme lengths : List ℕ) → ℕ
-jobReadRefusal sequenced file lent programme lengths =
-    readRefusal sequenced file lent orElse unless 11 (leb 4 (length programme) && leb 2 (length lengths))
+abbrev pub jobReturnRefusal : Bool → List ℕ → Buffers → (programme lengths : List ℕ) → ℕ
+jobReturnRefusal sequenced file lent programme lengths =
+    jobReadRefusal sequenced file lent orElse unless 11 (leb 4 (length programme) && leb 2 (length lengths))
 
 -- The answer, and what stands in the lent slices.
-pub record JobHanded (sequenced : Bool) (file : List ℕ) (lent : Buffers) (programme lengths : List ℕ) (r : ℕ) (lent' : Buffers) (programme' lengths' : List ℕ) : Type 0 where
-  pub number : r ≡ answered (jobReadRefusal sequenced file lent programme lengths) (length (jobOfFile sequenced file .forecast))
-  pub buffers-are : lent' ≡ lentBy (jobReadRefusal sequenced file lent programme lengths) (jobOfFile sequenced file) lent
-  pub programme-is : programme' ≡ lentAfter (jobReadRefusal sequenced file lent programme lengths) (programmeOf (jobOfFile sequenced file)) programme
-  pub lengths-are : lengths' ≡ lentAfter (jobReadRefusal sequenced file lent programme lengths) (lengthsOf (jobOfFile sequenced file)) lengths
+pub record JobReturned (sequenced : Bool) (file : List ℕ) (lent : Buffers) (programme lengths : List ℕ) (r : ℕ) (lent' : Buffers) (programme' lengths' : List ℕ) : Type 0 where
+  pub number : r ≡ answered (jobReturnRefusal sequenced file lent programme lengths) (length (jobOfFile sequenced file .forecast))
+  pub buffers-are : lent' ≡ lentBy (jobReturnRefusal sequenced file lent programme lengths) (jobOfFile sequenced file) lent
+  pub programme-is : programme' ≡ lentAfter (jobReturnRefusal sequenced file lent programme lengths) (programmeOf (jobOfFile sequenced file)) programme
+  pub lengths-are : lengths' ≡ lentAfter (jobReturnRefusal sequenced file lent programme lengths) (lengthsOf (jobOfFile sequenced file)) lengths
 
 -- ---- the other three: refusals, files and lent slices are the library's own
 
-abbrev pub jobWriteAnswer : HandedJob → (out : List ℕ) → ℕ
+abbrev pub jobWriteAnswer : JobInput → (out : List ℕ) → ℕ
 jobWriteAnswer h out = answered (jobWriteRefusal h (length out)) (length (jobFile (jobIn h)))
 
-abbrev pub planReadAnswer : HandedJob → (file : List ℕ) (lent : Slices) → ℕ
+abbrev pub planReadAnswer : JobInput → (file : List ℕ) (lent : ListSlices) → ℕ
 planReadAnswer h file lent = answered (planReadRefusal h file lent) (length (planIn (chunks (jobIn h)) file .rows))
 
-abbrev pub planWriteAnswer : HandedJob → (handed : Slices) (out : List ℕ) → ℕ
-planWriteAnswer h handed out = answered (planWriteRefusal h handed out) (length (fileOf (planOf handed)))
+abbrev pub planWriteAnswer : JobInput → (slices : ListSlices) (out : List ℕ) → ℕ
+planWriteAnswer h slices out = answered (planWriteRefusal h slices out) (length (fileOf (planOf slices)))

@@ -6,7 +6,7 @@ use lib.ListN.{length}
 use lib.Dec.{leb}
 use Rattle.theory_basics.specs.Lent.{lentAfter}
 use Rattle.theory_basics.specs.Refusals.{unless}
-use Rattle.job.specs.Handed.{HandedJob, jobIn}
+use Rattle.job.specs.Input.{JobInput, jobIn}
 use Rattle.fetch.specs.Counts.{markCount}
 use Rattle.fetch.specs.Rows.{rowsOf}
 use Rattle.fetch.specs.Verdict.{verdict}
@@ -17,27 +17,27 @@ use Rattle.booking.specs.Booking.{addedBack, takenOff}
 use Rattle.core_ffi.specs.Convention.{answered}
 
 -- The verdict, of either call.
-abbrev pub checkAnswer : HandedJob → (marks slots chunks layers bytes : List ℕ) → ℕ
+abbrev pub checkAnswer : JobInput → (marks slots chunks layers bytes : List ℕ) → ℕ
 checkAnswer h marks slots chunks layers bytes =
     answered (checkRefusal h marks slots chunks layers bytes) (verdict (jobIn h) marks (rowsOf slots chunks layers bytes))
 
-abbrev pub checkFromAnswer : HandedJob → ℕ → (marks slots chunks layers bytes : List ℕ) → ℕ
+abbrev pub checkFromAnswer : JobInput → ℕ → (marks slots chunks layers bytes : List ℕ) → ℕ
 checkFromAnswer h from marks slots chunks layers bytes =
     answered (checkFromRefusal h from marks slots chunks layers bytes) (verdictFrom (jobIn h) from marks (rowsOf slots chunks layers bytes))
 
 -- 0, and the job's forecast less the list's bytes.
-abbrev pub bookAnswer : HandedJob → (marks slots chunks layers bytes : List ℕ) → ℕ
+abbrev pub bookAnswer : JobInput → (marks slots chunks layers bytes : List ℕ) → ℕ
 bookAnswer h marks slots chunks layers bytes = answered (bookRefusal h marks slots chunks layers bytes) 0
 
-abbrev pub forecastBooked : HandedJob → (marks slots chunks layers bytes : List ℕ) → List ℕ
+abbrev pub forecastBooked : JobInput → (marks slots chunks layers bytes : List ℕ) → List ℕ
 forecastBooked h marks slots chunks layers bytes =
     forecastAfter (bookRefusal h marks slots chunks layers bytes) (takenOff (h .forecast) (rowsOf slots chunks layers bytes)) (h .forecast)
 
 -- 0, and the forecast with the list's bytes added back.
-abbrev pub releaseAnswer : HandedJob → (slots chunks layers bytes : List ℕ) → ℕ
+abbrev pub releaseAnswer : JobInput → (slots chunks layers bytes : List ℕ) → ℕ
 releaseAnswer h slots chunks layers bytes = answered (releaseRefusal h slots chunks layers bytes) 0
 
-abbrev pub forecastReleased : HandedJob → (slots chunks layers bytes : List ℕ) → List ℕ
+abbrev pub forecastReleased : JobInput → (slots chunks layers bytes : List ℕ) → List ℕ
 forecastReleased h slots chunks layers bytes =
     forecastAfter (releaseRefusal h slots chunks layers bytes) (addedBack (h .forecast) (rowsOf slots chunks layers bytes)) (h .forecast)
 

@@ -10,7 +10,7 @@ use Rattle.theory_basics.specs.Lent.{lentAfter}
 use Rattle.theory_basics.specs.Refusals.{_orElse_, unless}
 use Rattle.meter.specs.declared.Meter.{Meter}
 use Rattle.meter.specs.Meter.{empty, sample, samplesOf, sampleRefusal, taken}
-use Rattle.meter.specs.Forecast.{bytesOf, forecastOf, forecastRefusal}
+use Rattle.meter.specs.Forecast.{bytesOf, forecastOf, meterForecastRefusal}
 use Rattle.core_ffi.specs.Convention.{answered}
 
 -- The three slices.
@@ -50,7 +50,7 @@ pub record Sampled (s : Storage) (slot bytes : ℕ) (r : ℕ) (s' : Storage) : T
 
 -- The forecast: 11, then 10 and 12 as the meter gives them.
 abbrev pub meanRefusal : Storage → ℕ
-meanRefusal s = cellsRefusal s orElse forecastRefusal (samplesOf (meterIn s))
+meanRefusal s = cellsRefusal s orElse meterForecastRefusal (samplesOf (meterIn s))
 
 abbrev pub meanNumber : Storage → ℕ
 meanNumber s = answered (meanRefusal s) (forecastOf (bytesOf (samplesOf (meterIn s))))

@@ -10,13 +10,13 @@ use Rattle.theory_basics.specs.Lent.{lentAfter}
 use Rattle.theory_basics.specs.Lists.{upTo}
 use Rattle.theory_basics.specs.Refusals.{_orElse_, unless}
 use Rattle.fetch.specs.Rows.{Row, rowBytes, rowChunk, rowLayer, rowSlot}
-use Rattle.job.specs.Handed.{HandedJob, jobIn}
+use Rattle.job.specs.Input.{JobInput, jobIn}
 use Rattle.theory_plan.specs.Plan.{plan}
 use Rattle.theory_plan.specs.Statement.{countsOf, marksOf}
 use Rattle.planner.specs.Answer.{Lent, lentOf, planRefusal, planRows}
 use Rattle.planner.specs.declared.Order.{Order}
 use Rattle.planner.specs.declared.Order.the-variants.{Less, Same, More}
-use Rattle.replan.specs.Answer.{HandedOn, jobOn, planOn, refusalOn, rowsOn}
+use Rattle.replan.specs.Answer.{ReplanInput, jobOn, planAfresh, refusalOn, rowsOn}
 use Rattle.theory_search.specs.Statement.{Found}
 use Rattle.theory_search.specs.Search.{found}
 use Rattle.search.specs.Answer.{planFound, rowsFound, searchRefusal}
@@ -27,7 +27,7 @@ unfoldable pub withCounts : ℕ → List ℕ → ℕ
 withCounts refused counts = refused orElse unless 11 (leb 4 (length counts))
 
 -- The slices of a plan, as lent or as handed over.
-pub record Slices : Type 0 where
+pub record PlanSlices : Type 0 where
   pub marks : List ℕ
   pub slots : List ℕ
   pub chunks : List ℕ
@@ -35,16 +35,16 @@ pub record Slices : Type 0 where
   pub bytes : List ℕ
   pub counts : List ℕ
 
-abbrev pub slices : (marks slots chunks layers bytes counts : List ℕ) → Slices
-slices marks slots chunks layers bytes counts =
+abbrev pub planSlices : (marks slots chunks layers bytes counts : List ℕ) → PlanSlices
+planSlices marks slots chunks layers bytes counts =
     record { marks = marks; slots = slots; chunks = chunks; layers = layers; bytes = bytes; counts = counts }
 
 -- The library's own of them.
-abbrev pub roomOf : Slices → Lent
+abbrev pub roomOf : PlanSlices → Lent
 roomOf lent = lentOf (lent .marks) (lent .slots) (lent .chunks) (lent .layers) (lent .bytes)
 
--- A plan's marks, rows and counts at the start of the lent slices; on a refusal they are as they were.
-abbrev pub slicesAfter : ℕ → (marks : List ℕ) (rows : List Row) (counts : List ℕ) → Slices → Slices
+-- A plan's marks, rows and counts at the start of the lent planSlices; on a refusal they are as they were.
+abbrev pub slicesAfter : ℕ → (marks : List ℕ) (rows : List Row) (counts : List ℕ) → PlanSlices → PlanSlices
 slicesAfter refused marks rows counts lent =
     record {
       marks = lentAfter refused marks (lent .marks);
@@ -55,15 +55,15 @@ slicesAfter refused marks rows counts lent =
       counts = lentAfter refused counts (lent .counts);
     }
 
--- The answer, and the lent slices afterwards.
-pub record PlanHanded (refused : ℕ) (marks : List ℕ) (rows : List Row) (counts : List ℕ) (lent : Slices) (r : ℕ) (lent' : Slices) : Type 0 where
+-- The answer, and the lent planSlices afterwards.
+pub record Returned (refused : ℕ) (marks : List ℕ) (rows : List Row) (counts : List ℕ) (lent : PlanSlices) (r : ℕ) (lent' : PlanSlices) : Type 0 where
   pub number : r ≡ answered refused (length rows)
   pub slices-are : lent' ≡ slicesAfter refused marks rows counts lent
 
 -- The plan of a job,
-abbrev pub Planned : HandedJob → (lent : Slices) (r : ℕ) (lent' : Slices) → Type 0
-Planned h lent r lent' =
-    PlanHanded
+abbrev pub PlanReturned : JobInput → (lent : PlanSlices) (r : ℕ) (lent' : PlanSlices) → Type 0
+PlanReturned h lent r lent' =
+    Returned
     (withCounts (planRefusal h (roomOf lent)) (lent .counts))
     (marksOf (jobIn h) (plan (jobIn h)))
     (planRows (jobIn h))
@@ -73,13 +73,13 @@ Planned h lent r lent' =
     lent'
 
 -- and the plan made afresh, its rows from slot p on.
-abbrev pub Replanned : HandedJob → HandedOn → (lent : Slices) (r : ℕ) (lent' : Slices) → Type 0
-Replanned h o lent r lent' =
-    PlanHanded
+abbrev pub ReplanReturned : JobInput → ReplanInput → (lent : PlanSlices) (r : ℕ) (lent' : PlanSlices) → Type 0
+ReplanReturned h o lent r lent' =
+    Returned
     (withCounts (refusalOn h o (roomOf lent)) (lent .counts))
-    (marksOf (jobOn h o) (planOn h o))
+    (marksOf (jobOn h o) (planAfresh h o))
     (rowsOn h o)
-    (countsOf (jobOn h o) (planOn h o))
+    (countsOf (jobOn h o) (planAfresh h o))
     lent
     r
     lent'
@@ -94,16 +94,16 @@ walkOf f = f .steps ∷ cond (f .ended) 1 0 ∷ f .shortfall ∷ []
 unfoldable pub withWalk : ℕ → (counts walk : List ℕ) → ℕ
 withWalk refused counts walk = refused orElse unless 11 (leb 4 (length counts) && leb 3 (length walk))
 
-pub record SearchHanded (h : HandedJob) (budget : ℕ) (marks slots chunks layers bytes counts walk : List ℕ) (r : ℕ) (marks' slots' chunks' layers' bytes' counts' walk' : List ℕ) : Type 0 where
+pub record SearchReturned (h : JobInput) (budget : ℕ) (marks slots chunks layers bytes counts walk : List ℕ) (r : ℕ) (marks' slots' chunks' layers' bytes' counts' walk' : List ℕ) : Type 0 where
   pub plan :
-      PlanHanded
+      Returned
       (withWalk (searchRefusal h budget (lentOf marks slots chunks layers bytes)) counts walk)
       (marksOf (jobIn h) (planFound (jobIn h) budget))
       (rowsFound (jobIn h) budget)
       (countsOf (jobIn h) (planFound (jobIn h) budget))
-      (slices marks slots chunks layers bytes counts)
+      (planSlices marks slots chunks layers bytes counts)
       r
-      (slices marks' slots' chunks' layers' bytes' counts')
+      (planSlices marks' slots' chunks' layers' bytes' counts')
   pub walk-is :
       walk' ≡ lentAfter (withWalk (searchRefusal h budget (lentOf marks slots chunks layers bytes)) counts walk) (walkOf (found (jobIn h) budget)) walk
 

@@ -10,15 +10,15 @@ use lib.ListN.{length}
 use Rattle.theory_basics.specs.Refusals.{_orElse_}
 use Rattle.theory_basics.specs.lemmas.Refusals.{orElse-iff}
 use Rattle.records.specs.File.{fileRefusal}
-use Rattle.job.specs.Handed.{HandedJob, handed-iff, jobIn, jobRefusal}
+use Rattle.job.specs.Input.{JobInput, input-iff, jobIn, jobRefusal}
 use Rattle.job.specs.Job.{Accepted, Job, layers}
 use Rattle.job.specs.Uneven.{overrides-few}
-use Rattle.fetch.specs.Handed.{handedRefusal}
+use Rattle.fetch.specs.Input.{listRefusal}
 use Rattle.jobrecords.specs.Refusal.{jobOfFile, refusalOf}
 use Rattle.jobrecords.specs.Theorems.{file-accepted}
 use Rattle.jobfile.specs.Theorems.{file-short}
 use Rattle.jobfile.specs.Writer.{jobFile}
-use Rattle.planfile.specs.Calls.{Slices, planOf, writeRefusal}
+use Rattle.planfile.specs.Calls.{ListSlices, planOf, writeRefusal}
 use Rattle.planfile.specs.PlanFile.{fileOf, format, planIn}
 use Rattle.planfile.specs.lemmas.Back.{accepts}
 use Rattle.planfile.specs.lemmas.Few.{rows-inside}
@@ -28,7 +28,7 @@ use Rattle.theory_plan.specs.Theorems.{own-list-rows, plan-exists}
 use Rattle.planner.specs.Answer.{planRows}
 use Rattle.theory_replan.specs.Desk.{replans}
 use Rattle.theory_replan.specs.Refusal.{replanRefusal}
-use Rattle.replan.specs.Answer.{HandedOn, fetched, inputRefusal, rowsOn}
+use Rattle.replan.specs.Answer.{ReplanInput, fetched, inputRefusal, rowsOn}
 use Rattle.theory_search.specs.Search.{found}
 use Rattle.theory_search.specs.Theorems.{over-exists}
 use Rattle.search.specs.Answer.{planFound, rowsFound}
@@ -37,7 +37,7 @@ use Rattle.theory_reasons.specs.Theorems.{text-fits}
 use Rattle.report.specs.Answer.{plan-report-fits, planReport}
 use Rattle.trace.specs.Theorems.{read-iff}
 use Rattle.trace.specs.Trace.{traceRefusal}
-use Rattle.meter.specs.Forecast.{bytesOf, forecastOf, forecastRefusal as meterRefusal}
+use Rattle.meter.specs.Forecast.{bytesOf, forecastOf, meterForecastRefusal as meterRefusal}
 use Rattle.meter.specs.Meter.{samplesOf}
 use Rattle.meter.specs.Promises.{forecast-iff, forecast-says}
 use Rattle.core_ffi.specs.Meters.{Storage, cellsRefusal, meanRefusal, meterIn}
@@ -46,8 +46,8 @@ pub use Rattle.core_ffi.specs.lemmas.Largest.{verdict-few, verdict-from-
 pub use Rattle.trace.specs.Theorems.{trace-fits}
 pub use Rattle.wait.specs.Theorems.{wait-few}
 
-accepted : (h : HandedJob) → jobRefusal h ≡ 0 → Accepted (jobIn h)
-accepted h e = handed-iff h .0 e .1
+accepted : (h : JobInput) → jobRefusal h ≡ 0 → Accepted (jobIn h)
+accepted h e = input-iff h .0 e .1
 
 -- ---- files
 
@@ -63,7 +63,7 @@ job-read sequenced file e =
     record { slots = omega (arith, a .slots-in, a .last-in); layers-few = a .layers-in .high; overrides = overrides-few (jobOfFile sequenced file) a }
 
 -- FILM_JOB_FILE.
-pub job-written : (h : HandedJob) → jobRefusal h ≡ 0 → length (jobFile (jobIn h)) ≤ 46800
+pub job-written : (h : JobInput) → jobRefusal h ≡ 0 → length (jobFile (jobIn h)) ≤ 46800
 job-written h e = file-short (jobIn h) (accepted h e)
 
 -- FILM_FILE_ROWS: a plan file that is not refused, of a job of so many chunks.
@@ -71,7 +71,7 @@ pub rows-read : (count : ℕ) (file : List ℕ) → fileRefusal (format count) f
 rows-read count file e = omega (arith, rows-inside count file e)
 
 -- FILM_FILE: a longer file is 9, before 11.
-pub plan-written : (h : HandedJob) (s : Slices) (out : List ℕ) → writeRefusal h s out ≡ 0 → length (fileOf (planOf s)) ≤ 65536
+pub plan-written : (h : JobInput) (s : ListSlices) (out : List ℕ) → writeRefusal h s out ≡ 0 → length (fileOf (planOf s)) ≤ 65536
 plan-written h s out e = accepts h s out e .fits
 
 -- ---- plans
@@ -81,19 +81,19 @@ pub marks-few : (j : Job) (choice : ℕ → ℕ) → Accepted j → length (mark
 marks-few j choice a = omega (arith, marks-long j choice, a .chunks-in .high)
 
 -- FILM_ROWS.
-pub rows-planned : (h : HandedJob) → jobRefusal h ≡ 0 → length (planRows (jobIn h)) ≤ 5599
+pub rows-planned : (h : JobInput) → jobRefusal h ≡ 0 → length (planRows (jobIn h)) ≤ 5599
 rows-planned h e =
     let a = accepted h e in
     own-list-rows (jobIn h) a (plan (jobIn h)) (plan-exists (jobIn h) a .choice)
 
-pub rows-afresh : (h : HandedJob) (o : HandedOn) → inputRefusal h o ≡ 0 → length (rowsOn h o) ≤ 5599
+pub rows-afresh : (h : JobInput) (o : ReplanInput) → inputRefusal h o ≡ 0 → length (rowsOn h o) ≤ 5599
 rows-afresh h o e =
-    let rows : ℕ = handedRefusal 0 [] (o .slots) (o .chunks) (o .layers) (o .bytes) in
+    let rows : ℕ = listRefusal 0 [] (o .slots) (o .chunks) (o .layers) (o .bytes) in
     let rest : ℕ = replanRefusal (jobIn h) (o .from) (fetched o) (o .onward) in
     let asked = orElse-iff (jobRefusal h) (rows orElse rest) .0 e in
     replans (jobIn h) (accepted h (asked .0)) (o .from) (fetched o) (o .onward) (orElse-iff rows rest .0 (asked .1) .1) .few-rows
 
-pub rows-found : (h : HandedJob) (budget : ℕ) → jobRefusal h ≡ 0 → length (rowsFound (jobIn h) budget) ≤ 5599
+pub rows-found : (h : JobInput) (budget : ℕ) → jobRefusal h ≡ 0 → length (rowsFound (jobIn h) budget) ≤ 5599
 rows-found h budget e =
     let j = jobIn h in
     let a = accepted h e in
@@ -102,10 +102,10 @@ rows-found h budget e =
 -- ---- text
 
 -- FILM_REPORT and FILM_REASONS.
-pub report-written : (h : HandedJob) → jobRefusal h ≡ 0 → length (planReport (jobIn h)) ≤ 7633
+pub report-written : (h : JobInput) → jobRefusal h ≡ 0 → length (planReport (jobIn h)) ≤ 7633
 report-written h e = plan-report-fits (jobIn h) (accepted h e)
 
-pub reasons-written : (h : HandedJob) → jobRefusal h ≡ 0 → length (planText (jobIn h)) ≤ 94000
+pub reasons-written : (h : JobInput) → jobRefusal h ≡ 0 → length (planText (jobIn h)) ≤ 94000
 reasons-written h e = text-fits (jobIn h) (accepted h e)
 
 -- FILM_SLOTS again; FILM_TRACE is `trace-fits`.

@@ -12,12 +12,12 @@ ghost use Rattle.theory_basics.specs.Lent.{over};
 ghost use Rattle.theory_basics.specs.Refusals.{_orElse_};
 ghost use Rattle.core_ffi.specs.Meters.{meterIn, storage};
 ghost use Rattle.core_ffi.specs.Plans.{fourCounts, orderNumber};
-ghost use Rattle.core_ffi.specs.lemmas.Numbers.{bookedNumber, checkedNumber, countsHandedBy, forecastNumber, jobReadNumber, jobWrittenNumber, lengthsRead, planNumber, planReadNumber, planWrittenNumber, programmeRead, reasonNumber, refusedNumber, reportNumber, traceReadNumber, traceWrittenNumber, waitNumber, walkHandedBy};
+ghost use Rattle.core_ffi.specs.lemmas.Numbers.{bookedNumber, checkedNumber, countsStored, forecastNumber, jobReadNumber, jobWrittenNumber, lengthsRead, planNumber, planReadNumber, planWrittenNumber, programmeRead, reasonNumber, refusedNumber, reportNumber, traceReadNumber, traceWrittenNumber, waitNumber, walkStored};
 ghost use Rattle.core_ffi.specs.lemmas.Planning.{replanShort};
-ghost use Rattle.job.specs.Handed.{handed};
+ghost use Rattle.job.specs.Input.{jobInput};
 ghost use Rattle.jobrecords.specs.Refusal.{mixed, oneSequence, refusalOf};
 ghost use Rattle.meter.specs.Meter.{sample, sampleRefusal};
-ghost use Rattle.replan.specs.Answer.{handedOn};
+ghost use Rattle.replan.specs.Answer.{replanInput};
 ghost use lib.Dec.{leb};
 ghost use lib.ListN.{getD, length};
 ghost use mathlib.Core.Bool.{_&&_, cond};
@@ -56,7 +56,7 @@ pub fn job_number(read: JobRead) -> u64
 }
 
 // The programme of a job that was read, and how many layers and SZs it has.
-pub fn hand_job(read: JobRead, programme: &mut [u16], lengths: &mut [u64])
+pub fn store_job(read: JobRead, programme: &mut [u16], lengths: &mut [u64])
     requires { ⌜ (4 ≤ length (now programme)) × (2 ≤ length (now lengths)) ⌝ }
     ensures { λ _. ⌜ (now (programme .exit) ≡ programmeRead read (now (programme .entry))) × (now (lengths .exit) ≡ lengthsRead read (now (lengths .entry))) ⌝ }
 {
@@ -89,7 +89,7 @@ pub fn mixed_refused(file: &[u8]) -> u64
     job_number(jobfile::read_mixed_job(file, &mut [], &mut []))
 }
 
-pub fn job_written(written: jobfile::Written) -> u64
+pub fn job_written_number(written: jobfile::Written) -> u64
     ensures { λ r. ⌜ r ≡ jobWrittenNumber written ⌝ }
 {
     match written {
@@ -98,7 +98,7 @@ pub fn job_written(written: jobfile::Written) -> u64
     }
 }
 
-pub fn plan_read(read: PlanRead) -> u64
+pub fn plan_read_number(read: PlanRead) -> u64
     ensures { λ r. ⌜ r ≡ planReadNumber read ⌝ }
 {
     match read {
@@ -107,7 +107,7 @@ pub fn plan_read(read: PlanRead) -> u64
     }
 }
 
-pub fn plan_written(written: planfile::Written) -> u64
+pub fn plan_written_number(written: planfile::Written) -> u64
     ensures { λ r. ⌜ r ≡ planWrittenNumber written ⌝ }
 {
     match written {
@@ -116,7 +116,7 @@ pub fn plan_written(written: planfile::Written) -> u64
     }
 }
 
-pub fn checked(answer: Checked) -> u64
+pub fn verdict_number(answer: Checked) -> u64
     ensures { λ r. ⌜ r ≡ checkedNumber answer ⌝ }
 {
     match answer {
@@ -125,7 +125,7 @@ pub fn checked(answer: Checked) -> u64
     }
 }
 
-pub fn booked(answer: booking::Answer) -> u64
+pub fn booking_number(answer: booking::Answer) -> u64
     ensures { λ r. ⌜ r ≡ bookedNumber answer ⌝ }
 {
     match answer {
@@ -217,7 +217,7 @@ pub fn sample_refusal(slot: u16, bytes: u32) -> u8
     taken.code
 }
 
-pub fn mean_number(answer: meter::Answer) -> u64
+pub fn forecast_number(answer: meter::Answer) -> u64
     ensures { λ r. ⌜ r ≡ forecastNumber answer ⌝ }
 {
     match answer {
@@ -227,7 +227,7 @@ pub fn mean_number(answer: meter::Answer) -> u64
 }
 
 // Where a slice lent beside the library's own is too short: what comes before 11, or 11.
-pub fn or_eleven(before: u8) -> u64
+pub fn refused_or_11(before: u8) -> u64
     ensures { λ r. ⌜ r ≡ refusedNumber (before orElse 11) ⌝ }
 {
     refused(job::or_else(before, 11))
@@ -243,9 +243,9 @@ pub fn plan_number(answer: Answer) -> u64
 }
 
 // The counts of a plan that is handed over.
-pub fn hand_counts(answer: Answer, four: [u16; 4], counts: &mut [u16])
+pub fn store_counts(answer: Answer, four: [u16; 4], counts: &mut [u16])
     requires { ⌜ 4 ≤ length (now counts) ⌝ }
-    ensures { λ _. ⌜ now (counts .exit) ≡ countsHandedBy answer four (now (counts .entry)) ⌝ }
+    ensures { λ _. ⌜ now (counts .exit) ≡ countsStored answer four (now (counts .entry)) ⌝ }
 {
     match answer {
         Answer::Rows(_) => core_slices::copy16(&four, 4, counts),
@@ -268,7 +268,7 @@ pub fn replan_refused(
     fetched_bytes: &[u32],
     onward: &[u32],
 ) -> u64
-    ensures { λ r. ⌜ r ≡ replanShort (handed p (now (sizes .entry)) (now («size_chunks» .entry)) (now («size_layers» .entry)) (now («size_bytes» .entry)) (now (forecast .entry))) (handedOn from (now («fetched_slots» .entry)) (now («fetched_chunks» .entry)) (now («fetched_layers» .entry)) (now («fetched_bytes» .entry)) (now (onward .entry))) ⌝ }
+    ensures { λ r. ⌜ r ≡ replanShort (jobInput p (now (sizes .entry)) (now («size_chunks» .entry)) (now («size_layers» .entry)) (now («size_bytes» .entry)) (now (forecast .entry))) (replanInput from (now («fetched_slots» .entry)) (now («fetched_chunks» .entry)) (now («fetched_layers» .entry)) (now («fetched_bytes» .entry)) (now (onward .entry))) ⌝ }
 {
     let made = replan::replan(
         p,
@@ -313,9 +313,9 @@ pub fn flag(ended: bool) -> u32
 }
 
 // The walk's numbers of a plan that is handed over.
-pub fn hand_walk(answer: Answer, steps: u32, ended: bool, shortfall: u16, walk: &mut [u32])
+pub fn store_walk(answer: Answer, steps: u32, ended: bool, shortfall: u16, walk: &mut [u32])
     requires { ⌜ 3 ≤ length (now walk) ⌝ }
-    ensures { λ _. ⌜ now (walk .exit) ≡ walkHandedBy answer steps ended shortfall (now (walk .entry)) ⌝ }
+    ensures { λ _. ⌜ now (walk .exit) ≡ walkStored answer steps ended shortfall (now (walk .entry)) ⌝ }
 {
     match answer {
         Answer::Rows(_) => {
@@ -326,7 +326,7 @@ pub fn hand_walk(answer: Answer, steps: u32, ended: bool, shortfall: u16, walk: 
     }
 }
 
-pub fn reported(written: report::Written) -> u64
+pub fn report_number(written: report::Written) -> u64
     ensures { λ r. ⌜ r ≡ reportNumber written ⌝ }
 {
     match written {
@@ -335,7 +335,7 @@ pub fn reported(written: report::Written) -> u64
     }
 }
 
-pub fn told(written: reasons::Written) -> u64
+pub fn reasons_number(written: reasons::Written) -> u64
     ensures { λ r. ⌜ r ≡ reasonNumber written ⌝ }
 {
     match written {
@@ -344,7 +344,7 @@ pub fn told(written: reasons::Written) -> u64
     }
 }
 
-pub fn trace_read(read: TraceRead) -> u64
+pub fn trace_read_number(read: TraceRead) -> u64
     ensures { λ r. ⌜ r ≡ traceReadNumber read ⌝ }
 {
     match read {
@@ -353,7 +353,7 @@ pub fn trace_read(read: TraceRead) -> u64
     }
 }
 
-pub fn trace_written(written: trace::Written) -> u64
+pub fn trace_written_number(written: trace::Written) -> u64
     ensures { λ r. ⌜ r ≡ traceWrittenNumber written ⌝ }
 {
     match written {
@@ -362,7 +362,7 @@ pub fn trace_written(written: trace::Written) -> u64
     }
 }
 
-pub fn waited(answer: wait::Answer) -> u64
+pub fn wait_number(answer: wait::Answer) -> u64
     ensures { λ r. ⌜ r ≡ waitNumber answer ⌝ }
 {
     match answer {

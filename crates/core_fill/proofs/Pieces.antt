@@ -10,20 +10,20 @@ use lib.Dec.{ltb, ltb→lt, nltb→le}
 use borrow.Author.Tests.{le-leb, lt-leb, lt-ltb, le-ltb}
 use Rattle.theory_basics.specs.lemmas.Tests.{test}
 use Rattle.fetch.specs.Rows.{Row, rowSlot, rowChunk, rowLayer, rowBytes}
-use Rattle.theory_plan.specs.lemmas.Fill.{Piece, row, less, fill}
-use Rattle.core_fill.specs.declared.At.{At}
+use Rattle.theory_plan.specs.lemmas.Fill.{QueuedPiece, row, less, fill}
+use Rattle.core_fill.specs.declared.Position.{Position}
 use Rattle.theory_plan.specs.lemmas.Parts.{padded, left-none, left-step, padded-long, padded-at}
-use Rattle.core_fill.specs.lemmas.Listing.{lastOf, bytesAt, leftAt, onward, Made, Same, Goes, Room, piece, PutsOne}
+use Rattle.core_fill.specs.lemmas.Filling.{lastOf, bytesAt, leftAt, onward, Made, Same, Goes, PutPiecePre, piece, PutPiecePost}
 use Rattle.theory_basics.specs.lemmas.Lent.{length-snoc, stored}
 
 -- ---- the rest of a list
 
 module _ (start : ℕ) (part : List ℕ) where
-  pub onward-next : (t : ℕ) (q : List Piece) → t < lastOf start part → fill (bytesAt start part) (lastOf start part - t) t q ≡ onward start part (t + 1) (bytesAt start part (t + 1)) q
+  pub onward-next : (t : ℕ) (q : List QueuedPiece) → t < lastOf start part → fill (bytesAt start part) (lastOf start part - t) t q ≡ onward start part (t + 1) (bytesAt start part (t + 1)) q
   unfolding onward
   onward-next t q h = let e : lastOf start part - t ≡ suc (lastOf start part - suc t) = omega arith in rw (add-one, e)
 
-  module _ (t c : ℕ) (p : Piece) (ps : List Piece) where
+  module _ (t c : ℕ) (p : QueuedPiece) (ps : List QueuedPiece) where
     onward-late : t < p .ready → onward start part t c (p ∷ ps) ≡ fill (bytesAt start part) (lastOf start part - t) t (p ∷ ps)
     unfolding onward
     onward-late e = rw (lt-leb _ _ e)
@@ -41,7 +41,7 @@ module _ (start : ℕ) (part : List ℕ) where
     onward-part e z h = rw (le-leb _ _ e, lt-ltb 0 c z, lt-leb _ _ h)
 
   -- The slots before a release pass.
-  pub jump : (d t c : ℕ) (p : Piece) (ps : List Piece) → p .ready ≡ t + suc d → p .ready ≤ lastOf start part → onward start part t c (p ∷ ps) ≡ onward start part (p .ready) (bytesAt start part (p .ready)) (p ∷ ps)
+  pub jump : (d t c : ℕ) (p : QueuedPiece) (ps : List QueuedPiece) → p .ready ≡ t + suc d → p .ready ≤ lastOf start part → onward start part t c (p ∷ ps) ≡ onward start part (p .ready) (bytesAt start part (p .ready)) (p ∷ ps)
   jump zero t c p ps e h =
       let a : t + 1 ≡ p .ready = omega arith in
       onward-late t c p ps (omega arith) ∙ onward-next t (p ∷ ps) (omega arith) ∙ ap (λ (n : ℕ). onward start part n (bytesAt start part n) (p ∷ ps)) a
@@ -73,7 +73,7 @@ pub same-refl : (ss cs ls bs : List ℕ) → Same ss cs ls bs ss cs ls bs
 same-refl ss cs ls bs = record { s = refl; c = refl; l = refl; b = refl }
 
 module _ {whole : List Row} {start : ℕ} {part s₀ c₀ l₀ b₀ ss cs ls bs : List ℕ} where
-  pub made-same : {q q' : List Piece} {a b : At} (m : Made whole start part s₀ c₀ l₀ b₀ q ss cs ls bs a) → b .n ≡ a .n → onward start part (a .t) (a .c) q ≡ onward start part (b .t) (b .c) q' → Made whole start part s₀ c₀ l₀ b₀ q' ss cs ls bs b
+  pub made-same : {q q' : List QueuedPiece} {a b : Position} (m : Made whole start part s₀ c₀ l₀ b₀ q ss cs ls bs a) → b .rows ≡ a .rows → onward start part (a .slot) (a .left) q ≡ onward start part (b .slot) (b .left) q' → Made whole start part s₀ c₀ l₀ b₀ q' ss cs ls bs b
   made-same m e g =
       record {
         made = m .made;
@@ -86,38 +86,38 @@ module _ {whole : List Row} {start : ℕ} {part s₀ c₀ l₀ b₀ ss cs ls bs 
         long = m .long;
       }
 
-  made-row : {q q' : List Piece} {a b : At} (m : Made whole start part s₀ c₀ l₀ b₀ q ss cs ls bs a) (r : Row) → b .n ≡ a .n + 1
-      → a .n < length ss → a .n < length cs → a .n < length ls → a .n < length bs
-      → onward start part (a .t) (a .c) q ≡ r ∷ onward start part (b .t) (b .c) q'
-      → Made whole start part s₀ c₀ l₀ b₀ q' (set ss (a .n) (r .slot)) (set cs (a .n) (r .chunk)) (set ls (a .n) (r .layer)) (set bs (a .n) (r .bytes)) b
+  made-row : {q q' : List QueuedPiece} {a b : Position} (m : Made whole start part s₀ c₀ l₀ b₀ q ss cs ls bs a) (r : Row) → b .rows ≡ a .rows + 1
+      → a .rows < length ss → a .rows < length cs → a .rows < length ls → a .rows < length bs
+      → onward start part (a .slot) (a .left) q ≡ r ∷ onward start part (b .slot) (b .left) q'
+      → Made whole start part s₀ c₀ l₀ b₀ q' (set ss (a .rows) (r .slot)) (set cs (a .rows) (r .chunk)) (set ls (a .rows) (r .layer)) (set bs (a .rows) (r .bytes)) b
   made-row {q} {q'} {a} {b} m r e hs hc hl hb g =
       record {
         made = m .made ++ (r ∷ []);
-        says = m .says ∙ ap (λ (l : List Row). m .made ++ l) g ∙ sym (append-assoc (m .made) (r ∷ []) (onward start part (b .t) (b .c) q'));
-        slots = stored rowSlot s₀ ss (m .made) r (a .n) (m .counted) hs (m .slots) (m .long .s);
-        chunks = stored rowChunk c₀ cs (m .made) r (a .n) (m .counted) hc (m .chunks) (m .long .c);
-        layers = stored rowLayer l₀ ls (m .made) r (a .n) (m .counted) hl (m .layers) (m .long .l);
-        bytes = stored rowBytes b₀ bs (m .made) r (a .n) (m .counted) hb (m .bytes) (m .long .b);
+        says = m .says ∙ ap (λ (l : List Row). m .made ++ l) g ∙ sym (append-assoc (m .made) (r ∷ []) (onward start part (b .slot) (b .left) q'));
+        slots = stored rowSlot s₀ ss (m .made) r (a .rows) (m .counted) hs (m .slots) (m .long .s);
+        chunks = stored rowChunk c₀ cs (m .made) r (a .rows) (m .counted) hc (m .chunks) (m .long .left);
+        layers = stored rowLayer l₀ ls (m .made) r (a .rows) (m .counted) hl (m .layers) (m .long .l);
+        bytes = stored rowBytes b₀ bs (m .made) r (a .rows) (m .counted) hb (m .bytes) (m .long .b);
         counted = omega (arith, m .counted, length-snoc (m .made) r);
-        long = record { s = simp length-set (m .long .s); c = simp length-set (m .long .c); l = simp length-set (m .long .l); b = simp length-set (m .long .b) };
+        long = record { s = simp length-set (m .long .s); c = simp length-set (m .long .left); l = simp length-set (m .long .l); b = simp length-set (m .long .b) };
       }
 
 -- ---- one piece
 
 -- Placed in part: left is still to place.
-pub record Putting (start : ℕ) (part : List ℕ) (chunk layer size : ℕ) (a : At) (ss cs ls bs ss' cs' ls' bs' : List ℕ) (t c n left : ℕ) : Type 0 where
+pub record Putting (start : ℕ) (part : List ℕ) (chunk layer size : ℕ) (a : Position) (ss cs ls bs ss' cs' ls' bs' : List ℕ) (t c n left : ℕ) : Type 0 where
   pub some : 1 ≤ left
-  pub goes : Goes start part 0 a (record { t = t; c = c; n = n })
+  pub goes : Goes start part 0 a (record { slot = t; left = c; rows = n })
   pub fits : left ≤ c + leftAt start part t
   pub long : Same ss cs ls bs ss' cs' ls' bs'
-  pub enough : (x : ℕ) → size + x ≤ a .c + leftAt start part (a .t) → left + x ≤ c + leftAt start part t
+  pub enough : (x : ℕ) → size + x ≤ a .left + leftAt start part (a .slot) → left + x ≤ c + leftAt start part t
   pub makes :
-      (whole : List Row) (s₀ c₀ l₀ b₀ : List ℕ) (ready : ℕ) (rest : List Piece) → ready ≤ a .t →
+      (whole : List Row) (s₀ c₀ l₀ b₀ : List ℕ) (ready : ℕ) (rest : List QueuedPiece) → ready ≤ a .slot →
       Made whole start part s₀ c₀ l₀ b₀ (piece chunk layer size ready ∷ rest) ss cs ls bs a →
-      Made whole start part s₀ c₀ l₀ b₀ (piece chunk layer left ready ∷ rest) ss' cs' ls' bs' (record { t = t; c = c; n = n })
+      Made whole start part s₀ c₀ l₀ b₀ (piece chunk layer left ready ∷ rest) ss' cs' ls' bs' (record { slot = t; left = c; rows = n })
 
-module _ (start : ℕ) (part : List ℕ) (chunk layer size : ℕ) (a : At) (ss cs ls bs : List ℕ) (g : Room start part 1 a ss cs ls bs) where
-  pub putting-start : 1 ≤ size → size ≤ a .c + leftAt start part (a .t) → Putting start part chunk layer size a ss cs ls bs ss cs ls bs (a .t) (a .c) (a .n) size
+module _ (start : ℕ) (part : List ℕ) (chunk layer size : ℕ) (a : Position) (ss cs ls bs : List ℕ) (g : PutPiecePre start part 1 a ss cs ls bs) where
+  pub putting-start : 1 ≤ size → size ≤ a .left + leftAt start part (a .slot) → Putting start part chunk layer size a ss cs ls bs ss cs ls bs (a .slot) (a .left) (a .rows) size
   putting-start h k =
       record {
         some = h;
@@ -159,7 +159,7 @@ module _ (start : ℕ) (part : List ℕ) (chunk layer size : ℕ) (a : At) (ss c
         }
 
     sets-long : (x y z w : ℕ) → Same ss cs ls bs (set ss' n x) (set cs' n y) (set ls' n z) (set bs' n w)
-    sets-long x y z w = record { s = simp length-set (p .long .s); c = simp length-set (p .long .c); l = simp length-set (p .long .l); b = simp length-set (p .long .b) }
+    sets-long x y z w = record { s = simp length-set (p .long .s); c = simp length-set (p .long .left); l = simp length-set (p .long .l); b = simp length-set (p .long .b) }
 
     pub putting-part : 0 < c → c < left → Putting start part chunk layer size a ss cs ls bs (set ss' n t) (set cs' n chunk) (set ls' n layer) (set bs' n c) (t + 1) (bytesAt start part (t + 1)) (n + 1) (left - c)
     putting-part z h =
@@ -177,7 +177,7 @@ module _ (start : ℕ) (part : List ℕ) (chunk layer size : ℕ) (a : At) (ss c
               ∙ ap (λ (l : List Row). row t (piece chunk layer left ready) c ∷ l) (onward-next start part t (piece chunk layer (left - c) ready ∷ rest) u));
         }
 
-    pub putting-end : left ≤ c → PutsOne start part chunk layer size a ss cs ls bs (record { t = t; c = c - left; n = n + 1 }) (set ss' n t) (set cs' n chunk) (set ls' n layer) (set bs' n left)
+    pub putting-end : left ≤ c → PutPiecePost start part chunk layer size a ss cs ls bs (record { slot = t; left = c - left; rows = n + 1 }) (set ss' n t) (set cs' n chunk) (set ls' n layer) (set bs' n left)
     putting-end h =
         record {
           goes = record { low = p .goes .low; high = p .goes .high; later = p .goes .later; rows = omega (arith, p .goes .rows) };

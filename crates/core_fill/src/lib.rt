@@ -1,18 +1,20 @@
 // Internal. The plan's own list, piece by piece: each piece, with so many bytes left, goes into slot after slot, from its release on,
 // until nothing is left of it. The part of the forecast may start at any slot, and the list may be under way already: the contracts
 // speak of every list that goes on with these pieces. Sizes are those of the table that job's fill_sizes fills.
+use job::CHUNKS;
+use job::SizeTable;
 ghost use mathlib.Core.Path.{_≡_};
 ghost use Prim.Native.Nat.{ℕ, _+_, _*_, _-_, _<_, _≤_};
 ghost use lib.ListN.{length, drop, set};
 ghost use Rattle.job.specs.Table.{tableAt};
-ghost use Rattle.core_fill.specs.lemmas.Listing.{Room, PutsOne, Puts, begun, lastOf, leftAt, layersOf, queueOf, ChunkFrom, AllFrom};
-ghost use Rattle.theory_plan.specs.lemmas.Parts.{Part};
+ghost use Rattle.core_fill.specs.lemmas.Filling.{PutPiecePre, PutPiecePost, PutPost, begun, lastOf, leftAt, layersOf, queueOf, PutChunkPre, PutAllPre};
+ghost use Rattle.theory_plan.specs.lemmas.Parts.{ForecastPart};
 
 // The slot t, the bytes left in it, and the rows made.
-pub struct At {
-    pub t: usize,
-    pub c: u32,
-    pub n: usize,
+pub struct Position {
+    pub slot: usize,
+    pub left: u32,
+    pub rows: usize,
 }
 
 fn put_row(
@@ -36,15 +38,19 @@ fn put_row(
 }
 
 // A chunk does not begin before its release.
-pub fn begin(part: &[u32], start: usize, at: At, ready: u16) -> At
-    requires { ⌜ Part start (now part) × (start ≤ at .t) × (ready ≤ lastOf start (now part)) ⌝ }
+pub fn begin(part: &[u32], start: usize, at: Position, ready: u16) -> Position
+    requires { ⌜ ForecastPart start (now part) × (start ≤ at .slot) × (ready ≤ lastOf start (now part)) ⌝ }
     ensures { λ r. ⌜ r ≡ begun start (now (part .entry)) at ready ⌝ }
 {
     let r = ready as usize;
-    if at.t < r {
+    if at.slot < r {
         let k = r - start;
         let c = part[k];
-        return At { t: r, c, n: at.n };
+        return Position {
+            slot: r,
+            left: c,
+            rows: at.rows,
+        };
     }
     at
 }
@@ -53,7 +59,7 @@ pub fn begin(part: &[u32], start: usize, at: At, ready: u16) -> At
 pub fn put_piece(
     part: &[u32],
     start: usize,
-    at: At,
+    at: Position,
     chunk: u16,
     layer: u8,
     size: u32,
@@ -61,13 +67,13 @@ pub fn put_piece(
     chunks: &mut [u16],
     layers: &mut [u8],
     bytes: &mut [u32],
-) -> At
-    requires { ⌜ Room start (now part) 1 at (now slots) (now chunks) (now layers) (now bytes) × (1 ≤ size) × (size ≤ at .c + leftAt start (now part) (at .t)) ⌝ }
-    ensures { λ r. ⌜ PutsOne start (now (part .entry)) chunk layer size at (now (slots .entry)) (now (chunks .entry)) (now (layers .entry)) (now (bytes .entry)) r (now (slots .exit)) (now (chunks .exit)) (now (layers .exit)) (now (bytes .exit)) ⌝ }
+) -> Position
+    requires { ⌜ PutPiecePre start (now part) 1 at (now slots) (now chunks) (now layers) (now bytes) × (1 ≤ size) × (size ≤ at .left + leftAt start (now part) (at .slot)) ⌝ }
+    ensures { λ r. ⌜ PutPiecePost start (now (part .entry)) chunk layer size at (now (slots .entry)) (now (chunks .entry)) (now (layers .entry)) (now (bytes .entry)) r (now (slots .exit)) (now (chunks .exit)) (now (layers .exit)) (now (bytes .exit)) ⌝ }
 {
-    let mut t = at.t;
-    let mut c = at.c;
-    let mut n = at.n;
+    let mut t = at.slot;
+    let mut c = at.left;
+    let mut n = at.rows;
     let mut left = size;
     while c < left {
         let next = t + 1;
@@ -86,15 +92,19 @@ pub fn put_piece(
     put_row(slots, chunks, layers, bytes, n, t, chunk, layer, left);
     c = c - left;
     n = n + 1;
-    At { t, c, n }
+    Position {
+        slot: t,
+        left: c,
+        rows: n,
+    }
 }
 
 // The layers that a chunk carries.
 pub fn put_chunk(
     part: &[u32],
     start: usize,
-    table: &[u32; 2000],
-    from: At,
+    table: &SizeTable,
+    from: Position,
     ready: u16,
     chunk: u16,
     mark: u8,
@@ -102,9 +112,9 @@ pub fn put_chunk(
     chunks: &mut [u16],
     layers: &mut [u8],
     bytes: &mut [u32],
-) -> At
-    requires { ⌜ ChunkFrom start (now part) (tableAt (now table)) from ready chunk mark (now slots) (now chunks) (now layers) (now bytes) ⌝ }
-    ensures { λ r. ⌜ Puts start (now (part .entry)) (layersOf (tableAt (now (table .entry))) chunk ready mark) 4 from (now (slots .entry)) (now (chunks .entry)) (now (layers .entry)) (now (bytes .entry)) r (now (slots .exit)) (now (chunks .exit)) (now (layers .exit)) (now (bytes .exit)) ⌝ }
+) -> Position
+    requires { ⌜ PutChunkPre start (now part) (tableAt (now table)) from ready chunk mark (now slots) (now chunks) (now layers) (now bytes) ⌝ }
+    ensures { λ r. ⌜ PutPost start (now (part .entry)) (layersOf (tableAt (now (table .entry))) chunk ready mark) 4 from (now (slots .entry)) (now (chunks .entry)) (now (layers .entry)) (now (bytes .entry)) r (now (slots .exit)) (now (chunks .exit)) (now (layers .exit)) (now (bytes .exit)) ⌝ }
 {
     let mut at = begin(part, start, from, ready);
     let mut n: u8 = 0;
@@ -120,23 +130,23 @@ pub fn put_chunk(
 pub fn put_all(
     part: &[u32],
     start: usize,
-    table: &[u32; 2000],
-    ids: &[u16; 500],
-    ready: &[u16; 500],
-    mark: &[u8; 500],
+    table: &SizeTable,
+    ids: &[u16; CHUNKS],
+    ready: &[u16; CHUNKS],
+    mark: &[u8; CHUNKS],
     first: usize,
-    from: At,
+    from: Position,
     slots: &mut [u16],
     chunks: &mut [u16],
     layers: &mut [u8],
     bytes: &mut [u32],
-) -> At
-    requires { ⌜ AllFrom start (now part) (tableAt (now table)) (now ids) (now ready) (now mark) first from (now slots) (now chunks) (now layers) (now bytes) ⌝ }
-    ensures { λ r. ⌜ Puts start (now (part .entry)) (queueOf (tableAt (now (table .entry))) (drop first (now (ids .entry))) (drop first (now (ready .entry))) (drop first (now (mark .entry)))) (4 * (500 - first)) from (now (slots .entry)) (now (chunks .entry)) (now (layers .entry)) (now (bytes .entry)) r (now (slots .exit)) (now (chunks .exit)) (now (layers .exit)) (now (bytes .exit)) ⌝ }
+) -> Position
+    requires { ⌜ PutAllPre start (now part) (tableAt (now table)) (now ids) (now ready) (now mark) first from (now slots) (now chunks) (now layers) (now bytes) ⌝ }
+    ensures { λ r. ⌜ PutPost start (now (part .entry)) (queueOf (tableAt (now (table .entry))) (drop first (now (ids .entry))) (drop first (now (ready .entry))) (drop first (now (mark .entry)))) (4 * (500 - first)) from (now (slots .entry)) (now (chunks .entry)) (now (layers .entry)) (now (bytes .entry)) r (now (slots .exit)) (now (chunks .exit)) (now (layers .exit)) (now (bytes .exit)) ⌝ }
 {
     let mut at = from;
     let mut q = first;
-    while q < 500 {
+    while q < CHUNKS {
         at = put_chunk(
             part,
             start,

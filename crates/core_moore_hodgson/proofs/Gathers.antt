@@ -17,7 +17,7 @@ use Rattle.theory_plan.specs.Plan.{picked}
 use Rattle.theory_plan.specs.lemmas.Kept.{picked-asc, picked-cong, picked-each, picked-has}
 use Rattle.theory_plan.specs.lemmas.Parts.{at}
 use Rattle.theory_plan.specs.lemmas.Walk.{kept-asc}
-use Rattle.core_moore_hodgson.specs.lemmas.Walking.{Fit, GatherFrom, Gathered, KeptIn, Long, Walked, roomIn, stands, walkedIn}
+use Rattle.core_moore_hodgson.specs.lemmas.Tables.{Fit, GatherPre, GatherPost, KeptIn, Long, KeepOrDropPost, roomIn, stands, mooreHodgsonIn}
 
 module _ (p : Programme) (tree : List ℕ) where
   -- The bytes of a leaf.
@@ -34,7 +34,7 @@ module _ (p : Programme) (tree : List ℕ) where
     pub left : i ≤ p .chunks
     pub long : Long ids dues bytes
 
-  pub gathering-start : (ids dues bytes : List ℕ) → GatherFrom p tree ids dues bytes → Gathering ids dues bytes 500 (p .chunks)
+  pub gathering-start : (ids dues bytes : List ℕ) → GatherPre p tree ids dues bytes → Gathering ids dues bytes 500 (p .chunks)
   gathering-start ids dues bytes o =
       let z : p .chunks - p .chunks ≡ 0 = omega arith in
       let e : drop 500 ids ≡ [] = drop-of-length-le ids {i = 500} (omega (arith, o .long .0)) in
@@ -89,7 +89,7 @@ module _ (p : Programme) (tree : List ℕ) where
           long = (simp length-set (b .long .0), simp length-set (b .long .1), simp length-set (b .long .2));
         }
 
-  pub gathering-end : (ids dues bytes : List ℕ) (first i : ℕ) → Gathering ids dues bytes first i → i ≤ 0 → Gathered p tree first ids dues bytes
+  pub gathering-end : (ids dues bytes : List ℕ) (first i : ℕ) → Gathering ids dues bytes first i → i ≤ 0 → GatherPost p tree first ids dues bytes
   gathering-end ids dues bytes first i b h =
       let e : i ≡ 0 = omega arith in
       let s : p .chunks - i ≡ p .chunks = omega arith in
@@ -108,10 +108,10 @@ map-picked f g (k ∷ ks) a = rw (a .0, map-picked f g ks (a .1))
 -- What is gathered of the walk's table is what the walk keeps.
 pub keeps :
     (p : Programme) (size : ℕ → ℕ → ℕ) (after tree : List ℕ) (first : ℕ) (ids dues bytes : List ℕ) → Fit p size after →
-    Walked p size after tree → Gathered p tree first ids dues bytes → KeptIn p size (walkedIn p size (at after)) first ids dues bytes
+    KeepOrDropPost p size after tree → GatherPost p tree first ids dues bytes → KeptIn p size (mooreHodgsonIn p size (at after)) first ids dues bytes
 keeps p size after tree first ids dues bytes fit w g =
     let s : ℕ → ℕ = λ k. size k 0 in
-    let ks = walkedIn p size (at after) in
+    let ks = mooreHodgsonIn p size (at after) in
     let is : (i : ℕ) → 0 < i → i ≤ p .chunks + 0 → stands tree i ≡ has ks i = λ i u v. ap (ltb 0) (w .leaf i (omega (arith, fit .few))) ∙ stands-is (has ks i) (s i) (fit .bases i u (omega arith) .low) in
     let all : picked (stands tree) 0 (p .chunks) ≡ ks = picked-cong (stands tree) (has ks) 0 (p .chunks) is ∙ picked-has 0 (p .chunks) (p .chunks) ks (omega arith) (kept-asc s (roomIn p (at after)) (p .chunks)) in
     record {
@@ -123,5 +123,5 @@ keeps p size after tree first ids dues bytes fit w g =
       long = g .long;
     }
   where
-    bytes-are : (i : ℕ) → 0 < i → i ≤ p .chunks + 0 → T (has (walkedIn p size (at after)) i) → at tree (512 + i) ≡ size i 0
-    bytes-are i u v t = w .leaf i (omega (arith, fit .few)) ∙ ap (λ (b : Bool). cond b (size i 0) 0) (T-true (has (walkedIn p size (at after)) i) t)
+    bytes-are : (i : ℕ) → 0 < i → i ≤ p .chunks + 0 → T (has (mooreHodgsonIn p size (at after)) i) → at tree (512 + i) ≡ size i 0
+    bytes-are i u v t = w .leaf i (omega (arith, fit .few)) ∙ ap (λ (b : Bool). cond b (size i 0) 0) (T-true (has (mooreHodgsonIn p size (at after)) i) t)

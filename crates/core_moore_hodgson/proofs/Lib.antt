@@ -1,3 +1,3 @@
 pub mod Maxima
-pub mod Walks
+pub mod Keeping
 pub mod Gathers

@@ -12,7 +12,7 @@ use lib.Dec.{T-not, ltb, eqb, ltb→lt, nltb→le, eqb→eq, eqb-refl}
 use borrow.Author.Tests.{eq-eqb, ne-eqb}
 use Rattle.theory_basics.specs.lemmas.Tests.{test}
 use Rattle.theory_plan.specs.lemmas.Parts.{at}
-use Rattle.core_moore_hodgson.specs.lemmas.Walking.{InTree, LargestLeaf, Maxima, Stored, under}
+use Rattle.core_moore_hodgson.specs.lemmas.Tables.{LeafPre, FindLargestPost, Maxima, LeafPost, under}
 
 -- ---- up
 
@@ -32,7 +32,7 @@ other-child : (r p : ℕ) → (p ≡ r / 2 → ⊥) → (2 * p ≡ r → ⊥) ×
 other-child r p h = (λ e. h (omega arith), λ e. h (omega arith))
 
 -- A new leaf disturbs only the place above it.
-pub climbing-start : (leaf v : ℕ) (old : List ℕ) → InTree leaf old → Climbing (set old leaf v) (set old leaf v) (leaf / 2)
+pub climbing-start : (leaf v : ℕ) (old : List ℕ) → LeafPre leaf old → Climbing (set old leaf v) (set old leaf v) (leaf / 2)
 climbing-start leaf v old m =
     record {
       below = omega (arith, m .high);
@@ -76,7 +76,7 @@ module _ (start t : List ℕ) (p : ℕ) (c : Climbing start t p) where
   climbing-ends h = record { long = c .long; right = λ q u w. c .right q u w (λ e. omega arith) }
 
 -- The leaves are those of the start.
-pub stored : (leaf v : ℕ) (old t : List ℕ) (p : ℕ) → InTree leaf old → Climbing (set old leaf v) t p → Maxima t → Stored leaf v old t
+pub stored : (leaf v : ℕ) (old t : List ℕ) (p : ℕ) → LeafPre leaf old → Climbing (set old leaf v) t p → Maxima t → LeafPost leaf v old t
 stored leaf v old t p h c m =
     record {
       maxima = m;
@@ -111,7 +111,7 @@ pub record Adding (v : ℕ) (start t : List ℕ) (p : ℕ) : Type 0 where
   pub climbing : Climbing start t p
   pub wants : 1 ≤ p → under t p ≡ max (at t p) v
 
-pub adding-start : (leaf v : ℕ) (old : List ℕ) → InTree leaf old → at old leaf ≤ v → Adding v (set old leaf v) (set old leaf v) (leaf / 2)
+pub adding-start : (leaf v : ℕ) (old : List ℕ) → LeafPre leaf old → at old leaf ≤ v → Adding v (set old leaf v) (set old leaf v) (leaf / 2)
 adding-start leaf v old m h =
     record {
       climbing = climbing-start leaf v old m;
@@ -235,7 +235,7 @@ module _ (t : List ℕ) (m : Maxima t) (p : ℕ) (g : p < 512) where
   pub falling-right : Falling t p → (at t (2 * p) ≡ at t 1 → ⊥) → Falling t (2 * p + 1)
   falling-right f = fall-right (f .depth) (f .falls)
 
-fall-end : (t : List ℕ) (p d : ℕ) → Falls t p d → 512 ≤ p → p < 1024 → LargestLeaf t p
+fall-end : (t : List ℕ) (p d : ℕ) → Falls t p d → 512 ≤ p → p < 1024 → FindLargestPost t p
 fall-end t p zero f g h =
     record {
       low = g;
@@ -257,5 +257,5 @@ fall-end t p (suc d) f g h =
     let high : (p + 1) * (2 * 2 ^ d) ≤ 1024 = rw e at (f .high) in
     absurd (omega (arith, mul-le-mul-left (p + 1) (pow-pos d)))
 
-pub falling-end : (t : List ℕ) (p : ℕ) → Falling t p → 512 ≤ p → LargestLeaf t p
+pub falling-end : (t : List ℕ) (p : ℕ) → Falling t p → 512 ≤ p → FindLargestPost t p
 falling-end t p f g = fall-end t p (f .depth) (f .falls) g (f .below)

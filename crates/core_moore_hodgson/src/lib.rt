@@ -2,13 +2,16 @@
 // if it is kept, else 0, and each place below 512 the larger of the two under it. A base added or dropped costs a way up, which ends
 // where nothing changes, and the largest kept one, the earliest among equals, a way down. The kept chunks end up where settle's pass
 // over the bases leaves them: at the end of tables of 500 places, in playing order.
+use job::CHUNKS;
+use job::SizeTable;
+use job::SlotSums;
 use job::Programme;
 ghost use mathlib.Core.Path.{_≡_};
 ghost use mathlib.Core.Bool.{not};
 ghost use Prim.Native.Nat.{_≤_, max};
 ghost use Rattle.job.specs.Table.{tableAt};
 ghost use Rattle.theory_plan.specs.lemmas.Parts.{at};
-ghost use Rattle.core_moore_hodgson.specs.lemmas.Walking.{Maxima, InTree, Stored, LargestLeaf, WalkFrom, Walked, GatherFrom, Gathered, KeepFrom, KeptIn, equalIn, walkedIn, walksIn};
+ghost use Rattle.core_moore_hodgson.specs.lemmas.Tables.{Maxima, LeafPre, LeafPost, FindLargestPost, KeepOrDropPre, KeepOrDropPost, GatherPre, GatherPost, KeepMostPre, KeptIn, equalIn, mooreHodgsonIn, appliesIn};
 
 fn larger(a: u32, b: u32) -> u32
     ensures { λ r. ⌜ r ≡ max a b ⌝ }
@@ -20,7 +23,7 @@ fn larger(a: u32, b: u32) -> u32
 }
 
 // Base sizes do not vary: each base has chunk 1's size.
-fn equal_bases(p: Programme, table: &[u32; 2000]) -> bool
+fn equal_bases(p: Programme, table: &SizeTable) -> bool
     ensures { λ r. ⌜ r ≡ equalIn (p .chunks) (tableAt (now (table .entry))) ⌝ }
 {
     let own = job::size_at(table, 1, 0);
@@ -35,8 +38,8 @@ fn equal_bases(p: Programme, table: &[u32; 2000]) -> bool
 }
 
 // The walk settles the bases: the limit holds the programme, and base sizes vary.
-pub fn by_walk(p: Programme, table: &[u32; 2000]) -> bool
-    ensures { λ r. ⌜ r ≡ walksIn p (tableAt (now (table .entry))) ⌝ }
+pub fn applies(p: Programme, table: &SizeTable) -> bool
+    ensures { λ r. ⌜ r ≡ appliesIn p (tableAt (now (table .entry))) ⌝ }
 {
     let held = job::held_most(p);
     if held < p.chunks {
@@ -47,8 +50,8 @@ pub fn by_walk(p: Programme, table: &[u32; 2000]) -> bool
 
 // A leaf gets a value no smaller than its own. The way up ends where a place has as much.
 fn add_leaf(tree: &mut [u32; 1024], leaf: usize, v: u32)
-    requires { ⌜ InTree leaf (now tree) × (at (now tree) leaf ≤ v) ⌝ }
-    ensures { λ _. ⌜ Stored leaf v (now (tree .entry)) (now (tree .exit)) ⌝ }
+    requires { ⌜ LeafPre leaf (now tree) × (at (now tree) leaf ≤ v) ⌝ }
+    ensures { λ _. ⌜ LeafPost leaf v (now (tree .entry)) (now (tree .exit)) ⌝ }
 {
     tree[leaf] = v;
     let mut p = leaf / 2;
@@ -63,8 +66,8 @@ fn add_leaf(tree: &mut [u32; 1024], leaf: usize, v: u32)
 
 // A leaf gets 0. The way up ends where a place keeps what it has.
 fn clear_leaf(tree: &mut [u32; 1024], leaf: usize)
-    requires { ⌜ InTree leaf (now tree) ⌝ }
-    ensures { λ _. ⌜ Stored leaf 0 (now (tree .entry)) (now (tree .exit)) ⌝ }
+    requires { ⌜ LeafPre leaf (now tree) ⌝ }
+    ensures { λ _. ⌜ LeafPost leaf 0 (now (tree .entry)) (now (tree .exit)) ⌝ }
 {
     tree[leaf] = 0;
     let mut p = leaf / 2;
@@ -83,7 +86,7 @@ fn clear_leaf(tree: &mut [u32; 1024], leaf: usize)
 // The leaf of the largest, the first among equals: down from place 1, to the left where the largest is there.
 fn find_largest(tree: &[u32; 1024]) -> usize
     requires { ⌜ Maxima (now tree) ⌝ }
-    ensures { λ r. ⌜ LargestLeaf (now (tree .entry)) r ⌝ }
+    ensures { λ r. ⌜ FindLargestPost (now (tree .entry)) r ⌝ }
 {
     let top = tree[1];
     let mut p: usize = 1;
@@ -100,9 +103,9 @@ fn find_largest(tree: &[u32; 1024]) -> usize
 }
 
 // Chunks 1 to C: each is added, and where the kept ones are then more than the forecast up to its due slot, the largest is dropped.
-fn walk(p: Programme, table: &[u32; 2000], after: &[u64; 3601], tree: &mut [u32; 1024])
-    requires { ⌜ WalkFrom p (tableAt (now table)) (now after) (now tree) ⌝ }
-    ensures { λ _. ⌜ Walked p (tableAt (now (table .entry))) (now (after .entry)) (now (tree .exit)) ⌝ }
+fn keep_or_drop(p: Programme, table: &SizeTable, after: &SlotSums, tree: &mut [u32; 1024])
+    requires { ⌜ KeepOrDropPre p (tableAt (now table)) (now after) (now tree) ⌝ }
+    ensures { λ _. ⌜ KeepOrDropPost p (tableAt (now (table .entry))) (now (after .entry)) (now (tree .exit)) ⌝ }
 {
     let all = after[0];
     let mut sum: u64 = 0;
@@ -137,14 +140,14 @@ fn walk(p: Programme, table: &[u32; 2000], after: &[u64; 3601], tree: &mut [u32;
 fn gather(
     p: Programme,
     tree: &[u32; 1024],
-    ids: &mut [u16; 500],
-    dues: &mut [u16; 500],
-    bytes: &mut [u32; 500],
+    ids: &mut [u16; CHUNKS],
+    dues: &mut [u16; CHUNKS],
+    bytes: &mut [u32; CHUNKS],
 ) -> usize
-    requires { ⌜ GatherFrom p (now tree) (now ids) (now dues) (now bytes) ⌝ }
-    ensures { λ r. ⌜ Gathered p (now (tree .entry)) r (now (ids .exit)) (now (dues .exit)) (now (bytes .exit)) ⌝ }
+    requires { ⌜ GatherPre p (now tree) (now ids) (now dues) (now bytes) ⌝ }
+    ensures { λ r. ⌜ GatherPost p (now (tree .entry)) r (now (ids .exit)) (now (dues .exit)) (now (bytes .exit)) ⌝ }
 {
-    let mut first: usize = 500;
+    let mut first: usize = CHUNKS;
     let mut i = p.chunks;
     while 0 < i {
         let leaf = 512 + (i as usize);
@@ -167,16 +170,16 @@ fn gather(
 // The bases that the walk keeps, from the place handed back on: chunks, due slots and bytes.
 pub fn keep_most(
     p: Programme,
-    table: &[u32; 2000],
-    after: &[u64; 3601],
-    ids: &mut [u16; 500],
-    dues: &mut [u16; 500],
-    bytes: &mut [u32; 500],
+    table: &SizeTable,
+    after: &SlotSums,
+    ids: &mut [u16; CHUNKS],
+    dues: &mut [u16; CHUNKS],
+    bytes: &mut [u32; CHUNKS],
 ) -> usize
-    requires { ⌜ KeepFrom p (tableAt (now table)) (now after) (now ids) (now dues) (now bytes) ⌝ }
-    ensures { λ r. ⌜ KeptIn p (tableAt (now (table .entry))) (walkedIn p (tableAt (now (table .entry))) (at (now (after .entry)))) r (now (ids .exit)) (now (dues .exit)) (now (bytes .exit)) ⌝ }
+    requires { ⌜ KeepMostPre p (tableAt (now table)) (now after) (now ids) (now dues) (now bytes) ⌝ }
+    ensures { λ r. ⌜ KeptIn p (tableAt (now (table .entry))) (mooreHodgsonIn p (tableAt (now (table .entry))) (at (now (after .entry)))) r (now (ids .exit)) (now (dues .exit)) (now (bytes .exit)) ⌝ }
 {
     let mut tree = [0u32; 1024];
-    walk(p, table, after, &mut tree);
+    keep_or_drop(p, table, after, &mut tree);
     gather(p, &tree, ids, dues, bytes)
 }

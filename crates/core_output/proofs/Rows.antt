@@ -18,7 +18,7 @@ use Rattle.theory_plan.specs.lemmas.Ascending.{Asc, asc-within}
 use Rattle.theory_plan.specs.lemmas.Choice.{fits-weight, kept-asc}
 use Rattle.theory_plan.specs.Own.{ownList}
 use Rattle.theory_plan.specs.Plan.{kept, after}
-use Rattle.theory_plan.specs.lemmas.Fill.{Piece, Ready, fill, needs}
+use Rattle.theory_plan.specs.lemmas.Fill.{QueuedPiece, Ready, fill, needs}
 use Rattle.theory_plan.specs.lemmas.Kept.{picked-each}
 use Rattle.theory_plan.specs.lemmas.Linear.{level-of, mark-level}
 use Rattle.theory_plan.specs.lemmas.Necessity.{Each}
@@ -28,13 +28,13 @@ use Rattle.theory_plan.specs.Statement.{Choice, countsOf, marksOf}
 use Rattle.theory_plan.specs.lemmas.Sufficiency.{fetch}
 use Rattle.theory_plan.specs.lemmas.Trials.{levelMark}
 use Rattle.theory_plan.specs.lemmas.Words.{accepted-sized, due-by}
-use Rattle.core_fill.specs.declared.At.{At}
-use Rattle.theory_plan.specs.lemmas.Parts.{Part}
+use Rattle.core_fill.specs.declared.Position.{Position}
+use Rattle.theory_plan.specs.lemmas.Parts.{ForecastPart}
 use Rattle.core_decide.specs.lemmas.Accepted as accepted-job
 use Rattle.core_decide.specs.lemmas.Marks.{mark-picked, markOr}
-use Rattle.core_output.specs.lemmas.Laying.{Decided}
+use Rattle.core_output.specs.lemmas.Writing.{Decided}
 use Rattle.theory_basics.specs.Lent.{over}
-use Rattle.core_fill.specs.lemmas.Listing.{lastOf, bytesAt, leftAt, onward, load, Fed, Made, Puts, Levels, queueOf, AllFrom}
+use Rattle.core_fill.specs.lemmas.Filling.{lastOf, bytesAt, leftAt, onward, load, Fed, Made, PutPost, Levels, queueOf, PutAllPre}
 use Rattle.core_output.proofs.Marks.{front-counts, front-long, marks-stay-long}
 use Rattle.theory_basics.specs.lemmas.Tables.{all-take}
 use Rattle.core_fill.proofs.Pieces.{left-next, onward-next, same-refl}
@@ -46,13 +46,13 @@ queue-is size lv [] rs a = refl
 queue-is size lv (k ∷ ks) [] a = refl
 queue-is size lv (k ∷ ks) (r ∷ rs) a =
     ap (λ (n : ℕ). pieces size k r 0 n ++ queueOf size ks (take (length ks) rs) (map (λ k. levelMark (lv k)) ks)) (level-of (lv k) (a .0))
-    ∙ ap (λ (q : List Piece). pieces size k r 0 (lv k) ++ q) (queue-is size lv ks rs (a .1))
+    ∙ ap (λ (q : List QueuedPiece). pieces size k r 0 (lv k) ++ q) (queue-is size lv ks rs (a .1))
 
-load-needs : (d A : ℕ → ℕ) (q : List Piece) → load q ≤ needs d A q
+load-needs : (d A : ℕ → ℕ) (q : List QueuedPiece) → load q ≤ needs d A q
 load-needs d A [] = omega arith
 load-needs d A (p ∷ q) = omega (arith, load-needs d A q)
 
-fed-ready : (d A : ℕ → ℕ) (q : List Piece) → Ready d A q → Fed A q
+fed-ready : (d A : ℕ → ℕ) (q : List QueuedPiece) → Ready d A q → Fed A q
 fed-ready d A [] r = tt
 fed-ready d A (p ∷ q) r = (omega (arith, r .0, load-needs d A (p ∷ q)), r .1, fed-ready d A q (r .2))
 
@@ -91,7 +91,7 @@ module _
   each-imp P Q [] g a = tt
   each-imp P Q (k ∷ ks) g a = (g k (a .0), each-imp P Q ks g (a .1))
 
-  plan-queue : List Piece
+  plan-queue : List QueuedPiece
   plan-queue = queue (size j) x (kept j x) (releases (due j) (heldMost j) (kept j x))
 
   many : length (kept j x) ≡ 500 - first
@@ -121,10 +121,10 @@ module _
   pub first-slot : 1 ≤ length f
   first-slot = omega (arith, slots-are, ok .delay-in .low)
 
-  abbrev start : At
-  start = record { t = 1; c = getD f 0 0; n = 0 }
+  abbrev start : Position
+  start = record { slot = 1; left = getD f 0 0; rows = 0 }
 
-  pub all-from : (ss cs ls bs : List ℕ) → 5599 ≤ length ss → 5599 ≤ length cs → 5599 ≤ length ls → 5599 ≤ length bs → AllFrom 1 f own ids ready mark first start ss cs ls bs
+  pub all-from : (ss cs ls bs : List ℕ) → 5599 ≤ length ss → 5599 ≤ length cs → 5599 ≤ length ls → 5599 ≤ length bs → PutAllPre 1 f own ids ready mark first start ss cs ls bs
   all-from ss cs ls bs a b d e =
       let fs = first-slot in
       let slots = slots-are in
@@ -132,12 +132,12 @@ module _
       let room : 0 + (lastOf 1 f - 1) + 4 * (500 - first) ≤ 5599 = omega (arith, slots, last, o .tables .within) in
       record {
         within = o .tables .within;
-        room = record { part-in = subst (Part 1) (sym (o .forecast-is)) (accepted-job.part-in j ok); low = omega arith; high = omega arith; count = omega arith; s = omega arith; c = omega arith; l = omega arith; b = omega arith };
+        room = record { part-in = subst (ForecastPart 1) (sym (o .forecast-is)) (accepted-job.part-in j ok); low = omega arith; high = omega arith; count = omega arith; s = omega arith; c = omega arith; l = omega arith; b = omega arith };
         by = subst (All (λ r. r ≤ lastOf 1 f)) (sym (o .tables .releases-are)) released;
         chunks-in = subst (All (Within 1 500)) (sym (o .tables .chunks)) (asc-within 1 (chunks j) 1 500 (kept j x) (omega arith) (ok .chunks-in .high) (kept-asc j x));
         levels = subst (All Levels) (sym (o .tables .marks)) (all-each Levels (λ k. levelMark (x k)) (kept j x) (each-imp (λ k. (1 ≤ x k) × (x k ≤ 4)) (λ k. Levels (levelMark (x k))) (kept j x) level levels-in));
         fed = subst (Fed (leftAt 1 f)) (sym queued) (subst (λ (A : ℕ → ℕ). Fed A plan-queue) (sym left-is) (fed-ready (due j) (after j) plan-queue (plan-ready .1)));
-        fits = subst (λ (q : List Piece). load q ≤ getD f 0 0 + leftAt 1 f 1) (sym queued) (omega (arith, load-needs (due j) (after j) plan-queue, plan-ready .0, ap (λ (A : ℕ → ℕ). A 0) left-is, left-next 1 f 0 (omega arith)));
+        fits = subst (λ (q : List QueuedPiece). load q ≤ getD f 0 0 + leftAt 1 f 1) (sym queued) (omega (arith, load-needs (due j) (after j) plan-queue, plan-ready .0, ap (λ (A : ℕ → ℕ). A 0) left-is, left-next 1 f 0 (omega arith)));
         long = o .tables .long;
       }
     where
@@ -179,13 +179,13 @@ module _
     pub layers-are : ls' ≡ over (map rowLayer (ownList j x)) ls
     pub bytes : bs' ≡ over (map rowBytes (ownList j x)) bs
 
-  pub listed : (k : ℕ) (ss cs ls bs : List ℕ) (r : At) (ss' cs' ls' bs' : List ℕ) → Puts 1 f (queueOf own (drop first ids) (drop first ready) (drop first mark)) k start ss cs ls bs r ss' cs' ls' bs' → Listed ss cs ls bs (r .n) ss' cs' ls' bs'
+  pub listed : (k : ℕ) (ss cs ls bs : List ℕ) (r : Position) (ss' cs' ls' bs' : List ℕ) → PutPost 1 f (queueOf own (drop first ids) (drop first ready) (drop first mark)) k start ss cs ls bs r ss' cs' ls' bs' → Listed ss cs ls bs (r .rows) ss' cs' ls' bs'
   listed k ss cs ls bs r ss' cs' ls' bs' y =
       let q = queueOf own (drop first ids) (drop first ready) (drop first mark) in
       let begin : Made (ownList j x) 1 f ss cs ls bs (q ++ []) ss cs ls bs start =
       record { made = []; says = rows-are ∙ ap (onward 1 f 1 (getD f 0 0)) (sym (append-nil q)); slots = refl; chunks = refl; layers = refl; bytes = refl; counted = refl; long = same-refl ss cs ls bs } in
       let m = y .makes (ownList j x) ss cs ls bs [] begin in
-      let e : m .made ≡ ownList j x = sym (m .says ∙ ap (λ (l : List Row). m .made ++ l) (nothing-left (r .t) (r .c)) ∙ append-nil (m .made)) in
+      let e : m .made ≡ ownList j x = sym (m .says ∙ ap (λ (l : List Row). m .made ++ l) (nothing-left (r .slot) (r .left)) ∙ append-nil (m .made)) in
       record {
         counted = m .counted ∙ ap length e;
         slots = m .slots ∙ ap (λ (l : List Row). over (map rowSlot l) ss) e;

@@ -1,6 +1,6 @@
-pub mod Seeks
-pub mod Backs
+pub mod PassForward
+pub mod PassBack
 pub mod Both
-pub mod Lays
-pub mod Tries
-pub mod Alls
+pub mod SetTables
+pub mod Stretch
+pub mod Lines

@@ -1,5 +1,5 @@
 pub mod Passes
 pub mod Held
-pub mod Laying
+pub mod Tables
 pub mod Sentences
 pub mod All

@@ -1,15 +1,18 @@
 // Internal. Request 14: a line under each layer that the plan doesn't carry, by chunk and then layer, into a lent buffer that has room for
 // them. A line of the first kind takes two passes over the kept chunks, so all lines take time linear in lines x chunks.
+use job::CHUNKS;
+use job::SizeTable;
+use job::SlotSums;
 use job::Programme;
 
-mod laying;
+mod stretch;
 mod passes;
 mod sentences;
 
 ghost use mathlib.Core.Path.{_≡_};
 ghost use Prim.Native.Nat.{_/_};
 ghost use Rattle.job.specs.declared.Programme.{Programme};
-ghost use Rattle.core_reasons.specs.lemmas.All.{capOf, LineFrom, LineDone, ChunkFrom, ChunkDone, AllFrom, AllDone, Scratch};
+ghost use Rattle.core_reasons.specs.lemmas.All.{capOf, PutLinePre, PutLinePost, PutChunkPre, PutChunkPost, PutReasonsPre, PutReasonsPost, Scratch};
 
 // How many layers the chunks before the missing one may have in its trial. most: bases were settled by request 9.
 fn cap_of(most: bool, n: u8) -> u8
@@ -29,27 +32,27 @@ fn put_line(
     p: Programme,
     held: usize,
     most: bool,
-    sums: &[u32; 2000],
-    after: &[u64; 3601],
-    levels: &[u8; 500],
+    sums: &SizeTable,
+    after: &SlotSums,
+    levels: &[u8; CHUNKS],
     i: u16,
     n: u8,
     have: u8,
-    dues: &mut [u16; 500],
-    ready: &mut [u16; 500],
-    bytes: &mut [u32; 500],
+    dues: &mut [u16; CHUNKS],
+    ready: &mut [u16; CHUNKS],
+    bytes: &mut [u32; CHUNKS],
     out: &mut [u8],
     at: usize,
 ) -> usize
-    requires { ⌜ LineFrom p held most (now sums) (now after) (now levels) i n have (now dues) (now ready) (now bytes) (now out) at ⌝ }
-    ensures { λ r. ⌜ LineDone p most (now (sums .entry)) (now (after .entry)) (now (levels .entry)) i n (now (out .entry)) at (now (out .exit)) r ⌝ }
+    requires { ⌜ PutLinePre p held most (now sums) (now after) (now levels) i n have (now dues) (now ready) (now bytes) (now out) at ⌝ }
+    ensures { λ r. ⌜ PutLinePost p most (now (sums .entry)) (now (after .entry)) (now (levels .entry)) i n (now (out .entry)) at (now (out .exit)) r ⌝ }
     ensures room { λ _. ⌜ Scratch (now (dues .exit)) (now (ready .exit)) (now (bytes .exit)) ⌝ }
 {
     let chunk = i as u64;
     let layer = n as u64;
     if n == have {
         let cap = cap_of(most, n);
-        let s = laying::find_short(p, held, sums, after, levels, i, n, cap, dues, ready, bytes);
+        let s = stretch::find_short(p, held, sums, after, levels, i, n, cap, dues, ready, bytes);
         return sentences::put_short(out, at, chunk, layer, s);
     }
     let below = layer - 1;
@@ -62,18 +65,18 @@ fn put_chunk(
     held: usize,
     layers: u8,
     most: bool,
-    sums: &[u32; 2000],
-    after: &[u64; 3601],
-    levels: &[u8; 500],
+    sums: &SizeTable,
+    after: &SlotSums,
+    levels: &[u8; CHUNKS],
     i: u16,
-    dues: &mut [u16; 500],
-    ready: &mut [u16; 500],
-    bytes: &mut [u32; 500],
+    dues: &mut [u16; CHUNKS],
+    ready: &mut [u16; CHUNKS],
+    bytes: &mut [u32; CHUNKS],
     out: &mut [u8],
     at: usize,
 ) -> usize
-    requires { ⌜ ChunkFrom p held layers most (now sums) (now after) (now levels) i (now dues) (now ready) (now bytes) (now out) at ⌝ }
-    ensures { λ r. ⌜ ChunkDone p layers most (now (sums .entry)) (now (after .entry)) (now (levels .entry)) i (now (out .entry)) at (now (out .exit)) r ⌝ }
+    requires { ⌜ PutChunkPre p held layers most (now sums) (now after) (now levels) i (now dues) (now ready) (now bytes) (now out) at ⌝ }
+    ensures { λ r. ⌜ PutChunkPost p layers most (now (sums .entry)) (now (after .entry)) (now (levels .entry)) i (now (out .entry)) at (now (out .exit)) r ⌝ }
     ensures room { λ _. ⌜ Scratch (now (dues .exit)) (now (ready .exit)) (now (bytes .exit)) ⌝ }
 {
     let place = i as usize - 1;
@@ -109,17 +112,17 @@ pub fn put_reasons(
     held: usize,
     layers: u8,
     most: bool,
-    sums: &[u32; 2000],
-    after: &[u64; 3601],
-    levels: &[u8; 500],
+    sums: &SizeTable,
+    after: &SlotSums,
+    levels: &[u8; CHUNKS],
     out: &mut [u8],
 ) -> usize
-    requires { ⌜ AllFrom p held layers most (now sums) (now after) (now levels) (now out) ⌝ }
-    ensures { λ r. ⌜ AllDone p layers most (now (sums .entry)) (now (after .entry)) (now (levels .entry)) (now (out .entry)) (now (out .exit)) r ⌝ }
+    requires { ⌜ PutReasonsPre p held layers most (now sums) (now after) (now levels) (now out) ⌝ }
+    ensures { λ r. ⌜ PutReasonsPost p layers most (now (sums .entry)) (now (after .entry)) (now (levels .entry)) (now (out .entry)) (now (out .exit)) r ⌝ }
 {
-    let mut dues = [0u16; 500];
-    let mut ready = [0u16; 500];
-    let mut bytes = [0u32; 500];
+    let mut dues = [0u16; CHUNKS];
+    let mut ready = [0u16; CHUNKS];
+    let mut bytes = [0u32; CHUNKS];
     let mut next: usize = 0;
     let mut k: u16 = 0;
     while k < p.chunks {

@@ -1,12 +1,14 @@
 // The two linear passes over the kept chunks, with the missing layer among their bytes. The kept chunks stand at the end of tables of 500
 // places, in playing order, from a first place on: bytes, due slots, and the slots from which they can begin. `after`: what is forecast
 // after each slot.
+use job::CHUNKS;
+use job::SlotSums;
 ghost use mathlib.Core.Path.{_≡_};
 ghost use mathlib.Core.Bool.{_&&_};
 ghost use Prim.Native.Nat.{suc, _+_, _-_, _≤_, _<_, max};
 ghost use lib.ListN.{length, getD};
 ghost use lib.Dec.{ltb};
-ghost use Rattle.core_reasons.specs.lemmas.Passes.{PassFrom, BackFrom, lateIn, backIn, begun, place, startsIn, Named};
+ghost use Rattle.core_reasons.specs.lemmas.Passes.{FindStretchPre, FindBeginPre, lateIn, backIn, begun, place, startsIn, FindStretchPost};
 
 // A stretch of slots, what it carries and what it needs.
 pub struct Stretch {
@@ -31,19 +33,19 @@ fn wide(x: u32) -> u64
 
 // Forward: the first kept chunk that has its last byte after its due slot, if each has its bytes as early as can be; else 500.
 fn find_late(
-    after: &[u64; 3601],
-    dues: &[u16; 500],
-    ready: &[u16; 500],
-    bytes: &[u32; 500],
+    after: &SlotSums,
+    dues: &[u16; CHUNKS],
+    ready: &[u16; CHUNKS],
+    bytes: &[u32; CHUNKS],
     first: usize,
 ) -> usize
-    requires { ⌜ PassFrom (now after) (now dues) (now ready) (now bytes) first ⌝ }
+    requires { ⌜ FindStretchPre (now after) (now dues) (now ready) (now bytes) first ⌝ }
     ensures { λ r. ⌜ r ≡ first + lateIn (now (after .entry)) (now (dues .entry)) (now (ready .entry)) (now (bytes .entry)) first ⌝ }
 {
     let all = after[0];
     let mut used: u64 = 0;
     let mut q = first;
-    while q < 500 {
+    while q < CHUNKS {
         let r = ready[q] as usize - 1;
         let d = dues[q] as usize;
         let v = core_decide::larger(used, core_decide::less(all, after[r])) + wide(bytes[q]);
@@ -57,7 +59,7 @@ fn find_late(
 }
 
 // The kept chunk at h can begin later than the one before it, and the bytes from there on exceed the forecast up to the last slot.
-fn starts(ready: &[u16; 500], first: usize, h: usize, most: u64, reach: u64) -> bool
+fn starts(ready: &[u16; CHUNKS], first: usize, h: usize, most: u64, reach: u64) -> bool
     requires { ⌜ (first ≤ h) × (h < 500) × (length (now ready) ≡ 500) ⌝ }
     ensures { λ r. ⌜ r ≡ startsIn (now (ready .entry)) first (h - first) && ltb most reach ⌝ }
 {
@@ -73,14 +75,14 @@ fn starts(ready: &[u16; 500], first: usize, h: usize, most: u64, reach: u64) -> 
 
 // Back from the late chunk m: where the stretch begins, what it carries and what it needs. most: the forecast up to m's due slot.
 fn find_begin(
-    after: &[u64; 3601],
-    ready: &[u16; 500],
-    bytes: &[u32; 500],
+    after: &SlotSums,
+    ready: &[u16; CHUNKS],
+    bytes: &[u32; CHUNKS],
     first: usize,
     most: u64,
     m: usize,
 ) -> Begin
-    requires { ⌜ BackFrom (now after) (now ready) (now bytes) first m ⌝ }
+    requires { ⌜ FindBeginPre (now after) (now ready) (now bytes) first m ⌝ }
     ensures { λ r. ⌜ begun r ≡ backIn (now (after .entry)) (now (ready .entry)) (now (bytes .entry)) first most m ⌝ }
 {
     let all = after[0];
@@ -112,17 +114,17 @@ fn find_begin(
 
 // Both: the stretch that is named, for kept chunks that can't be carried.
 pub(crate) fn find_stretch(
-    after: &[u64; 3601],
-    dues: &[u16; 500],
-    ready: &[u16; 500],
-    bytes: &[u32; 500],
+    after: &SlotSums,
+    dues: &[u16; CHUNKS],
+    ready: &[u16; CHUNKS],
+    bytes: &[u32; CHUNKS],
     first: usize,
 ) -> Stretch
-    requires { ⌜ PassFrom (now after) (now dues) (now ready) (now bytes) first ⌝ }
-    ensures { λ r. ⌜ Named (now (after .entry)) (now (dues .entry)) (now (ready .entry)) (now (bytes .entry)) first r ⌝ }
+    requires { ⌜ FindStretchPre (now after) (now dues) (now ready) (now bytes) first ⌝ }
+    ensures { λ r. ⌜ FindStretchPost (now (after .entry)) (now (dues .entry)) (now (ready .entry)) (now (bytes .entry)) first r ⌝ }
 {
     let m = find_late(after, dues, ready, bytes, first);
-    if m < 500 {
+    if m < CHUNKS {
         let last = dues[m];
         let d = last as usize;
         let most = core_decide::less(after[0], after[d]);

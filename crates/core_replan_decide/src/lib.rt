@@ -1,6 +1,10 @@
-// Internal. The decision made afresh: which layers of which chunks are carried, over what the handed rows have left to fetch. The chunks
+// Internal. The decision made afresh: which layers of which chunks are carried, over what the fetched rows have left to fetch. The chunks
 // begun or kept stand at the end of tables of 500 places, in playing order, from a first place on. The layers above the base, the sums and
 // the releases are settle's.
+use job::CHUNKS;
+use job::SUMS;
+use job::SizeTable;
+use job::SlotSums;
 use job::Programme;
 ghost use mathlib.Core.Path.{_≡_};
 ghost use mathlib.Core.Bool.{_&&_, cond};
@@ -11,10 +15,10 @@ ghost use Rattle.theory_basics.specs.Lists.{upTo};
 ghost use Rattle.theory_basics.specs.Lent.{over};
 ghost use Rattle.job.specs.Table.{tableAt};
 ghost use Rattle.theory_plan.specs.lemmas.Ascending.{Asc};
-ghost use Rattle.core_replan_decide.specs.lemmas.Tables.{Falls, Roof, Fallen, LastBegun, FrontFrom, Front, TestFrom, Tested, NewFrom, NewBases};
-ghost use Rattle.core_replan_decide.specs.lemmas.Begun.{choose, BegunFrom, BegunBases};
+ghost use Rattle.core_replan_decide.specs.lemmas.Tables.{Falls, NeedCapPost, PlacesBelowPost, LastBegunPost, FindFrontPre, FindFrontPost, CanKeepPre, CanKeepPost, NewBasesPre, NewBasesPost};
+ghost use Rattle.core_replan_decide.specs.lemmas.Begun.{choose, KeepBegunPre, KeepBegunPost};
 ghost use Rattle.core_decide.specs.lemmas.Marks.{markOr};
-ghost use Rattle.core_replan_decide.specs.lemmas.Decision.{DecideFrom, Decides};
+ghost use Rattle.core_replan_decide.specs.lemmas.Decision.{DecidePre, DecidePost};
 
 // What is left of a after b, or 0.
 fn fewer(a: usize, b: usize) -> usize
@@ -27,9 +31,9 @@ fn fewer(a: usize, b: usize) -> usize
 }
 
 // The last begun chunk, or 0.
-fn last_begun(p: Programme, begun: &[u8; 500]) -> u16
+fn last_begun(p: Programme, begun: &[u8; CHUNKS]) -> u16
     requires { ⌜ (p .chunks ≤ 500) × (length (now begun) ≡ 500) ⌝ }
-    ensures { λ r. ⌜ LastBegun p (now (begun .entry)) r ⌝ }
+    ensures { λ r. ⌜ LastBegunPost p (now (begun .entry)) r ⌝ }
 {
     let mut i = p.chunks;
     while 0 < i {
@@ -57,84 +61,84 @@ fn find_front(
     p: Programme,
     start: usize,
     last: u16,
-    begun: &[u8; 500],
-    after: &[u64; 3601],
-    front: &mut [u16; 500],
-    caps: &mut [u64; 500],
+    begun: &[u8; CHUNKS],
+    after: &SlotSums,
+    front: &mut [u16; CHUNKS],
+    caps: &mut [u64; CHUNKS],
 ) -> usize
-    requires { ⌜ FrontFrom p last (now begun) (now after) (now front) (now caps) ⌝ }
-    ensures { λ r. ⌜ Front p start last (now (begun .entry)) (now (after .entry)) r (now (front .exit)) (now (caps .exit)) ⌝ }
+    requires { ⌜ FindFrontPre p last (now begun) (now after) (now front) (now caps) ⌝ }
+    ensures { λ r. ⌜ FindFrontPost p start last (now (begun .entry)) (now (after .entry)) r (now (front .exit)) (now (caps .exit)) ⌝ }
 {
-    let mut fb: usize = 500;
+    let mut head: usize = CHUNKS;
     let mut i = last;
     while 0 < i {
         let c = i as usize - 1;
         let d = job::due_slot(p, i);
-        let k = fb - 1;
+        let k = head - 1;
         let e = d - 1;
         if asks(begun[c], d, start) {
             front[k] = i;
             caps[k] = after[e];
-            fb = k;
+            head = k;
             i = i - 1;
         } else {
             i = i - 1;
         }
     }
-    fb
+    head
 }
 
 // What the need in front is held to at once by the begun chunks: the cap of the one that stands H places before it.
-fn roof_of(caps: &[u64; 500], fb: usize, held: usize) -> u64
-    requires { ⌜ (fb ≤ 500) × Falls (now caps) fb × (length (now caps) ≡ 500) ⌝ }
-    ensures { λ r. ⌜ Roof held (now (caps .entry)) fb r ⌝ }
+fn need_cap(caps: &[u64; CHUNKS], head: usize, held: usize) -> u64
+    requires { ⌜ (head ≤ 500) × Falls (now caps) head × (length (now caps) ≡ 500) ⌝ }
+    ensures { λ r. ⌜ NeedCapPost held (now (caps .entry)) head r ⌝ }
 {
-    if 500 < held {
+    if CHUNKS < held {
         return 60414754816;
     }
-    let back = 500 - held;
-    if back < fb {
+    let back = CHUNKS - held;
+    if back < head {
         return 60414754816;
     }
-    if back < 500 {
+    if back < CHUNKS {
         return caps[back];
     }
-    if fb == 500 {
+    if head == CHUNKS {
         return 60414754816;
     }
     caps[499]
 }
 
 // From place g down to the first place from which on the caps are below a need.
-fn fall(caps: &[u64; 500], fb: usize, from: usize, need: u64) -> usize
-    requires { ⌜ (fb ≤ from) × (from ≤ 500) × (length (now caps) ≡ 500) ⌝ }
-    ensures { λ r. ⌜ Fallen (now (caps .entry)) fb from need r ⌝ }
+fn places_below(caps: &[u64; CHUNKS], head: usize, from: usize, need: u64) -> usize
+    requires { ⌜ (head ≤ from) × (from ≤ 500) × (length (now caps) ≡ 500) ⌝ }
+    ensures { λ r. ⌜ PlacesBelowPost (now (caps .entry)) head from need r ⌝ }
 {
-    let mut g = from;
-    while fb < g {
-        let y = g - 1;
+    let mut edge = from;
+    while head < edge {
+        let y = edge - 1;
         if caps[y] < need {
-            g = y;
+            edge = y;
         } else {
-            return g;
+            return edge;
         }
     }
-    g
+    edge
 }
 
 // The floor after the chunk at place k is kept: a need that some cap is below must never come to stand at that cap.
-fn raised(floor: usize, k: usize, g: usize, held: usize) -> usize
-    requires { ⌜ (k ≤ 500) × (g ≤ 500) × (held ≤ 65535) ⌝ }
-    ensures { λ r. ⌜ r ≡ cond (ltb g 500) (max floor (k + 501 - (g + held))) floor ⌝ }
+fn raise_lowest(lowest: usize, k: usize, edge: usize, held: usize) -> usize
+    requires { ⌜ (k ≤ 500) × (edge ≤ 500) × (held ≤ 65535) ⌝ }
+    ensures { λ r. ⌜ r ≡ cond (ltb edge 500) (max lowest (k + 501 - (edge + held))) lowest ⌝ }
 {
-    if 500 <= g {
-        return floor;
+    if CHUNKS <= edge {
+        return lowest;
     }
-    let up = fewer(k + 501, g + held);
-    if floor < up {
+    let up = fewer(k + 501, edge + held);
+    if lowest < up {
         return up;
     }
-    floor
+    lowest
 }
 
 // Whether the base of chunk i, not begun, can be kept in front of the kept ones. Its need is written one place before theirs.
@@ -142,16 +146,16 @@ fn can_keep(
     p: Programme,
     start: usize,
     held: usize,
-    left: &[u32; 2000],
-    after: &[u64; 3601],
-    roof: u64,
-    floor: usize,
+    left: &SizeTable,
+    after: &SlotSums,
+    cap: u64,
+    lowest: usize,
     i: u16,
     first: usize,
-    needs: &mut [u64; 500],
+    needs: &mut [u64; CHUNKS],
 ) -> bool
-    requires { ⌜ TestFrom p held (tableAt (now left)) (now after) i first (now needs) ⌝ }
-    ensures { λ r. ⌜ Tested p start held (tableAt (now (left .entry))) (now (after .entry)) roof floor i first (now (needs .entry)) (now (needs .exit)) r ⌝ }
+    requires { ⌜ CanKeepPre p held (tableAt (now left)) (now after) i first (now needs) ⌝ }
+    ensures { λ r. ⌜ CanKeepPost p start held (tableAt (now (left .entry))) (now (after .entry)) cap lowest i first (now (needs .entry)) (now (needs .exit)) r ⌝ }
 {
     let d = job::due_slot(p, i);
     let e = d - 1;
@@ -168,10 +172,10 @@ fn can_keep(
     if after[e] < core_decide::need_at(needs, k, held) {
         return false;
     }
-    if k < floor {
+    if k < lowest {
         return false;
     }
-    cand <= roof
+    cand <= cap
 }
 
 // The bases of the chunks that play after all begun ones, from the last down.
@@ -180,36 +184,36 @@ fn new_bases(
     start: usize,
     held: usize,
     last: u16,
-    left: &[u32; 2000],
-    after: &[u64; 3601],
-    caps: &[u64; 500],
-    fb: usize,
-    ids: &mut [u16; 500],
-    dues: &mut [u16; 500],
-    bytes: &mut [u32; 500],
-    mark: &mut [u8; 500],
-    needs: &mut [u64; 500],
+    left: &SizeTable,
+    after: &SlotSums,
+    caps: &[u64; CHUNKS],
+    head: usize,
+    ids: &mut [u16; CHUNKS],
+    dues: &mut [u16; CHUNKS],
+    bytes: &mut [u32; CHUNKS],
+    mark: &mut [u8; CHUNKS],
+    needs: &mut [u64; CHUNKS],
 ) -> usize
-    requires { ⌜ NewFrom p held last (tableAt (now left)) (now after) (now caps) fb (now ids) (now dues) (now bytes) (now mark) (now needs) ⌝ }
-    ensures { λ r. ⌜ NewBases p start held last (tableAt (now (left .entry))) (now (after .entry)) (now (caps .entry)) fb r (now (ids .exit)) (now (dues .exit)) (now (bytes .exit)) (now (mark .exit)) (now (needs .exit)) ⌝ }
+    requires { ⌜ NewBasesPre p held last (tableAt (now left)) (now after) (now caps) head (now ids) (now dues) (now bytes) (now mark) (now needs) ⌝ }
+    ensures { λ r. ⌜ NewBasesPost p start held last (tableAt (now (left .entry))) (now (after .entry)) (now (caps .entry)) head r (now (ids .exit)) (now (dues .exit)) (now (bytes .exit)) (now (mark .exit)) (now (needs .exit)) ⌝ }
 {
-    let roof = roof_of(caps, fb, held);
-    let mut first: usize = 500;
-    let mut floor: usize = 0;
-    let mut g: usize = 500;
+    let cap = need_cap(caps, head, held);
+    let mut first: usize = CHUNKS;
+    let mut lowest: usize = 0;
+    let mut edge: usize = CHUNKS;
     let mut i = p.chunks;
     while last < i {
-        if can_keep(p, start, held, left, after, roof, floor, i, first, needs) {
+        if can_keep(p, start, held, left, after, cap, lowest, i, first, needs) {
             let k = first - 1;
             let need = needs[k];
-            let lower = fall(caps, fb, g, need);
-            let higher = raised(floor, k, lower, held);
+            let lower = places_below(caps, head, edge, need);
+            let higher = raise_lowest(lowest, k, lower, held);
             ids[k] = i;
             dues[k] = job::due_slot(p, i) as u16;
             bytes[k] = core_sizes::size_in(left, i, 0);
             mark[k] = 1;
-            floor = higher;
-            g = lower;
+            lowest = higher;
+            edge = lower;
             first = k;
             i = i - 1;
         } else {
@@ -256,26 +260,26 @@ fn try_begun(w: u8, z: u32, want: u64, all: u64) -> Chosen
 // The bases of the begun chunks, from the last down, in front of the new ones; need is what those use up.
 fn keep_begun(
     p: Programme,
-    left: &[u32; 2000],
-    whole: &[u8; 500],
-    after: &[u64; 3601],
-    front: &[u16; 500],
-    fb: usize,
+    left: &SizeTable,
+    whole: &[u8; CHUNKS],
+    after: &SlotSums,
+    front: &[u16; CHUNKS],
+    head: usize,
     need: u64,
     from: usize,
-    ids: &mut [u16; 500],
-    dues: &mut [u16; 500],
-    bytes: &mut [u32; 500],
-    mark: &mut [u8; 500],
+    ids: &mut [u16; CHUNKS],
+    dues: &mut [u16; CHUNKS],
+    bytes: &mut [u32; CHUNKS],
+    mark: &mut [u8; CHUNKS],
 ) -> usize
-    requires { ⌜ BegunFrom p (tableAt (now left)) (now whole) (now after) (now front) fb need from (now ids) (now dues) (now bytes) (now mark) ⌝ }
-    ensures { λ r. ⌜ BegunBases p (tableAt (now (left .entry))) (now (whole .entry)) (now (after .entry)) (now (front .entry)) fb need from (now (ids .entry)) (now (dues .entry)) (now (bytes .entry)) (now (mark .entry)) r (now (ids .exit)) (now (dues .exit)) (now (bytes .exit)) (now (mark .exit)) ⌝ }
+    requires { ⌜ KeepBegunPre p (tableAt (now left)) (now whole) (now after) (now front) head need from (now ids) (now dues) (now bytes) (now mark) ⌝ }
+    ensures { λ r. ⌜ KeepBegunPost p (tableAt (now (left .entry))) (now (whole .entry)) (now (after .entry)) (now (front .entry)) head need from (now (ids .entry)) (now (dues .entry)) (now (bytes .entry)) (now (mark .entry)) r (now (ids .exit)) (now (dues .exit)) (now (bytes .exit)) (now (mark .exit)) ⌝ }
 {
     let all = after[0];
     let mut used = need;
     let mut first = from;
-    let mut q: usize = 500;
-    while fb < q {
+    let mut q: usize = CHUNKS;
+    while head < q {
         let r = q - 1;
         let b = front[r];
         let c = b as usize - 1;
@@ -301,11 +305,11 @@ fn wide(x: u16) -> usize
 }
 
 // Whether the kept chunk at place q is this one.
-fn is_at(ids: &[u16; 500], q: usize, chunk: usize) -> bool
+fn is_at(ids: &[u16; CHUNKS], q: usize, chunk: usize) -> bool
     requires { ⌜ (1 ≤ chunk) × (length (now ids) ≡ 500) ⌝ }
     ensures { λ r. ⌜ r ≡ eqb (getD (now (ids .entry)) q 0) chunk ⌝ }
 {
-    if q < 500 {
+    if q < CHUNKS {
         return wide(ids[q]) == chunk;
     }
     false
@@ -313,10 +317,10 @@ fn is_at(ids: &[u16; 500], q: usize, chunk: usize) -> bool
 
 // A mark for each chunk: the one at its place among the chunks begun or kept, or else what is whole.
 pub fn spread(
-    ids: &[u16; 500],
-    mark: &[u8; 500],
+    ids: &[u16; CHUNKS],
+    mark: &[u8; CHUNKS],
     first: usize,
-    whole: &[u8; 500],
+    whole: &[u8; CHUNKS],
     count: usize,
     marks: &mut [u8],
 )
@@ -339,35 +343,35 @@ pub fn spread(
 }
 
 // The decision made afresh at slot start, over the part of the forecast from there on: the chunks begun or kept that are due from start
-// on, their releases and their marks, from the place handed back on. left, begun and whole say what the handed rows leave of each layer,
+// on, their releases and their marks, from the place handed back on. left, begun and whole say what the fetched rows leave of each layer,
 // which chunks they begin, and the marks of the layers whole in them.
 pub fn decide(
     p: Programme,
     layers: usize,
     part: &[u32],
     start: usize,
-    left: &[u32; 2000],
-    begun: &[u8; 500],
-    whole: &[u8; 500],
-    ids: &mut [u16; 500],
-    ready: &mut [u16; 500],
-    mark: &mut [u8; 500],
+    left: &SizeTable,
+    begun: &[u8; CHUNKS],
+    whole: &[u8; CHUNKS],
+    ids: &mut [u16; CHUNKS],
+    ready: &mut [u16; CHUNKS],
+    mark: &mut [u8; CHUNKS],
 ) -> usize
-    requires { ⌜ DecideFrom p layers start (now part) (tableAt (now left)) (now begun) (now whole) (now ids) (now ready) (now mark) ⌝ }
-    ensures { λ r. ⌜ Decides p layers start (now (part .entry)) (tableAt (now (left .entry))) (now (begun .entry)) (now (whole .entry)) r (now (ids .exit)) (now (ready .exit)) (now (mark .exit)) ⌝ }
+    requires { ⌜ DecidePre p layers start (now part) (tableAt (now left)) (now begun) (now whole) (now ids) (now ready) (now mark) ⌝ }
+    ensures { λ r. ⌜ DecidePost p layers start (now (part .entry)) (tableAt (now (left .entry))) (now (begun .entry)) (now (whole .entry)) r (now (ids .exit)) (now (ready .exit)) (now (mark .exit)) ⌝ }
 {
     let held = job::held_most(p) as usize;
     // These tables are written before they are read. A filling that is no constant is stored in wide words, faster than cleared.
     let unset = part.len() as u64;
-    let mut after = [unset; 3601];
-    let mut needs = [unset; 500];
-    let mut caps = [unset; 500];
-    let mut front = [0u16; 500];
-    let mut dues = [0u16; 500];
-    let mut bytes = [0u32; 500];
+    let mut after = [unset; SUMS];
+    let mut needs = [unset; CHUNKS];
+    let mut caps = [unset; CHUNKS];
+    let mut front = [0u16; CHUNKS];
+    let mut dues = [0u16; CHUNKS];
+    let mut bytes = [0u32; CHUNKS];
     core_decide::sum_after(part, start, &mut after);
     let last = last_begun(p, begun);
-    let fb = find_front(p, start, last, begun, &after, &mut front, &mut caps);
+    let head = find_front(p, start, last, begun, &after, &mut front, &mut caps);
     let new = new_bases(
         p,
         start,
@@ -376,7 +380,7 @@ pub fn decide(
         left,
         &after,
         &caps,
-        fb,
+        head,
         ids,
         &mut dues,
         &mut bytes,
@@ -390,7 +394,7 @@ pub fn decide(
         whole,
         &after,
         &front,
-        fb,
+        head,
         need,
         new,
         ids,

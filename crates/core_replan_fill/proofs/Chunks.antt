@@ -13,40 +13,40 @@ use Rattle.theory_basics.specs.lemmas.Tables.{all-from, drop-next}
 use Rattle.theory_basics.specs.lemmas.Tests.{test}
 use Rattle.job.specs.Job.{Within}
 use Rattle.fetch.specs.Marks.{bit}
-use Rattle.theory_plan.specs.lemmas.Fill.{Piece}
+use Rattle.theory_plan.specs.lemmas.Fill.{QueuedPiece}
 use Rattle.theory_plan.specs.lemmas.Linear.{level-bit}
 use Rattle.core_fill.proofs.Chunks.{begun-by, begun-fits, begun-room, fed-append, puts-as, puts-begun, puts-both, puts-more, puts-none, puts-one, room-left}
-use Rattle.core_fill.specs.declared.At.{At}
-use Rattle.core_fill.specs.lemmas.Listing.{begun, bytesAt, Fed, lastOf, leftAt, levelOf, load, Made, onward, piece, Puts, PutsOne, Room, Same}
-use Rattle.core_replan_fill.specs.lemmas.Left.{AllLeft, ChunkLeft, LayerFrom, layersLeft, AnyLevels, piecesLeft, leftQueue}
+use Rattle.core_fill.specs.declared.Position.{Position}
+use Rattle.core_fill.specs.lemmas.Filling.{begun, bytesAt, Fed, lastOf, leftAt, levelOf, load, Made, onward, piece, PutPost, PutPiecePost, PutPiecePre, Same}
+use Rattle.core_replan_fill.specs.lemmas.Left.{PutAllPre, PutChunkPre, PutLayerPre, layersLeft, AnyLevels, piecesLeft, leftQueue}
 
 -- ---- a piece from its release on
 
-module _ {start : ℕ} {part : List ℕ} {a : At} {ready size : ℕ} {ss cs ls bs : List ℕ} (o : LayerFrom start part a ready size ss cs ls bs) (chunk layer : ℕ) {b : At} (begins : b ≡ begun start part a ready) where
-  abbrev one : Piece
+module _ {start : ℕ} {part : List ℕ} {a : Position} {ready size : ℕ} {ss cs ls bs : List ℕ} (o : PutLayerPre start part a ready size ss cs ls bs) (chunk layer : ℕ) {b : Position} (begins : b ≡ begun start part a ready) where
+  abbrev one : QueuedPiece
   one = piece chunk layer size ready
 
   one-load : load (one ∷ []) ≡ size
   one-load = omega arith
 
-  pub one-room : Room start part 1 b ss cs ls bs
-  one-room = subst (λ (x : At). Room start part 1 x ss cs ls bs) (sym begins) (begun-room start part a ready ss cs ls bs (o .by) 1 (o .room))
+  pub one-room : PutPiecePre start part 1 b ss cs ls bs
+  one-room = subst (λ (x : Position). PutPiecePre start part 1 x ss cs ls bs) (sym begins) (begun-room start part a ready ss cs ls bs (o .by) 1 (o .room))
 
-  pub one-fits : size ≤ b .c + leftAt start part (b .t)
+  pub one-fits : size ≤ b .left + leftAt start part (b .slot)
   one-fits =
-      subst (λ (x : At). size ≤ x .c + leftAt start part (x .t)) (sym begins)
+      subst (λ (x : Position). size ≤ x .left + leftAt start part (x .slot)) (sym begins)
       (omega (arith, begun-fits start part a ready ss cs ls bs (o .by) one [] refl (omega (arith, o .fed), o .some, tt) (omega (arith, o .fits))))
 
-  pub one-puts : {r : At} {ss' cs' ls' bs' : List ℕ} → PutsOne start part chunk layer size b ss cs ls bs r ss' cs' ls' bs' → Puts start part (one ∷ []) 1 a ss cs ls bs r ss' cs' ls' bs'
+  pub one-puts : {r : Position} {ss' cs' ls' bs' : List ℕ} → PutPiecePost start part chunk layer size b ss cs ls bs r ss' cs' ls' bs' → PutPost start part (one ∷ []) 1 a ss cs ls bs r ss' cs' ls' bs'
   one-puts {r} {ss'} {cs'} {ls'} {bs'} p =
       puts-begun start part a ready ss cs ls bs (o .by) one [] 1 refl r ss' cs' ls' bs'
-      (puts-one start part ready (begun-by start part a ready ss cs ls bs (o .by)) (subst (λ (x : At). PutsOne start part chunk layer size x ss cs ls bs r ss' cs' ls' bs') begins p))
+      (puts-one start part ready (begun-by start part a ready ss cs ls bs (o .by)) (subst (λ (x : Position). PutPiecePost start part chunk layer size x ss cs ls bs r ss' cs' ls' bs') begins p))
 
 -- ---- the layers of a chunk
 
 module _ (size : ℕ → ℕ → ℕ) (k r : ℕ) where
   -- Layer n, if something is left of it.
-  abbrev pub layerAt : ℕ → List Piece
+  abbrev pub layerAt : ℕ → List QueuedPiece
   layerAt n = cond (ltb 0 (size k n)) (piece k n (size k n) r ∷ []) []
 
   pieces-cons : (m n : ℕ) → piecesLeft size k r m (suc n) ≡ layerAt m ++ piecesLeft size k r (suc m) n
@@ -62,21 +62,21 @@ module _ (size : ℕ → ℕ → ℕ) (k r : ℕ) where
       let e : suc n + d ≡ suc (n + d) = omega arith in
       let e′ : suc n + m ≡ n + suc m = omega arith in
       ap (piecesLeft size k r m) e ∙ pieces-cons m (n + d)
-      ∙ ap (λ (l : List Piece). layerAt m ++ l) (pieces-split (suc m) n d)
+      ∙ ap (λ (l : List QueuedPiece). layerAt m ++ l) (pieces-split (suc m) n d)
       ∙ sym (append-assoc (layerAt m) (piecesLeft size k r (suc m) n) (piecesLeft size k r (n + suc m) d))
-      ∙ ap (λ (l : List Piece). l ++ piecesLeft size k r (n + suc m) d) (sym (pieces-cons m n))
+      ∙ ap (λ (l : List QueuedPiece). l ++ piecesLeft size k r (n + suc m) d) (sym (pieces-cons m n))
       ∙ ap (λ (i : ℕ). piecesLeft size k r m (suc n) ++ piecesLeft size k r i d) (sym e′)
 
   pub pieces-next : (n : ℕ) → piecesLeft size k r 0 (n + 1) ≡ piecesLeft size k r 0 n ++ layerAt n
   pieces-next n =
       let z : n + 0 ≡ n = omega arith in
-      pieces-split 0 n 1 ∙ ap (λ (l : List Piece). piecesLeft size k r 0 n ++ l) (pieces-cons (n + 0) 0 ∙ append-nil (layerAt (n + 0)) ∙ ap layerAt z)
+      pieces-split 0 n 1 ∙ ap (λ (l : List QueuedPiece). piecesLeft size k r 0 n ++ l) (pieces-cons (n + 0) 0 ∙ append-nil (layerAt (n + 0)) ∙ ap layerAt z)
 
-pub record Layering (start : ℕ) (part : List ℕ) (left : ℕ → ℕ → ℕ) (k r m : ℕ) (a : At) (ss cs ls bs ss' cs' ls' bs' : List ℕ) (at : At) (n : ℕ) : Type 0 where
+pub record Layering (start : ℕ) (part : List ℕ) (left : ℕ → ℕ → ℕ) (k r m : ℕ) (a : Position) (ss cs ls bs ss' cs' ls' bs' : List ℕ) (at : Position) (n : ℕ) : Type 0 where
   pub within : n ≤ levelOf m
-  pub puts : Puts start part (piecesLeft (left) k r 0 n) n a ss cs ls bs at ss' cs' ls' bs'
+  pub puts : PutPost start part (piecesLeft (left) k r 0 n) n a ss cs ls bs at ss' cs' ls' bs'
 
-module _ {start : ℕ} {part : List ℕ} {left : ℕ → ℕ → ℕ} {k r m : ℕ} {a : At} {ss cs ls bs : List ℕ} (o : ChunkLeft start part left a r k m ss cs ls bs) where
+module _ {start : ℕ} {part : List ℕ} {left : ℕ → ℕ → ℕ} {k r m : ℕ} {a : Position} {ss cs ls bs : List ℕ} (o : PutChunkPre start part left a r k m ss cs ls bs) where
   pub layering-start : Layering start part left k r m a ss cs ls bs ss cs ls bs a 0
   layering-start = record { within = omega arith; puts = puts-none start part a ss cs ls bs (o .asks .room .low) (o .asks .room .high) }
 
@@ -84,8 +84,8 @@ module _ {start : ℕ} {part : List ℕ} {left : ℕ → ℕ → ℕ} {k r m : �
   level-bits : (n : ℕ) → bit m n ≡ ltb n (levelOf m)
   level-bits n = ap (λ (x : ℕ). bit x n) (o .asks .levels .closed) ∙ level-bit (levelOf m) n
 
-  module _ {ss' cs' ls' bs' : List ℕ} {at : At} {n : ℕ} (y : Layering start part left k r m a ss cs ls bs ss' cs' ls' bs' at n) where
-    pub layering-end : bit m n ≡ false → Puts start part (layersLeft left k r m) 4 a ss cs ls bs at ss' cs' ls' bs'
+  module _ {ss' cs' ls' bs' : List ℕ} {at : Position} {n : ℕ} (y : Layering start part left k r m a ss cs ls bs ss' cs' ls' bs' at n) where
+    pub layering-end : bit m n ≡ false → PutPost start part (layersLeft left k r m) 4 a ss cs ls bs at ss' cs' ls' bs'
     layering-end e =
         let u = ltb-false n (levelOf m) (sym (level-bits n) ∙ e) in
         let d : n ≡ levelOf m = omega (arith, y .within) in
@@ -103,11 +103,11 @@ module _ {start : ℕ} {part : List ℕ} {left : ℕ → ℕ → ℕ} {k r m : �
           let none : layerAt (left) k r n ≡ [] = rw (le-ltb 0 (left k n) z) in
           record {
             within = omega (arith, below-level);
-            puts = puts-more start part (omega arith) (puts-as start part (sym (pieces-next (left) k r n ∙ ap (λ (l : List Piece). piecesLeft (left) k r 0 n ++ l) none ∙ append-nil (piecesLeft (left) k r 0 n))) (y .puts));
+            puts = puts-more start part (omega arith) (puts-as start part (sym (pieces-next (left) k r n ∙ ap (λ (l : List QueuedPiece). piecesLeft (left) k r 0 n ++ l) none ∙ append-nil (piecesLeft (left) k r 0 n))) (y .puts));
           }
 
       module _ (z : 0 < left k n) where
-        abbrev more : List Piece
+        abbrev more : List QueuedPiece
         more = piecesLeft (left) k r (suc n) (levelOf m - n - 1)
 
         -- What is still to place of the chunk, layer n first.
@@ -120,7 +120,7 @@ module _ {start : ℕ} {part : List ℕ} {left : ℕ → ℕ → ℕ} {k r m : �
         rest-fed : Fed (leftAt start part) (piecesLeft (left) k r 0 n ++ (piece k n (left k n) r ∷ more))
         rest-fed = subst (Fed (leftAt start part)) rest-is (o .asks .fed)
 
-        pub layer-from : LayerFrom start part at r (left k n) ss' cs' ls' bs'
+        pub layer-from : PutLayerPre start part at r (left k n) ss' cs' ls' bs'
         layer-from =
             let f = fed-append (leftAt start part) (piecesLeft (left) k r 0 n) (piece k n (left k n) r ∷ more) rest-fed in
             record {
@@ -128,13 +128,13 @@ module _ {start : ℕ} {part : List ℕ} {left : ℕ → ℕ → ℕ} {k r m : �
               by = o .asks .by;
               some = z;
               fed = omega (arith, f .0);
-              fits = omega (arith, y .puts .enough (piece k n (left k n) r ∷ more) rest-fed (subst (λ (l : List Piece). load l ≤ a .c + leftAt start part (a .t)) rest-is (o .asks .fits)));
+              fits = omega (arith, y .puts .enough (piece k n (left k n) r ∷ more) rest-fed (subst (λ (l : List QueuedPiece). load l ≤ a .left + leftAt start part (a .slot)) rest-is (o .asks .fits)));
             }
 
-        pub layering-more : {at' : At} {s₂ c₂ l₂ b₂ : List ℕ} → Puts start part (piece k n (left k n) r ∷ []) 1 at ss' cs' ls' bs' at' s₂ c₂ l₂ b₂ → Layering start part left k r m a ss cs ls bs s₂ c₂ l₂ b₂ at' (n + 1)
+        pub layering-more : {at' : Position} {s₂ c₂ l₂ b₂ : List ℕ} → PutPost start part (piece k n (left k n) r ∷ []) 1 at ss' cs' ls' bs' at' s₂ c₂ l₂ b₂ → Layering start part left k r m a ss cs ls bs s₂ c₂ l₂ b₂ at' (n + 1)
         layering-more p =
             let here : layerAt (left) k r n ≡ piece k n (left k n) r ∷ [] = rw (lt-ltb 0 (left k n) z) in
             record {
               within = omega (arith, below-level);
-              puts = puts-as start part (sym (pieces-next (left) k r n ∙ ap (λ (l : List Piece). piecesLeft (left) k r 0 n ++ l) here)) (puts-both start part (y .puts) p);
+              puts = puts-as start part (sym (pieces-next (left) k r n ∙ ap (λ (l : List QueuedPiece). piecesLeft (left) k r 0 n ++ l) here)) (puts-both start part (y .puts) p);
             }

@@ -1,4 +1,4 @@
--- Laws on the rows laid out: the queue that the tables hold is what the handed rows leave of the plan, and what the slices hold at the
+-- Laws on the rows laid out: the queue that the tables hold is what the fetched rows leave of the plan, and what the slices hold at the
 -- end. Assumes nothing.
 use mathlib.Core.Path.{_≡_, refl, sym, _∙_, ap, subst}
 use mathlib.Core.Bool.{Bool, true, false, not, cond, _&&_}
@@ -21,14 +21,14 @@ use Rattle.job.specs.Job.{Accepted, chunks, due, forecast, heldMost, Job, lastS
 use Rattle.job.specs.declared.Programme.{Programme}
 use Rattle.fetch.specs.Rows.{bytesOfLayer, Row, rowBytes, rowChunk, rowLayer, rowSlot}
 use Rattle.theory_plan.specs.Own.{carriedTo, wholeLayer}
-use Rattle.theory_plan.specs.Plan.{after, need, picked}
+use Rattle.theory_plan.specs.Plan.{after, needOf, picked}
 use Rattle.theory_plan.specs.Statement.{marksOf}
 use Rattle.theory_plan.specs.lemmas.Ascending.{Asc}
-use Rattle.theory_plan.specs.lemmas.Fill.{fill, Piece, take-slot}
+use Rattle.theory_plan.specs.lemmas.Fill.{fill, QueuedPiece, take-slot}
 use Rattle.theory_plan.specs.lemmas.Kept.{picked-asc, picked-each}
 use Rattle.theory_plan.specs.lemmas.Level.{level, level-iff}
 use Rattle.theory_plan.specs.lemmas.Linear.{level-of, mark-level}
-use Rattle.theory_plan.specs.lemmas.Parts.{Part}
+use Rattle.theory_plan.specs.lemmas.Parts.{ForecastPart}
 use Rattle.theory_plan.specs.lemmas.Queue.{all-ones, each, each-is, feas-relok, ones, releases, RelOk}
 use Rattle.theory_plan.specs.lemmas.Trials.{levelMark}
 use Rattle.theory_plan.specs.lemmas.Words.{accepted-sized, due-by, layer-of}
@@ -42,11 +42,11 @@ use Rattle.theory_replan.specs.lemmas.Fits.{FitsFrom}
 use Rattle.theory_replan.specs.lemmas.Plan.{is-replan-fits}
 use Rattle.core_fill.proofs.Chunks.{load-append}
 use Rattle.core_fill.proofs.Pieces.{bytes-in, left-next, onward-next, same-refl}
-use Rattle.core_fill.specs.declared.At.{At}
-use Rattle.core_fill.specs.lemmas.Listing.{bytesAt, Fed, lastOf, leftAt, load, Made, onward, piece, Puts}
+use Rattle.core_fill.specs.declared.Position.{Position}
+use Rattle.core_fill.specs.lemmas.Filling.{bytesAt, Fed, lastOf, leftAt, load, Made, onward, piece, PutPost}
 use Rattle.core_replan_fill.proofs.Chunks.{layerAt, pieces-next}
-use Rattle.core_replan_fill.specs.lemmas.Handing.{LaidOf}
-use Rattle.core_replan_fill.specs.lemmas.Left.{AllLeft, AnyLevels, piecesLeft, leftQueue}
+use Rattle.core_replan_fill.specs.lemmas.Rows.{LaidOf}
+use Rattle.core_replan_fill.specs.lemmas.Left.{PutAllPre, AnyLevels, piecesLeft, leftQueue}
 use Rattle.core_replan_decide.proofs.Decided.{left-from}
 use Rattle.core_replan_decide.specs.lemmas.Composed.{other-at, rest}
 use Rattle.core_decide.specs.lemmas.Marks.{mark-picked, markOr}
@@ -56,7 +56,7 @@ use Rattle.theory_plan.specs.Own as own
 -- ---- the queue of the tables
 
 -- The pieces of the chunks ks, of chunk k those of the first lv k layers; rs are the chunks' releases.
-queueLeft : (ℕ → ℕ → ℕ) → (ℕ → ℕ) → List ℕ → List ℕ → List Piece
+queueLeft : (ℕ → ℕ → ℕ) → (ℕ → ℕ) → List ℕ → List ℕ → List QueuedPiece
 queueLeft size lv [] rs = []
 queueLeft size lv (k ∷ ks) [] = []
 queueLeft size lv (k ∷ ks) (r ∷ rs) = piecesLeft size k r 0 (lv k) ++ queueLeft size lv ks rs
@@ -69,7 +69,7 @@ queue-is left lv [] rs a = refl
 queue-is left lv (k ∷ ks) [] a = refl
 queue-is left lv (k ∷ ks) (r ∷ rs) a =
     ap (λ (n : ℕ). piecesLeft (left) k r 0 n ++ leftQueue left ks (take (length ks) rs) (map (λ k. levelMark (lv k)) ks)) (level-of (lv k) (a .0))
-    ∙ ap (λ (q : List Piece). piecesLeft (left) k r 0 (lv k) ++ q) (queue-is left lv ks rs (a .1))
+    ∙ ap (λ (q : List QueuedPiece). piecesLeft (left) k r 0 (lv k) ++ q) (queue-is left lv ks rs (a .1))
 
 pieces-cong : (f g : ℕ → ℕ → ℕ) (k r m n : ℕ) → ((i : ℕ) → m ≤ i → i < n + m → f k i ≡ g k i) → piecesLeft f k r m n ≡ piecesLeft g k r m n
 pieces-cong f g k r m zero h = refl
@@ -100,7 +100,7 @@ module _ (size : ℕ → ℕ → ℕ) where
       let s : load (piecesLeft size k r 0 (suc n)) ≡ load (piecesLeft size k r 0 n ++ layerAt size k r n) = ap load (rw e at (pieces-next size k r n)) in
       omega (arith, s, load-append (piecesLeft size k r 0 n) (layerAt size k r n), load-layer k r n, load-pieces k r n)
 
-  fed-pieces : (A : ℕ → ℕ) (k r m n : ℕ) (q : List Piece) → load (piecesLeft size k r m n ++ q) ≤ A (r - 1) → Fed A q → Fed A (piecesLeft size k r m n ++ q)
+  fed-pieces : (A : ℕ → ℕ) (k r m n : ℕ) (q : List QueuedPiece) → load (piecesLeft size k r m n ++ q) ≤ A (r - 1) → Fed A q → Fed A (piecesLeft size k r m n ++ q)
   fed-pieces A k r m zero q h f = f
   fed-pieces A k r m (suc n) q h f = by (ltb 0 (size k m)) (λ t. ltb→lt 0 (size k m) t) (λ l. fed-pieces A k r (suc m) n q l f) h
     where
@@ -113,27 +113,27 @@ module _ (size : ℕ → ℕ → ℕ) where
 
   fed-queue :
       (d A : ℕ → ℕ) (lv : ℕ → ℕ) (ks rs : List ℕ) → RelOk (λ k. sum (size k) (lv k)) d A ks rs →
-      (load (queueLeft size lv ks rs) ≤ need (λ k. sum (size k) (lv k)) d A ks) × Fed A (queueLeft size lv ks rs)
+      (load (queueLeft size lv ks rs) ≤ needOf (λ k. sum (size k) (lv k)) d A ks) × Fed A (queueLeft size lv ks rs)
   unfolding queueLeft
   fed-queue d A lv [] rs o = (omega arith, tt)
   fed-queue d A lv (k ∷ ks) [] o = absurd o
   fed-queue d A lv (k ∷ ks) (r ∷ rs) o =
       let i = fed-queue d A lv ks rs (o .1) in
-      let l : load (piecesLeft size k r 0 (lv k) ++ queueLeft size lv ks rs) ≤ need (λ k. sum (size k) (lv k)) d A (k ∷ ks) =
+      let l : load (piecesLeft size k r 0 (lv k) ++ queueLeft size lv ks rs) ≤ needOf (λ k. sum (size k) (lv k)) d A (k ∷ ks) =
       omega (arith, load-append (piecesLeft size k r 0 (lv k)) (queueLeft size lv ks rs), load-pieces k r (lv k), i .0) in
       (l, fed-pieces A k r 0 (lv k) (queueLeft size lv ks rs) (omega (arith, o .0)) (i .1))
 
--- ---- what the handed rows leave
+-- ---- what the fetched rows leave
 
-unfetched-append : (handed : List Row) (a b : List own.Part) → unfetched handed (a ++ b) ≡ unfetched handed a ++ unfetched handed b
-unfetched-append handed [] b = refl
-unfetched-append handed (x ∷ a) b = by (ltb (bytesOfLayer handed (x .chunk) (x .layer)) (x .bytes)) (unfetched-append handed a b)
+unfetched-append : (fetched : List Row) (a b : List own.Part) → unfetched fetched (a ++ b) ≡ unfetched fetched a ++ unfetched fetched b
+unfetched-append fetched [] b = refl
+unfetched-append fetched (x ∷ a) b = by (ltb (bytesOfLayer fetched (x .chunk) (x .layer)) (x .bytes)) (unfetched-append fetched a b)
   where
     by :
-        (t : Bool) → unfetched handed (a ++ b) ≡ unfetched handed a ++ unfetched handed b →
-        cond t (own.without x (bytesOfLayer handed (x .chunk) (x .layer)) ∷ unfetched handed (a ++ b)) (unfetched handed (a ++ b))
-        ≡ cond t (own.without x (bytesOfLayer handed (x .chunk) (x .layer)) ∷ unfetched handed a) (unfetched handed a) ++ unfetched handed b
-    by true e = ap (λ (l : List own.Part). own.without x (bytesOfLayer handed (x .chunk) (x .layer)) ∷ l) e
+        (t : Bool) → unfetched fetched (a ++ b) ≡ unfetched fetched a ++ unfetched fetched b →
+        cond t (own.without x (bytesOfLayer fetched (x .chunk) (x .layer)) ∷ unfetched fetched (a ++ b)) (unfetched fetched (a ++ b))
+        ≡ cond t (own.without x (bytesOfLayer fetched (x .chunk) (x .layer)) ∷ unfetched fetched a) (unfetched fetched a) ++ unfetched fetched b
+    by true e = ap (λ (l : List own.Part). own.without x (bytesOfLayer fetched (x .chunk) (x .layer)) ∷ l) e
     by false e = e
 
 map-append : {A B : Type 0} (f : A → B) (a b : List A) → map f (a ++ b) ≡ map f a ++ map f b
@@ -141,16 +141,16 @@ map-append f [] b = refl
 map-append f (x ∷ a) b = rw (map-append f a b)
 
 -- All pieces of the chunks ks, chunk by chunk.
-allPieces : (ℕ → List Piece) → List ℕ → List Piece
+allPieces : (ℕ → List QueuedPiece) → List ℕ → List QueuedPiece
 allPieces f [] = []
 allPieces f (k ∷ ks) = f k ++ allPieces f ks
 
-all-append : (f : ℕ → List Piece) (a b : List ℕ) → allPieces f (a ++ b) ≡ allPieces f a ++ allPieces f b
+all-append : (f : ℕ → List QueuedPiece) (a b : List ℕ) → allPieces f (a ++ b) ≡ allPieces f a ++ allPieces f b
 unfolding allPieces
 all-append f [] b = refl
 all-append f (x ∷ a) b = rw (all-append f a b) (sym (append-assoc (f x) (allPieces f a) (allPieces f b)))
 
-all-cong : (f g : ℕ → List Piece) (ks : List ℕ) → All (λ k. f k ≡ g k) ks → allPieces f ks ≡ allPieces g ks
+all-cong : (f g : ℕ → List QueuedPiece) (ks : List ℕ) → All (λ k. f k ≡ g k) ks → allPieces f ks ≡ allPieces g ks
 unfolding allPieces
 all-cong f g [] a = refl
 all-cong f g (k ∷ ks) a = rw (a .0, all-cong f g ks (a .1))
@@ -172,7 +172,7 @@ queue-all size lv lo hi [] rs a l = refl
 queue-all size lv lo hi (k ∷ ks) [] a l = absurd (omega arith)
 queue-all size lv lo hi (k ∷ ks) (r ∷ rs) a l =
     rw (eq-eqb k k refl)
-    (ap (λ (q : List Piece). piecesLeft size k r 0 (lv k) ++ q)
+    (ap (λ (q : List QueuedPiece). piecesLeft size k r 0 (lv k) ++ q)
     (queue-all size lv (suc k) hi ks rs (a .2) (omega arith)
     ∙ all-cong (λ i. piecesLeft size i (readyOf ks rs i) 0 (lv i)) (λ i. piecesLeft size i (readyOf (k ∷ ks) (r ∷ rs) i) 0 (lv i)) ks (later ks (asc-all (suc k) hi ks (a .2)))))
   where
@@ -187,7 +187,7 @@ pieces-none f k r m (suc n) h =
 
 -- ---- the fill
 
-fill-cong : (B B′ : ℕ → ℕ) (n t : ℕ) (q : List Piece) → ((u : ℕ) → t < u → B u ≡ B′ u) → fill B n t q ≡ fill B′ n t q
+fill-cong : (B B′ : ℕ → ℕ) (n t : ℕ) (q : List QueuedPiece) → ((u : ℕ) → t < u → B u ≡ B′ u) → fill B n t q ≡ fill B′ n t q
 fill-cong B B′ zero t q h = refl
 fill-cong B B′ (suc n) t q h =
     let o = take-slot (suc t) (B′ (suc t)) q in
@@ -204,12 +204,12 @@ all-of P g (k ∷ ks) a = (a .0, all-of P g ks (a .1))
 -- ---- for one job
 
 module _
-    (p : Programme) (sizes : List ℕ) (overrides : List Override) (earlier part : List ℕ) (start : ℕ) (handed : List Row) (plan : ℕ → ℕ)
+    (p : Programme) (sizes : List ℕ) (overrides : List Override) (earlier part : List ℕ) (start : ℕ) (fetched : List Row) (plan : ℕ → ℕ)
     (st : start ≡ suc (length earlier))
-    (a : Accepted (jobFrom p sizes overrides earlier part)) (ok : Acceptable (jobFrom p sizes overrides earlier part) start handed)
-    (left : ℕ → ℕ → ℕ) (begun whole : List ℕ) (tab : Tabled (jobFrom p sizes overrides earlier part) handed left begun whole)
-    (d : IsReplan (jobFrom p sizes overrides earlier part) start handed plan)
-    (first : ℕ) (ids ready mark : List ℕ) (x : Decided (jobFrom p sizes overrides earlier part) start handed plan first ids ready mark) (li : length ids ≡ 500) where
+    (a : Accepted (jobFrom p sizes overrides earlier part)) (ok : Acceptable (jobFrom p sizes overrides earlier part) start fetched)
+    (left : ℕ → ℕ → ℕ) (begun whole : List ℕ) (tab : Tabled (jobFrom p sizes overrides earlier part) fetched left begun whole)
+    (d : IsReplan (jobFrom p sizes overrides earlier part) start fetched plan)
+    (first : ℕ) (ids ready mark : List ℕ) (x : Decided (jobFrom p sizes overrides earlier part) start fetched plan first ids ready mark) (li : length ids ≡ 500) where
   abbrev j : Job
   j = jobFrom p sizes overrides earlier part
 
@@ -217,16 +217,16 @@ module _
   A = afterFrom j start
 
   abbrev cs : List ℕ
-  cs = busyFrom j start handed plan
+  cs = busyFrom j start fetched plan
 
   abbrev rs : List ℕ
   rs = releases (due j) (heldMost j) cs
 
   abbrev member : ℕ → Bool
-  member k = busy handed plan k && leb start (due j k)
+  member k = busy fetched plan k && leb start (due j k)
 
-  fits : FitsFrom j start handed plan
-  fits = is-replan-fits j start handed ok (accepted-sized j a) plan d
+  fits : FitsFrom j start fetched plan
+  fits = is-replan-fits j start fetched ok (accepted-sized j a) plan d
 
   slots : length earlier + length part ≡ lastSlot j
   slots = sym (length-append earlier part) ∙ a .slots-in
@@ -237,23 +237,23 @@ module _
   many : length cs ≡ 500 - first
   many = sym (ap length (x .chunks-are)) ∙ length-drop first ids ∙ ap (λ (n : ℕ). n - first) li
 
-  -- The tables hold what the handed rows leave of the plan.
-  queued : leftQueue left (drop first ids) (drop first ready) (drop first mark) ≡ queueLeft (rest j handed) plan cs rs
+  -- The tables hold what the fetched rows leave of the plan.
+  queued : leftQueue left (drop first ids) (drop first ready) (drop first mark) ≡ queueLeft (rest j fetched) plan cs rs
   queued =
       ap (λ (l : List ℕ). leftQueue left l (drop first ready) (drop first mark)) (x .chunks-are)
       ∙ ap (λ (l : List ℕ). leftQueue left cs l (drop first mark)) (x .releases-are ∙ ap (λ (n : ℕ). take n rs) (sym many))
       ∙ ap (λ (l : List ℕ). leftQueue left cs (take (length cs) rs) l) (x .marks)
       ∙ queue-is left plan cs rs (eight cs levels)
-      ∙ queue-cong (left) (rest j handed) plan cs rs (picked-each member (λ k. (i : ℕ) → i < plan k → left k i ≡ rest j handed k i) 0 (chunks j) (λ k u v t i w. tab .left-is k i (layer-of j k i u (omega arith) (omega (arith, d .choice k u (omega arith))))))
+      ∙ queue-cong (left) (rest j fetched) plan cs rs (picked-each member (λ k. (i : ℕ) → i < plan k → left k i ≡ rest j fetched k i) 0 (chunks j) (λ k u v t i w. tab .left-is k i (layer-of j k i u (omega arith) (omega (arith, d .choice k u (omega arith))))))
     where
       eight : (l : List ℕ) → All (λ k. plan k ≤ layers j) l → All (λ k. plan k ≤ 8) l
       eight [] y = tt
       eight (k ∷ l) y = (omega (arith, y .0, a .layers-in .high), eight l (y .1))
 
-  queue-fed : (load (queueLeft (rest j handed) plan cs rs) ≤ A 0) × Fed A (queueLeft (rest j handed) plan cs rs)
+  queue-fed : (load (queueLeft (rest j fetched) plan cs rs) ≤ A 0) × Fed A (queueLeft (rest j fetched) plan cs rs)
   queue-fed =
-      let f = feas-from-due j start handed plan .0 (fits .feas) .1 in
-      let q = fed-queue (rest j handed) (due j) A plan cs rs (feas-relok (bytesLeft j handed plan) (due j) A (heldMost j) cs f) in
+      let f = feas-from-due j start fetched plan .0 (fits .feas) .1 in
+      let q = fed-queue (rest j fetched) (due j) A plan cs rs (feas-relok (bytesLeft j fetched plan) (due j) A (heldMost j) cs f) in
       (omega (arith, q .0, f .whole), q .1)
 
   left-is : leftAt start part ≡ A
@@ -270,13 +270,13 @@ module _
 
   -- ---- what the fill asks for
 
-  abbrev from : At
-  from = record { t = start; c = getD part 0 0; n = 0 }
+  abbrev from : Position
+  from = record { slot = start; left = getD part 0 0; rows = 0 }
 
   pub all-from :
       (within : first ≤ 500) → Asc 1 (p .chunks) (drop first ids) → length ready ≡ 500 → length mark ≡ 500 →
-      (ss cs′ ls bs : List ℕ) → 5599 ≤ length ss → 5599 ≤ length cs′ → 5599 ≤ length ls → 5599 ≤ length bs → Part start part →
-      AllLeft start part left ids ready mark first from ss cs′ ls bs
+      (ss cs′ ls bs : List ℕ) → 5599 ≤ length ss → 5599 ≤ length cs′ → 5599 ≤ length ls → 5599 ≤ length bs → ForecastPart start part →
+      PutAllPre start part left ids ready mark first from ss cs′ ls bs
   all-from within asc lr lm ss cs′ ls bs k1 k2 k3 k4 part-in =
       let sl = some-slot in
       let la = last-is in
@@ -287,8 +287,8 @@ module _
         by = subst (All (λ r. r ≤ lastOf start part)) (sym (x .releases-are)) released;
         chunks-in = in-job 1 (drop first ids) (omega arith) asc;
         levels = subst (All AnyLevels) (sym (x .marks)) (all-of AnyLevels (λ k. levelMark (plan k)) cs (level-all cs levels));
-        fed = subst (Fed (leftAt start part)) (sym queued) (subst (λ (B : ℕ → ℕ). Fed B (queueLeft (rest j handed) plan cs rs)) (sym left-is) (queue-fed .1));
-        fits = subst (λ (q : List Piece). load q ≤ getD part 0 0 + leftAt start part start) (sym queued) fits-first;
+        fed = subst (Fed (leftAt start part)) (sym queued) (subst (λ (B : ℕ → ℕ). Fed B (queueLeft (rest j fetched) plan cs rs)) (sym left-is) (queue-fed .1));
+        fits = subst (λ (q : List QueuedPiece). load q ≤ getD part 0 0 + leftAt start part start) (sym queued) fits-first;
         long = (li, lr, lm);
       }
     where
@@ -309,7 +309,7 @@ module _
           let e = level-of (plan k) (omega arith) in
           (record { high = omega (arith, e); closed = ap levelMark (sym e) }, level-all l (y .1))
 
-      fits-first : load (queueLeft (rest j handed) plan cs rs) ≤ getD part 0 0 + leftAt start part start
+      fits-first : load (queueLeft (rest j fetched) plan cs rs) ≤ getD part 0 0 + leftAt start part start
       fits-first =
           let e : start - 1 + 1 ≡ start = omega arith in
           let n = rw e at (left-next start part (start - 1) (omega (arith, some-slot))) in
@@ -321,40 +321,40 @@ module _
 
   -- ---- the rows
 
-  pc : own.Part → Piece
+  pc : own.Part → QueuedPiece
   pc q = record { chunk = q .chunk; layer = q .layer; left = q .bytes; ready = readyOf cs rs (q .chunk) }
 
-  abbrev ofChunk : ℕ → List Piece
-  ofChunk k = piecesLeft (rest j handed) k (readyOf cs rs k) 0 (plan k)
+  abbrev ofChunk : ℕ → List QueuedPiece
+  ofChunk k = piecesLeft (rest j fetched) k (readyOf cs rs k) 0 (plan k)
 
-  one-left : (i n : ℕ) → map pc (unfetched handed (wholeLayer j i n ∷ [])) ≡ layerAt (rest j handed) i (readyOf cs rs i) n
+  one-left : (i n : ℕ) → map pc (unfetched fetched (wholeLayer j i n ∷ [])) ≡ layerAt (rest j fetched) i (readyOf cs rs i) n
   unfolding pc
   one-left i n =
       ⊎-elim
-      (λ t. let l = ltb→lt (bytesOfLayer handed i n) (size j i n) t in rw (lt-ltb (bytesOfLayer handed i n) (size j i n) l, lt-ltb 0 (rest j handed i n) (omega arith)))
-      (λ t. let l = nltb→le (bytesOfLayer handed i n) (size j i n) t in rw (le-ltb (bytesOfLayer handed i n) (size j i n) l, le-ltb 0 (rest j handed i n) (omega arith)))
-      (test (ltb (bytesOfLayer handed i n) (size j i n)))
+      (λ t. let l = ltb→lt (bytesOfLayer fetched i n) (size j i n) t in rw (lt-ltb (bytesOfLayer fetched i n) (size j i n) l, lt-ltb 0 (rest j fetched i n) (omega arith)))
+      (λ t. let l = nltb→le (bytesOfLayer fetched i n) (size j i n) t in rw (le-ltb (bytesOfLayer fetched i n) (size j i n) l, le-ltb 0 (rest j fetched i n) (omega arith)))
+      (test (ltb (bytesOfLayer fetched i n) (size j i n)))
 
-  chunk-left : (i n : ℕ) → map pc (unfetched handed (upTo (wholeLayer j i) n)) ≡ piecesLeft (rest j handed) i (readyOf cs rs i) 0 n
+  chunk-left : (i n : ℕ) → map pc (unfetched fetched (upTo (wholeLayer j i) n)) ≡ piecesLeft (rest j fetched) i (readyOf cs rs i) 0 n
   chunk-left i zero = refl
   chunk-left i (suc n) =
       let e : n + 1 ≡ suc n = omega arith in
-      ap (map pc) (unfetched-append handed (upTo (wholeLayer j i) n) (wholeLayer j i n ∷ []))
-      ∙ map-append pc (unfetched handed (upTo (wholeLayer j i) n)) (unfetched handed (wholeLayer j i n ∷ []))
-      ∙ ap (λ (l : List Piece). l ++ map pc (unfetched handed (wholeLayer j i n ∷ []))) (chunk-left i n)
-      ∙ ap (λ (l : List Piece). piecesLeft (rest j handed) i (readyOf cs rs i) 0 n ++ l) (one-left i n)
-      ∙ sym (pieces-next (rest j handed) i (readyOf cs rs i) n)
-      ∙ ap (piecesLeft (rest j handed) i (readyOf cs rs i) 0) e
+      ap (map pc) (unfetched-append fetched (upTo (wholeLayer j i) n) (wholeLayer j i n ∷ []))
+      ∙ map-append pc (unfetched fetched (upTo (wholeLayer j i) n)) (unfetched fetched (wholeLayer j i n ∷ []))
+      ∙ ap (λ (l : List QueuedPiece). l ++ map pc (unfetched fetched (wholeLayer j i n ∷ []))) (chunk-left i n)
+      ∙ ap (λ (l : List QueuedPiece). piecesLeft (rest j fetched) i (readyOf cs rs i) 0 n ++ l) (one-left i n)
+      ∙ sym (pieces-next (rest j fetched) i (readyOf cs rs i) n)
+      ∙ ap (piecesLeft (rest j fetched) i (readyOf cs rs i) 0) e
 
   none-left : (k : ℕ) → 1 ≤ k → k ≤ chunks j → T (not (member k)) → ofChunk k ≡ []
   none-left k u v t =
-      let e = other-at j a start handed ok plan d k u v t in
+      let e = other-at j a start fetched ok plan d k u v t in
       let z : plan k + 0 ≡ plan k = omega arith in
-      pieces-none (rest j handed) k (readyOf cs rs k) 0 (plan k) (λ i w.
+      pieces-none (rest j fetched) k (readyOf cs rs k) 0 (plan k) (λ i w.
       let r = layer-of j k i u v (omega (arith, d .choice k u v, z)) in
-      omega (arith, level-iff j handed (ok .lower) k i r .1 (omega (arith, e))))
+      omega (arith, level-iff j fetched (ok .lower) k i r .1 (omega (arith, e))))
 
-  carried-left : (m : ℕ) → m ≤ chunks j → map pc (unfetched handed (carriedTo j plan m)) ≡ allPieces ofChunk (picked member 0 m)
+  carried-left : (m : ℕ) → m ≤ chunks j → map pc (unfetched fetched (carriedTo j plan m)) ≡ allPieces ofChunk (picked member 0 m)
   unfolding allPieces
   carried-left zero h = refl
   carried-left (suc m) h =
@@ -362,10 +362,10 @@ module _
       let e : m + 1 ≡ suc m = omega arith in
       let o : m + 0 ≡ m = omega arith in
       let split : picked member 0 i ≡ picked member 0 m ++ picked member m 1 = rw (e, o) at (picked-split member 0 m 1) in
-      ap (map pc) (unfetched-append handed (carriedTo j plan m) (upTo (wholeLayer j i) (plan i)))
-      ∙ map-append pc (unfetched handed (carriedTo j plan m)) (unfetched handed (upTo (wholeLayer j i) (plan i)))
-      ∙ ap (λ (l : List Piece). l ++ map pc (unfetched handed (upTo (wholeLayer j i) (plan i)))) (carried-left m (omega arith))
-      ∙ ap (λ (l : List Piece). allPieces ofChunk (picked member 0 m) ++ l) (chunk-left i (plan i) ∙ last-one)
+      ap (map pc) (unfetched-append fetched (carriedTo j plan m) (upTo (wholeLayer j i) (plan i)))
+      ∙ map-append pc (unfetched fetched (carriedTo j plan m)) (unfetched fetched (upTo (wholeLayer j i) (plan i)))
+      ∙ ap (λ (l : List QueuedPiece). l ++ map pc (unfetched fetched (upTo (wholeLayer j i) (plan i)))) (carried-left m (omega arith))
+      ∙ ap (λ (l : List QueuedPiece). allPieces ofChunk (picked member 0 m) ++ l) (chunk-left i (plan i) ∙ last-one)
       ∙ sym (all-append ofChunk (picked member 0 m) (picked member m 1))
       ∙ ap (allPieces ofChunk) (sym split)
     where
@@ -376,10 +376,10 @@ module _
           (λ t. rw (not-T-false (member (suc m)) t) (none-left (suc m) (omega arith) h t))
           (test (member (suc m)))
 
-  rest-queue : map pc (unfetched handed (carriedTo j plan (chunks j))) ≡ queueLeft (rest j handed) plan cs rs
+  rest-queue : map pc (unfetched fetched (carriedTo j plan (chunks j))) ≡ queueLeft (rest j fetched) plan cs rs
   rest-queue =
       carried-left (chunks j) (omega arith)
-      ∙ sym (queue-all (rest j handed) plan 1 (chunks j) cs rs (picked-asc member 0 (chunks j) (chunks j) (omega arith)) (enough (heldMost j) cs))
+      ∙ sym (queue-all (rest j fetched) plan 1 (chunks j) cs rs (picked-asc member 0 (chunks j) (chunks j) (omega arith)) (enough (heldMost j) cs))
     where
       each-long : (l : List ℕ) → length l ≤ length (each (due j) l)
       each-long [] = omega arith
@@ -389,18 +389,18 @@ module _
       enough zero l = each-long l
       enough (suc h) l = omega (arith, enough h l)
 
-  rows-are : ownRest j start handed plan ≡ onward start part start (getD part 0 0) (leftQueue left (drop first ids) (drop first ready) (drop first mark))
+  rows-are : ownRest j start fetched plan ≡ onward start part start (getD part 0 0) (leftQueue left (drop first ids) (drop first ready) (drop first mark))
   unfolding pc
   rows-are =
       let B = forecast j in
-      let q = queueLeft (rest j handed) plan cs rs in
+      let q = queueLeft (rest j fetched) plan cs rs in
       let n-is : suc (lastSlot j) - start ≡ lastOf start part - (start - 1) = omega (arith, last-is) in
       let e : start - 1 + 1 ≡ start = omega arith in
       let next = rw e at (onward-next start part (start - 1) q (omega (arith, some-slot))) in
       let same : (u : ℕ) → start - 1 < u → B u ≡ bytesAt start part u = λ u v.
       let k : length earlier + (u - start) ≡ u - 1 = omega arith in
       rw k at (getD-append-add earlier part (u - start) 0) ∙ sym (bytes-in start part u (omega arith) (omega arith)) in
-      rest-is-fill j (accepted-sized j a) start handed ok plan (d .choice) fits
+      rest-is-fill j (accepted-sized j a) start fetched ok plan (d .choice) fits
       ∙ ap (fill B (suc (lastSlot j) - start) (start - 1)) rest-queue
       ∙ fill-cong B (bytesAt start part) (suc (lastSlot j) - start) (start - 1) q same
       ∙ ap (λ (n : ℕ). fill (bytesAt start part) n (start - 1) q) n-is
@@ -424,25 +424,25 @@ module _
       ∙ one (i + 1) (omega arith) (omega arith) (rw z at (tab .whole-is (i + 1) (omega arith) (omega arith)))
       ∙ sym (mark-level (plan (i + 1)) (layers j) (d .choice (i + 1) (omega arith) (omega arith))))
     where
-      one : (k : ℕ) → 1 ≤ k → k ≤ chunks j → {w : ℕ} → w ≡ levelMark (level j handed k) → cond (member k) (levelMark (plan k)) w ≡ levelMark (plan k)
+      one : (k : ℕ) → 1 ≤ k → k ≤ chunks j → {w : ℕ} → w ≡ levelMark (level j fetched k) → cond (member k) (levelMark (plan k)) w ≡ levelMark (plan k)
       one k u v e =
           ⊎-elim
           (λ t. rw (T-true (member k) t))
-          (λ t. rw (not-T-false (member k) t) (e ∙ ap levelMark (sym (other-at j a start handed ok plan d k u v t))))
+          (λ t. rw (not-T-false (member k) t) (e ∙ ap levelMark (sym (other-at j a start fetched ok plan d k u v t))))
           (test (member k))
 
   pub laid :
-      {ss cs′ ls bs : List ℕ} {r : At} {ss' cs'' ls' bs' marks marks' : List ℕ} →
-      Puts start part (leftQueue left (drop first ids) (drop first ready) (drop first mark)) (4 * (500 - first)) from ss cs′ ls bs r ss' cs'' ls' bs' →
+      {ss cs′ ls bs : List ℕ} {r : Position} {ss' cs'' ls' bs' marks marks' : List ℕ} →
+      PutPost start part (leftQueue left (drop first ids) (drop first ready) (drop first mark)) (4 * (500 - first)) from ss cs′ ls bs r ss' cs'' ls' bs' →
       marks' ≡ over (upTo (λ i. markOr (getD whole i 0) (i + 1) (drop first ids) (drop first mark)) (chunks j)) marks →
-      LaidOf j start handed plan marks ss cs′ ls bs (r .n) marks' ss' cs'' ls' bs'
+      LaidOf j start fetched plan marks ss cs′ ls bs (r .rows) marks' ss' cs'' ls' bs'
   laid {ss} {cs′} {ls} {bs} {r} {marks = marks} y em =
       let q = leftQueue left (drop first ids) (drop first ready) (drop first mark) in
-      let rows = ownRest j start handed plan in
+      let rows = ownRest j start fetched plan in
       let begin : Made rows start part ss cs′ ls bs (q ++ []) ss cs′ ls bs from =
       record { made = []; says = rows-are ∙ ap (onward start part start (getD part 0 0)) (sym (append-nil q)); slots = refl; chunks = refl; layers = refl; bytes = refl; counted = refl; long = same-refl ss cs′ ls bs } in
       let m = y .makes rows ss cs′ ls bs [] begin in
-      let e : m .made ≡ rows = sym (m .says ∙ ap (λ (l : List Row). m .made ++ l) (nothing-left (r .t) (r .c)) ∙ append-nil (m .made)) in
+      let e : m .made ≡ rows = sym (m .says ∙ ap (λ (l : List Row). m .made ++ l) (nothing-left (r .slot) (r .left)) ∙ append-nil (m .made)) in
       record {
         marks-are = em ∙ ap (λ (l : List ℕ). over l marks) marks-are;
         counted = m .counted ∙ ap length e;

@@ -1,20 +1,22 @@
 // Internal. The rows made afresh: what is left of the plan's layers, piece by piece, from the slot of replanning on. A piece is placed as
 // listing places it; a layer with nothing left is passed over.
+use job::CHUNKS;
+use job::SizeTable;
 use job::Programme;
-use core_fill::At;
+use core_fill::Position;
 ghost use mathlib.Core.List.{[], _∷_};
 ghost use Prim.Native.Nat.{ℕ, _*_, _-_};
 ghost use lib.ListN.{drop};
 ghost use Rattle.job.specs.Table.{tableAt};
-ghost use Rattle.core_fill.specs.lemmas.Listing.{Puts, piece};
-ghost use Rattle.core_replan_fill.specs.lemmas.Left.{AllLeft, ChunkLeft, LayerFrom, layersLeft, leftQueue};
-ghost use Rattle.core_replan_fill.specs.lemmas.Handing.{LaidFrom, Laid};
+ghost use Rattle.core_fill.specs.lemmas.Filling.{PutPost, piece};
+ghost use Rattle.core_replan_fill.specs.lemmas.Left.{PutAllPre, PutChunkPre, PutLayerPre, layersLeft, leftQueue};
+ghost use Rattle.core_replan_fill.specs.lemmas.Rows.{WriteRestPre, WriteRestPost};
 
 // A piece, from its release on.
 fn put_layer(
     part: &[u32],
     start: usize,
-    from: At,
+    from: Position,
     ready: u16,
     chunk: u16,
     layer: u8,
@@ -23,9 +25,9 @@ fn put_layer(
     chunks: &mut [u16],
     layers: &mut [u8],
     bytes: &mut [u32],
-) -> At
-    requires { ⌜ LayerFrom start (now part) from ready size (now slots) (now chunks) (now layers) (now bytes) ⌝ }
-    ensures { λ r. ⌜ Puts start (now (part .entry)) (piece chunk layer size ready ∷ []) 1 from (now (slots .entry)) (now (chunks .entry)) (now (layers .entry)) (now (bytes .entry)) r (now (slots .exit)) (now (chunks .exit)) (now (layers .exit)) (now (bytes .exit)) ⌝ }
+) -> Position
+    requires { ⌜ PutLayerPre start (now part) from ready size (now slots) (now chunks) (now layers) (now bytes) ⌝ }
+    ensures { λ r. ⌜ PutPost start (now (part .entry)) (piece chunk layer size ready ∷ []) 1 from (now (slots .entry)) (now (chunks .entry)) (now (layers .entry)) (now (bytes .entry)) r (now (slots .exit)) (now (chunks .exit)) (now (layers .exit)) (now (bytes .exit)) ⌝ }
 {
     let at = core_fill::begin(part, start, from, ready);
     core_fill::put_piece(
@@ -46,8 +48,8 @@ fn put_layer(
 fn put_chunk(
     part: &[u32],
     start: usize,
-    left: &[u32; 2000],
-    from: At,
+    left: &SizeTable,
+    from: Position,
     ready: u16,
     chunk: u16,
     mark: u8,
@@ -55,9 +57,9 @@ fn put_chunk(
     chunks: &mut [u16],
     layers: &mut [u8],
     bytes: &mut [u32],
-) -> At
-    requires { ⌜ ChunkLeft start (now part) (tableAt (now left)) from ready chunk mark (now slots) (now chunks) (now layers) (now bytes) ⌝ }
-    ensures { λ r. ⌜ Puts start (now (part .entry)) (layersLeft (tableAt (now (left .entry))) chunk ready mark) 4 from (now (slots .entry)) (now (chunks .entry)) (now (layers .entry)) (now (bytes .entry)) r (now (slots .exit)) (now (chunks .exit)) (now (layers .exit)) (now (bytes .exit)) ⌝ }
+) -> Position
+    requires { ⌜ PutChunkPre start (now part) (tableAt (now left)) from ready chunk mark (now slots) (now chunks) (now layers) (now bytes) ⌝ }
+    ensures { λ r. ⌜ PutPost start (now (part .entry)) (layersLeft (tableAt (now (left .entry))) chunk ready mark) 4 from (now (slots .entry)) (now (chunks .entry)) (now (layers .entry)) (now (bytes .entry)) r (now (slots .exit)) (now (chunks .exit)) (now (layers .exit)) (now (bytes .exit)) ⌝ }
 {
     let mut at = from;
     let mut n: u8 = 0;
@@ -89,23 +91,23 @@ fn put_chunk(
 fn put_all(
     part: &[u32],
     start: usize,
-    left: &[u32; 2000],
-    ids: &[u16; 500],
-    ready: &[u16; 500],
-    mark: &[u8; 500],
+    left: &SizeTable,
+    ids: &[u16; CHUNKS],
+    ready: &[u16; CHUNKS],
+    mark: &[u8; CHUNKS],
     first: usize,
-    from: At,
+    from: Position,
     slots: &mut [u16],
     chunks: &mut [u16],
     layers: &mut [u8],
     bytes: &mut [u32],
-) -> At
-    requires { ⌜ AllLeft start (now part) (tableAt (now left)) (now ids) (now ready) (now mark) first from (now slots) (now chunks) (now layers) (now bytes) ⌝ }
-    ensures { λ r. ⌜ Puts start (now (part .entry)) (leftQueue (tableAt (now (left .entry))) (drop first (now (ids .entry))) (drop first (now (ready .entry))) (drop first (now (mark .entry)))) (4 * (500 - first)) from (now (slots .entry)) (now (chunks .entry)) (now (layers .entry)) (now (bytes .entry)) r (now (slots .exit)) (now (chunks .exit)) (now (layers .exit)) (now (bytes .exit)) ⌝ }
+) -> Position
+    requires { ⌜ PutAllPre start (now part) (tableAt (now left)) (now ids) (now ready) (now mark) first from (now slots) (now chunks) (now layers) (now bytes) ⌝ }
+    ensures { λ r. ⌜ PutPost start (now (part .entry)) (leftQueue (tableAt (now (left .entry))) (drop first (now (ids .entry))) (drop first (now (ready .entry))) (drop first (now (mark .entry)))) (4 * (500 - first)) from (now (slots .entry)) (now (chunks .entry)) (now (layers .entry)) (now (bytes .entry)) r (now (slots .exit)) (now (chunks .exit)) (now (layers .exit)) (now (bytes .exit)) ⌝ }
 {
     let mut at = from;
     let mut q = first;
-    while q < 500 {
+    while q < CHUNKS {
         at = put_chunk(
             part,
             start,
@@ -125,26 +127,26 @@ fn put_all(
 }
 
 // The plan made afresh at slot start: the marks of all chunks, and the rows from start on; the number of rows is handed back.
-pub fn lay_rest(
+pub fn write_rest(
     p: Programme,
     depth: usize,
     part: &[u32],
     start: usize,
-    left: &[u32; 2000],
-    begun: &[u8; 500],
-    whole: &[u8; 500],
+    left: &SizeTable,
+    begun: &[u8; CHUNKS],
+    whole: &[u8; CHUNKS],
     marks: &mut [u8],
     slots: &mut [u16],
     chunks: &mut [u16],
     layers: &mut [u8],
     bytes: &mut [u32],
 ) -> usize
-    requires { ⌜ LaidFrom p depth start (now part) (tableAt (now left)) (now begun) (now whole) (now marks) (now slots) (now chunks) (now layers) (now bytes) ⌝ }
-    ensures { λ r. ⌜ Laid p depth start (now (part .entry)) (tableAt (now (left .entry))) (now (begun .entry)) (now (whole .entry)) (now (marks .entry)) (now (slots .entry)) (now (chunks .entry)) (now (layers .entry)) (now (bytes .entry)) r (now (marks .exit)) (now (slots .exit)) (now (chunks .exit)) (now (layers .exit)) (now (bytes .exit)) ⌝ }
+    requires { ⌜ WriteRestPre p depth start (now part) (tableAt (now left)) (now begun) (now whole) (now marks) (now slots) (now chunks) (now layers) (now bytes) ⌝ }
+    ensures { λ r. ⌜ WriteRestPost p depth start (now (part .entry)) (tableAt (now (left .entry))) (now (begun .entry)) (now (whole .entry)) (now (marks .entry)) (now (slots .entry)) (now (chunks .entry)) (now (layers .entry)) (now (bytes .entry)) r (now (marks .exit)) (now (slots .exit)) (now (chunks .exit)) (now (layers .exit)) (now (bytes .exit)) ⌝ }
 {
-    let mut ids = [0u16; 500];
-    let mut ready = [0u16; 500];
-    let mut mark = [0u8; 500];
+    let mut ids = [0u16; CHUNKS];
+    let mut ready = [0u16; CHUNKS];
+    let mut mark = [0u8; CHUNKS];
     let count = p.chunks as usize;
     let first = core_replan_decide::decide(
         p,
@@ -159,7 +161,11 @@ pub fn lay_rest(
         &mut mark,
     );
     let c = part[0];
-    let from = At { t: start, c, n: 0 };
+    let from = Position {
+        slot: start,
+        left: c,
+        rows: 0,
+    };
     let end = put_all(
         part,
         start,
@@ -175,5 +181,5 @@ pub fn lay_rest(
         bytes,
     );
     core_replan_decide::spread(&ids, &mark, first, whole, count, marks);
-    end.n
+    end.rows
 }

@@ -13,9 +13,9 @@ use Rattle.theory_basics.specs.lemmas.Tables.{at-set, below-next}
 use Rattle.theory_basics.specs.lemmas.Tests.{allTo-more, last, test}
 use Rattle.fetch.specs.Rows.{markByte}
 use Rattle.core_rules.specs.declared.Seen.{Seen}
-use Rattle.core_rules.specs.lemmas.Tables.{SeenChunk, carriedBy, lowerBy}
+use Rattle.core_rules.specs.lemmas.Tables.{SeeChunkPost, carriedBy, lowerBy}
 use Rattle.core_replan_input.specs.declared.Kept.{Kept}
-use Rattle.core_replan_input.specs.lemmas.Gather.{Flagged, InTurnBy, Rest, Turned, fewBy}
+use Rattle.core_replan_input.specs.lemmas.Gather.{SetFlagsPost, InTurnBy, SetLeftPost, InTurnPost, fewBy}
 
 -- ---- what is left
 
@@ -38,7 +38,7 @@ leaving-more {table} {sums} {left} {k} l h {v} e =
       long = simp length-set (l .long);
     }
 
-pub leaving-end : {table sums left : List ℕ} {k : ℕ} → Leaving table sums left k → 2000 ≤ k → Rest table sums left
+pub leaving-end : {table sums left : List ℕ} {k : ℕ} → Leaving table sums left k → 2000 ≤ k → SetLeftPost table sums left
 leaving-end l h = record { is = λ m u. l .is m (omega (arith, l .within)); long = l .long }
 
 -- ---- flags and marks
@@ -48,7 +48,7 @@ flag-says true = refl
 flag-says false = refl
 
 module _ {size : ℕ → ℕ → ℕ} {sums first : List ℕ} {depth : ℕ} where
-  pub flagged-none : {begun whole : List ℕ} → length begun ≡ 500 → length whole ≡ 500 → Flagged size sums first depth 0 (record { lower = true; few = true }) begun whole
+  pub flagged-none : {begun whole : List ℕ} → length begun ≡ 500 → length whole ≡ 500 → SetFlagsPost size sums first depth 0 (record { lower = true; few = true }) begun whole
   flagged-none lb lw =
       record {
         lower = refl;
@@ -57,10 +57,10 @@ module _ {size : ℕ → ℕ → ℕ} {sums first : List ℕ} {depth : ℕ} wher
       }
 
   pub flagged-more :
-      {i : ℕ} {r : Kept} {begun whole : List ℕ} → Flagged size sums first depth i r begun whole → i < 500 → {m : Seen} →
-      SeenChunk size sums depth (i + 1) m → {f : ℕ} → f ≡ cond (ltb (getD first (i + 1) 0) 65535) 1 0 → {b : Bool} →
+      {i : ℕ} {r : Kept} {begun whole : List ℕ} → SetFlagsPost size sums first depth i r begun whole → i < 500 → {m : Seen} →
+      SeeChunkPost size sums depth (i + 1) m → {f : ℕ} → f ≡ cond (ltb (getD first (i + 1) 0) 65535) 1 0 → {b : Bool} →
       b ≡ allBelow depth (fewBy size sums (i + 1)) →
-      Flagged size sums first depth (i + 1) (record { lower = m .lower && r .lower; few = b && r .few }) (set begun i f) (set whole i (m .mark))
+      SetFlagsPost size sums first depth (i + 1) (record { lower = m .lower && r .lower; few = b && r .few }) (set begun i f) (set whole i (m .mark))
   flagged-more {i} {r} {begun} {whole} a h {m} s {f} e {b} q =
       let g = a .flags in
       let back : (k : ℕ) → 1 ≤ k → k ≤ i + 1 → (k - 1 ≡ i → ⊥) → k ≤ i = λ k u v o. ⊎-elim (λ t. omega (arith, ltb→lt (k - 1) i t)) (λ t. absurd (o (omega (arith, nltb→le (k - 1) i t)))) (test (ltb (k - 1) i)) in
@@ -95,7 +95,7 @@ turning-start first count =
     record { within = omega arith; turn = λ a b u v w x y. absurd (omega arith); above = λ a u v w. absurd (omega arith); some = inl refl }
 
 module _ {first : List ℕ} {count i latest : ℕ} (t : Turning first count i latest) where
-  pub turning-end : count ≤ i → Turned first count true
+  pub turning-end : count ≤ i → InTurnPost first count true
   turning-end h =
       let e : i ≡ count = omega (arith, t .within) in
       record { holds = λ z. rw e at (t .turn); fails = λ z. absurd (let y : _≡_ {A = ℕ} 0 1 = cc in omega arith) }
@@ -127,7 +127,7 @@ module _ {first : List ℕ} {count i latest : ℕ} (t : Turning first count i la
           some = inr (i + 1, omega arith, omega arith, refl, f);
         }
 
-    pub turning-stop : getD first (i + 1) 0 < latest → Turned first count false
+    pub turning-stop : getD first (i + 1) 0 < latest → InTurnPost first count false
     turning-stop f =
         record {
           holds = λ z. absurd (let y : _≡_ {A = ℕ} 0 1 = cc in omega arith);

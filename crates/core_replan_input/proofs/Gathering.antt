@@ -16,17 +16,17 @@ use Rattle.fetch.specs.Verdict.{rule1, rule1-iff, rule3, rule3-iff}
 use Rattle.core_replan_decide.specs.lemmas.Decision.{jobFrom}
 use Rattle.core_rules.proofs.Exact.{rule1-is, rule3-is, rule6-is}
 use Rattle.core_rules.specs.declared.Pass.{Pass}
-use Rattle.core_rules.specs.lemmas.Tables.{Passed, Shown, heldBy}
+use Rattle.core_rules.specs.lemmas.Tables.{TallyPost, Shown, heldBy}
 use Rattle.core_replan_input.specs.declared.Kept.{Kept}
-use Rattle.core_replan_input.specs.lemmas.Gather.{Flagged, Gathered, Rest, Turned}
+use Rattle.core_replan_input.specs.lemmas.Gather.{SetFlagsPost, GatherPost, SetLeftPost, InTurnPost}
 use Rattle.core_replan_input.proofs.Rows.{few-is, room-is, small-of, tabled-of, turn-is}
 
 module _
     (p : Programme) (table : List ℕ) (depth : ℕ) (earlier : List ℕ) (rows : List Row) (last : ℕ) (d : last ≡ lastDue p) (r : Pass) (S L F : List ℕ)
-    (a : Passed p last depth rows r S L F) where
+    (a : TallyPost p last depth rows r S L F) where
   -- A row out of range breaks rule 1.
   pub gathered-none :
-      {left begun whole : List ℕ} → r .ranged ≡ false → (length begun ≡ 500) × (length whole ≡ 500) → Gathered p table depth earlier rows false left begun whole
+      {left begun whole : List ℕ} → r .ranged ≡ false → (length begun ≡ 500) × (length whole ≡ 500) → GatherPost p table depth earlier rows false left begun whole
   gathered-none g l =
       record {
         kept = λ sizes os part w before. rw (sym (rule1-is (jobFrom p sizes os earlier part) a d (w .depth-is)) ∙ g);
@@ -37,10 +37,10 @@ module _
 
   -- Every row in range: the other rules by the tables.
   pub gathered :
-      {left begun whole : List ℕ} → r .ranged ≡ true → (k : Kept) (room few turn : Bool) → Rest table L left →
-      Flagged (tableAt table) L F depth (p .chunks) k begun whole → room ≡ allTo (length earlier) (λ u. leb (getD S u 0) (getD earlier (u - 1) 0)) →
-      few ≡ allTo last (λ u. leb (heldBy p F u) (p .limit / p .span)) → Turned F (p .chunks) turn → {answer : Bool} →
-      answer ≡ k .few && (k .lower && (room && (r .timely && (few && turn)))) → Gathered p table depth earlier rows answer left begun whole
+      {left begun whole : List ℕ} → r .ranged ≡ true → (k : Kept) (room few turn : Bool) → SetLeftPost table L left →
+      SetFlagsPost (tableAt table) L F depth (p .chunks) k begun whole → room ≡ allTo (length earlier) (λ u. leb (getD S u 0) (getD earlier (u - 1) 0)) →
+      few ≡ allTo last (λ u. leb (heldBy p F u) (p .limit / p .span)) → InTurnPost F (p .chunks) turn → {answer : Bool} →
+      answer ≡ k .few && (k .lower && (room && (r .timely && (few && turn)))) → GatherPost p table depth earlier rows answer left begun whole
   gathered {left} {begun} {whole} g k room few turn rest s q f u {answer} e =
       let t = a .tables g in
       let one : (sizes : List ℕ) (os : List Override) (part : List ℕ) → Shown table depth (jobFrom p sizes os earlier part) → rule1 (jobFrom p sizes os earlier part) rows ≡ true =

@@ -1,4 +1,4 @@
--- Laws on what the tables say of the handed rows. Assumes nothing.
+-- Laws on what the tables say of the fetched rows. Assumes nothing.
 use Prim.Native.Nat.{ℕ, suc, _+_, _*_, _-_, _≤_, _<_, min}
 use mathlib.Core.Path.{_≡_, refl, sym, ap, _∙_, subst}
 use mathlib.Core.Bool.{Bool}
@@ -15,7 +15,7 @@ use Rattle.job.specs.Table.{spot, tableAt}
 use Rattle.job.specs.declared.Programme.{Programme}
 use Rattle.job.specs.lemmas.Within.{all-most, size-most}
 use Rattle.fetch.specs.Rows.{Row, begun, bytesInSlot, bytesOfLayer, carried, hasRow, markByte}
-use Rattle.fetch.specs.Rules.{InRange, LowerCarried}
+use Rattle.fetch.specs.Rules.{RowInRange, LowerCarried}
 use Rattle.fetch.specs.Verdict.{rule4}
 use Rattle.fetch.specs.lemmas.Marks.{mark-cong}
 use Rattle.fetch.specs.lemmas.Rows.{any-some, bytes-none}
@@ -28,7 +28,7 @@ use Rattle.core_replan_decide.specs.lemmas.Decision.{Tabled, jobFrom}
 use Rattle.core_replan_decide.specs.lemmas.Tables.{Small}
 use Rattle.core_rules.proofs.Exact.{begun-is, carried-is, leb-cap}
 use Rattle.core_rules.specs.lemmas.Tables.{Tallied, carriedBy, firstOf}
-use Rattle.core_replan_input.specs.lemmas.Gather.{Flags, InTurnBy, Rest, Turned, fewBy}
+use Rattle.core_replan_input.specs.lemmas.Gather.{Flags, InTurnBy, SetLeftPost, InTurnPost, fewBy}
 
 -- ---- first slots
 
@@ -59,10 +59,10 @@ first-least {x = x} (here {xs = l}) =
     let e : firstOf (x .chunk) (x ∷ l) ≡ min (x .slot) (firstOf (x .chunk) l) = rw (eq-eqb (x .chunk) (x .chunk) refl) in omega (arith, e)
 first-least {x = x} (there {y = y} {xs = l} i) = omega (arith, first-least i)
 
-module _ (j : Job) (ok : Accepted j) (rows : List Row) (range : All (InRange j) rows) where
+module _ (j : Job) (ok : Accepted j) (rows : List Row) (range : All (RowInRange j) rows) where
   -- A row's slot is a slot of a job.
   slot-few : {x : Row} → In x rows → x .slot ≤ 3600
-  slot-few i = omega (arith, at-row (InRange j) i range .slot-high, ok .last-in)
+  slot-few i = omega (arith, at-row (RowInRange j) i range .slot-high, ok .last-in)
 
   began-is : (i : ℕ) → ltb (firstOf i rows) 65535 ≡ hasRow rows i
   began-is i =
@@ -81,8 +81,8 @@ module _ (j : Job) (ok : Accepted j) (rows : List Row) (range : All (InRange j) 
 
     to-rows : InTurnBy F (chunks j) → InTurn rows
     to-rows f x y i k l =
-        let zx = at-row (InRange j) i range in
-        let zy = at-row (InRange j) k range in
+        let zx = at-row (RowInRange j) i range in
+        let zy = at-row (RowInRange j) k range in
         let fx = first-least i in
         let fy = first-least k in
         let ex = first-is (x .chunk) (zx .chunk-low) (zx .chunk-high) in
@@ -106,7 +106,7 @@ module _ (j : Job) (ok : Accepted j) (rows : List Row) (range : All (InRange j) 
         let e : y .chunk ≡ a = ra .2 in
         omega (arith, rw e at l, rb .3)
 
-    pub turn-is : {r : Bool} → Turned F (chunks j) r → r ≡ inTurn rows
+    pub turn-is : {r : Bool} → InTurnPost F (chunks j) r → r ≡ inTurn rows
     turn-is {r} d =
         let q = in-turn-iff rows in
         same-test r (inTurn rows)
@@ -124,7 +124,7 @@ module _ (j : Job) (ok : Accepted j) (rows : List Row) (range : All (InRange j) 
 
     -- ---- the tables that the decision asks for
 
-    module _ {table left begun whole : List ℕ} (sizes-are : tableAt table ≡ size j) (d : Rest table L left) (g : Flags (size j) L F (layers j) (chunks j) begun whole) (low : LowerCarried j rows) where
+    module _ {table left begun whole : List ℕ} (sizes-are : tableAt table ≡ size j) (d : SetLeftPost table L left) (g : Flags (size j) L F (layers j) (chunks j) begun whole) (low : LowerCarried j rows) where
       in-table : (i n : ℕ) → 1 ≤ i → i ≤ 500 → n < 4 → (l : List ℕ) → tableAt l i n ≡ getD l (4 * (i - 1) + n) 0
       in-table i n u v w l =
           let e : spot i n ≡ 4 * (i - 1) + n = omega arith in
@@ -156,7 +156,7 @@ module _ (j : Job) (ok : Accepted j) (rows : List Row) (range : All (InRange j) 
 
 -- ---- what is left is small
 
-pub small-of : (j : Job) → Accepted j → {table sums left : List ℕ} → tableAt table ≡ size j → Rest table sums left → Small (tableAt left)
+pub small-of : (j : Job) → Accepted j → {table sums left : List ℕ} → tableAt table ≡ size j → SetLeftPost table sums left → Small (tableAt left)
 small-of j ok {table} {sums} {left} e d i n =
     let le : (k : ℕ) → k < 2000 → getD left k 0 ≤ getD table k 0 = λ k h. omega (arith, d .is k h) in
     let at : (i n : ℕ) → tableAt table i n ≤ 16777216 = λ i n. subst (λ (f : ℕ → ℕ → ℕ). f i n ≤ 16777216) (sym e) (size-most j ok i n) in

@@ -1,5 +1,9 @@
-// Internal. The rows handed on, gathered into tables: what they leave of each layer, which chunks they begin, and the marks of the layers
+// Internal. The rows fetched, gathered into tables: what they leave of each layer, which chunks they begin, and the marks of the layers
 // whole in them. And whether they keep what refusal 22 asks, by the sums and first slots of rules.
+use job::CHUNKS;
+use job::SIZES;
+use job::SUMS;
+use job::SizeTable;
 use job::Programme;
 ghost use mathlib.Core.Path.{_≡_};
 ghost use mathlib.Core.Bool.{_&&_, cond};
@@ -9,7 +13,7 @@ ghost use lib.Dec.{leb, ltb};
 ghost use Rattle.theory_basics.specs.Tests.{allBelow};
 ghost use Rattle.job.specs.Table.{tableAt};
 ghost use Rattle.fetch.specs.Rows.{rowsOf};
-ghost use Rattle.core_replan_input.specs.lemmas.Gather.{fewBy, Flagged, Turned, Rest, GatherFrom, Gathered};
+ghost use Rattle.core_replan_input.specs.lemmas.Gather.{fewBy, SetFlagsPost, InTurnPost, SetLeftPost, GatherPre, GatherPost};
 
 // Of all chunks: rule 3, and that no sum exceeds its size.
 pub struct Kept {
@@ -29,12 +33,12 @@ fn less(size: u32, sum: u64) -> u32
 }
 
 // What the rows leave of each layer: four places a chunk.
-fn set_left(table: &[u32; 2000], sums: &[u64; 2000], left: &mut [u32; 2000])
+fn set_left(table: &SizeTable, sums: &[u64; SIZES], left: &mut SizeTable)
     requires { ⌜ length (now left) ≡ 2000 ⌝ }
-    ensures { λ _. ⌜ Rest (now (table .entry)) (now (sums .entry)) (now (left .exit)) ⌝ }
+    ensures { λ _. ⌜ SetLeftPost (now (table .entry)) (now (sums .entry)) (now (left .exit)) ⌝ }
 {
     let mut k: usize = 0;
-    while k < 2000 {
+    while k < SIZES {
         left[k] = less(table[k], sums[k]);
         k = k + 1;
     }
@@ -47,7 +51,7 @@ fn at_most(sum: u64, size: u32) -> bool
 }
 
 // No layer of chunk i sums to more than its size.
-fn few_of(table: &[u32; 2000], depth: usize, sums: &[u64; 2000], i: u16) -> bool
+fn none_above(table: &SizeTable, depth: usize, sums: &[u64; SIZES], i: u16) -> bool
     requires { ⌜ (depth ≤ 4) × (1 ≤ i) × (i ≤ 500) ⌝ }
     ensures { λ r. ⌜ r ≡ allBelow depth (fewBy (tableAt (now (table .entry))) (now (sums .entry)) i) ⌝ }
 {
@@ -75,16 +79,16 @@ fn flag(first: u16) -> u8
 
 // The flag and the mark of each chunk; rule 3, and whether no sum exceeds its size.
 fn set_flags(
-    table: &[u32; 2000],
+    table: &SizeTable,
     depth: usize,
-    sums: &[u64; 2000],
+    sums: &[u64; SIZES],
     first: &[u16; 501],
     count: u16,
-    begun: &mut [u8; 500],
-    whole: &mut [u8; 500],
+    begun: &mut [u8; CHUNKS],
+    whole: &mut [u8; CHUNKS],
 ) -> Kept
     requires { ⌜ (depth ≤ 4) × (count ≤ 500) × (length (now begun) ≡ 500) × (length (now whole) ≡ 500) ⌝ }
-    ensures { λ r. ⌜ Flagged (tableAt (now (table .entry))) (now (sums .entry)) (now (first .entry)) depth count r (now (begun .exit)) (now (whole .exit)) ⌝ }
+    ensures { λ r. ⌜ SetFlagsPost (tableAt (now (table .entry))) (now (sums .entry)) (now (first .entry)) depth count r (now (begun .exit)) (now (whole .exit)) ⌝ }
 {
     let mut lower = true;
     let mut few = true;
@@ -97,7 +101,7 @@ fn set_flags(
         whole[k] = seen.mark;
         begun[k] = flag(first[at]);
         lower = core_rules::both(seen.lower, lower);
-        few = core_rules::both(few_of(table, depth, sums, next), few);
+        few = core_rules::both(none_above(table, depth, sums, next), few);
         i = next;
     }
     Kept { lower, few }
@@ -106,7 +110,7 @@ fn set_flags(
 // Whether no chunk begins in an earlier slot than one that plays before it.
 fn in_turn(count: u16, first: &[u16; 501]) -> bool
     requires { ⌜ count ≤ 500 ⌝ }
-    ensures { λ r. ⌜ Turned (now (first .entry)) count r ⌝ }
+    ensures { λ r. ⌜ InTurnPost (now (first .entry)) count r ⌝ }
 {
     let mut latest: u16 = 0;
     let mut i: u16 = 0;
@@ -126,7 +130,7 @@ fn in_turn(count: u16, first: &[u16; 501]) -> bool
     true
 }
 
-fn every(a: bool, b: bool, c: bool, d: bool, e: bool, f: bool) -> bool
+fn all_six(a: bool, b: bool, c: bool, d: bool, e: bool, f: bool) -> bool
     ensures { λ r. ⌜ r ≡ a && (b && (c && (d && (e && f)))) ⌝ }
 {
     if !a {
@@ -147,26 +151,26 @@ fn every(a: bool, b: bool, c: bool, d: bool, e: bool, f: bool) -> bool
     f
 }
 
-// The handed rows, whole and all before the slot after those of `earlier`: their tables, and whether they keep what refusal 22 asks.
+// The fetched rows, whole and all before the slot after those of `earlier`: their tables, and whether they keep what refusal 22 asks.
 pub fn gather(
     p: Programme,
-    table: &[u32; 2000],
+    table: &SizeTable,
     depth: usize,
     earlier: &[u32],
     slots: &[u16],
     chunks: &[u16],
     layers: &[u8],
     bytes: &[u32],
-    left: &mut [u32; 2000],
-    begun: &mut [u8; 500],
-    whole: &mut [u8; 500],
+    left: &mut SizeTable,
+    begun: &mut [u8; CHUNKS],
+    whole: &mut [u8; CHUNKS],
 ) -> bool
-    requires { ⌜ GatherFrom p depth (now earlier) (now slots) (now chunks) (now layers) (now bytes) (now left) (now begun) (now whole) ⌝ }
-    ensures { λ r. ⌜ Gathered p (now (table .entry)) depth (now (earlier .entry)) (rowsOf (now (slots .entry)) (now (chunks .entry)) (now (layers .entry)) (now (bytes .entry))) r (now (left .exit)) (now (begun .exit)) (now (whole .exit)) ⌝ }
+    requires { ⌜ GatherPre p depth (now earlier) (now slots) (now chunks) (now layers) (now bytes) (now left) (now begun) (now whole) ⌝ }
+    ensures { λ r. ⌜ GatherPost p (now (table .entry)) depth (now (earlier .entry)) (rowsOf (now (slots .entry)) (now (chunks .entry)) (now (layers .entry)) (now (bytes .entry))) r (now (left .exit)) (now (begun .exit)) (now (whole .exit)) ⌝ }
 {
     let last = job::last_due(p);
-    let mut slotsum = [0u64; 3601];
-    let mut layersum = [0u64; 2000];
+    let mut slotsum = [0u64; SUMS];
+    let mut layersum = [0u64; SIZES];
     let mut first = [65535u16; 501];
     let pass = core_rules::tally(
         p,
@@ -186,7 +190,7 @@ pub fn gather(
         let room = core_rules::within(earlier, &slotsum);
         let held = core_rules::sweep(p, last, &first);
         let turn = in_turn(p.chunks, &first);
-        return every(kept.few, kept.lower, room, pass.timely, held, turn);
+        return all_six(kept.few, kept.lower, room, pass.timely, held, turn);
     }
     false
 }

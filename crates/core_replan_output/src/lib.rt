@@ -1,10 +1,13 @@
 // Internal. The plan made afresh in lent slices: its marks, its rows from the slot on and its counts, or 11 and nothing where the rows
 // have no room.
+use job::CHUNKS;
+use job::ROWS;
+use job::SizeTable;
 use job::Programme;
 use planner::Planned;
 ghost use Rattle.job.specs.Table.{tableAt};
-ghost use Rattle.core_replan_fill.specs.lemmas.Handing.{LaidFrom};
-ghost use Rattle.core_replan_output.specs.lemmas.Laying.{Each, Filling, LayFrom, Tight};
+ghost use Rattle.core_replan_fill.specs.lemmas.Rows.{WriteRestPre};
+ghost use Rattle.core_replan_output.specs.lemmas.Writing.{Each, FillPost, WritePre, WritePost};
 
 // The rows made, and the counts.
 struct Filled {
@@ -13,24 +16,24 @@ struct Filled {
 }
 
 // The plan made afresh into slices that have room for any.
-fn lay_out(
+fn fill(
     p: Programme,
     depth: usize,
     part: &[u32],
     start: usize,
-    left: &[u32; 2000],
-    begun: &[u8; 500],
-    whole: &[u8; 500],
+    left: &SizeTable,
+    begun: &[u8; CHUNKS],
+    whole: &[u8; CHUNKS],
     marks: &mut [u8],
     slots: &mut [u16],
     chunks: &mut [u16],
     layers: &mut [u8],
     bytes: &mut [u32],
 ) -> Filled
-    requires { ⌜ LaidFrom p depth start (now part) (tableAt (now left)) (now begun) (now whole) (now marks) (now slots) (now chunks) (now layers) (now bytes) ⌝ }
-    ensures { λ r. ⌜ Each p depth start (now (part .entry)) (tableAt (now (left .entry))) (now (begun .entry)) (now (whole .entry)) (λ j handed plan. Filling j start handed plan (now (marks .entry)) (now (slots .entry)) (now (chunks .entry)) (now (layers .entry)) (now (bytes .entry)) r (now (marks .exit)) (now (slots .exit)) (now (chunks .exit)) (now (layers .exit)) (now (bytes .exit))) ⌝ }
+    requires { ⌜ WriteRestPre p depth start (now part) (tableAt (now left)) (now begun) (now whole) (now marks) (now slots) (now chunks) (now layers) (now bytes) ⌝ }
+    ensures { λ r. ⌜ Each p depth start (now (part .entry)) (tableAt (now (left .entry))) (now (begun .entry)) (now (whole .entry)) (λ j fetched plan. FillPost j start fetched plan (now (marks .entry)) (now (slots .entry)) (now (chunks .entry)) (now (layers .entry)) (now (bytes .entry)) r (now (marks .exit)) (now (slots .exit)) (now (chunks .exit)) (now (layers .exit)) (now (bytes .exit))) ⌝ }
 {
-    let rows = core_replan_fill::lay_rest(
+    let rows = core_replan_fill::write_rest(
         p,
         depth,
         part,
@@ -50,29 +53,29 @@ fn lay_out(
 }
 
 // The plan made afresh into rows that may be too short: laid out aside, and copied if it fits whole.
-fn lay_tight(
+fn write_aside(
     p: Programme,
     depth: usize,
     part: &[u32],
     start: usize,
-    left: &[u32; 2000],
-    begun: &[u8; 500],
-    whole: &[u8; 500],
+    left: &SizeTable,
+    begun: &[u8; CHUNKS],
+    whole: &[u8; CHUNKS],
     marks: &mut [u8],
     slots: &mut [u16],
     chunks: &mut [u16],
     layers: &mut [u8],
     bytes: &mut [u32],
 ) -> Planned
-    requires { ⌜ LayFrom p depth start (now part) (tableAt (now left)) (now begun) (now whole) (now marks) ⌝ }
-    ensures { λ r. ⌜ Each p depth start (now (part .entry)) (tableAt (now (left .entry))) (now (begun .entry)) (now (whole .entry)) (λ j handed plan. Tight j start handed plan (now (marks .entry)) (now (slots .entry)) (now (chunks .entry)) (now (layers .entry)) (now (bytes .entry)) r (now (marks .exit)) (now (slots .exit)) (now (chunks .exit)) (now (layers .exit)) (now (bytes .exit))) ⌝ }
+    requires { ⌜ WritePre p depth start (now part) (tableAt (now left)) (now begun) (now whole) (now marks) ⌝ }
+    ensures { λ r. ⌜ Each p depth start (now (part .entry)) (tableAt (now (left .entry))) (now (begun .entry)) (now (whole .entry)) (λ j fetched plan. WritePost j start fetched plan (now (marks .entry)) (now (slots .entry)) (now (chunks .entry)) (now (layers .entry)) (now (bytes .entry)) r (now (marks .exit)) (now (slots .exit)) (now (chunks .exit)) (now (layers .exit)) (now (bytes .exit))) ⌝ }
 {
-    let mut own_marks = [0u8; 500];
-    let mut own_slots = [0u16; 5599];
-    let mut own_chunks = [0u16; 5599];
-    let mut own_layers = [0u8; 5599];
-    let mut own_bytes = [0u32; 5599];
-    let made = lay_out(
+    let mut own_marks = [0u8; CHUNKS];
+    let mut own_slots = [0u16; ROWS];
+    let mut own_chunks = [0u16; ROWS];
+    let mut own_layers = [0u8; ROWS];
+    let mut own_bytes = [0u32; ROWS];
+    let made = fill(
         p,
         depth,
         part,
@@ -87,7 +90,7 @@ fn lay_tight(
         &mut own_bytes,
     );
     let n = made.rows;
-    if core_slices::all_hold(n, slots.len(), chunks.len(), layers.len(), bytes.len()) {
+    if core_slices::all_at_least(n, slots.len(), chunks.len(), layers.len(), bytes.len()) {
         let count = p.chunks as usize;
         core_slices::copy8(&own_marks, count, marks);
         core_slices::copy16(&own_slots, n, slots);
@@ -105,25 +108,25 @@ fn lay_tight(
 }
 
 // The plan made afresh, where the rows have room for it.
-pub fn lay(
+pub fn write_plan(
     p: Programme,
     depth: usize,
     part: &[u32],
     start: usize,
-    left: &[u32; 2000],
-    begun: &[u8; 500],
-    whole: &[u8; 500],
+    left: &SizeTable,
+    begun: &[u8; CHUNKS],
+    whole: &[u8; CHUNKS],
     marks: &mut [u8],
     slots: &mut [u16],
     chunks: &mut [u16],
     layers: &mut [u8],
     bytes: &mut [u32],
 ) -> Planned
-    requires { ⌜ LayFrom p depth start (now part) (tableAt (now left)) (now begun) (now whole) (now marks) ⌝ }
-    ensures { λ r. ⌜ Each p depth start (now (part .entry)) (tableAt (now (left .entry))) (now (begun .entry)) (now (whole .entry)) (λ j handed plan. Tight j start handed plan (now (marks .entry)) (now (slots .entry)) (now (chunks .entry)) (now (layers .entry)) (now (bytes .entry)) r (now (marks .exit)) (now (slots .exit)) (now (chunks .exit)) (now (layers .exit)) (now (bytes .exit))) ⌝ }
+    requires { ⌜ WritePre p depth start (now part) (tableAt (now left)) (now begun) (now whole) (now marks) ⌝ }
+    ensures { λ r. ⌜ Each p depth start (now (part .entry)) (tableAt (now (left .entry))) (now (begun .entry)) (now (whole .entry)) (λ j fetched plan. WritePost j start fetched plan (now (marks .entry)) (now (slots .entry)) (now (chunks .entry)) (now (layers .entry)) (now (bytes .entry)) r (now (marks .exit)) (now (slots .exit)) (now (chunks .exit)) (now (layers .exit)) (now (bytes .exit))) ⌝ }
 {
-    if core_slices::all_hold(5599, slots.len(), chunks.len(), layers.len(), bytes.len()) {
-        let made = lay_out(
+    if core_slices::all_at_least(ROWS, slots.len(), chunks.len(), layers.len(), bytes.len()) {
+        let made = fill(
             p,
             depth,
             part,
@@ -143,7 +146,7 @@ pub fn lay(
             counts,
         }
     } else {
-        lay_tight(
+        write_aside(
             p,
             depth,
             part,

@@ -14,7 +14,7 @@ use Rattle.theory_basics.specs.lemmas.Tests.{allTo-iff, same-test, eqb-iff, all
 use Rattle.theory_basics.specs.Lists.{upTo}
 use Rattle.theory_basics.specs.lemmas.Lists.{length-upTo, getD-upTo}
 use Rattle.job.specs.declared.Programme.{Programme}
-use Rattle.job.specs.Handed.{HandedJob, jobIn}
+use Rattle.job.specs.Input.{JobInput, jobIn}
 use Rattle.job.specs.Job.{Job, Accepted, dueSlot, lastDue, chunks, layers, size}
 use Rattle.job.specs.Table.{sizesTable, tableAt}
 use Rattle.job.specs.Uneven.{table-is}
@@ -23,7 +23,7 @@ use Rattle.fetch.specs.Rows.{Row, begun, held, heldCount, carried, markByte, by
 use Rattle.fetch.specs.lemmas.Marks.{mark-cong}
 use Rattle.fetch.specs.Verdict.{rule1, rule2, rule3, rule4, rule6, rule7, lowerCarried, same, same-iff}
 use Rattle.core_rules.specs.declared.Pass.{Pass}
-use Rattle.core_rules.specs.lemmas.Tables.{cap, firstOf, Tallied, Passed, carriedBy, wholeBy, under, lowerBy, heldBy, Shown}
+use Rattle.core_rules.specs.lemmas.Tables.{cap, firstOf, Tallied, TallyPost, carriedBy, wholeBy, under, lowerBy, heldBy, Shown}
 use Rattle.theory_basics.specs.lemmas.Ranges.{count-cong}
 
 -- ---- a sum that stops at the cap
@@ -124,7 +124,7 @@ module _ (j : Job) (rows : List Row) (S L F : List ℕ) (ok : Accepted j) (t : T
           rw back (mark-cong (carriedBy (size j) L i) (carried j rows i) (layers j) (λ n w. carried-is i n u v w))
 
 -- Rule 1 by the pass over the rows, with the last slot and the number of layers as numbers of their own.
-pub rule1-is : (j : Job) {rows : List Row} {last depth : ℕ} {r : Pass} {S L F : List ℕ} → Passed (j .programme) last depth rows r S L F
+pub rule1-is : (j : Job) {rows : List Row} {last depth : ℕ} {r : Pass} {S L F : List ℕ} → TallyPost (j .programme) last depth rows r S L F
     → last ≡ lastDue (j .programme) → depth ≡ layers j → r .ranged ≡ rule1 j rows
 rule1-is j a d k = rw (d, k) at (a .ranged)
 
@@ -134,5 +134,5 @@ due-most p i n h l = omega (arith, mul-le-mul-right {m = i - 1} {n = p .chunks -
 
 -- ---- the table of a handed job's sizes
 
-pub shown : (h : HandedJob) (table : List ℕ) → Accepted (jobIn h) → table ≡ sizesTable (h .sizes) (jobIn h .overrides) → Shown table (length (h .sizes)) (jobIn h)
+pub shown : (h : JobInput) (table : List ℕ) → Accepted (jobIn h) → table ≡ sizesTable (h .sizes) (jobIn h .overrides) → Shown table (length (h .sizes)) (jobIn h)
 shown h table ok e = record { accepted = ok; sizes-are = ap tableAt e ∙ table-is (jobIn h) ok; depth-is = refl }

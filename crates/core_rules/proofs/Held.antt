@@ -13,7 +13,7 @@ use Rattle.theory_basics.specs.Tests.{allTo}
 use Rattle.theory_basics.specs.Sums.{count}
 use Rattle.job.specs.declared.Programme.{Programme}
 use Rattle.job.specs.Job.{dueSlot}
-use Rattle.core_rules.specs.lemmas.Tables.{heldBy, startsAt, endsAt, Marked}
+use Rattle.core_rules.specs.lemmas.Tables.{heldBy, startsAt, endsAt, MarkTimesPost}
 use Rattle.theory_basics.specs.lemmas.Ranges.{count-more, count-none, count-small, counts-add}
 use Rattle.theory_basics.specs.lemmas.Tests.{allTo-cong, allTo-holds, allTo-not}
 
@@ -72,7 +72,7 @@ held-more : (begins ends : List ℕ) (t : ℕ) → heldAt begins ends (t + 1) �
 held-more begins ends t = rw add-one
 
 module _ (p : Programme) (first : List ℕ) where
-  pub marked-none : Marked p first 0 (replicate 3601 0) (replicate 3601 0)
+  pub marked-none : MarkTimesPost p first 0 (replicate 3601 0) (replicate 3601 0)
   marked-none = record {
     begin-at = λ t h. getD-replicate {A = ℕ} 3601 t 0 0 (omega arith);
     end-at = λ t h. getD-replicate {A = ℕ} 3601 t 0 0 (omega arith);
@@ -80,14 +80,14 @@ module _ (p : Programme) (first : List ℕ) where
     end-long = length-replicate {A = ℕ} 3601 0;
   }
 
-  module _ (begins ends : List ℕ) (i : ℕ) (m : Marked p first i begins ends) where
+  module _ (begins ends : List ℕ) (i : ℕ) (m : MarkTimesPost p first i begins ends) where
     abbrev f : ℕ
     f = getD first (i + 1) 0
 
     abbrev d : ℕ
     d = dueSlot p (i + 1)
 
-    pub marked-pass : d ≤ f → Marked p first (i + 1) begins ends
+    pub marked-pass : d ≤ f → MarkTimesPost p first (i + 1) begins ends
     marked-pass h =
         let e = le-ltb f d h in
         record {
@@ -103,7 +103,7 @@ module _ (p : Programme) (first : List ℕ) where
         rw (z, getD-set-same l t (getD l t 0 + 1) 0 (omega arith)) (omega arith)
     bump l v t c a b n q false e = rw (getD-set-other l v t (getD l v 0 + 1) 0 (λ z. eqb-false _ _ e (sym z))) (omega arith)
 
-    pub marked-more : f < d → d ≤ 3600 → Marked p first (i + 1) (set begins f (getD begins f 0 + 1)) (set ends d (getD ends d 0 + 1))
+    pub marked-more : f < d → d ≤ 3600 → MarkTimesPost p first (i + 1) (set begins f (getD begins f 0 + 1)) (set ends d (getD ends d 0 + 1))
     marked-more h k =
         let e = lt-ltb f d h in
         record {
@@ -153,7 +153,7 @@ module _ (last most : ℕ) (begins ends : List ℕ) (held t : ℕ) (s : Sweeping
   pub sweeping-stop : most < next → allTo last (λ u. leb (heldAt begins ends u) most) ≡ false
   sweeping-stop k = allTo-not t last (λ u. leb (heldAt begins ends u) most) h (lt-leb (heldAt begins ends (t + 1)) most (omega (arith, next-is)))
 
-module _ (p : Programme) (first begins ends : List ℕ) (few : p .chunks ≤ 500) (some : (i : ℕ) → 1 ≤ i → i ≤ 500 → 1 ≤ getD first i 0) (m : Marked p first (p .chunks) begins ends) where
+module _ (p : Programme) (first begins ends : List ℕ) (few : p .chunks ≤ 500) (some : (i : ℕ) → 1 ≤ i → i ≤ 500 → 1 ≤ getD first i 0) (m : MarkTimesPost p first (p .chunks) begins ends) where
   held-none : heldBy p first 0 ≡ 0
   held-none = count-none (λ i. leb (getD first i 0) 0 && ltb 0 (dueSlot p i)) (p .chunks) (λ k u v. rw (lt-leb (getD first k 0) 0 (some k u (omega arith))) tt)
 

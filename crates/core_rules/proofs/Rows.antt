@@ -16,7 +16,7 @@ use Rattle.theory_basics.specs.Lists.{upTo}
 use Rattle.job.specs.declared.Programme.{Programme}
 use Rattle.fetch.specs.Rows.{Row, rowAt, rowsOf, bytesInSlot, bytesOfLayer}
 use Rattle.fetch.specs.lemmas.Rows.{bytes-snoc}
-use Rattle.core_rules.specs.lemmas.Tables.{cap, inRange, onTime, firstOf, Tallied, Passed}
+use Rattle.core_rules.specs.lemmas.Tables.{cap, inRange, onTime, firstOf, Tallied, TallyPost}
 
 -- ---- one row more
 
@@ -139,7 +139,7 @@ module _ (p : Programme) (D K : ℕ) (ss cs ls bs : List ℕ) where
     abbrev now-row : Row
     now-row = rowAt ss cs ls bs i
 
-    pub tallying-end : length ss ≤ i → Passed p D K (rowsOf ss cs ls bs) (record { ranged = true; timely = timely }) T L F
+    pub tallying-end : length ss ≤ i → TallyPost p D K (rowsOf ss cs ls bs) (record { ranged = true; timely = timely }) T L F
     tallying-end h =
         let e : i ≡ length ss = omega (arith, t .within) in
         record {
@@ -150,7 +150,7 @@ module _ (p : Programme) (D K : ℕ) (ss cs ls bs : List ℕ) where
 
     -- by the test of the row for rule 1
     module _ (h : i < length ss) (b : Bool) (s : b ≡ inRange D (p .chunks) K now-row) where
-      pub tallying-stop : b ≡ false → Passed p D K (rowsOf ss cs ls bs) (record { ranged = false; timely = false }) T L F
+      pub tallying-stop : b ≡ false → TallyPost p D K (rowsOf ss cs ls bs) (record { ranged = false; timely = false }) T L F
       tallying-stop e =
           record {
             ranged = sym (all-not (inRange D (p .chunks) K) (rowAt ss cs ls bs) i (length ss) h (sym s ∙ e));

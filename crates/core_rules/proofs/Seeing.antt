@@ -14,7 +14,7 @@ use Rattle.fetch.specs.Marks.{withLayer}
 use Rattle.fetch.specs.lemmas.Marks.{with-next}
 use Rattle.core_rules.specs.declared.Seen.{Seen}
 use Rattle.core_rules.specs.declared.Layers.{Layers}
-use Rattle.core_rules.specs.lemmas.Tables.{carriedBy, wholeBy, under, lowerBy, SeenChunk, SeenAll}
+use Rattle.core_rules.specs.lemmas.Tables.{carriedBy, wholeBy, under, lowerBy, SeeChunkPost, SeeAllPost}
 use Rattle.theory_basics.specs.lemmas.Tests.{allTo-more}
 
 -- The mark byte with one layer more.
@@ -65,18 +65,18 @@ module _ (size : ℕ → ℕ → ℕ) (sums : List ℕ) (depth i : ℕ) where
       pub seeing-missing : (x ≡ y → ⊥) → (w : Bool) → w ≡ eqb x 0 && whole → Seeing size sums depth i mark w lower false (n + 1)
       seeing-missing e w u = rw u (rw (← sum-is, ← size-is, ne-eqb x y e, or-false (eqb x 0)) at (seeing-more d h))
 
-    pub seeing-end : depth ≤ n → SeenChunk size sums depth i (record { mark = mark; whole = whole; lower = lower })
+    pub seeing-end : depth ≤ n → SeeChunkPost size sums depth i (record { mark = mark; whole = whole; lower = lower })
     seeing-end h =
         let e : n ≡ depth = omega (arith, s .reached) in
         record { mark = rw e at (s .mark-is); whole = rw e at (s .whole-is); lower = rw e at (s .lower-is) }
 
 module _ (size : ℕ → ℕ → ℕ) (sums marks : List ℕ) (depth : ℕ) where
-  pub seen-none : SeenAll size sums marks depth 0 (record { whole = true; lower = true; said = true })
+  pub seen-none : SeeAllPost size sums marks depth 0 (record { whole = true; lower = true; said = true })
   seen-none = record { whole = refl; lower = refl; said = refl }
 
-  pub seen-more : (n : ℕ) (r : Layers) (m : Seen) → SeenAll size sums marks depth n r → SeenChunk size sums depth (n + 1) m
+  pub seen-more : (n : ℕ) (r : Layers) (m : Seen) → SeeAllPost size sums marks depth n r → SeeChunkPost size sums depth (n + 1) m
       → (w l d : Bool) → w ≡ m .whole && r .whole → l ≡ m .lower && r .lower → d ≡ eqb (getD marks n 0) (m .mark) && r .said
-      → SeenAll size sums marks depth (n + 1) (record { whole = w; lower = l; said = d })
+      → SeeAllPost size sums marks depth (n + 1) (record { whole = w; lower = l; said = d })
   seen-more n r m a s w l d x y z =
       let back : n + 1 - 1 ≡ n = omega arith in
       record {

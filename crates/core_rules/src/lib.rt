@@ -1,5 +1,9 @@
 // Internal. The rules of a fetch list by tables: one pass over the rows fills tables of sums and of first slots; one pass over the chunks and
 // two over the slots read them. The checker and the planner afresh stand on it.
+use job::SIZES;
+use job::SUMS;
+use job::SizeTable;
+use job::SlotSums;
 use job::Programme;
 ghost use mathlib.Core.Path.{_≡_};
 ghost use mathlib.Core.Bool.{_&&_};
@@ -10,7 +14,7 @@ ghost use Rattle.theory_basics.specs.Tests.{allTo};
 ghost use Rattle.job.specs.Job.{dueSlot};
 ghost use Rattle.job.specs.Table.{tableAt};
 ghost use Rattle.fetch.specs.Rows.{rowsOf};
-ghost use Rattle.core_rules.specs.lemmas.Tables.{cap, inRange, Passed, SeenChunk, SeenAll, heldBy, Marked};
+ghost use Rattle.core_rules.specs.lemmas.Tables.{cap, inRange, TallyPost, SeeChunkPost, SeeAllPost, heldBy, MarkTimesPost};
 
 // What the pass over the rows finds: rule 1, and where it holds rule 5.
 pub struct Pass {
@@ -94,8 +98,8 @@ fn in_range(last: usize, count: u16, depth: usize, s: u16, c: u16, l: u8, b: u32
 
 // A row goes into the tables.
 fn add_row(
-    slotsum: &mut [u64; 3601],
-    layersum: &mut [u64; 2000],
+    slotsum: &mut SlotSums,
+    layersum: &mut [u64; SIZES],
     first: &mut [u16; 501],
     s: u16,
     c: u16,
@@ -122,12 +126,12 @@ pub fn tally(
     chunks: &[u16],
     layers: &[u8],
     bytes: &[u32],
-    slotsum: &mut [u64; 3601],
-    layersum: &mut [u64; 2000],
+    slotsum: &mut SlotSums,
+    layersum: &mut [u64; SIZES],
     first: &mut [u16; 501],
 ) -> Pass
     requires { ⌜ (last ≤ 3600) × (p .chunks ≤ 500) × (depth ≤ 4) × (length (now slots) ≡ length (now chunks)) × (length (now slots) ≡ length (now layers)) × (length (now slots) ≡ length (now bytes)) × (now slotsum ≡ replicate 3601 0) × (now layersum ≡ replicate 2000 0) × (now first ≡ replicate 501 65535) ⌝ }
-    ensures { λ r. ⌜ Passed p last depth (rowsOf (now (slots .entry)) (now (chunks .entry)) (now (layers .entry)) (now (bytes .entry))) r (now (slotsum .exit)) (now (layersum .exit)) (now (first .exit)) ⌝ }
+    ensures { λ r. ⌜ TallyPost p last depth (rowsOf (now (slots .entry)) (now (chunks .entry)) (now (layers .entry)) (now (bytes .entry))) r (now (slotsum .exit)) (now (layersum .exit)) (now (first .exit)) ⌝ }
 {
     let mut timely = true;
     let mut i: usize = 0;
@@ -154,9 +158,9 @@ pub fn tally(
 }
 
 // The layers of chunk i, from the base up.
-pub fn see_chunk(table: &[u32; 2000], depth: usize, layersum: &[u64; 2000], i: u16) -> Seen
+pub fn see_chunk(table: &SizeTable, depth: usize, layersum: &[u64; SIZES], i: u16) -> Seen
     requires { ⌜ (depth ≤ 4) × (1 ≤ i) × (i ≤ 500) ⌝ }
-    ensures { λ r. ⌜ SeenChunk (tableAt (now (table .entry))) (now (layersum .entry)) depth i r ⌝ }
+    ensures { λ r. ⌜ SeeChunkPost (tableAt (now (table .entry))) (now (layersum .entry)) depth i r ⌝ }
 {
     let from = 4 * (wide(i) - 1);
     let mut mark: u8 = 0;
@@ -184,14 +188,14 @@ pub fn see_chunk(table: &[u32; 2000], depth: usize, layersum: &[u64; 2000], i: u
 
 // Rules 2, 3 and 7, chunk by chunk.
 pub fn see_all(
-    table: &[u32; 2000],
+    table: &SizeTable,
     depth: usize,
-    layersum: &[u64; 2000],
+    layersum: &[u64; SIZES],
     marks: &[u8],
     count: u16,
 ) -> Layers
     requires { ⌜ (depth ≤ 4) × (count ≤ 500) × (length (now marks) ≡ count) ⌝ }
-    ensures { λ r. ⌜ SeenAll (tableAt (now (table .entry))) (now (layersum .entry)) (now (marks .entry)) depth count r ⌝ }
+    ensures { λ r. ⌜ SeeAllPost (tableAt (now (table .entry))) (now (layersum .entry)) (now (marks .entry)) depth count r ⌝ }
 {
     let mut whole = true;
     let mut lower = true;
@@ -210,7 +214,7 @@ pub fn see_all(
 }
 
 // Rule 4, slot by slot.
-pub fn within(forecast: &[u32], slotsum: &[u64; 3601]) -> bool
+pub fn within(forecast: &[u32], slotsum: &SlotSums) -> bool
     requires { ⌜ length (now forecast) ≤ 3600 ⌝ }
     ensures { λ r. ⌜ r ≡ allTo (length (now (forecast .entry))) (λ t. leb (getD (now (slotsum .entry)) t 0) (getD (now (forecast .entry)) (t - 1) 0)) ⌝ }
 {
@@ -226,9 +230,9 @@ pub fn within(forecast: &[u32], slotsum: &[u64; 3601]) -> bool
 }
 
 // The slots in which chunks begin to be held, and in which they cease to be. A chunk begun in its due slot is never held.
-fn mark_times(p: Programme, first: &[u16; 501], begins: &mut [u16; 3601], ends: &mut [u16; 3601])
+fn mark_times(p: Programme, first: &[u16; 501], begins: &mut [u16; SUMS], ends: &mut [u16; SUMS])
     requires { ⌜ (p .chunks ≤ 500) × ((i : ℕ) → i ≤ p .chunks → dueSlot p i ≤ 3600) × (now begins ≡ replicate 3601 0) × (now ends ≡ replicate 3601 0) ⌝ }
-    ensures { λ _. ⌜ Marked p (now (first .entry)) (p .chunks) (now (begins .exit)) (now (ends .exit)) ⌝ }
+    ensures { λ _. ⌜ MarkTimesPost p (now (first .entry)) (p .chunks) (now (begins .exit)) (now (ends .exit)) ⌝ }
 {
     let n = p.chunks;
     let mut i: u16 = 0;
@@ -253,8 +257,8 @@ pub fn sweep(p: Programme, last: usize, first: &[u16; 501]) -> bool
     ensures { λ r. ⌜ r ≡ allTo last (λ t. leb (heldBy p (now (first .entry)) t) (p .limit / p .span)) ⌝ }
 {
     let most = job::held_most(p);
-    let mut begins = [0u16; 3601];
-    let mut ends = [0u16; 3601];
+    let mut begins = [0u16; SUMS];
+    let mut ends = [0u16; SUMS];
     mark_times(p, first, &mut begins, &mut ends);
     let mut held: u16 = 0;
     let mut t: usize = 0;

@@ -19,11 +19,11 @@ use Rattle.theory_plan.specs.lemmas.Ascending.{asc-lower, asc-within}
 use Rattle.theory_plan.specs.lemmas.Parts.{at}
 use Rattle.theory_plan.specs.lemmas.Trials.{Stack, keeps}
 use Rattle.theory_plan.specs.lemmas.Words.{due-by}
-use Rattle.core_moore_hodgson.specs.lemmas.Walking.{KeptIn, Long}
+use Rattle.core_moore_hodgson.specs.lemmas.Tables.{KeptIn, Long}
 use Rattle.theory_search.specs.Search.{Walked, better, cut, goesOn, meet, spend, start}
 use Rattle.theory_search.specs.lemmas.Stack.{empty, inFront, searchStack}
 use Rattle.core_search.specs.declared.Outcome.{Outcome}
-use Rattle.core_search.specs.lemmas.Walking.{baseOf, of, bestAt, walked, walkIn, DueTable, PlacesFrom, SearchFrom, Searched, FindFrom, Finds}
+use Rattle.core_search.specs.lemmas.Tables.{baseOf, of, bestAt, walked, walkIn, DueTable, PlaceBestPre, SearchPre, SearchPost, FindBestPre, FindBestPost}
 use Rattle.core_search.proofs.Laws.{best-long}
 
 -- ---- due slots
@@ -48,7 +48,7 @@ module _ (p : Programme) (size : ℕ → ℕ → ℕ) (first : ℕ) (ids : List 
     pub base-bytes : drop q bytes ≡ map (baseOf size) (drop q ids)
     pub long : Long ids dues bytes
 
-  pub placing-start : (dues bytes : List ℕ) → PlacesFrom p first ids dues bytes → Placing dues bytes 500
+  pub placing-start : (dues bytes : List ℕ) → PlaceBestPre p first ids dues bytes → Placing dues bytes 500
   placing-start dues bytes o =
       let e : drop 500 ids ≡ [] = drop-of-length-le ids {i = 500} (omega (arith, o .long .0)) in
       let f : drop 500 dues ≡ [] = drop-of-length-le dues {i = 500} (omega (arith, o .long .1)) in
@@ -56,7 +56,7 @@ module _ (p : Programme) (size : ℕ → ℕ → ℕ) (first : ℕ) (ids : List 
       record { reached = o .within; to = omega arith; due-slots = rw (e, f); base-bytes = rw (e, g); long = o .long }
 
   -- What stands there is a chunk of the programme.
-  pub chunk-at : {dues bytes : List ℕ} → PlacesFrom p first ids dues bytes → (k : ℕ) → first ≤ k → k < 500 → Within 1 (p .chunks) (getD ids k 0)
+  pub chunk-at : {dues bytes : List ℕ} → PlaceBestPre p first ids dues bytes → (k : ℕ) → first ≤ k → k < 500 → Within 1 (p .chunks) (getD ids k 0)
   chunk-at o k h u =
       all-from (Within 1 (p .chunks)) ids first k (asc-within 1 (p .chunks) 1 (p .chunks) (drop first ids) (omega arith) (omega arith) (o .ascending)) h (omega (arith, o .long .0))
 
@@ -116,11 +116,11 @@ module _ (s d d′ A : ℕ → ℕ) (h : ℕ) where
       let below : searchStack s d A h i ≡ searchStack s d′ A h i = fun-ext (λ o₁. fun-ext (λ w₁. search-same i o₁ w₁ (λ k u v. g k u (omega arith)))) in
       rw (below, g (suc i) (omega arith) (omega arith))
 
-module _ (p : Programme) (size : ℕ → ℕ → ℕ) (after ids₀ dues₀ bytes₀ : List ℕ) (o : FindFrom p size after ids₀ dues₀ bytes₀) (dues : List ℕ) (t : DueTable p (p .chunks) dues) where
+module _ (p : Programme) (size : ℕ → ℕ → ℕ) (after ids₀ dues₀ bytes₀ : List ℕ) (o : FindBestPre p size after ids₀ dues₀ bytes₀) (dues : List ℕ) (t : DueTable p (p .chunks) dues) where
   due-at : (k : ℕ) → 1 ≤ k → k ≤ p .chunks → of dues k ≡ dueSlot p k
   due-at k u v = let e : k - 1 + 1 ≡ k = omega arith in t .is (k - 1) (omega arith) ∙ rw e
 
-  pub search-from : {held : ℕ} → held ≡ p .limit / p .span → held ≤ 65535 → (ids needs best : List ℕ) → length ids ≡ 500 → length needs ≡ 500 → length best ≡ 500 → SearchFrom (p .chunks) 500 held size dues after ids needs best 0
+  pub search-from : {held : ℕ} → held ≡ p .limit / p .span → held ≤ 65535 → (ids needs best : List ℕ) → length ids ≡ 500 → length needs ≡ 500 → length best ≡ 500 → SearchPre (p .chunks) 500 held size dues after ids needs best 0
   search-from h m ids needs best li ln lb =
       record {
         given = record {
@@ -144,7 +144,7 @@ module _ (p : Programme) (size : ℕ → ℕ → ℕ) (after ids₀ dues₀ byte
 
   module _
       (budget : ℕ) {held : ℕ} (he : held ≡ p .limit / p .span) {stack needs stack′ needs′ best : List ℕ} {count left : ℕ} (li : length stack ≡ 500)
-      (ln : length needs ≡ 500) (lb : length ids₀ ≡ 500) (q : Searched (p .chunks) 500 held size dues after stack needs ids₀ 0 (budget + 1) stack′ needs′ best count left) where
+      (ln : length needs ≡ 500) (lb : length ids₀ ≡ 500) (q : SearchPost (p .chunks) 500 held size dues after stack needs ids₀ 0 (budget + 1) stack′ needs′ best count left) where
     none : (l : List ℕ) → length l ≡ 500 → drop 500 l ≡ []
     none l e = drop-of-length-le l {i = 500} (omega arith)
 
@@ -164,7 +164,7 @@ module _ (p : Programme) (size : ℕ → ℕ → ℕ) (after ids₀ dues₀ byte
 
     pub found-by :
         {dues′ bytes′ : List ℕ} → KeptIn p size (drop (500 - count) best) (500 - count) best dues′ bytes′ → {r : Outcome} → r .first ≡ 500 - count →
-        r .steps ≡ budget - (left - 1) → r .ended ≡ ltb 0 left → Finds p size after budget r best dues′ bytes′
+        r .steps ≡ budget - (left - 1) → r .ended ≡ ltb 0 left → FindBestPost p size after budget r best dues′ bytes′
     found-by {dues′} {bytes′} k {r} e₁ e₂ e₃ =
         record {
           kept = subst (λ (n : ℕ). KeptIn p size (walkIn p size (at after) budget .best) n best dues′ bytes′) (sym e₁) (subst (λ (l : List ℕ). KeptIn p size l (500 - count) best dues′ bytes′) best-is k);

@@ -15,7 +15,7 @@ use Rattle.theory_plan.specs.lemmas.Trials.{Stack, candidate, keeps}
 use Rattle.theory_search.specs.Search.{Walked, better, cut, goesOn, meet, spend}
 use Rattle.theory_search.specs.lemmas.Stack.{inFront, search-keeps, search-skips, search-stops, searchStack}
 use Rattle.theory_search.specs.lemmas.Walk.{better-stays}
-use Rattle.core_search.specs.lemmas.Walking.{baseOf, of, stackAt, bestAt, walked, Ending, Given, Noted, Tested, TestFrom, SearchFrom, Searched}
+use Rattle.core_search.specs.lemmas.Tables.{baseOf, of, stackAt, bestAt, walked, CopyEndPost, Given, KeepBestPost, CanKeepPost, CanKeepPre, SearchPre, SearchPost}
 
 -- ---- the end of a table
 
@@ -25,11 +25,11 @@ drop-after a b q h e =
     let s : q - 1 + 1 ≡ q = omega arith in
     rw s at (sym (drop-drop 1 (q - 1) a) ∙ ap (drop 1) e ∙ drop-drop 1 (q - 1) b)
 
-pub ending-start : (from to : List ℕ) → length from ≡ 500 → length to ≡ 500 → Ending 500 from to
+pub ending-start : (from to : List ℕ) → length from ≡ 500 → length to ≡ 500 → CopyEndPost 500 from to
 ending-start from to e f =
     record { long = f; same = drop-of-length-le to {i = 500} (omega arith) ∙ sym (drop-of-length-le from {i = 500} (omega arith)) }
 
-pub ending-more : {q : ℕ} {from to : List ℕ} → Ending q from to → 0 < q → q ≤ 500 → length from ≡ 500 → Ending (q - 1) from (set to (q - 1) (getD from (q - 1) 0))
+pub ending-more : {q : ℕ} {from to : List ℕ} → CopyEndPost q from to → 0 < q → q ≤ 500 → length from ≡ 500 → CopyEndPost (q - 1) from (set to (q - 1) (getD from (q - 1) 0))
 ending-more {q} {from} {to} e h k l =
     record {
       long = simp length-set (e .long);
@@ -45,7 +45,7 @@ module _ (k : ℕ) (ids best : List ℕ) (count : ℕ) (within : k ≤ 500) (few
   ids-long : length (drop k ids) ≡ 500 - k
   ids-long = length-drop k ids ∙ omega arith
 
-  pub noted-none : 500 - k ≤ count → Noted k ids best count best count
+  pub noted-none : 500 - k ≤ count → KeepBestPost k ids best count best count
   noted-none h =
       record {
         is = sym (better-stays (bestAt count best) (drop k ids) (omega (arith, ids-long, best-long count best few held)));
@@ -54,7 +54,7 @@ module _ (k : ℕ) (ids best : List ℕ) (count : ℕ) (within : k ≤ 500) (few
         long = held;
       }
 
-  pub noted-more : (best′ : List ℕ) → count < 500 - k → Ending k ids best′ → Noted k ids best count best′ (500 - k)
+  pub noted-more : (best′ : List ℕ) → count < 500 - k → CopyEndPost k ids best′ → KeepBestPost k ids best count best′ (500 - k)
   noted-more best′ h e =
       let t : ltb (length (bestAt count best)) (length (drop k ids)) ≡ true = lt-ltb (length (bestAt count best)) (length (drop k ids)) (omega (arith, ids-long, best-long count best few held)) in
       let z : 500 - (500 - k) ≡ k = omega arith in
@@ -67,7 +67,7 @@ module _ (k : ℕ) (ids best : List ℕ) (count : ℕ) (within : k ≤ 500) (few
 
 -- ---- the test
 
-module _ {i first held : ℕ} {size : ℕ → ℕ → ℕ} {dues after needs : List ℕ} (f : TestFrom i first held size dues after needs) where
+module _ {i first held : ℕ} {size : ℕ → ℕ → ℕ} {dues after needs : List ℕ} (f : CanKeepPre i first held size dues after needs) where
   abbrev cand : ℕ
   cand = candidate (baseOf size) (of dues) (at after) (drop first needs) i
 
@@ -87,10 +87,10 @@ module _ {i first held : ℕ} {size : ℕ → ℕ → ℕ} {dues after needs : L
       sym (getD-drop (first - 1) (set needs (first - 1) cand) held 0)
       ∙ ap (λ (l : List ℕ). getD l held 0) (set-before needs first cand (omega (arith, f .some, f .room)) (omega (arith, f .within, f .long)))
 
-  pub tested-not-all : at after 0 < cand → Tested i first held size dues after needs (set needs (first - 1) cand) false
+  pub tested-not-all : at after 0 < cand → CanKeepPost i first held size dues after needs (set needs (first - 1) cand) false
   tested-not-all g = record { is = rw (lt-leb cand (at after 0) g); wrote = refl }
 
-  pub tested-held : cand ≤ at after 0 → Tested i first held size dues after needs (set needs (first - 1) cand) (leb (getD (cand ∷ drop first needs) held 0) (at after (of dues i - 1)))
+  pub tested-held : cand ≤ at after 0 → CanKeepPost i first held size dues after needs (set needs (first - 1) cand) (leb (getD (cand ∷ drop first needs) held 0) (at after (of dues i - 1)))
   tested-held g = record { is = rw (le-leb cand (at after 0) g); wrote = refl }
 
 -- ---- a turn of the search
@@ -150,9 +150,9 @@ pub record Turn (i first held : ℕ) (size : ℕ → ℕ → ℕ) (dues after id
   pub few : count′ ≤ 500
   pub long : (length ids′ ≡ 500) × (length needs′ ≡ 500) × (length best′ ≡ 500)
 
-module _ {i first held : ℕ} {size : ℕ → ℕ → ℕ} {dues after ids needs best : List ℕ} {count : ℕ} (f : SearchFrom i first held size dues after ids needs best count) (left : ℕ) where
+module _ {i first held : ℕ} {size : ℕ → ℕ → ℕ} {dues after ids needs best : List ℕ} {count : ℕ} (f : SearchPre i first held size dues after ids needs best count) (left : ℕ) where
   abbrev result : List ℕ → List ℕ → List ℕ → ℕ → ℕ → Type 0
-  result = Searched i first held size dues after ids needs best count left
+  result = SearchPost i first held size dues after ids needs best count left
 
   abbrev turned : List ℕ → List ℕ → List ℕ → ℕ → ℕ → Type 0
   turned = Turn i first held size dues after ids needs best count left
@@ -184,7 +184,7 @@ module _ {i first held : ℕ} {size : ℕ → ℕ → ℕ} {dues after ids needs
           long = f .long;
         }
 
-    pub test-from : TestFrom i first held size dues after needs
+    pub test-from : CanKeepPre i first held size dues after needs
     test-from = record { given = f .given; some = omega arith; room = f .room; within = f .within; top = f .top; long = f .long .1 }
 
     wrote-same : {needs₁ : List ℕ} → needs₁ ≡ set needs (first - 1) wanted → drop first needs₁ ≡ drop first needs
@@ -201,7 +201,7 @@ module _ {i first held : ℕ} {size : ℕ → ℕ → ℕ} {dues after ids needs
       going = goes left count best enough
 
       -- The keep is refused.
-      pub refused-turn : {needs₁ : List ℕ} {b : Bool} → Tested i first held size dues after needs needs₁ b → b ≡ false → turned ids needs₁ best count (left - 1)
+      pub refused-turn : {needs₁ : List ℕ} {b : Bool} → CanKeepPost i first held size dues after needs needs₁ b → b ≡ false → turned ids needs₁ best count (left - 1)
       refused-turn t e =
           let no : keeps (baseOf size) (of dues) (at after) held (drop first needs) i ≡ false = sym (t .is) ∙ e in
           record {
@@ -214,7 +214,7 @@ module _ {i first held : ℕ} {size : ℕ → ℕ → ℕ} {dues after ids needs
             long = (f .long .0, wrote-long (t .wrote), f .long .2);
           }
 
-      module _ {needs₁ best₁ : List ℕ} {b : Bool} {count₁ : ℕ} (t : Tested i first held size dues after needs needs₁ b) (e : b ≡ true) (n : Noted (first - 1) (set ids (first - 1) i) best count best₁ count₁) where
+      module _ {needs₁ best₁ : List ℕ} {b : Bool} {count₁ : ℕ} (t : CanKeepPost i first held size dues after needs needs₁ b) (e : b ≡ true) (n : KeepBestPost (first - 1) (set ids (first - 1) i) best count best₁ count₁) where
         yes : keeps (baseOf size) (of dues) (at after) held (drop first needs) i ≡ true
         yes = sym (t .is) ∙ e
 
@@ -228,7 +228,7 @@ module _ {i first held : ℕ} {size : ℕ → ℕ → ℕ} {dues after ids needs
         ids-front = set-before ids first i (omega (arith, f .room)) (omega (arith, f .within, f .long))
 
         -- The deeper search.
-        pub keep-from : SearchFrom (i - 1) (first - 1) held size dues after (set ids (first - 1) i) needs₁ best₁ count₁
+        pub keep-from : SearchPre (i - 1) (first - 1) held size dues after (set ids (first - 1) i) needs₁ best₁ count₁
         keep-from =
             record {
               given = given-less (f .given);
@@ -245,7 +245,7 @@ module _ {i first held : ℕ} {size : ℕ → ℕ → ℕ} {dues after ids needs
             rw (lt-ltb 0 left (omega arith), lt-ltb 0 (left - 1) (omega arith))
             (ap (λ (l : List ℕ). record { left = left - 1 - 1; best = l; ended = true }) (n .is ∙ ap (better (bestAt count best)) ids-front))
 
-        pub kept-turn : {ids′ needs′ best′ : List ℕ} {count′ left′ : ℕ} → Searched (i - 1) (first - 1) held size dues after (set ids (first - 1) i) needs₁ best₁ count₁ (left - 1) ids′ needs′ best′ count′ left′ → turned ids′ needs′ best′ count′ left′
+        pub kept-turn : {ids′ needs′ best′ : List ℕ} {count′ left′ : ℕ} → SearchPost (i - 1) (first - 1) held size dues after (set ids (first - 1) i) needs₁ best₁ count₁ (left - 1) ids′ needs′ best′ count′ left′ → turned ids′ needs′ best′ count′ left′
         kept-turn {ids′} {needs′} {best′} q =
             let one : 0 < first = omega (arith, f .room) in
             let o : stackAt (first - 1) (set ids (first - 1) i) needs₁ ≡ inFront (baseOf size) (of dues) (at after) held (stackAt first ids needs) i = rw (ids-front, wrote-front (t .wrote)) in
@@ -276,7 +276,7 @@ module _ {i first held : ℕ} {size : ℕ → ℕ → ℕ} {dues after ids needs
             }
 
         module _ (more : 2 ≤ left′) where
-          pub skip-from : SearchFrom (i - 1) first held size dues after ids′ needs′ best′ count′
+          pub skip-from : SearchPre (i - 1) first held size dues after ids′ needs′ best′ count′
           skip-from =
               let z : first + 0 ≡ first = omega arith in
               let top-same : getD needs′ first 0 ≡ getD needs first 0 = rw z at (sym (getD-drop first needs′ 0 0) ∙ ap (λ (l : List ℕ). getD l 0 0) (u .same-needs) ∙ getD-drop first needs 0 0) in
@@ -289,7 +289,7 @@ module _ {i first held : ℕ} {size : ℕ → ℕ → ℕ} {dues after ids needs
                 long = u .long;
               }
 
-          pub skip-done : {ids″ needs″ best″ : List ℕ} {count″ left″ : ℕ} → Searched (i - 1) first held size dues after ids′ needs′ best′ count′ (left′ - 1) ids″ needs″ best″ count″ left″ → result ids″ needs″ best″ count″ left″
+          pub skip-done : {ids″ needs″ best″ : List ℕ} {count″ left″ : ℕ} → SearchPost (i - 1) first held size dues after ids′ needs′ best′ count′ (left′ - 1) ids″ needs″ best″ count″ left″ → result ids″ needs″ best″ count″ left″
           skip-done q =
               let o : stackAt first ids′ needs′ ≡ stackAt first ids needs = rw (u .same-ids, u .same-needs) in
               let v = spends left′ count′ best′ more ∙ ap spend (u .is) in

@@ -1,13 +1,16 @@
 // Internal. The search of request 13 over tables of 500 places, the same time at each step: the kept chunks and their needs stand at the end
 // of ids and needs, from a first place on, and the best set met so far at the end of best.
+use job::CHUNKS;
+use job::SizeTable;
+use job::SlotSums;
 use job::Programme;
 ghost use mathlib.Core.Path.{_≡_};
 ghost use Prim.Native.Nat.{ℕ, _≤_};
 ghost use lib.ListN.{length, drop};
 ghost use Rattle.job.specs.Job.{lastDue};
 ghost use Rattle.job.specs.Table.{tableAt};
-ghost use Rattle.core_moore_hodgson.specs.lemmas.Walking.{KeptIn};
-ghost use Rattle.core_search.specs.lemmas.Walking.{Ending, Noted, Tested, TestFrom, SearchFrom, Searched, DueTable, PlacesFrom, FindFrom, Finds};
+ghost use Rattle.core_moore_hodgson.specs.lemmas.Tables.{KeptIn};
+ghost use Rattle.core_search.specs.lemmas.Tables.{CopyEndPost, KeepBestPost, CanKeepPost, CanKeepPre, SearchPre, SearchPost, DueTable, PlaceBestPre, FindBestPre, FindBestPost};
 
 // Where the best set begins, the steps taken, and whether the walk ended.
 pub struct Outcome {
@@ -17,11 +20,11 @@ pub struct Outcome {
 }
 
 // The end of a table, from place k on.
-fn copy_end(from: &[u16; 500], k: usize, to: &mut [u16; 500])
+fn copy_end(from: &[u16; CHUNKS], k: usize, to: &mut [u16; CHUNKS])
     requires { ⌜ (k ≤ 500) × (length (now from) ≡ 500) × (length (now to) ≡ 500) ⌝ }
-    ensures { λ _. ⌜ Ending k (now (from .entry)) (now (to .exit)) ⌝ }
+    ensures { λ _. ⌜ CopyEndPost k (now (from .entry)) (now (to .exit)) ⌝ }
 {
-    let mut q: usize = 500;
+    let mut q: usize = CHUNKS;
     while k < q {
         let p = q - 1;
         to[p] = from[p];
@@ -30,11 +33,11 @@ fn copy_end(from: &[u16; 500], k: usize, to: &mut [u16; 500])
 }
 
 // The set at the end of ids is met: it is copied if it has more chunks than the best one.
-fn note(k: usize, ids: &[u16; 500], best: &mut [u16; 500], count: &mut usize)
+fn keep_best(k: usize, ids: &[u16; CHUNKS], best: &mut [u16; CHUNKS], count: &mut usize)
     requires { ⌜ (k ≤ 500) × (now count ≤ 500) × (length (now ids) ≡ 500) × (length (now best) ≡ 500) ⌝ }
-    ensures { λ _. ⌜ Noted k (now (ids .entry)) (now (best .entry)) (now (count .entry)) (now (best .exit)) (now (count .exit)) ⌝ }
+    ensures { λ _. ⌜ KeepBestPost k (now (ids .entry)) (now (best .entry)) (now (count .entry)) (now (best .exit)) (now (count .exit)) ⌝ }
 {
-    let size = 500 - k;
+    let size = CHUNKS - k;
     let most = *count;
     if size <= most {
         return;
@@ -48,13 +51,13 @@ fn can_keep(
     i: u16,
     first: usize,
     held: usize,
-    table: &[u32; 2000],
-    dues: &[u16; 500],
-    after: &[u64; 3601],
-    needs: &mut [u64; 500],
+    table: &SizeTable,
+    dues: &[u16; CHUNKS],
+    after: &SlotSums,
+    needs: &mut [u64; CHUNKS],
 ) -> bool
-    requires { ⌜ TestFrom i first held (tableAt (now table)) (now dues) (now after) (now needs) ⌝ }
-    ensures { λ r. ⌜ Tested i first held (tableAt (now (table .entry))) (now (dues .entry)) (now (after .entry)) (now (needs .entry)) (now (needs .exit)) r ⌝ }
+    requires { ⌜ CanKeepPre i first held (tableAt (now table)) (now dues) (now after) (now needs) ⌝ }
+    ensures { λ r. ⌜ CanKeepPost i first held (tableAt (now (table .entry))) (now (dues .entry)) (now (after .entry)) (now (needs .entry)) (now (needs .exit)) r ⌝ }
 {
     let c = i as usize - 1;
     let k = first - 1;
@@ -75,17 +78,17 @@ fn search(
     i: u16,
     first: usize,
     held: usize,
-    table: &[u32; 2000],
-    dues: &[u16; 500],
-    after: &[u64; 3601],
-    ids: &mut [u16; 500],
-    needs: &mut [u64; 500],
-    best: &mut [u16; 500],
+    table: &SizeTable,
+    dues: &[u16; CHUNKS],
+    after: &SlotSums,
+    ids: &mut [u16; CHUNKS],
+    needs: &mut [u64; CHUNKS],
+    best: &mut [u16; CHUNKS],
     count: &mut usize,
     left: u64,
 ) -> u64
-    requires { ⌜ SearchFrom i first held (tableAt (now table)) (now dues) (now after) (now ids) (now needs) (now best) (now count) ⌝ }
-    ensures { λ r. ⌜ Searched i first held (tableAt (now (table .entry))) (now (dues .entry)) (now (after .entry)) (now (ids .entry)) (now (needs .entry)) (now (best .entry)) (now (count .entry)) left (now (ids .exit)) (now (needs .exit)) (now (best .exit)) (now (count .exit)) r ⌝ }
+    requires { ⌜ SearchPre i first held (tableAt (now table)) (now dues) (now after) (now ids) (now needs) (now best) (now count) ⌝ }
+    ensures { λ r. ⌜ SearchPost i first held (tableAt (now (table .entry))) (now (dues .entry)) (now (after .entry)) (now (ids .entry)) (now (needs .entry)) (now (best .entry)) (now (count .entry)) left (now (ids .exit)) (now (needs .exit)) (now (best .exit)) (now (count .exit)) r ⌝ }
 {
     if i == 0 {
         return left;
@@ -99,7 +102,7 @@ fn search(
     if can_keep(i, first, held, table, dues, after, needs) {
         let k = first - 1;
         ids[k] = i;
-        note(k, ids, best, count);
+        keep_best(k, ids, best, count);
         rest = search(
             down,
             k,
@@ -134,7 +137,7 @@ fn search(
 }
 
 // The due slot of each chunk, chunk 1's at place 0.
-fn set_dues(p: Programme, dues: &mut [u16; 500])
+fn set_dues(p: Programme, dues: &mut [u16; CHUNKS])
     requires { ⌜ (p .chunks ≤ 500) × (lastDue p ≤ 3600) × (length (now dues) ≡ 500) ⌝ }
     ensures { λ _. ⌜ DueTable p (p .chunks) (now (dues .exit)) ⌝ }
 {
@@ -149,18 +152,18 @@ fn set_dues(p: Programme, dues: &mut [u16; 500])
 }
 
 // The due slot and the base's bytes of each chunk of a set at the end of ids, at its place.
-fn place(
+fn set_bases(
     p: Programme,
-    table: &[u32; 2000],
+    table: &SizeTable,
     first: usize,
-    ids: &[u16; 500],
-    dues: &mut [u16; 500],
-    bytes: &mut [u32; 500],
+    ids: &[u16; CHUNKS],
+    dues: &mut [u16; CHUNKS],
+    bytes: &mut [u32; CHUNKS],
 )
-    requires { ⌜ PlacesFrom p first (now ids) (now dues) (now bytes) ⌝ }
+    requires { ⌜ PlaceBestPre p first (now ids) (now dues) (now bytes) ⌝ }
     ensures { λ _. ⌜ KeptIn p (tableAt (now (table .entry))) (drop first (now (ids .entry))) first (now (ids .entry)) (now (dues .exit)) (now (bytes .exit)) ⌝ }
 {
-    let mut q: usize = 500;
+    let mut q: usize = CHUNKS;
     while first < q {
         let k = q - 1;
         let i = ids[k];
@@ -172,27 +175,27 @@ fn place(
 }
 
 // The best set met within the budget, at the end of ids, with its due slots and bases. The kept set is empty at the start.
-pub fn find(
+pub fn best_within(
     p: Programme,
-    table: &[u32; 2000],
-    after: &[u64; 3601],
+    table: &SizeTable,
+    after: &SlotSums,
     budget: u32,
-    ids: &mut [u16; 500],
-    dues: &mut [u16; 500],
-    bytes: &mut [u32; 500],
+    ids: &mut [u16; CHUNKS],
+    dues: &mut [u16; CHUNKS],
+    bytes: &mut [u32; CHUNKS],
 ) -> Outcome
-    requires { ⌜ FindFrom p (tableAt (now table)) (now after) (now ids) (now dues) (now bytes) ⌝ }
-    ensures { λ r. ⌜ Finds p (tableAt (now (table .entry))) (now (after .entry)) budget r (now (ids .exit)) (now (dues .exit)) (now (bytes .exit)) ⌝ }
+    requires { ⌜ FindBestPre p (tableAt (now table)) (now after) (now ids) (now dues) (now bytes) ⌝ }
+    ensures { λ r. ⌜ FindBestPost p (tableAt (now (table .entry))) (now (after .entry)) budget r (now (ids .exit)) (now (dues .exit)) (now (bytes .exit)) ⌝ }
 {
     let held = job::held_most(p) as usize;
-    let mut stack = [0u16; 500];
-    let mut needs = [0u64; 500];
+    let mut stack = [0u16; CHUNKS];
+    let mut needs = [0u64; CHUNKS];
     let mut count: usize = 0;
     set_dues(p, dues);
     let all = budget as u64 + 1;
     let left = search(
         p.chunks,
-        500,
+        CHUNKS,
         held,
         table,
         dues,
@@ -203,8 +206,8 @@ pub fn find(
         &mut count,
         all,
     );
-    let first = 500 - count;
-    place(p, table, first, ids, dues, bytes);
+    let first = CHUNKS - count;
+    set_bases(p, table, first, ids, dues, bytes);
     if left == 0 {
         return Outcome {
             first,

@@ -9,7 +9,7 @@ ghost use Rattle.theory_basics.specs.Lent.{over};
 ghost use Rattle.fetch.specs.Counts.{markCount};
 
 // How many marks have layer n.
-fn carried(marks: &[u8], n: u8) -> u16
+fn count_layer(marks: &[u8], n: u8) -> u16
     requires { ⌜ length (now marks) ≤ 500 ⌝ }
     ensures { λ r. ⌜ r ≡ markCount n (now (marks .entry)) ⌝ }
 {
@@ -21,10 +21,10 @@ pub fn count_layers(marks: &[u8]) -> [u16; 4]
     requires { ⌜ length (now marks) ≤ 500 ⌝ }
     ensures { λ r. ⌜ r ≡ upTo (λ n. markCount n (now (marks .entry))) 4 ⌝ }
 {
-    let base = carried(marks, 0);
-    let first = carried(marks, 1);
-    let second = carried(marks, 2);
-    let third = carried(marks, 3);
+    let base = count_layer(marks, 0);
+    let first = count_layer(marks, 1);
+    let second = count_layer(marks, 2);
+    let third = count_layer(marks, 3);
     [base, first, second, third]
 }
 
@@ -62,7 +62,7 @@ pub fn copy32(from: &[u32], n: usize, to: &mut [u32])
 }
 
 // Whether each of four lengths is at least n.
-pub fn all_hold(n: usize, a: usize, b: usize, c: usize, d: usize) -> bool
+pub fn all_at_least(n: usize, a: usize, b: usize, c: usize, d: usize) -> bool
     ensures { λ r. ⌜ r ≡ leb n a && (leb n b && (leb n c && leb n d)) ⌝ }
 {
     if a < n {

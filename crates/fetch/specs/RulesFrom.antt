@@ -7,7 +7,7 @@ use mathlib.Core.Logic.{_⊎_}
 use Rattle.theory_basics.specs.Tests.{All, In}
 use Rattle.job.specs.Job.{Job, Layer, size}
 use Rattle.fetch.specs.Rows.{Row, Carried, bytesOfLayer, marksGiven}
-use Rattle.fetch.specs.Rules.{InRange, LowerCarried, WithinForecast, OnTime, FewHeld, MarksSay}
+use Rattle.fetch.specs.Rules.{RowInRange, LowerCarried, WithinForecast, OnTime, FewHeld, MarksSay}
 
 -- "a short sum whose rows are all before p"
 pub record ShortBefore (j : Job) (p : ℕ) (rows : List Row) (i n : ℕ) : Type 0 where
@@ -20,7 +20,7 @@ WholeFrom j p rows = (i n : ℕ) → Layer j i n → (bytesOfLayer rows i n ≡ 
 
 -- A list with its marks keeps rules 1 to 7 of the second call.
 pub record KeepsFrom (j : Job) (p : ℕ) (marks : List ℕ) (rows : List Row) : Type 0 where
-  pub in-range : All (InRange j) rows
+  pub in-range : All (RowInRange j) rows
   pub whole : WholeFrom j p rows
   pub lower : LowerCarried j rows
   pub within : WithinForecast j rows

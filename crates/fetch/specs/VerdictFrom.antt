@@ -15,7 +15,7 @@ use Rattle.job.specs.Job.{Job, Layer, Within, chunks, lastDue, layers, size}
 use Rattle.job.specs.Refusal.{within, within-iff}
 use Rattle.job.specs.declared.Programme.{Programme}
 use Rattle.fetch.specs.Rows.{Row, Permuted, bytesIf, bytesOfLayer}
-use Rattle.fetch.specs.Rules.{InRange, WholeLayers}
+use Rattle.fetch.specs.Rules.{RowInRange, WholeLayers}
 use Rattle.fetch.specs.RulesFrom.{KeepsFrom, WholeFrom}
 use Rattle.fetch.specs.Verdict.{allLayers, layers-iff, lowerCarried, lowest, lowest-iff, rule1, rule1-iff, rule2, rule2-iff, rule3, rule3-iff, rule4, rule4-iff, rule5, rule5-iff, rule6, rule6-iff, rule7, rule7-iff, verdict}
 use Rattle.fetch.specs.lemmas.Rows.{all-permuted, any-permuted, bytes-none, bytes-permuted, lower-permuted}
@@ -169,6 +169,6 @@ pub first-slot : (j : Job) (marks : List ℕ) (rows : List Row) → verdictFrom 
 unfolding verdictFrom verdict
 first-slot j marks rows =
     ⊎-elim
-    (λ t. no-rows-before j 1 marks rows (all-map (InRange j) (λ x. 1 ≤ x .slot) rows (λ x r. r .slot-low) (rule1-iff j rows .0 t)))
+    (λ t. no-rows-before j 1 marks rows (all-map (RowInRange j) (λ x. 1 ≤ x .slot) rows (λ x r. r .slot-low) (rule1-iff j rows .0 t)))
     (λ t. rw (not-T-false (rule1 j rows) t))
     (test (rule1 j rows))

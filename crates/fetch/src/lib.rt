@@ -8,7 +8,7 @@ ghost use lib.Count.{ones};
 ghost use Rattle.fetch.specs.Marks.{bit, withLayer, withoutLayer};
 ghost use Rattle.fetch.specs.Counts.{markCount, wordCount, wordOf, overWords, overRest};
 ghost use Rattle.fetch.specs.lemmas.Counts.{eight};
-ghost use Rattle.fetch.specs.Handed.{handedRefusal};
+ghost use Rattle.fetch.specs.Input.{listRefusal};
 ghost use Rattle.fetch.specs.VerdictFrom.{slotRefusal};
 
 // Whether bit n of a mark byte is set. A byte has no bit 8 or above.
@@ -129,7 +129,7 @@ pub fn count_marks(marks: &[u8], n: u8) -> usize
 }
 
 // Refusal 8 of a list handed with its marks, or 0.
-pub fn handed_refusal(
+pub fn list_refusal(
     count: u16,
     marks: &[u8],
     slots: &[u16],
@@ -137,7 +137,7 @@ pub fn handed_refusal(
     layers: &[u8],
     bytes: &[u32],
 ) -> u8
-    ensures { λ r. ⌜ r ≡ handedRefusal count (now (marks .entry)) (now (slots .entry)) (now (chunks .entry)) (now (layers .entry)) (now (bytes .entry)) ⌝ }
+    ensures { λ r. ⌜ r ≡ listRefusal count (now (marks .entry)) (now (slots .entry)) (now (chunks .entry)) (now (layers .entry)) (now (bytes .entry)) ⌝ }
 {
     if marks.len() != (count as usize) {
         return 8;

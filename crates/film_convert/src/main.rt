@@ -1,5 +1,6 @@
 // Reads a job file of either form on standard input and writes it in one sequence to standard output; on a refusal, `refused n`. It reads by
 // document 01's reader alone: a file in one sequence is a mixed file too, if it has no SZ. One with an SZ has an unknown mark, 2.
+use job::SLOTS;
 use job::Programme;
 use jobfile::Written;
 use jobrecords::JobRead;
@@ -27,7 +28,7 @@ fn write_job(p: Programme, sizes: &[u32], forecast: &[u32]) {
 
 fn job_file(file: &[u8; 65537], n: usize) {
     let mut sizes = [0u32; 4];
-    let mut forecast = [0u32; 3600];
+    let mut forecast = [0u32; SLOTS];
     match jobfile::read_mixed_job(core_prefix::bytes(file, n), &mut sizes, &mut forecast) {
         JobRead::Refused(r) => refused(r),
         JobRead::Job {

@@ -1,4 +1,8 @@
 // Reads a job on standard input and writes its plan file to standard output; on a refusal, `refused n`.
+use job::CHUNKS;
+use job::OVERRIDES;
+use job::ROWS;
+use job::SLOTS;
 use job::Programme;
 use jobrecords::JobRead;
 use libc::STDIN_FILENO;
@@ -59,11 +63,11 @@ fn plan_job(
     forecast: &[u32],
     out: &mut [u8; 65537],
 ) {
-    let mut marks = [0u8; 500];
-    let mut slots = [0u16; 5599];
-    let mut chunks = [0u16; 5599];
-    let mut layers = [0u8; 5599];
-    let mut bytes = [0u32; 5599];
+    let mut marks = [0u8; CHUNKS];
+    let mut slots = [0u16; ROWS];
+    let mut chunks = [0u16; ROWS];
+    let mut layers = [0u8; ROWS];
+    let mut bytes = [0u32; ROWS];
     let plan = planner::plan(
         p,
         sizes,
@@ -100,10 +104,10 @@ fn plan_job(
 // The plan file goes where the job file was.
 fn job_file(file: &mut [u8; 65537], n: usize) {
     let mut sizes = [0u32; 4];
-    let mut size_chunks = [0u16; 1996];
-    let mut size_layers = [0u8; 1996];
-    let mut size_bytes = [0u32; 1996];
-    let mut forecast = [0u32; 3600];
+    let mut size_chunks = [0u16; OVERRIDES];
+    let mut size_layers = [0u8; OVERRIDES];
+    let mut size_bytes = [0u32; OVERRIDES];
+    let mut forecast = [0u32; SLOTS];
     match jobfile::read_job(
         core_prefix::bytes(file, n),
         &mut sizes,

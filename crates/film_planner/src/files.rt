@@ -7,7 +7,7 @@ ghost use Rattle.jobrecords.specs.Refusal.{mixed, oneSequence};
 ghost use Rattle.jobfile.specs.Writer.{fileWritten};
 ghost use Rattle.planfile.specs.Calls.{readLent, slicesOf, writeLent};
 ghost use Rattle.core_ffi.specs.Convention.{film};
-ghost use Rattle.core_ffi.specs.Files.{JobHanded, jobWriteAnswer, planReadAnswer, planWriteAnswer};
+ghost use Rattle.core_ffi.specs.Files.{JobReturned, jobWriteAnswer, planReadAnswer, planWriteAnswer};
 
 #[no_mangle]
 pub extern "C" fn film_read_job(
@@ -20,13 +20,13 @@ pub extern "C" fn film_read_job(
     size_bytes: &mut [u32],
     forecast: &mut [u32],
 ) -> u64
-    ensures { λ r. ⌜ JobHanded oneSequence (now (file .entry)) (buffers (now (sizes .entry)) (now («size_chunks» .entry)) (now («size_layers» .entry)) (now («size_bytes» .entry)) (now (forecast .entry))) (now (programme .entry)) (now (lengths .entry)) r (buffers (now (sizes .exit)) (now («size_chunks» .exit)) (now («size_layers» .exit)) (now («size_bytes» .exit)) (now (forecast .exit))) (now (programme .exit)) (now (lengths .exit)) ⌝ }
+    ensures { λ r. ⌜ JobReturned oneSequence (now (file .entry)) (buffers (now (sizes .entry)) (now («size_chunks» .entry)) (now («size_layers» .entry)) (now («size_bytes» .entry)) (now (forecast .entry))) (now (programme .entry)) (now (lengths .entry)) r (buffers (now (sizes .exit)) (now («size_chunks» .exit)) (now («size_layers» .exit)) (now («size_bytes» .exit)) (now (forecast .exit))) (now (programme .exit)) (now (lengths .exit)) ⌝ }
 {
     if !core_ffi::holds_job(programme.len(), lengths.len()) {
         return core_ffi::job_refused(file);
     }
     let read = jobfile::read_job(file, sizes, size_chunks, size_layers, size_bytes, forecast);
-    core_ffi::hand_job(read, programme, lengths);
+    core_ffi::store_job(read, programme, lengths);
     core_ffi::job_number(read)
 }
 
@@ -38,13 +38,13 @@ pub extern "C" fn film_read_mixed_job(
     sizes: &mut [u32],
     forecast: &mut [u32],
 ) -> u64
-    ensures { λ r. ⌜ JobHanded mixed (now (file .entry)) (buffers (now (sizes .entry)) [] [] [] (now (forecast .entry))) (now (programme .entry)) (now (lengths .entry)) r (buffers (now (sizes .exit)) [] [] [] (now (forecast .exit))) (now (programme .exit)) (now (lengths .exit)) ⌝ }
+    ensures { λ r. ⌜ JobReturned mixed (now (file .entry)) (buffers (now (sizes .entry)) [] [] [] (now (forecast .entry))) (now (programme .entry)) (now (lengths .entry)) r (buffers (now (sizes .exit)) [] [] [] (now (forecast .exit))) (now (programme .exit)) (now (lengths .exit)) ⌝ }
 {
     if !core_ffi::holds_job(programme.len(), lengths.len()) {
         return core_ffi::mixed_refused(file);
     }
     let read = jobfile::read_mixed_job(file, sizes, forecast);
-    core_ffi::hand_job(read, programme, lengths);
+    core_ffi::store_job(read, programme, lengths);
     core_ffi::job_number(read)
 }
 
@@ -70,7 +70,7 @@ pub extern "C" fn film_write_job(
         delay,
         limit,
     };
-    core_ffi::job_written(jobfile::write_job(
+    core_ffi::job_written_number(jobfile::write_job(
         p,
         sizes,
         size_chunks,
@@ -108,7 +108,7 @@ pub extern "C" fn film_read_plan(
         delay,
         limit,
     };
-    core_ffi::plan_read(planfile::read_plan(
+    core_ffi::plan_read_number(planfile::read_plan(
         p,
         sizes,
         size_chunks,
@@ -151,7 +151,7 @@ pub extern "C" fn film_write_plan(
         delay,
         limit,
     };
-    core_ffi::plan_written(planfile::write_plan(
+    core_ffi::plan_written_number(planfile::write_plan(
         p,
         sizes,
         size_chunks,

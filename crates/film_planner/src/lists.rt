@@ -32,7 +32,7 @@ pub extern "C" fn film_check(
         delay,
         limit,
     };
-    core_ffi::checked(checker::check(
+    core_ffi::verdict_number(checker::check(
         p,
         sizes,
         size_chunks,
@@ -73,7 +73,7 @@ pub extern "C" fn film_check_from(
         delay,
         limit,
     };
-    core_ffi::checked(checker::check_from(
+    core_ffi::verdict_number(checker::check_from(
         p,
         sizes,
         size_chunks,
@@ -115,7 +115,7 @@ pub extern "C" fn film_book(
         delay,
         limit,
     };
-    core_ffi::booked(booking::book(
+    core_ffi::booking_number(booking::book(
         p,
         sizes,
         size_chunks,
@@ -155,7 +155,7 @@ pub extern "C" fn film_release(
         delay,
         limit,
     };
-    core_ffi::booked(booking::release(
+    core_ffi::booking_number(booking::release(
         p,
         sizes,
         size_chunks,

@@ -28,7 +28,7 @@ pub extern "C" fn film_meter_take(
     ensures { λ r. ⌜ Sampled (storage (now (slots .entry)) (now (bytes .entry)) (now (kept .entry))) slot sample r (storage (now (slots .exit)) (now (bytes .exit)) (now (kept .exit))) ⌝ }
 {
     if !core_ffi::holds_meter(slots.len(), bytes.len(), kept.len()) {
-        return core_ffi::or_eleven(core_ffi::sample_refusal(slot, sample));
+        return core_ffi::refused_or_11(core_ffi::sample_refusal(slot, sample));
     }
     let taken = meter::take(core_ffi::meter_in(slots, bytes, kept), slot, sample);
     let code = taken.code;
@@ -49,5 +49,5 @@ pub extern "C" fn film_meter_forecast(slots: &[u16], bytes: &[u32], kept: &[u8])
     if !core_ffi::holds_meter(slots.len(), bytes.len(), kept.len()) {
         return core_ffi::refused(11);
     }
-    core_ffi::mean_number(meter::forecast(core_ffi::meter_in(slots, bytes, kept)))
+    core_ffi::forecast_number(meter::forecast(core_ffi::meter_in(slots, bytes, kept)))
 }

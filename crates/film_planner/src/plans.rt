@@ -1,8 +1,8 @@
 // The calls that hand over a plan: its number of rows, the marks and rows, and the four counts.
 use job::Programme;
-ghost use Rattle.replan.specs.Answer.{handedOn};
+ghost use Rattle.replan.specs.Answer.{replanInput};
 ghost use Rattle.core_ffi.specs.Convention.{film};
-ghost use Rattle.core_ffi.specs.Plans.{Planned, Replanned, SearchHanded, slices};
+ghost use Rattle.core_ffi.specs.Plans.{PlanReturned, ReplanReturned, SearchReturned, planSlices};
 
 #[no_mangle]
 pub extern "C" fn film_plan(
@@ -22,7 +22,7 @@ pub extern "C" fn film_plan(
     row_bytes: &mut [u32],
     counts: &mut [u16],
 ) -> u64
-    ensures { λ r. ⌜ Planned (film chunks span delay limit (now (sizes .entry)) (now («size_chunks» .entry)) (now («size_layers» .entry)) (now («size_bytes» .entry)) (now (forecast .entry))) (slices (now (marks .entry)) (now («row_slots» .entry)) (now («row_chunks» .entry)) (now («row_layers» .entry)) (now («row_bytes» .entry)) (now (counts .entry))) r (slices (now (marks .exit)) (now («row_slots» .exit)) (now («row_chunks» .exit)) (now («row_layers» .exit)) (now («row_bytes» .exit)) (now (counts .exit))) ⌝ }
+    ensures { λ r. ⌜ PlanReturned (film chunks span delay limit (now (sizes .entry)) (now («size_chunks» .entry)) (now («size_layers» .entry)) (now («size_bytes» .entry)) (now (forecast .entry))) (planSlices (now (marks .entry)) (now («row_slots» .entry)) (now («row_chunks» .entry)) (now («row_layers» .entry)) (now («row_bytes» .entry)) (now (counts .entry))) r (planSlices (now (marks .exit)) (now («row_slots» .exit)) (now («row_chunks» .exit)) (now («row_layers» .exit)) (now («row_bytes» .exit)) (now (counts .exit))) ⌝ }
 {
     let p = Programme {
         chunks,
@@ -31,7 +31,7 @@ pub extern "C" fn film_plan(
         limit,
     };
     if counts.len() < 4 {
-        return core_ffi::or_eleven(job::refusal(
+        return core_ffi::refused_or_11(job::refusal(
             p,
             sizes,
             size_chunks,
@@ -55,7 +55,7 @@ pub extern "C" fn film_plan(
     );
     let answer = plan.answer;
     let four = plan.counts;
-    core_ffi::hand_counts(answer, four, counts);
+    core_ffi::store_counts(answer, four, counts);
     core_ffi::plan_number(answer)
 }
 
@@ -83,7 +83,7 @@ pub extern "C" fn film_replan(
     row_bytes: &mut [u32],
     counts: &mut [u16],
 ) -> u64
-    ensures { λ r. ⌜ Replanned (film chunks span delay limit (now (sizes .entry)) (now («size_chunks» .entry)) (now («size_layers» .entry)) (now («size_bytes» .entry)) (now (forecast .entry))) (handedOn from (now («fetched_slots» .entry)) (now («fetched_chunks» .entry)) (now («fetched_layers» .entry)) (now («fetched_bytes» .entry)) (now (onward .entry))) (slices (now (marks .entry)) (now («row_slots» .entry)) (now («row_chunks» .entry)) (now («row_layers» .entry)) (now («row_bytes» .entry)) (now (counts .entry))) r (slices (now (marks .exit)) (now («row_slots» .exit)) (now («row_chunks» .exit)) (now («row_layers» .exit)) (now («row_bytes» .exit)) (now (counts .exit))) ⌝ }
+    ensures { λ r. ⌜ ReplanReturned (film chunks span delay limit (now (sizes .entry)) (now («size_chunks» .entry)) (now («size_layers» .entry)) (now («size_bytes» .entry)) (now (forecast .entry))) (replanInput from (now («fetched_slots» .entry)) (now («fetched_chunks» .entry)) (now («fetched_layers» .entry)) (now («fetched_bytes» .entry)) (now (onward .entry))) (planSlices (now (marks .entry)) (now («row_slots» .entry)) (now («row_chunks» .entry)) (now («row_layers» .entry)) (now («row_bytes» .entry)) (now (counts .entry))) r (planSlices (now (marks .exit)) (now («row_slots» .exit)) (now («row_chunks» .exit)) (now («row_layers» .exit)) (now («row_bytes» .exit)) (now (counts .exit))) ⌝ }
 {
     let p = Programme {
         chunks,
@@ -128,7 +128,7 @@ pub extern "C" fn film_replan(
     );
     let answer = made.answer;
     let four = made.counts;
-    core_ffi::hand_counts(answer, four, counts);
+    core_ffi::store_counts(answer, four, counts);
     core_ffi::plan_number(answer)
 }
 
@@ -152,7 +152,7 @@ pub extern "C" fn film_search(
     counts: &mut [u16],
     walk: &mut [u32],
 ) -> u64
-    ensures { λ r. ⌜ SearchHanded (film chunks span delay limit (now (sizes .entry)) (now («size_chunks» .entry)) (now («size_layers» .entry)) (now («size_bytes» .entry)) (now (forecast .entry))) budget (now (marks .entry)) (now («row_slots» .entry)) (now («row_chunks» .entry)) (now («row_layers» .entry)) (now («row_bytes» .entry)) (now (counts .entry)) (now (walk .entry)) r (now (marks .exit)) (now («row_slots» .exit)) (now («row_chunks» .exit)) (now («row_layers» .exit)) (now («row_bytes» .exit)) (now (counts .exit)) (now (walk .exit)) ⌝ }
+    ensures { λ r. ⌜ SearchReturned (film chunks span delay limit (now (sizes .entry)) (now («size_chunks» .entry)) (now («size_layers» .entry)) (now («size_bytes» .entry)) (now (forecast .entry))) budget (now (marks .entry)) (now («row_slots» .entry)) (now («row_chunks» .entry)) (now («row_layers» .entry)) (now («row_bytes» .entry)) (now (counts .entry)) (now (walk .entry)) r (now (marks .exit)) (now («row_slots» .exit)) (now («row_chunks» .exit)) (now («row_layers» .exit)) (now («row_bytes» .exit)) (now (counts .exit)) (now (walk .exit)) ⌝ }
 {
     let p = Programme {
         chunks,
@@ -161,7 +161,7 @@ pub extern "C" fn film_search(
         limit,
     };
     if !core_ffi::holds_walk(counts.len(), walk.len()) {
-        return core_ffi::or_eleven(job::refusal(
+        return core_ffi::refused_or_11(job::refusal(
             p,
             sizes,
             size_chunks,
@@ -186,7 +186,7 @@ pub extern "C" fn film_search(
     );
     let answer = found.answer;
     let four = found.counts;
-    core_ffi::hand_counts(answer, four, counts);
-    core_ffi::hand_walk(answer, found.steps, found.ended, found.shortfall, walk);
+    core_ffi::store_counts(answer, four, counts);
+    core_ffi::store_walk(answer, found.steps, found.ended, found.shortfall, walk);
     core_ffi::plan_number(answer)
 }

@@ -1,7 +1,7 @@
 // The report, the reasons, link traces, and the shortest wait.
 use job::Programme;
 ghost use mathlib.Core.Path.{_≡_};
-ghost use Rattle.wait.specs.Answer.{handedFilm};
+ghost use Rattle.wait.specs.Answer.{waitInput};
 ghost use Rattle.core_ffi.specs.Convention.{film};
 ghost use Rattle.core_ffi.specs.Texts.{forecastRead, reasonsAfter, reasonsAnswer, reportAfter, reportAnswer, traceAfter, traceReadAnswer, traceWriteAnswer, waitAnswer};
 
@@ -27,7 +27,7 @@ pub extern "C" fn film_report(
         delay,
         limit,
     };
-    core_ffi::reported(report::report(
+    core_ffi::report_number(report::report(
         p,
         sizes,
         size_chunks,
@@ -60,7 +60,7 @@ pub extern "C" fn film_reasons(
         delay,
         limit,
     };
-    core_ffi::told(reasons::reasons(
+    core_ffi::reasons_number(reasons::reasons(
         p,
         sizes,
         size_chunks,
@@ -76,7 +76,7 @@ pub extern "C" fn film_read_trace(trace: &[u8], slots: usize, forecast: &mut [u3
     ensures number { λ r. ⌜ r ≡ traceReadAnswer (now (trace .entry)) slots (now (forecast .entry)) ⌝ }
     ensures forecast { λ _. ⌜ now (forecast .exit) ≡ forecastRead (now (trace .entry)) slots (now (forecast .entry)) ⌝ }
 {
-    core_ffi::trace_read(trace::read_trace(trace, slots, forecast))
+    core_ffi::trace_read_number(trace::read_trace(trace, slots, forecast))
 }
 
 #[no_mangle]
@@ -84,7 +84,7 @@ pub extern "C" fn film_write_trace(forecast: &[u32], out: &mut [u8]) -> u64
     ensures number { λ r. ⌜ r ≡ traceWriteAnswer (now (forecast .entry)) (now (out .entry)) ⌝ }
     ensures trace { λ _. ⌜ now (out .exit) ≡ traceAfter (now (forecast .entry)) (now (out .entry)) ⌝ }
 {
-    core_ffi::trace_written(trace::write_trace(forecast, out))
+    core_ffi::trace_written_number(trace::write_trace(forecast, out))
 }
 
 #[no_mangle]
@@ -98,9 +98,9 @@ pub extern "C" fn film_wait(
     size_bytes: &[u32],
     forecast: &[u32],
 ) -> u64
-    ensures { λ r. ⌜ r ≡ waitAnswer (handedFilm chunks span limit (now (sizes .entry)) (now («size_chunks» .entry)) (now («size_layers» .entry)) (now («size_bytes» .entry)) (now (forecast .entry))) ⌝ }
+    ensures { λ r. ⌜ r ≡ waitAnswer (waitInput chunks span limit (now (sizes .entry)) (now («size_chunks» .entry)) (now («size_layers» .entry)) (now («size_bytes» .entry)) (now (forecast .entry))) ⌝ }
 {
-    core_ffi::waited(wait::wait(
+    core_ffi::wait_number(wait::wait(
         chunks,
         span,
         limit,

@@ -1,4 +1,6 @@
 // Reads a job on standard input and prints its report; on a refusal, `refused n`.
+use job::OVERRIDES;
+use job::SLOTS;
 use job::Programme;
 use jobrecords::JobRead;
 use libc::STDIN_FILENO;
@@ -40,10 +42,10 @@ fn print_report(
 
 fn job_file(file: &[u8; 65537], n: usize) {
     let mut sizes = [0u32; 4];
-    let mut size_chunks = [0u16; 1996];
-    let mut size_layers = [0u8; 1996];
-    let mut size_bytes = [0u32; 1996];
-    let mut forecast = [0u32; 3600];
+    let mut size_chunks = [0u16; OVERRIDES];
+    let mut size_layers = [0u8; OVERRIDES];
+    let mut size_bytes = [0u32; OVERRIDES];
+    let mut forecast = [0u32; SLOTS];
     match jobfile::read_job(
         core_prefix::bytes(file, n),
         &mut sizes,

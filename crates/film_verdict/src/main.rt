@@ -1,5 +1,8 @@
 // Reads the files `job`, then `plan`, and prints `verdict n`; on a refusal, `refused n`. A file that can't be opened is read as empty.
 use checker::Checked;
+use job::CHUNKS;
+use job::OVERRIDES;
+use job::SLOTS;
 use job::Programme;
 use jobrecords::JobRead;
 use libc::STDOUT_FILENO;
@@ -64,7 +67,7 @@ fn plan_file(
     forecast: &[u32],
     file: &[u8],
 ) {
-    let mut marks = [0u8; 500];
+    let mut marks = [0u8; CHUNKS];
     let mut slots = [0u16; 5957];
     let mut chunks = [0u16; 5957];
     let mut layers = [0u8; 5957];
@@ -145,10 +148,10 @@ fn plan_part(
 
 fn job_file(file: &[u8; 65537], n: usize) {
     let mut sizes = [0u32; 4];
-    let mut size_chunks = [0u16; 1996];
-    let mut size_layers = [0u8; 1996];
-    let mut size_bytes = [0u32; 1996];
-    let mut forecast = [0u32; 3600];
+    let mut size_chunks = [0u16; OVERRIDES];
+    let mut size_layers = [0u8; OVERRIDES];
+    let mut size_bytes = [0u32; OVERRIDES];
+    let mut forecast = [0u32; SLOTS];
     match jobfile::read_job(
         core_prefix::bytes(file, n),
         &mut sizes,

@@ -12,7 +12,7 @@ use Rattle.job.specs.declared.Programme.{Programme}
 use Rattle.job.specs.Job.{Override}
 use Rattle.theory_basics.specs.Refusals.{unless}
 use Rattle.job.specs.Refusal.{named, sized, comes, overridesRefusal}
-use Rattle.job.specs.Handed.{overridesOf}
+use Rattle.job.specs.Input.{overridesOf}
 use Rattle.job.specs.lemmas.Run.{runs, runs-all, from, from-end, from-more}
 use Rattle.job.specs.Table.{spot, overriddenBy, tableAt}
 use Rattle.job.specs.lemmas.Table.{storedTo, length-overridden}

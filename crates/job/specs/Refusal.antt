@@ -14,7 +14,7 @@ use Rattle.theory_basics.specs.lemmas.Tests.{all-iff, leb-iff, ltb-iff, eqb-iff
 use Rattle.theory_basics.specs.Refusals.{unless, _orElse_}
 use Rattle.theory_basics.specs.lemmas.Refusals.{and-as, unless-as, orElse-as}
 use Rattle.job.specs.declared.Programme.{Programme}
-use Rattle.job.specs.Job.{Job, Override, Within, Named, Before, Rising, Accepted, lastDue}
+use Rattle.job.specs.Job.{Job, Override, Within, Named, OverrideBefore, Rising, Accepted, lastDue}
 
 -- lo ≤ x ≤ hi, as a test.
 abbrev pub within : ℕ → ℕ → ℕ → Bool
@@ -126,7 +126,7 @@ named-iff p sizes o =
       λ n. u .1 (n .chunk-in, (n .layer-in, n .not-own)),
     )
 
-pub before-iff : (o q : Override) → T (before o q) ↔ Before o q
+pub before-iff : (o q : Override) → T (before o q) ↔ OverrideBefore o q
 before-iff o q =
     let less : Bool = ltb (o .chunk) (q .chunk) in
     let same : Bool = eqb (o .chunk) (q .chunk) && ltb (o .layer) (q .layer) in

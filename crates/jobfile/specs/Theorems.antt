@@ -17,7 +17,7 @@ use Rattle.jobrecords.specs.declared.Record.{Record}
 use Rattle.jobrecords.specs.declared.Record.the-variants.{En}
 use Rattle.jobrecords.specs.Records.{encode}
 use Rattle.jobrecords.specs.Refusal.{oneSequence, format, refusalOf, jobOfFile}
-use Rattle.jobrecords.specs.Reader.{Buffers, roomRefusal, jobAnswer, readRefusal, readAnswer, lentBy, lentRead}
+use Rattle.jobrecords.specs.Reader.{Buffers, roomRefusal, jobAnswer, jobReadRefusal, readAnswer, lentBy, lentRead}
 use Rattle.jobrecords.specs.Theorems.{file-accepted}
 use Rattle.jobrecords.specs.lemmas.Clean.{taken}
 use Rattle.jobrecords.specs.lemmas.Exact.{exact, file-bytes}
@@ -50,7 +50,7 @@ pub read-again : (j : Job) (lent : Buffers) → Accepted j → roomRefusal j len
 unfolding readAnswer lentRead
 read-again j lent a room =
     let back = reads-back j a in
-    let none : readRefusal oneSequence (jobFile j) lent ≡ 0 =
+    let none : jobReadRefusal oneSequence (jobFile j) lent ≡ 0 =
     orElse-none (refusalOf oneSequence (jobFile j)) (roomRefusal (jobOfFile oneSequence (jobFile j)) lent) (never-refused j a)
     ∙ ap (λ (i : Job). roomRefusal i lent) back
     ∙ room in

@@ -12,7 +12,7 @@ use Rattle.theory_basics.specs.Tests.{All}
 use Rattle.theory_basics.specs.Refusals.{unless, _orElse_}
 use Rattle.records.specs.File.{encodeAll}
 use Rattle.job.specs.Job.{Job, Override}
-use Rattle.job.specs.Handed.{HandedJob, jobIn, jobRefusal}
+use Rattle.job.specs.Input.{JobInput, jobIn, jobRefusal}
 use Rattle.jobrecords.specs.declared.Record.{Record}
 use Rattle.jobrecords.specs.declared.Record.the-variants.{Pg, Ly, Sz, Bw, En}
 use Rattle.jobfile.specs.declared.Written.{Written}
@@ -76,12 +76,12 @@ abbrev pub shortRefusal : Job → ℕ → ℕ
 shortRefusal j room = unless 11 (leb (length (jobFile j)) room)
 
 -- The refusal of a job as handed, to be written into a buffer of so many bytes: 5, 6, 18, 7, 9, 11.
-abbrev pub writeRefusal : HandedJob → ℕ → ℕ
+abbrev pub writeRefusal : JobInput → ℕ → ℕ
 writeRefusal h room = jobRefusal h orElse longRefusal (jobIn h) orElse shortRefusal (jobIn h) room
 
 -- The answer, and the buffer afterwards.
-unfoldable pub writeAnswer : HandedJob → ℕ → Written
+unfoldable pub writeAnswer : JobInput → ℕ → Written
 writeAnswer h room = cond (eqb (writeRefusal h room) 0) (Bytes (length (jobFile (jobIn h)))) (Refused (writeRefusal h room))
 
-unfoldable pub fileWritten : HandedJob → List ℕ → List ℕ
+unfoldable pub fileWritten : JobInput → List ℕ → List ℕ
 fileWritten h out = lentAfter (writeRefusal h (length out)) (jobFile (jobIn h)) out

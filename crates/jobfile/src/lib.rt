@@ -5,12 +5,12 @@ ghost use Prim.Native.Nat.{_+_, _≤_, _<_};
 ghost use mathlib.Core.List.{[], map};
 ghost use lib.ListN.{length};
 ghost use Rattle.records.specs.Fields.{h, w};
-ghost use Rattle.job.specs.Handed.{WholeSizes, handed, jobIn, overridesOf};
+ghost use Rattle.job.specs.Input.{WholeSizes, jobInput, jobIn, overridesOf};
 ghost use Rattle.jobrecords.specs.declared.Record.the-variants.{Pg, Ly, Sz, Bw};
 ghost use Rattle.jobrecords.specs.Records.{b, encode};
 ghost use Rattle.jobrecords.specs.Refusal.{mixed, oneSequence};
 ghost use Rattle.jobrecords.specs.Reader.{buffers, readAnswer, lentRead};
-ghost use Rattle.jobfile.specs.lemmas.Puts.{Puts, bytesOf};
+ghost use Rattle.jobfile.specs.lemmas.Puts.{Puts, recordsBytes};
 ghost use Rattle.jobfile.specs.Writer.{runs, layerRecord, overrideRecord, runRecord, jobFile, writeAnswer, fileWritten};
 ghost use Rattle.jobfile.specs.lemmas.Runs.{runEnd};
 use job::Programme;
@@ -174,8 +174,8 @@ fn count_runs(forecast: &[u32]) -> usize
 
 // The LYs.
 fn put_layers(out: &mut [u8], at: usize, sizes: &[u32]) -> usize
-    requires { ⌜ at + length (bytesOf (map layerRecord (now sizes))) ≤ length (now out) ⌝ }
-    ensures { λ r. ⌜ Puts (now (out .entry)) at (bytesOf (map layerRecord (now (sizes .entry)))) (now (out .exit)) r ⌝ }
+    requires { ⌜ at + length (recordsBytes (map layerRecord (now sizes))) ≤ length (now out) ⌝ }
+    ensures { λ r. ⌜ Puts (now (out .entry)) at (recordsBytes (map layerRecord (now (sizes .entry)))) (now (out .exit)) r ⌝ }
 {
     let mut next = at;
     let mut i: usize = 0;
@@ -189,8 +189,8 @@ fn put_layers(out: &mut [u8], at: usize, sizes: &[u32]) -> usize
 // The SZs, handed whole.
 fn put_overrides(out: &mut [u8], at: usize, cs: &[u16], ls: &[u8], bs: &[u32]) -> usize
     requires { ⌜ WholeSizes (now cs) (now ls) (now bs) ⌝ }
-    requires { ⌜ at + length (bytesOf (map overrideRecord (overridesOf (now cs) (now ls) (now bs)))) ≤ length (now out) ⌝ }
-    ensures { λ r. ⌜ Puts (now (out .entry)) at (bytesOf (map overrideRecord (overridesOf (now (cs .entry)) (now (ls .entry)) (now (bs .entry))))) (now (out .exit)) r ⌝ }
+    requires { ⌜ at + length (recordsBytes (map overrideRecord (overridesOf (now cs) (now ls) (now bs)))) ≤ length (now out) ⌝ }
+    ensures { λ r. ⌜ Puts (now (out .entry)) at (recordsBytes (map overrideRecord (overridesOf (now (cs .entry)) (now (ls .entry)) (now (bs .entry))))) (now (out .exit)) r ⌝ }
 {
     let mut next = at;
     let mut i: usize = 0;
@@ -203,9 +203,9 @@ fn put_overrides(out: &mut [u8], at: usize, cs: &[u16], ls: &[u8], bs: &[u32]) -
 
 // One BW per longest run.
 fn put_runs(out: &mut [u8], at: usize, forecast: &[u32]) -> usize
-    requires { ⌜ at + length (bytesOf (map runRecord (runs (now forecast)))) ≤ length (now out) ⌝ }
+    requires { ⌜ at + length (recordsBytes (map runRecord (runs (now forecast)))) ≤ length (now out) ⌝ }
     requires { ⌜ length (now forecast) < 65536 ⌝ }
-    ensures { λ r. ⌜ Puts (now (out .entry)) at (bytesOf (map runRecord (runs (now (forecast .entry))))) (now (out .exit)) r ⌝ }
+    ensures { λ r. ⌜ Puts (now (out .entry)) at (recordsBytes (map runRecord (runs (now (forecast .entry))))) (now (out .exit)) r ⌝ }
 {
     let mut next = at;
     let mut i: usize = 0;
@@ -229,9 +229,9 @@ fn put_job(
     out: &mut [u8],
 ) -> usize
     requires { ⌜ WholeSizes (now «size_chunks») (now «size_layers») (now «size_bytes») ⌝ }
-    requires { ⌜ length (jobFile (jobIn (handed p (now sizes) (now «size_chunks») (now «size_layers») (now «size_bytes») (now forecast)))) ≤ length (now out) ⌝ }
+    requires { ⌜ length (jobFile (jobIn (jobInput p (now sizes) (now «size_chunks») (now «size_layers») (now «size_bytes») (now forecast)))) ≤ length (now out) ⌝ }
     requires { ⌜ length (now forecast) < 65536 ⌝ }
-    ensures { λ r. ⌜ Puts (now (out .entry)) 0 (jobFile (jobIn (handed p (now (sizes .entry)) (now («size_chunks» .entry)) (now («size_layers» .entry)) (now («size_bytes» .entry)) (now (forecast .entry))))) (now (out .exit)) r ⌝ }
+    ensures { λ r. ⌜ Puts (now (out .entry)) 0 (jobFile (jobIn (jobInput p (now (sizes .entry)) (now («size_chunks» .entry)) (now («size_layers» .entry)) (now («size_bytes» .entry)) (now (forecast .entry))))) (now (out .exit)) r ⌝ }
 {
     let layers = put_programme(out, 0, p);
     let overrides = put_layers(out, layers, sizes);
@@ -251,8 +251,8 @@ pub fn write_job(
     forecast: &[u32],
     out: &mut [u8],
 ) -> Written
-    ensures answer { λ r. ⌜ r ≡ writeAnswer (handed p (now (sizes .entry)) (now («size_chunks» .entry)) (now («size_layers» .entry)) (now («size_bytes» .entry)) (now (forecast .entry))) (length (now (out .entry))) ⌝ }
-    ensures buffer { λ r. ⌜ now (out .exit) ≡ fileWritten (handed p (now (sizes .entry)) (now («size_chunks» .entry)) (now («size_layers» .entry)) (now («size_bytes» .entry)) (now (forecast .entry))) (now (out .entry)) ⌝ }
+    ensures answer { λ r. ⌜ r ≡ writeAnswer (jobInput p (now (sizes .entry)) (now («size_chunks» .entry)) (now («size_layers» .entry)) (now («size_bytes» .entry)) (now (forecast .entry))) (length (now (out .entry))) ⌝ }
+    ensures buffer { λ r. ⌜ now (out .exit) ≡ fileWritten (jobInput p (now (sizes .entry)) (now («size_chunks» .entry)) (now («size_layers» .entry)) (now («size_bytes» .entry)) (now (forecast .entry))) (now (out .entry)) ⌝ }
 {
     let n = job::refusal(p, sizes, size_chunks, size_layers, size_bytes, forecast);
     if n != 0 {

@@ -1,7 +1,7 @@
 mod Fronts
-mod Turns
+mod Progress
 mod Counting
-mod Turned
+mod Step
 mod Copies
 mod Uneven
 mod Answers

@@ -35,12 +35,12 @@ unfoldable pub forecastOf : List ℕ → ℕ
 forecastOf bs = cond (any isZero bs) 0 (meanOf bs)
 
 -- 12: a forecast from a meter without samples; 10 comes first.
-abbrev pub forecastRefusal : List Sample → ℕ
-forecastRefusal l = meterRefusal l orElse unless 12 (ltb 0 (length l))
+abbrev pub meterForecastRefusal : List Sample → ℕ
+meterForecastRefusal l = meterRefusal l orElse unless 12 (ltb 0 (length l))
 
 -- The forecast that a call answers.
 unfoldable pub answerOf : Meter → Answer
 answerOf m =
     let l = samplesOf m in
-    let n = forecastRefusal l in
+    let n = meterForecastRefusal l in
     cond (eqb n 0) (Bytes (forecastOf (bytesOf l))) (Refused n)

@@ -39,7 +39,7 @@ empty = record { slots = replicate 10 0; bytes = replicate 10 0; kept = 0 }
 
 -- ---- "It keeps the last ten samples, each a slot (1 to 65,535) and its bytes (0 to 16,777,216)."
 
-pub record InRange (x : Sample) : Type 0 where
+pub record SampleInRange (x : Sample) : Type 0 where
   pub slot-low : 1 ≤ x .slot
   pub slot-high : x .slot ≤ 65535
   pub bytes-high : x .bytes ≤ 16777216
@@ -57,14 +57,14 @@ rising s [] = true
 rising s (x ∷ l) = ltb s (x .slot) && rising (x .slot) l
 
 -- The slot of the last sample; s if there is none.
-abbrev pub lastSlot : ℕ → List Sample → ℕ
-lastSlot s [] = s
-lastSlot s (x ∷ l) = lastSlot (x .slot) l
+abbrev pub lastSampleSlot : ℕ → List Sample → ℕ
+lastSampleSlot s [] = s
+lastSampleSlot s (x ∷ l) = lastSampleSlot (x .slot) l
 
 -- What refusal 10 asks of the kept samples. Slots are counted from 1, so that the first one is above 0.
 pub record InOrder (l : List Sample) : Type 0 where
   pub few : length l ≤ 10
-  pub each : All InRange l
+  pub each : All SampleInRange l
   pub rises : Rising 0 l
 
 abbrev pub inOrder : List Sample → Bool
@@ -86,7 +86,7 @@ meterRefusal l = unless 10 (inOrder l)
 
 -- 13: a slot that is not above the last one's.
 abbrev pub lateRefusal : List Sample → Sample → ℕ
-lateRefusal l x = unless 13 (ltb (lastSlot 0 l) (x .slot))
+lateRefusal l x = unless 13 (ltb (lastSampleSlot 0 l) (x .slot))
 
 -- "13 .. after 10."
 abbrev pub takeRefusal : List Sample → Sample → ℕ

@@ -5,7 +5,7 @@ ghost use Prim.Native.Nat.{_≤_, _<_};
 ghost use lib.ListN.{length};
 ghost use Rattle.meter.specs.lemmas.Cells.{nextCells};
 ghost use Rattle.meter.specs.Forecast.{share, bytesOf, forecastOf, answerOf};
-ghost use Rattle.meter.specs.Meter.{sample, samplesOf, storing, empty, inRange, inOrder, lastSlot, with-sample, taken, InOrder};
+ghost use Rattle.meter.specs.Meter.{sample, samplesOf, storing, empty, inRange, inOrder, lastSampleSlot, with-sample, taken, InOrder};
 
 // Ten cells, the first `kept` of which hold a sample each, a slot and its bytes, the newest last.
 pub struct Meter {
@@ -64,7 +64,7 @@ fn in_order(m: Meter) -> bool
 // The slot of the last sample, 0 without samples.
 fn last_slot(m: Meter) -> u16
     requires { ⌜ m .kept ≤ 10 ⌝ }
-    ensures { λ r. ⌜ r ≡ lastSlot 0 (samplesOf m) ⌝ }
+    ensures { λ r. ⌜ r ≡ lastSampleSlot 0 (samplesOf m) ⌝ }
 {
     let kept = m.kept as usize;
     if kept == 0 {

@@ -1,4 +1,4 @@
 mod Front
-mod Turns
+mod Step
 mod Reader
 mod Writer

@@ -1,2 +1,2 @@
 pub mod Spreads
-pub mod Told
+pub mod Answer

@@ -10,7 +10,7 @@ use lib.ListN.{length}
 use lib.Dec.{leb, eqb}
 use Rattle.theory_basics.specs.Lent.{lentAfter}
 use Rattle.theory_basics.specs.Refusals.{unless, _orElse_}
-use Rattle.job.specs.Handed.{HandedJob, jobIn, jobRefusal}
+use Rattle.job.specs.Input.{JobInput, jobIn, jobRefusal}
 use Rattle.job.specs.Job.{Job}
 use Rattle.theory_plan.specs.Statement.{IsPlan}
 use Rattle.theory_reasons.specs.Lines.{planText}
@@ -23,11 +23,11 @@ abbrev pub answer : ℕ → ℕ → Written
 answer refused n = cond (eqb refused 0) (Bytes n) (Refused refused)
 
 -- The refusal of the call: 5, 6, 18, 7 by the job, then 11 exactly if the buffer is shorter than the text.
-abbrev pub refusal : HandedJob → List ℕ → ℕ
+abbrev pub refusal : JobInput → List ℕ → ℕ
 refusal h out = jobRefusal h orElse unless 11 (leb (length (planText (jobIn h))) (length out))
 
 -- What the call hands over for a job as handed, and what it leaves in the lent buffer.
-pub record Told (h : HandedJob) (old now : List ℕ) (r : Written) : Type 0 where
+pub record Told (h : JobInput) (old now : List ℕ) (r : Written) : Type 0 where
   pub result : r ≡ answer (refusal h old) (length (planText (jobIn h)))
   pub buffer : now ≡ lentAfter (refusal h old) (planText (jobIn h)) old
 
@@ -37,5 +37,5 @@ pub record OfPlan (j : Job) (p : ℕ → ℕ) : Type 0 where
   pub reasons : (ls : List Line) → Reasons j p (against j p) ls ↔ (ls ≡ lines)
   pub text : planText j ≡ reasonsText lines
 
-abbrev pub LinesOfPlan : HandedJob → Type 0
+abbrev pub LinesOfPlan : JobInput → Type 0
 LinesOfPlan h = jobRefusal h ≡ 0 → (p : ℕ → ℕ) → IsPlan (jobIn h) p → OfPlan (jobIn h) p

@@ -1,12 +1,15 @@
 // The reason under each missing layer (request 14): the lines of a job's plan as text in a lent buffer. No text is longer than 94,000
 // bytes, so a buffer of that length takes it at once; for a shorter one it is laid out aside and copied if it fits.
+use job::CHUNKS;
+use job::SIZES;
+use job::SUMS;
 use job::Programme;
 
 mod tables;
 
 ghost use Prim.Native.Nat.{_≤_};
 ghost use lib.ListN.{length};
-ghost use Rattle.job.specs.Handed.{handed, jobIn, jobRefusal};
+ghost use Rattle.job.specs.Input.{jobInput, jobIn, jobRefusal};
 ghost use Rattle.job.specs.Job.{Accepted};
 ghost use Rattle.theory_reasons.specs.Lines.{planText};
 ghost use Rattle.core_text.specs.lemmas.Places.{Put};
@@ -29,22 +32,22 @@ fn put_plan(
     forecast: &[u32],
     out: &mut [u8],
 ) -> usize
-    requires { ⌜ Accepted (jobIn (handed p (now sizes) (now «size_chunks») (now «size_layers») (now «size_bytes») (now forecast))) × (length (planText (jobIn (handed p (now sizes) (now «size_chunks») (now «size_layers») (now «size_bytes») (now forecast)))) ≤ length (now out)) ⌝ }
-    ensures { λ r. ⌜ Put (now (out .entry)) 0 (planText (jobIn (handed p (now (sizes .entry)) (now («size_chunks» .entry)) (now («size_layers» .entry)) (now («size_bytes» .entry)) (now (forecast .entry))))) (now (out .exit)) r ⌝ }
+    requires { ⌜ Accepted (jobIn (jobInput p (now sizes) (now «size_chunks») (now «size_layers») (now «size_bytes») (now forecast))) × (length (planText (jobIn (jobInput p (now sizes) (now «size_chunks») (now «size_layers») (now «size_bytes») (now forecast)))) ≤ length (now out)) ⌝ }
+    ensures { λ r. ⌜ Put (now (out .entry)) 0 (planText (jobIn (jobInput p (now (sizes .entry)) (now («size_chunks» .entry)) (now («size_layers» .entry)) (now («size_bytes» .entry)) (now (forecast .entry))))) (now (out .exit)) r ⌝ }
 {
     // Filled with no constant, as in settle.
     let unset = p.chunks as u32;
-    let mut table = [unset; 2000];
-    let mut sums = [unset; 2000];
-    let mut after = [unset as u64; 3601];
-    let mut ids = [0u16; 500];
-    let mut ready = [0u16; 500];
-    let mut mark = [1u8; 500];
-    let mut levels = [0u8; 500];
+    let mut table = [unset; SIZES];
+    let mut sums = [unset; SIZES];
+    let mut after = [unset as u64; SUMS];
+    let mut ids = [0u16; CHUNKS];
+    let mut ready = [0u16; CHUNKS];
+    let mut mark = [1u8; CHUNKS];
+    let mut levels = [0u8; CHUNKS];
     let layers = sizes.len();
     let held = job::held_most(p) as usize;
     job::fill_sizes(sizes, size_chunks, size_layers, size_bytes, &mut table);
-    let most = core_moore_hodgson::by_walk(p, &table);
+    let most = core_moore_hodgson::applies(p, &table);
     let first = core_decide::decide(
         p,
         layers,
@@ -71,8 +74,8 @@ fn put_tight(
     forecast: &[u32],
     out: &mut [u8],
 ) -> Written
-    requires { ⌜ jobRefusal (handed p (now sizes) (now «size_chunks») (now «size_layers») (now «size_bytes») (now forecast)) ≡ 0 ⌝ }
-    ensures { λ r. ⌜ Told (handed p (now (sizes .entry)) (now («size_chunks» .entry)) (now («size_layers» .entry)) (now («size_bytes» .entry)) (now (forecast .entry))) (now (out .entry)) (now (out .exit)) r ⌝ }
+    requires { ⌜ jobRefusal (jobInput p (now sizes) (now «size_chunks») (now «size_layers») (now «size_bytes») (now forecast)) ≡ 0 ⌝ }
+    ensures { λ r. ⌜ Told (jobInput p (now (sizes .entry)) (now («size_chunks» .entry)) (now («size_layers» .entry)) (now («size_bytes» .entry)) (now (forecast .entry))) (now (out .entry)) (now (out .exit)) r ⌝ }
 {
     let mut text = [0u8; 94000];
     let n = put_plan(
@@ -102,8 +105,8 @@ pub fn reasons(
     forecast: &[u32],
     out: &mut [u8],
 ) -> Written
-    ensures told { λ r. ⌜ Told (handed p (now (sizes .entry)) (now («size_chunks» .entry)) (now («size_layers» .entry)) (now («size_bytes» .entry)) (now (forecast .entry))) (now (out .entry)) (now (out .exit)) r ⌝ }
-    ensures lines { λ _. ⌜ LinesOfPlan (handed p (now (sizes .entry)) (now («size_chunks» .entry)) (now («size_layers» .entry)) (now («size_bytes» .entry)) (now (forecast .entry))) ⌝ }
+    ensures told { λ r. ⌜ Told (jobInput p (now (sizes .entry)) (now («size_chunks» .entry)) (now («size_layers» .entry)) (now («size_bytes» .entry)) (now (forecast .entry))) (now (out .entry)) (now (out .exit)) r ⌝ }
+    ensures lines { λ _. ⌜ LinesOfPlan (jobInput p (now (sizes .entry)) (now («size_chunks» .entry)) (now («size_layers» .entry)) (now («size_bytes» .entry)) (now (forecast .entry))) ⌝ }
 {
     let no = job::refusal(p, sizes, size_chunks, size_layers, size_bytes, forecast);
     if 0 < no {

@@ -1,5 +1,7 @@
 // Planning afresh during the act: from the slot of replanning on, over the rows fetched before it and the forecast from it on. Marks, counts
 // and only the rows from that slot on, as document 02 settles and document 01 lists them.
+use job::CHUNKS;
+use job::SIZES;
 use job::Programme;
 use planner::Planned;
 ghost use mathlib.Core.Path.{_≡_};
@@ -7,9 +9,9 @@ ghost use Prim.Native.Nat.{_≤_};
 ghost use lib.Dec.{ltb};
 ghost use Rattle.theory_basics.specs.Refusals.{unless};
 ghost use Rattle.theory_basics.specs.Tests.{all};
-ghost use Rattle.job.specs.Handed.{handed};
+ghost use Rattle.job.specs.Input.{jobInput};
 ghost use Rattle.job.specs.Job.{lastDue};
-ghost use Rattle.replan.specs.Answer.{handedOn, Handed, SettledAfresh, StandingGoesOn};
+ghost use Rattle.replan.specs.Answer.{replanInput, ReplanOutput, SettledAfresh, StandingGoesOn};
 ghost use Rattle.replan.specs.lemmas.Asked.{partRefusal, askedRefusal};
 
 // 21: a handed row not before the slot.
@@ -53,13 +55,13 @@ fn asked_refusal(
     fetched_bytes: &[u32],
     onward: &[u32],
 ) -> u8
-    ensures { λ r. ⌜ r ≡ askedRefusal (handed p (now (sizes .entry)) (now («size_chunks» .entry)) (now («size_layers» .entry)) (now («size_bytes» .entry)) (now (forecast .entry))) (handedOn from (now («fetched_slots» .entry)) (now («fetched_chunks» .entry)) (now («fetched_layers» .entry)) (now («fetched_bytes» .entry)) (now (onward .entry))) ⌝ }
+    ensures { λ r. ⌜ r ≡ askedRefusal (jobInput p (now (sizes .entry)) (now («size_chunks» .entry)) (now («size_layers» .entry)) (now («size_bytes» .entry)) (now (forecast .entry))) (replanInput from (now («fetched_slots» .entry)) (now («fetched_chunks» .entry)) (now («fetched_layers» .entry)) (now («fetched_bytes» .entry)) (now (onward .entry))) ⌝ }
 {
     let job = job::refusal(p, sizes, size_chunks, size_layers, size_bytes, forecast);
     if job != 0 {
         return job;
     }
-    let list = fetch::handed_refusal(
+    let list = fetch::list_refusal(
         0,
         &[],
         fetched_slots,
@@ -103,9 +105,9 @@ pub fn replan(
     layers: &mut [u8],
     bytes: &mut [u32],
 ) -> Planned
-    ensures handed { λ r. ⌜ Handed (handed p (now (sizes .entry)) (now («size_chunks» .entry)) (now («size_layers» .entry)) (now («size_bytes» .entry)) (now (forecast .entry))) (handedOn from (now («fetched_slots» .entry)) (now («fetched_chunks» .entry)) (now («fetched_layers» .entry)) (now («fetched_bytes» .entry)) (now (onward .entry))) (now (marks .entry)) (now (slots .entry)) (now (chunks .entry)) (now (layers .entry)) (now (bytes .entry)) r (now (marks .exit)) (now (slots .exit)) (now (chunks .exit)) (now (layers .exit)) (now (bytes .exit)) ⌝ }
-    ensures settled { λ _. ⌜ SettledAfresh (handed p (now (sizes .entry)) (now («size_chunks» .entry)) (now («size_layers» .entry)) (now («size_bytes» .entry)) (now (forecast .entry))) (handedOn from (now («fetched_slots» .entry)) (now («fetched_chunks» .entry)) (now («fetched_layers» .entry)) (now («fetched_bytes» .entry)) (now (onward .entry))) ⌝ }
-    ensures standing { λ _. ⌜ StandingGoesOn (handed p (now (sizes .entry)) (now («size_chunks» .entry)) (now («size_layers» .entry)) (now («size_bytes» .entry)) (now (forecast .entry))) (handedOn from (now («fetched_slots» .entry)) (now («fetched_chunks» .entry)) (now («fetched_layers» .entry)) (now («fetched_bytes» .entry)) (now (onward .entry))) ⌝ }
+    ensures jobInput { λ r. ⌜ ReplanOutput (jobInput p (now (sizes .entry)) (now («size_chunks» .entry)) (now («size_layers» .entry)) (now («size_bytes» .entry)) (now (forecast .entry))) (replanInput from (now («fetched_slots» .entry)) (now («fetched_chunks» .entry)) (now («fetched_layers» .entry)) (now («fetched_bytes» .entry)) (now (onward .entry))) (now (marks .entry)) (now (slots .entry)) (now (chunks .entry)) (now (layers .entry)) (now (bytes .entry)) r (now (marks .exit)) (now (slots .exit)) (now (chunks .exit)) (now (layers .exit)) (now (bytes .exit)) ⌝ }
+    ensures settled { λ _. ⌜ SettledAfresh (jobInput p (now (sizes .entry)) (now («size_chunks» .entry)) (now («size_layers» .entry)) (now («size_bytes» .entry)) (now (forecast .entry))) (replanInput from (now («fetched_slots» .entry)) (now («fetched_chunks» .entry)) (now («fetched_layers» .entry)) (now («fetched_bytes» .entry)) (now (onward .entry))) ⌝ }
+    ensures standing { λ _. ⌜ StandingGoesOn (jobInput p (now (sizes .entry)) (now («size_chunks» .entry)) (now («size_layers» .entry)) (now («size_bytes» .entry)) (now (forecast .entry))) (replanInput from (now («fetched_slots» .entry)) (now («fetched_chunks» .entry)) (now («fetched_layers» .entry)) (now («fetched_bytes» .entry)) (now (onward .entry))) ⌝ }
 {
     let no = asked_refusal(
         p,
@@ -128,10 +130,10 @@ pub fn replan(
     let start = from as usize;
     // Filled with no constant, as in the planner.
     let unset = p.chunks as u32;
-    let mut table = [unset; 2000];
-    let mut left = [unset; 2000];
-    let mut begun = [0u8; 500];
-    let mut whole = [0u8; 500];
+    let mut table = [unset; SIZES];
+    let mut left = [unset; SIZES];
+    let mut begun = [0u8; CHUNKS];
+    let mut whole = [0u8; CHUNKS];
     job::fill_sizes(sizes, size_chunks, size_layers, size_bytes, &mut table);
     let kept = core_replan_input::gather(
         p,
@@ -152,7 +154,7 @@ pub fn replan(
     if marks.len() < p.chunks as usize {
         return planner::refused(11);
     }
-    core_replan_output::lay(
+    core_replan_output::write_plan(
         p,
         depth,
         onward,

@@ -13,11 +13,11 @@ use Rattle.theory_basics.specs.Sums.{pre, sum}
 use Rattle.job.specs.Job.{Accepted, Job, chunks, layers, lastSlot, forecast}
 use Rattle.job.specs.Table.{sizesTable}
 use Rattle.job.specs.lemmas.Table.{table-says}
-use Rattle.fetch.specs.Rows.{Row, rowAt, rowsOf, carried, layerCount}
+use Rattle.fetch.specs.Rows.{Row, rowAt, rowsOf, carried, layerCount, layersCarried}
 use Rattle.fetch.specs.lemmas.Rows.{bytes-snoc}
 use Rattle.theory_basics.specs.lemmas.Ranges.{pre-cong, sum-cong}
 use Rattle.theory_basics.specs.Text.{digits}
-use Rattle.report.specs.Report.{layersCarried, bytesCarried, chunkLine, bytesInRows, forecastSum, left, switchSum, differences, reportOf}
+use Rattle.report.specs.Report.{bytesCarried, chunkLine, bytesInRows, forecastSum, left, switchSum, differences, reportOf}
 use Rattle.report.specs.lemmas.Tables.{Summed, carriedBy, layersBy, bytesBy, chunkLineBy, countBy, switchBy, linesBy}
 use Rattle.report.specs.lemmas.Switches.{those-cong}
 

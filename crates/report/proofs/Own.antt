@@ -8,7 +8,7 @@ use Rattle.theory_basics.specs.Tests.{All}
 use Rattle.theory_basics.specs.Sums.{sum}
 use Rattle.job.specs.Job.{Job, Accepted}
 use Rattle.fetch.specs.Rows.{Row, rowSlot, rowChunk, rowLayer, rowBytes}
-use Rattle.fetch.specs.Rules.{InRange, Keeps}
+use Rattle.fetch.specs.Rules.{RowInRange, Keeps}
 use Rattle.theory_plan.specs.Plan.{plan}
 use Rattle.theory_plan.specs.Theorems.{own-list-rows, plan-exists, plan-carried}
 use Rattle.theory_plan.specs.Statement.{marksOf}
@@ -44,7 +44,7 @@ module _ {j : Job} (a : Accepted j) where
   pub own-rows : Rows (map rowSlot (planRows j)) (map rowChunk (planRows j)) (map rowLayer (planRows j)) (map rowBytes (planRows j))
   own-rows =
       let l = planRows j in
-      let at : (k : ℕ) → k < length (map rowSlot l) → InRange j (getD l k none) = λ k h. row-at (InRange j) l k (keeps .in-range) (omega (arith, length-map l rowSlot)) in
+      let at : (k : ℕ) → k < length (map rowSlot l) → RowInRange j (getD l k none) = λ k h. row-at (RowInRange j) l k (keeps .in-range) (omega (arith, length-map l rowSlot)) in
       record {
         chunk-each = length-map l rowSlot ∙ sym (length-map l rowChunk);
         layer-each = length-map l rowSlot ∙ sym (length-map l rowLayer);

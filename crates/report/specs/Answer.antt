@@ -9,7 +9,7 @@ use lib.Dec.{leb, eqb}
 use Rattle.theory_basics.specs.Lent.{lentAfter}
 use Rattle.theory_basics.specs.Refusals.{unless, _orElse_}
 use Rattle.job.specs.Job.{Job, Accepted}
-use Rattle.job.specs.Handed.{HandedJob, jobIn, jobRefusal}
+use Rattle.job.specs.Input.{JobInput, jobIn, jobRefusal}
 use Rattle.theory_plan.specs.Own.{ownList}
 use Rattle.theory_plan.specs.Plan.{plan}
 use Rattle.theory_plan.specs.Statement.{IsPlan}
@@ -38,11 +38,11 @@ pub record Answered (t old now : List ℕ) (r : Written) : Type 0 where
   pub buffer : now ≡ lentAfter (roomRefusal t old) t old
 
 -- The refusal of the call: 5, 6, 18, 7 by the job, then 11.
-abbrev pub reportRefusal : HandedJob → List ℕ → ℕ
+abbrev pub reportRefusal : JobInput → List ℕ → ℕ
 reportRefusal h out = jobRefusal h orElse roomRefusal (planReport (jobIn h)) out
 
 -- What the call hands over for a job as handed, and what it leaves in the lent buffer.
-pub record Reported (h : HandedJob) (old now : List ℕ) (r : Written) : Type 0 where
+pub record Reported (h : JobInput) (old now : List ℕ) (r : Written) : Type 0 where
   pub result : r ≡ answer (reportRefusal h old) (length (planReport (jobIn h)))
   pub buffer : now ≡ lentAfter (reportRefusal h old) (planReport (jobIn h)) old
 

@@ -7,16 +7,12 @@ use mathlib.Core.List.{List, [], _∷_, _++_}
 use Rattle.theory_basics.specs.Lists.{upTo}
 use Rattle.theory_basics.specs.Sums.{pre, sum}
 use Rattle.job.specs.Job.{Job, chunks, layers, forecast, lastSlot, heldMost}
-use Rattle.fetch.specs.Rows.{Row, bytesIf, bytesOfLayer, carried, layerCount}
+use Rattle.fetch.specs.Rows.{Row, bytesIf, bytesOfLayer, carried, layerCount, layersCarried}
 use Rattle.theory_basics.specs.Text.{ascii, digits, line, text}
 
 -- "Line 1: d(C), C, H." H itself, also above C.
 abbrev pub slotsLine : Job → List ℕ
 slotsLine j = line (ascii "slots") (digits (lastSlot j) ∷ ascii "chunks" ∷ digits (chunks j) ∷ ascii "held" ∷ digits (heldMost j) ∷ [])
-
--- The layers that chunk i carries, and the bytes of their rows.
-abbrev pub layersCarried : Job → List Row → ℕ → ℕ
-layersCarried j rows i = sum (λ n. cond (carried j rows i n) 1 0) (layers j)
 
 abbrev pub bytesCarried : Job → List Row → ℕ → ℕ
 bytesCarried j rows i = sum (λ n. cond (carried j rows i n) (bytesOfLayer rows i n) 0) (layers j)

@@ -1,4 +1,6 @@
 // The table of the bytes of each layer of each chunk, and the numbers that are read from it.
+use job::SIZES;
+use job::SizeTable;
 ghost use mathlib.Core.Path.{_≡_};
 ghost use mathlib.Core.Bool.{cond};
 ghost use Prim.Native.Nat.{_+_, _*_, _-_, _≤_, _<_};
@@ -49,7 +51,7 @@ pub(crate) fn sum_of(s: &[u32]) -> u64
 }
 
 // A row's bytes go to those of its layer of its chunk.
-fn add_row(table: &mut [u64; 2000], c: u16, l: u8, b: u32)
+fn add_row(table: &mut [u64; SIZES], c: u16, l: u8, b: u32)
     requires { ⌜ (1 ≤ c) × (c ≤ 500) × (l < 4) × (bytesAt (now table) c l ≤ 35184372088832) ⌝ }
     ensures { λ _. ⌜ now (table .exit) ≡ set (now (table .entry)) (4 * (c - 1) + l) (bytesAt (now (table .entry)) c l + b) ⌝ }
 {
@@ -63,7 +65,7 @@ pub(crate) fn add_rows(
     chunks: &[u16],
     layers: &[u8],
     bytes: &[u32],
-    table: &mut [u64; 2000],
+    table: &mut [u64; SIZES],
 )
     requires { ⌜ Rows (now slots) (now chunks) (now layers) (now bytes) × (now table ≡ replicate 2000 0) ⌝ }
     ensures { λ _. ⌜ Summed (rowsOf (now (slots .entry)) (now (chunks .entry)) (now (layers .entry)) (now (bytes .entry))) (now (table .exit)) ⌝ }
@@ -76,7 +78,7 @@ pub(crate) fn add_rows(
 }
 
 // The bytes of layer n of chunk i.
-fn bytes_at(table: &[u64; 2000], i: u16, n: usize) -> u64
+fn bytes_at(table: &[u64; SIZES], i: u16, n: usize) -> u64
     requires { ⌜ (1 ≤ i) × (i ≤ 500) × (n < 4) ⌝ }
     ensures { λ r. ⌜ r ≡ bytesAt (now (table .entry)) i n ⌝ }
 {
@@ -91,7 +93,7 @@ fn same(sum: u64, size: u32) -> bool
 }
 
 // Whether layer n of chunk i is carried: its rows sum to its size, which the table of all sizes has.
-fn is_carried(sizes: &[u32; 2000], table: &[u64; 2000], i: u16, n: usize) -> bool
+fn is_carried(sizes: &SizeTable, table: &[u64; SIZES], i: u16, n: usize) -> bool
     requires { ⌜ (1 ≤ i) × (i ≤ 500) × (n < 4) ⌝ }
     ensures { λ r. ⌜ r ≡ carriedBy (now (sizes .entry)) (now (table .entry)) i n ⌝ }
 {
@@ -109,7 +111,7 @@ fn only_if(carried: bool, x: u64) -> u64
 }
 
 // The layers and bytes that chunk i carries.
-pub(crate) fn chunk_of(sizes: &[u32; 2000], depth: usize, table: &[u64; 2000], i: u16) -> Chunk
+pub(crate) fn chunk_of(sizes: &SizeTable, depth: usize, table: &[u64; SIZES], i: u16) -> Chunk
     requires { ⌜ (depth ≤ 4) × (1 ≤ i) × (i ≤ 500) × SizesIn (now sizes) ⌝ }
     ensures { λ r. ⌜ ChunkBy (now (sizes .entry)) (now (table .entry)) depth i r ⌝ }
 {
@@ -126,7 +128,7 @@ pub(crate) fn chunk_of(sizes: &[u32; 2000], depth: usize, table: &[u64; 2000], i
 }
 
 // How many of the chunks carry layer n.
-pub(crate) fn layer_count(sizes: &[u32; 2000], table: &[u64; 2000], count: u16, n: usize) -> u64
+pub(crate) fn layer_count(sizes: &SizeTable, table: &[u64; SIZES], count: u16, n: usize) -> u64
     requires { ⌜ (count ≤ 500) × (n < 4) ⌝ }
     ensures { λ r. ⌜ r ≡ countBy (now (sizes .entry)) (now (table .entry)) count n ⌝ }
 {
@@ -150,7 +152,7 @@ fn distance(a: u64, b: u64) -> u64
 }
 
 // A chunk on the screen: its bytes, or nothing new if it is skipped.
-fn picture_of(sizes: &[u32; 2000], depth: usize, table: &[u64; 2000], i: u16) -> Picture
+fn picture_of(sizes: &SizeTable, depth: usize, table: &[u64; SIZES], i: u16) -> Picture
     requires { ⌜ (depth ≤ 4) × (1 ≤ i) × (i ≤ 500) × SizesIn (now sizes) ⌝ }
     ensures { λ r. ⌜ r ≡ pictureBy (now (sizes .entry)) (now (table .entry)) depth i ⌝ }
 {
@@ -185,7 +187,7 @@ fn held(last: Picture, here: Picture) -> Picture
     }
 }
 
-pub(crate) fn switch_sum(sizes: &[u32; 2000], depth: usize, table: &[u64; 2000], count: u16) -> u64
+pub(crate) fn switch_sum(sizes: &SizeTable, depth: usize, table: &[u64; SIZES], count: u16) -> u64
     requires { ⌜ (depth ≤ 4) × (count ≤ 500) × SizesIn (now sizes) ⌝ }
     ensures { λ r. ⌜ r ≡ switchBy (now (sizes .entry)) (now (table .entry)) depth count ⌝ }
 {

@@ -4,6 +4,8 @@ use crate::print::pair;
 use crate::print::refused;
 use crate::print::word;
 use checker::Checked;
+use job::OVERRIDES;
+use job::SLOTS;
 use job::Programme;
 use jobrecords::JobRead;
 use planfile::PlanRead;
@@ -31,10 +33,10 @@ fn lengths_said(layers: usize, overrides: usize, slots: usize) {
 // What a written job reads back as.
 fn again(file: &[u8]) {
     let mut sizes = [0u32; 4];
-    let mut size_chunks = [0u16; 1996];
-    let mut size_layers = [0u8; 1996];
-    let mut size_bytes = [0u32; 1996];
-    let mut forecast = [0u32; 3600];
+    let mut size_chunks = [0u16; OVERRIDES];
+    let mut size_layers = [0u8; OVERRIDES];
+    let mut size_bytes = [0u32; OVERRIDES];
+    let mut forecast = [0u32; SLOTS];
     match jobfile::read_job(
         file,
         &mut sizes,
@@ -92,7 +94,7 @@ fn job_said(
     size_chunks: &[u16],
     size_layers: &[u8],
     size_bytes: &[u32],
-    forecast: &[u32; 3600],
+    forecast: &[u32; SLOTS],
 ) {
     match read {
         JobRead::Refused(n) => refused(n),
@@ -118,10 +120,10 @@ fn job_said(
 
 fn job_file(file: &[u8]) {
     let mut sizes = [0u32; 4];
-    let mut size_chunks = [0u16; 1996];
-    let mut size_layers = [0u8; 1996];
-    let mut size_bytes = [0u32; 1996];
-    let mut forecast = [0u32; 3600];
+    let mut size_chunks = [0u16; OVERRIDES];
+    let mut size_layers = [0u8; OVERRIDES];
+    let mut size_bytes = [0u32; OVERRIDES];
+    let mut forecast = [0u32; SLOTS];
     let read = jobfile::read_job(
         file,
         &mut sizes,
@@ -142,7 +144,7 @@ fn job_file(file: &[u8]) {
 
 fn mixed_file(file: &[u8]) {
     let mut sizes = [0u32; 4];
-    let mut forecast = [0u32; 3600];
+    let mut forecast = [0u32; SLOTS];
     let read = jobfile::read_mixed_job(file, &mut sizes, &mut forecast);
     job_said(read, &sizes, &[], &[], &[], &forecast);
 }

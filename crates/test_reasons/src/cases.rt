@@ -1,4 +1,6 @@
 // The case files: s.. are job files.
+use job::OVERRIDES;
+use job::SLOTS;
 use job::Programme;
 use jobrecords::JobRead;
 use libc::STDOUT_FILENO;
@@ -49,10 +51,10 @@ fn print_first(out: &[u8; 2048], n: usize) {
 
 fn text_of(file: &[u8; 1024], n: usize) {
     let mut sizes = [0u32; 4];
-    let mut size_chunks = [0u16; 1996];
-    let mut size_layers = [0u8; 1996];
-    let mut size_bytes = [0u32; 1996];
-    let mut forecast = [0u32; 3600];
+    let mut size_chunks = [0u16; OVERRIDES];
+    let mut size_layers = [0u8; OVERRIDES];
+    let mut size_bytes = [0u32; OVERRIDES];
+    let mut forecast = [0u32; SLOTS];
     match jobfile::read_job(
         core_prefix::bytes(file, n),
         &mut sizes,

@@ -1,4 +1,6 @@
 // The case files: r.. are job files.
+use job::OVERRIDES;
+use job::SLOTS;
 use job::Programme;
 use jobrecords::JobRead;
 use libc::STDOUT_FILENO;
@@ -44,10 +46,10 @@ fn print_first(out: &[u8; 8192], n: usize) {
 
 fn report_of(file: &[u8; 1024], n: usize) {
     let mut sizes = [0u32; 4];
-    let mut size_chunks = [0u16; 1996];
-    let mut size_layers = [0u8; 1996];
-    let mut size_bytes = [0u32; 1996];
-    let mut forecast = [0u32; 3600];
+    let mut size_chunks = [0u16; OVERRIDES];
+    let mut size_layers = [0u8; OVERRIDES];
+    let mut size_bytes = [0u32; OVERRIDES];
+    let mut forecast = [0u32; SLOTS];
     match jobfile::read_job(
         core_prefix::bytes(file, n),
         &mut sizes,

@@ -18,7 +18,7 @@ use Rattle.theory_plan.specs.Theorems.{passes-iff, plan-counts-unique, plan-exi
 use Rattle.theory_examples.specs.Worked.{A, A-rows, better, row, uneven, uneven-rows}
 
 -- The job is accepted, and its plan has these marks, counts and rows.
-pub record Planned (j : Job) (marks counts : List ℕ) (rows : List Row) : Type 0 where
+pub record PlanIs (j : Job) (marks counts : List ℕ) (rows : List Row) : Type 0 where
   pub accepted : Accepted j
   pub marks-are : (p : ℕ → ℕ) → IsPlan j p → marksOf j p ≡ marks
   pub counts-are : (p : ℕ → ℕ) → IsPlan j p → countsOf j p ≡ counts
@@ -27,7 +27,7 @@ pub record Planned (j : Job) (marks counts : List ℕ) (rows : List Row) : Type 
 -- What is computed of the computed plan holds of every plan.
 planned :
     (j : Job) (marks counts : List ℕ) (rows : List Row) → refusal j ≡ 0 → marksOf j (plan j) ≡ marks →
-    countsOf j (plan j) ≡ counts → ownList j (plan j) ≡ rows → Planned j marks counts rows
+    countsOf j (plan j) ≡ counts → ownList j (plan j) ≡ rows → PlanIs j marks counts rows
 planned j marks counts rows ok m c r =
     let a = accepted-iff j .0 ok in
     let d = plan-exists j a in
@@ -45,24 +45,24 @@ abbrev A-with : ℕ → List ℕ → Job
 A-with limit forecast = jobOf (record { chunks = 3; span = 2; delay = 2; limit = limit }) (2 ∷ 1 ∷ []) [] forecast
 
 -- A: marks 0, 3, 1. Rows (1,2,0,2) (1,2,1,1) (5,3,0,2).
-pub A-plan : Planned A (0 ∷ 3 ∷ 1 ∷ []) (2 ∷ 1 ∷ 0 ∷ 0 ∷ []) A-rows
+pub A-plan : PlanIs A (0 ∷ 3 ∷ 1 ∷ []) (2 ∷ 1 ∷ 0 ∷ 0 ∷ []) A-rows
 unfolding refusal plan ownList sizeIn
 A-plan = planned A _ _ _ refl refl refl refl
 
 -- A with limit 3: the same.
 pub A-limit-3 :
-    Planned (A-with 3 (3 ∷ 0 ∷ 1 ∷ 0 ∷ 2 ∷ 0 ∷ [])) (0 ∷ 3 ∷ 1 ∷ []) (2 ∷ 1 ∷ 0 ∷ 0 ∷ []) A-rows
+    PlanIs (A-with 3 (3 ∷ 0 ∷ 1 ∷ 0 ∷ 2 ∷ 0 ∷ [])) (0 ∷ 3 ∷ 1 ∷ []) (2 ∷ 1 ∷ 0 ∷ 0 ∷ []) A-rows
 unfolding refusal plan ownList sizeIn
 A-limit-3 = planned _ _ _ _ refl refl refl refl
 
 -- A with limit 6: marks 1, 1, 1. Rows (1,1,0,2) (1,2,0,1) (3,2,0,1) (5,3,0,2).
 pub A-limit-6 :
-    Planned (A-with 6 (3 ∷ 0 ∷ 1 ∷ 0 ∷ 2 ∷ 0 ∷ [])) (1 ∷ 1 ∷ 1 ∷ []) (3 ∷ 0 ∷ 0 ∷ 0 ∷ []) (row 1 1 0 2 ∷ row 1 2 0 1 ∷ row 3 2 0 1 ∷ row 5 3 0 2 ∷ [])
+    PlanIs (A-with 6 (3 ∷ 0 ∷ 1 ∷ 0 ∷ 2 ∷ 0 ∷ [])) (1 ∷ 1 ∷ 1 ∷ []) (3 ∷ 0 ∷ 0 ∷ 0 ∷ []) (row 1 1 0 2 ∷ row 1 2 0 1 ∷ row 3 2 0 1 ∷ row 5 3 0 2 ∷ [])
 unfolding refusal plan ownList sizeIn
 A-limit-6 = planned _ _ _ _ refl refl refl refl
 
 -- A with B all 0: marks 0, no rows.
-pub A-no-forecast : Planned (A-with 2 (0 ∷ 0 ∷ 0 ∷ 0 ∷ 0 ∷ 0 ∷ [])) (0 ∷ 0 ∷ 0 ∷ []) (0 ∷ 0 ∷ 0 ∷ 0 ∷ []) []
+pub A-no-forecast : PlanIs (A-with 2 (0 ∷ 0 ∷ 0 ∷ 0 ∷ 0 ∷ 0 ∷ [])) (0 ∷ 0 ∷ 0 ∷ []) (0 ∷ 0 ∷ 0 ∷ 0 ∷ []) []
 unfolding refusal plan ownList sizeIn
 A-no-forecast = planned _ _ _ _ refl refl refl refl
 
@@ -73,22 +73,22 @@ abbrev one-chunk : ℕ → ℕ → List ℕ → Job
 one-chunk delay limit forecast = jobOf (record { chunks = 1; span = 1; delay = delay; limit = limit }) (5 ∷ []) [] forecast
 
 -- C 1, L 1, s 1, limit 0, size 5: B = 5 gives marks 1;
-pub one-chunk-5 : Planned (one-chunk 1 0 (5 ∷ [])) (1 ∷ []) (1 ∷ 0 ∷ 0 ∷ 0 ∷ []) (row 1 1 0 5 ∷ [])
+pub one-chunk-5 : PlanIs (one-chunk 1 0 (5 ∷ [])) (1 ∷ []) (1 ∷ 0 ∷ 0 ∷ 0 ∷ []) (row 1 1 0 5 ∷ [])
 unfolding refusal plan ownList sizeIn
 one-chunk-5 = planned _ _ _ _ refl refl refl refl
 
 -- B = 4 gives 0.
-pub one-chunk-4 : Planned (one-chunk 1 0 (4 ∷ [])) (0 ∷ []) (0 ∷ 0 ∷ 0 ∷ 0 ∷ []) []
+pub one-chunk-4 : PlanIs (one-chunk 1 0 (4 ∷ [])) (0 ∷ []) (0 ∷ 0 ∷ 0 ∷ 0 ∷ []) []
 unfolding refusal plan ownList sizeIn
 one-chunk-4 = planned _ _ _ _ refl refl refl refl
 
 -- The same with s 2, B = 5, 0: marks 0;
-pub one-chunk-late : Planned (one-chunk 2 0 (5 ∷ 0 ∷ [])) (0 ∷ []) (0 ∷ 0 ∷ 0 ∷ 0 ∷ []) []
+pub one-chunk-late : PlanIs (one-chunk 2 0 (5 ∷ 0 ∷ [])) (0 ∷ []) (0 ∷ 0 ∷ 0 ∷ 0 ∷ []) []
 unfolding refusal plan ownList sizeIn
 one-chunk-late = planned _ _ _ _ refl refl refl refl
 
 -- with limit 1: marks 1.
-pub one-chunk-held : Planned (one-chunk 2 1 (5 ∷ 0 ∷ [])) (1 ∷ []) (1 ∷ 0 ∷ 0 ∷ 0 ∷ []) (row 1 1 0 5 ∷ [])
+pub one-chunk-held : PlanIs (one-chunk 2 1 (5 ∷ 0 ∷ [])) (1 ∷ []) (1 ∷ 0 ∷ 0 ∷ 0 ∷ []) (row 1 1 0 5 ∷ [])
 unfolding refusal plan ownList sizeIn
 one-chunk-held = planned _ _ _ _ refl refl refl refl
 
@@ -115,12 +115,12 @@ better-beats =
 -- ---- uneven chunks
 
 -- A with chunk 2's base of 3 bytes: the marks of A, other rows.
-pub uneven-plan : Planned (uneven 2) (0 ∷ 3 ∷ 1 ∷ []) (2 ∷ 1 ∷ 0 ∷ 0 ∷ []) uneven-rows
+pub uneven-plan : PlanIs (uneven 2) (0 ∷ 3 ∷ 1 ∷ []) (2 ∷ 1 ∷ 0 ∷ 0 ∷ []) uneven-rows
 unfolding refusal plan ownList sizeIn
 uneven-plan = planned _ _ _ _ refl refl refl refl
 
 -- A with chunk 3's base of 3 bytes: chunk 1 plays, and chunk 2 is skipped.
-pub uneven-marks : Planned (uneven 3) (3 ∷ 0 ∷ 1 ∷ []) (2 ∷ 1 ∷ 0 ∷ 0 ∷ []) (row 1 1 0 2 ∷ row 1 1 1 1 ∷ row 3 3 0 1 ∷ row 5 3 0 2 ∷ [])
+pub uneven-marks : PlanIs (uneven 3) (3 ∷ 0 ∷ 1 ∷ []) (2 ∷ 1 ∷ 0 ∷ 0 ∷ []) (row 1 1 0 2 ∷ row 1 1 1 1 ∷ row 3 3 0 1 ∷ row 5 3 0 2 ∷ [])
 unfolding refusal plan ownList sizeIn
 uneven-marks = planned _ _ _ _ refl refl refl refl
 
@@ -129,7 +129,7 @@ uneven-marks = planned _ _ _ _ refl refl refl refl
 abbrev smoke : Job
 smoke = jobOf (record { chunks = 3; span = 1; delay = 1; limit = 2 }) (1 ∷ []) (record { chunk = 3; layer = 0; bytes = 2 } ∷ []) (1 ∷ 1 ∷ 0 ∷ [])
 
-pub smoke-plan : Planned smoke (0 ∷ 0 ∷ 1 ∷ []) (1 ∷ 0 ∷ 0 ∷ 0 ∷ []) (row 1 3 0 1 ∷ row 2 3 0 1 ∷ [])
+pub smoke-plan : PlanIs smoke (0 ∷ 0 ∷ 1 ∷ []) (1 ∷ 0 ∷ 0 ∷ 0 ∷ []) (row 1 3 0 1 ∷ row 2 3 0 1 ∷ [])
 unfolding refusal plan ownList sizeIn
 smoke-plan = planned _ _ _ _ refl refl refl refl
 

@@ -39,5 +39,5 @@ module _ (m : Meter) (f : ℕ) (answers : answerOf m ≡ Bytes f) (j : Job) (eve
   plan-not-above ok p d = list-not-above (marksOf j p) (ownList j p) (plan-carried j (accepted-sized j ok) p d .0)
 
   -- and of the rows that the planner hands over.
-  pub handed-not-above : Accepted j → NoSlotAbove j (bytesOf (samplesOf m)) (planRows j)
-  handed-not-above ok = plan-not-above ok (plan j) (plan-exists j ok)
+  pub fetched-not-above : Accepted j → NoSlotAbove j (bytesOf (samplesOf m)) (planRows j)
+  fetched-not-above ok = plan-not-above ok (plan j) (plan-exists j ok)

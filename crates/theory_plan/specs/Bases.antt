@@ -59,9 +59,9 @@ abbrev pub forecastBy : Job → ℕ → ℕ
 forecastBy j i = pre (forecast j) (due j i)
 
 -- The chunks whose bases are kept at the end.
-abbrev pub keptAtEnd : Job → List ℕ
-keptAtEnd j = keptAfter (baseSize j) (forecastBy j) (chunks j)
+abbrev pub mooreHodgson : Job → List ℕ
+mooreHodgson j = keptAfter (baseSize j) (forecastBy j) (chunks j)
 
 -- Chunk i is one of them.
 abbrev pub isKept : Job → ℕ → Bool
-isKept j i = has (keptAtEnd j) i
+isKept j i = has (mooreHodgson j) i

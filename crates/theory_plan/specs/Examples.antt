@@ -5,7 +5,7 @@ use mathlib.Core.List.{[], _∷_}
 use lib.ListN.{getD}
 use Rattle.job.specs.Job.{Accepted, Job, jobOf, sizeIn}
 use Rattle.job.specs.Refusal.{accepted-iff, refusal}
-use Rattle.theory_plan.specs.Bases.{keptAfter, keptAtEnd}
+use Rattle.theory_plan.specs.Bases.{keptAfter, mooreHodgson}
 use Rattle.theory_plan.specs.Plan.{plan, planByTrials}
 use Rattle.theory_plan.specs.Statement.{IsPlan, SettledByTrials, marksOf}
 use Rattle.theory_plan.specs.Theorems.{plan-exists, plan-marks-unique, same-marks, trials-exist, trials-unique}
@@ -43,7 +43,7 @@ unfolding sizeIn plan
 limit-2-plan p d = plan-marks-unique (with-limit 2) p (plan (with-limit 2)) d (plan-exists (with-limit 2) limit-2-accepted) ∙ refl
 
 -- What the walk keeps.
-pub poor-kept : keptAtEnd poor ≡ 1 ∷ 2 ∷ []
+pub poor-kept : mooreHodgson poor ≡ 1 ∷ 2 ∷ []
 unfolding sizeIn
 poor-kept = refl
 

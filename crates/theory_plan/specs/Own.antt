@@ -15,41 +15,41 @@ use Rattle.fetch.specs.Rows.{Row, heldCount}
 -- ---- "the carried bytes by chunk, then layer"
 
 -- Bytes of one layer of one chunk that are still to be fetched.
-pub record Part : Type 0 where
+pub record Piece : Type 0 where
   pub chunk : ℕ
   pub layer : ℕ
   pub bytes : ℕ
 
 -- Layer n of chunk i, whole.
-abbrev pub wholeLayer : Job → ℕ → ℕ → Part
+abbrev pub wholeLayer : Job → ℕ → ℕ → Piece
 wholeLayer j i n = record { chunk = i; layer = n; bytes = size j i n }
 
 -- The carried bytes of the chunks 1 to i.
-abbrev pub carriedTo : Job → (ℕ → ℕ) → ℕ → List Part
+abbrev pub carriedTo : Job → (ℕ → ℕ) → ℕ → List Piece
 carriedTo j choice zero = []
 carriedTo j choice (suc i) = carriedTo j choice i ++ upTo (wholeLayer j (suc i)) (choice (suc i))
 
 -- ---- "each slot takes as many next bytes as B(slot) and rule 6 allow"
 
 -- The row of b bytes of part p in slot t, and what is left of p without them.
-abbrev pub rowOf : ℕ → Part → ℕ → Row
+abbrev pub rowOf : ℕ → Piece → ℕ → Row
 rowOf t p b = record { slot = t; chunk = p .chunk; layer = p .layer; bytes = b }
 
-abbrev pub without : Part → ℕ → Part
+abbrev pub without : Piece → ℕ → Piece
 without p b = record { chunk = p .chunk; layer = p .layer; bytes = p .bytes - b }
 
 -- Rule 6 allows a byte of p in slot t: with it beside the rows made so far, at most H chunks are held at the slot's end.
-abbrev pub allowed : Job → List Row → ℕ → Part → Bool
+abbrev pub allowed : Job → List Row → ℕ → Piece → Bool
 allowed j rows t p = leb (heldCount j (rows ++ (rowOf t p 1 ∷ [])) t) (heldMost j)
 
 -- The rows made so far and what is still to be fetched.
 pub record Fetched : Type 0 where
   pub rows : List Row
-  pub left : List Part
+  pub left : List Piece
 
 -- Slot t, with c bytes of its forecast unspent: it takes the next bytes, in one row for each part, and ends if its forecast is
 -- spent, nothing is left, or rule 6 does not allow the next byte.
-abbrev pub slotTakes : Job → ℕ → ℕ → List Row → List Part → Fetched
+abbrev pub slotTakes : Job → ℕ → ℕ → List Row → List Piece → Fetched
 slotTakes j t c rows [] = record { rows = rows; left = [] }
 slotTakes j t c rows (p ∷ ps) =
     cond
@@ -73,11 +73,11 @@ ownList j choice = fetchedBy j choice (lastSlot j) .rows
 -- ---- "one row per slot, chunk and layer"; the planner hands the rows "by slot, chunk, layer"
 
 -- Row x stands before row y by slot, chunk, layer.
-abbrev pub Before : Row → Row → Type 0
-Before x y =
+abbrev pub RowBefore : Row → Row → Type 0
+RowBefore x y =
     (x .slot < y .slot) ⊎ ((x .slot ≡ y .slot) × ((x .chunk < y .chunk) ⊎ ((x .chunk ≡ y .chunk) × (x .layer < y .layer))))
 
 -- Each row stands before all rows after it, so no two are of the same slot, chunk and layer.
 abbrev pub Ascending : List Row → Type 0
 Ascending [] = Unit {0}
-Ascending (x ∷ xs) = All (Before x) xs × Ascending xs
+Ascending (x ∷ xs) = All (RowBefore x) xs × Ascending xs

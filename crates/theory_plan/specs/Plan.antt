@@ -36,18 +36,18 @@ after j t = pre (forecast j) (lastSlot j) - pre (forecast j) t
 -- Throughout, w k are the bytes of chunk k, d k its due slot, A t what is forecast after slot t, and h how many chunks may be held.
 
 -- How much of the forecast, counted from its end, the chunks use up.
-abbrev pub need : (w d A : ℕ → ℕ) → List ℕ → ℕ
-need w d A [] = 0
-need w d A (k ∷ ks) = w k + max (A (d k)) (need w d A ks)
+abbrev pub needOf : (w d A : ℕ → ℕ) → List ℕ → ℕ
+needOf w d A [] = 0
+needOf w d A (k ∷ ks) = w k + max (A (d k)) (needOf w d A ks)
 
 -- For each chunk, those from h places behind it on fit into the slots from its due slot on.
 abbrev pub tails : (w d A : ℕ → ℕ) (h : ℕ) → List ℕ → Bool
 tails w d A h [] = true
-tails w d A h (k ∷ ks) = leb (need w d A (drop h (k ∷ ks))) (A (d k - 1)) && tails w d A h ks
+tails w d A h (k ∷ ks) = leb (needOf w d A (drop h (k ∷ ks))) (A (d k - 1)) && tails w d A h ks
 
 -- The chunks fit: all of them into the whole forecast, and each behind the chunk that must be gone when it begins.
 unfoldable pub feas : (w d A : ℕ → ℕ) (h : ℕ) → List ℕ → Bool
-feas w d A h ks = leb (need w d A ks) (A 0) && tails w d A h ks
+feas w d A h ks = leb (needOf w d A ks) (A 0) && tails w d A h ks
 
 -- The test that a choice fits.
 unfoldable pub fits : Job → (ℕ → ℕ) → Bool
@@ -100,13 +100,13 @@ abbrev pub equalBases : Job → Bool
 equalBases j = allTo (chunks j) (λ i. eqb (baseSize j i) (baseSize j 1))
 
 -- Request 9 settles the bases: H is at least C, and base sizes vary.
-abbrev pub byWalk : Job → Bool
-byWalk j = leb (chunks j) (heldMost j) && not (equalBases j)
+abbrev pub byMooreHodgson : Job → Bool
+byMooreHodgson j = leb (chunks j) (heldMost j) && not (equalBases j)
 
 -- The bases that its walk keeps.
-abbrev pub basesWalked : Job → ℕ → ℕ
-basesWalked j i = cond (isKept j i) 1 0
+abbrev pub basesMooreHodgson : Job → ℕ → ℕ
+basesMooreHodgson j i = cond (isKept j i) 1 0
 
 unfoldable pub plan : Job → ℕ → ℕ
 unfolding fits
-plan j = planOn j (cond (byWalk j) (basesWalked j) (basesTried j))
+plan j = planOn j (cond (byMooreHodgson j) (basesMooreHodgson j) (basesTried j))

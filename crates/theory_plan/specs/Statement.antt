@@ -76,18 +76,18 @@ pub record SettledByTrials (j : Job) (plan : ℕ → ℕ) : Type 0 where
   pub decided : (n : ℕ) → Settles j plan n
 
 -- The bases of request 9: those that its walk keeps (Bases).
-abbrev pub BasesWalked : Job → (ℕ → ℕ) → Type 0
-BasesWalked j plan = (i : ℕ) → 1 ≤ i → i ≤ chunks j → (0 < plan i) ↔ T (isKept j i)
+abbrev pub BasesMooreHodgson : Job → (ℕ → ℕ) → Type 0
+BasesMooreHodgson j plan = (i : ℕ) → 1 ≤ i → i ≤ chunks j → (0 < plan i) ↔ T (isKept j i)
 
 -- "Where H is at least C and base sizes vary".
-abbrev pub ByWalk : Job → Type 0
-ByWalk j = HoldsAll j × (EqualBases j → ⊥)
+abbrev pub ByMooreHodgson : Job → Type 0
+ByMooreHodgson j = HoldsAll j × (EqualBases j → ⊥)
 
 -- The plan. There "base layers are then settled so", elsewhere in document 01's way; "upper layers follow as before".
 pub record IsPlan (j : Job) (plan : ℕ → ℕ) : Type 0 where
   pub choice : Choice j plan
-  pub walked : ByWalk j → BasesWalked j plan
-  pub elsewhere : (ByWalk j → ⊥) → Settles j plan 0
+  pub moore-hodgson : ByMooreHodgson j → BasesMooreHodgson j plan
+  pub elsewhere : (ByMooreHodgson j → ⊥) → Settles j plan 0
   pub upper : (n : ℕ) → Settles j plan (suc n)
 
 -- Two choices agree at the chunks of the job.

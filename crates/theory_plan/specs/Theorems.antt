@@ -15,7 +15,7 @@ use Rattle.fetch.specs.Verdict.{verdict, verdict-iff}
 use Rattle.job.specs.Job.{Accepted, EqualBases, EqualChunks, Job, Layer, chunks, layers, size}
 use Rattle.job.specs.Uneven.{equal-chunks-bases}
 use Rattle.theory_plan.specs.lemmas.Best.{by-trials-fits, first-difference, is-plan-fits, most-bases, most-of-layer}
-use Rattle.theory_plan.specs.Statement.{Best, ByWalk, CanCarry, CarriesExactly, Choice, IsPlan, Same, SettledByTrials, Settles, countOf, countsOf, marksOf}
+use Rattle.theory_plan.specs.Statement.{Best, ByMooreHodgson, CanCarry, CarriesExactly, Choice, IsPlan, Same, SettledByTrials, Settles, countOf, countsOf, marksOf}
 use Rattle.theory_plan.specs.lemmas.Choice.{can-carry-fits, can-carry-iff-fits, fits-can-carry, own, own-exactly, own-in-order, own-passes}
 use Rattle.theory_plan.specs.lemmas.Level.{count-carried, keeps-marks}
 use Rattle.theory_basics.specs.lemmas.Ranges.{count-cong, count-none}
@@ -113,7 +113,7 @@ pub trials-carried : (j : Job) → Sized j → (p : ℕ → ℕ) → SettledByTr
 trials-carried j sized p dec = own-carries j sized p (dec .choice) (fits-can-carry j sized p (dec .choice) (by-trials-fits j sized p dec))
 
 -- which is the plan wherever request 9 does not settle the bases;
-pub elsewhere-iff : (j : Job) → (ByWalk j → ⊥) → (p : ℕ → ℕ) → IsPlan j p ↔ SettledByTrials j p
+pub elsewhere-iff : (j : Job) → (ByMooreHodgson j → ⊥) → (p : ℕ → ℕ) → IsPlan j p ↔ SettledByTrials j p
 elsewhere-iff j other p = (
   λ d. record { choice = d .choice; decided = by-layer d },
   λ d. record { choice = d .choice; walked = λ w. absurd (other w); elsewhere = λ n. d .decided 0; upper = λ n. d .decided (suc n) },

@@ -28,6 +28,6 @@ pub mod Trials
 pub mod Unique
 pub mod Upper
 pub mod Walk
-pub mod Walked
+pub mod MooreHodgson
 pub mod Whole
 pub mod Words

@@ -11,7 +11,7 @@ use Rattle.theory_basics.specs.Sums.{pre, sum}
 use Rattle.job.specs.Job.{Job, Layer, chunks, due, forecast, heldMost, lastSlot, layers}
 use Rattle.theory_basics.specs.Tests.{All}
 use Rattle.theory_basics.specs.Text.{ascii, digits, line, text}
-use Rattle.theory_plan.specs.Plan.{byWalk, bytes, kept}
+use Rattle.theory_plan.specs.Plan.{byMooreHodgson, bytes, kept}
 use Rattle.theory_plan.specs.Statement.{tried}
 
 -- ---- carry and need
@@ -72,7 +72,7 @@ allBasesKept plan i (suc n) = tried plan (suc n) i
 -- What a missing layer of the plan is held against: "for bases settled by request 9, against all bases kept", else against what was
 -- settled before. Upper layers are the same in both.
 abbrev pub against : Job → (ℕ → ℕ) → ℕ → ℕ → ℕ → ℕ
-against j plan = cond (byWalk j) (allBasesKept plan) (settledBefore plan)
+against j plan = cond (byMooreHodgson j) (allBasesKept plan) (settledBefore plan)
 
 -- ---- the lines
 
@@ -124,12 +124,12 @@ pub record IsMissing (j : Job) (plan : ℕ → ℕ) (x : Place) : Type 0 where
   pub not-carried : plan (x .chunk) ≤ x .layer
 
 -- "by chunk and then layer".
-abbrev pub Before : Place → Place → Type 0
-Before x y = (x .chunk < y .chunk) ⊎ ((x .chunk ≡ y .chunk) × (x .layer < y .layer))
+abbrev pub PlaceBefore : Place → Place → Type 0
+PlaceBefore x y = (x .chunk < y .chunk) ⊎ ((x .chunk ≡ y .chunk) × (x .layer < y .layer))
 
 abbrev pub InTurn : List Place → Type 0
 InTurn [] = Unit {0}
-InTurn (x ∷ xs) = All (Before x) xs × InTurn xs
+InTurn (x ∷ xs) = All (PlaceBefore x) xs × InTurn xs
 
 -- One line under each place, in turn.
 abbrev pub Under : (ℕ → ℕ → Line → Type 0) → List Place → List Line → Type 0

@@ -1,5 +1,5 @@
 -- Meaning. The rows from p on: document 02, request 12: "only the rows from p on, listed in document 01's way". The own list of
--- document 01 (schedule's Own), begun with the handed rows and what they leave to be fetched; rule 6 is asked of all rows together.
+-- document 01 (schedule's Own), begun with the fetched rows and what they leave; rule 6 is asked of all rows together.
 use Prim.Native.Nat.{ℕ, zero, suc, _+_, _-_}
 use mathlib.Core.Bool.{cond}
 use mathlib.Core.List.{List, [], _∷_}
@@ -7,23 +7,23 @@ use lib.Dec.{ltb}
 use lib.ListN.{length, drop}
 use Rattle.job.specs.Job.{chunks, forecast, Job, lastSlot}
 use Rattle.fetch.specs.Rows.{bytesOfLayer, Row}
-use Rattle.theory_plan.specs.Own.{carriedTo, Fetched, Part, slotTakes, without}
+use Rattle.theory_plan.specs.Own.{carriedTo, Fetched, Piece, slotTakes, without}
 
--- What the handed rows leave of each part; a part that they hold whole is out.
-abbrev pub unfetched : List Row → List Part → List Part
-unfetched handed [] = []
-unfetched handed (p ∷ ps) =
+-- What the fetched rows leave of each part; a part that they hold whole is out.
+abbrev pub unfetched : List Row → List Piece → List Piece
+unfetched fetched [] = []
+unfetched fetched (p ∷ ps) =
     cond
-    (ltb (bytesOfLayer handed (p .chunk) (p .layer)) (p .bytes))
-    (without p (bytesOfLayer handed (p .chunk) (p .layer)) ∷ unfetched handed ps)
-    (unfetched handed ps)
+    (ltb (bytesOfLayer fetched (p .chunk) (p .layer)) (p .bytes))
+    (without p (bytesOfLayer fetched (p .chunk) (p .layer)) ∷ unfetched fetched ps)
+    (unfetched fetched ps)
 
 -- m slots from p on, one after the other: "each slot takes as many next bytes as B(slot) and rule 6 allow".
 abbrev pub fetchedFrom : Job → ℕ → List Row → (ℕ → ℕ) → ℕ → Fetched
-fetchedFrom j p handed choice zero = record { rows = handed; left = unfetched handed (carriedTo j choice (chunks j)) }
-fetchedFrom j p handed choice (suc m) =
-    let f = fetchedFrom j p handed choice m in slotTakes j (m + p) (forecast j (m + p)) (f .rows) (f .left)
+fetchedFrom j p fetched choice zero = record { rows = fetched; left = unfetched fetched (carriedTo j choice (chunks j)) }
+fetchedFrom j p fetched choice (suc m) =
+    let f = fetchedFrom j p fetched choice m in slotTakes j (m + p) (forecast j (m + p)) (f .rows) (f .left)
 
--- The rows made in the slots p to d(C), without those handed.
+-- The rows made in the slots p to d(C), without those fetched.
 unfoldable pub ownRest : Job → ℕ → List Row → (ℕ → ℕ) → List Row
-ownRest j p handed choice = drop (length handed) (fetchedFrom j p handed choice (suc (lastSlot j) - p) .rows)
+ownRest j p fetched choice = drop (length fetched) (fetchedFrom j p fetched choice (suc (lastSlot j) - p) .rows)

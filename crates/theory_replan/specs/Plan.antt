@@ -20,29 +20,29 @@ afterFrom j p t = after j (max t (p - 1))
 
 -- The bytes of chunk k in the choice that are not yet fetched.
 abbrev pub bytesLeft : Job → List Row → (ℕ → ℕ) → ℕ → ℕ
-bytesLeft j handed choice k = sum (λ n. size j k n - bytesOfLayer handed k n) (choice k)
+bytesLeft j fetched choice k = sum (λ n. size j k n - bytesOfLayer fetched k n) (choice k)
 
 -- Chunk i is begun, given up or not, or it is kept: so it may be held.
 abbrev pub busy : List Row → (ℕ → ℕ) → ℕ → Bool
-busy handed choice i = hasRow handed i || leb 1 (choice i)
+busy fetched choice i = hasRow fetched i || leb 1 (choice i)
 
 abbrev pub busyChunks : Job → List Row → (ℕ → ℕ) → List ℕ
-busyChunks j handed choice = picked (busy handed choice) 0 (chunks j)
+busyChunks j fetched choice = picked (busy fetched choice) 0 (chunks j)
 
 -- Layers whole before p are in the choice, a chunk that is kept has begun or plays after all that have, and the busy chunks fit, each
 -- with the bytes not yet fetched, into the slots from p on.
 unfoldable pub fitsFrom : Job → ℕ → List Row → (ℕ → ℕ) → Bool
 unfolding feas
-fitsFrom j p handed choice =
-    allTo (chunks j) (λ k. leb (layersCarried j handed k) (choice k))
-    && (allTo (chunks j) (λ i. not (leb 1 (choice i)) || (hasRow handed i || all (λ x. ltb (x .chunk) i) handed))
-    && feas (bytesLeft j handed choice) (due j) (afterFrom j p) (heldMost j) (busyChunks j handed choice))
+fitsFrom j p fetched choice =
+    allTo (chunks j) (λ k. leb (layersCarried j fetched k) (choice k))
+    && (allTo (chunks j) (λ i. not (leb 1 (choice i)) || (hasRow fetched i || all (λ x. ltb (x .chunk) i) fetched))
+    && feas (bytesLeft j fetched choice) (due j) (afterFrom j p) (heldMost j) (busyChunks j fetched choice))
 
 -- ---- the trials
 
 -- Chunk i is due from p on, and the choice fits.
 abbrev pub openTo : Job → ℕ → List Row → ℕ → (ℕ → ℕ) → Bool
-openTo j p handed i choice = leb p (due j i) && fitsFrom j p handed choice
+openTo j p fetched i choice = leb p (due j i) && fitsFrom j p fetched choice
 
 -- The trials in general, where ok i says of the choice that is tried whether chunk i may have one layer more.
 
@@ -67,4 +67,4 @@ planTo c base ok (suc n) = sweep ok n 0 c (planTo c base ok n)
 -- All layers, from those whole before p on.
 unfoldable pub replan : Job → ℕ → List Row → ℕ → ℕ
 unfolding fitsFrom
-replan j p handed = planTo (chunks j) (layersCarried j handed) (openTo j p handed) (layers j)
+replan j p fetched = planTo (chunks j) (layersCarried j fetched) (openTo j p fetched) (layers j)

@@ -23,7 +23,7 @@ use Rattle.theory_replan.specs.Statement.{Acceptable, joined}
 
 -- 21: "in planning a handed row not before p".
 abbrev pub beforeRefusal : ℕ → List Row → ℕ
-beforeRefusal p handed = unless 21 (all (λ x. ltb (x .slot) p) handed)
+beforeRefusal p fetched = unless 21 (all (λ x. ltb (x .slot) p) fetched)
 
 -- 7: "a handed forecast out of range or not of d(C) − p + 1 slots is 7, between 21 and 22".
 abbrev pub onwardRefusal : Job → ℕ → List ℕ → ℕ
@@ -33,28 +33,28 @@ onwardRefusal j p onward = bytesRefusal onward orElse unless 7 (eqb (length onwa
 abbrev pub noMore : Job → List Row → Bool
 noMore j rows = allLayers j (λ i n. leb (bytesOfLayer rows i n) (size j i n))
 
--- By the slot of each row, each chunk with a handed row that plays before is begun.
+-- By the slot of each row, each chunk with a fetched row that plays before is begun.
 abbrev pub inTurn : List Row → Bool
 inTurn rows = all (λ x. all (λ y. not (ltb (y .chunk) (x .chunk)) || begun rows (x .slot) (y .chunk)) rows) rows
 
 -- 22: "handed rows that break rule 1, 3, 4, 5 or 6, with rule 2 only where a sum exceeds its size, or that begin a chunk in an earlier slot
 -- than a handed one that plays before it".
-abbrev pub handedKept : Job → List Row → Bool
-handedKept j rows = rule1 j rows && (noMore j rows && (rule3 j rows && (rule4 j rows && (rule5 j rows && (rule6 j rows && inTurn rows)))))
+abbrev pub fetchedKept : Job → List Row → Bool
+fetchedKept j rows = rule1 j rows && (noMore j rows && (rule3 j rows && (rule4 j rows && (rule5 j rows && (rule6 j rows && inTurn rows)))))
 
 -- 21, 7 and 22, in this order.
 unfoldable pub replanRefusal : Job → ℕ → List Row → List ℕ → ℕ
-replanRefusal j p handed onward =
+replanRefusal j p fetched onward =
     slotRefusal (j .programme) p
-    orElse beforeRefusal p handed
+    orElse beforeRefusal p fetched
     orElse onwardRefusal j p onward
-    orElse unless 22 (handedKept (joined j p onward) handed)
+    orElse unless 22 (fetchedKept (joined j p onward) fetched)
 
 -- What none of them says.
-pub record Replannable (j : Job) (p : ℕ) (handed : List Row) (onward : List ℕ) : Type 0 where
+pub record Replannable (j : Job) (p : ℕ) (fetched : List Row) (onward : List ℕ) : Type 0 where
   pub slots-in : length onward ≡ suc (lastSlot j) - p
   pub onward-in : All (Within 0 16777216) onward
-  pub acceptable : Acceptable (joined j p onward) p handed
+  pub acceptable : Acceptable (joined j p onward) p fetched
 
 -- ---- they say it
 
@@ -79,8 +79,8 @@ in-turn-iff rows =
       λ f. both .1 (each-row (λ x. All (P x) rows) rows (λ x i. each-row (P x) rows (λ y k. f x y i k))),
     )
 
-pub before-iff : (p : ℕ) (handed : List Row) → (beforeRefusal p handed ≡ 0) ↔ All (λ x. x .slot < p) handed
-before-iff p handed = unless-as 21 (all (λ x. ltb (x .slot) p) handed) (omega arith) (all-iff (λ x. ltb (x .slot) p) (λ x. x .slot < p) (λ x. ltb-iff (x .slot) p) handed)
+pub before-iff : (p : ℕ) (fetched : List Row) → (beforeRefusal p fetched ≡ 0) ↔ All (λ x. x .slot < p) fetched
+before-iff p fetched = unless-as 21 (all (λ x. ltb (x .slot) p) fetched) (omega arith) (all-iff (λ x. ltb (x .slot) p) (λ x. x .slot < p) (λ x. ltb-iff (x .slot) p) fetched)
 
 pub onward-iff : (j : Job) (p : ℕ) (onward : List ℕ) → (onwardRefusal j p onward ≡ 0) ↔ (All (Within 0 16777216) onward × (length onward ≡ suc (lastSlot j) - p))
 onward-iff j p onward =
@@ -88,14 +88,14 @@ onward-iff j p onward =
     orElse-as (bytesRefusal onward) (unless 7 many) (bytes-iff onward) (unless-as 7 many (omega arith) (eqb-iff (length onward) (suc (lastSlot j) - p)))
 
 pub replan-refusal-iff :
-    (j : Job) (p : ℕ) (handed : List Row) (onward : List ℕ) → (replanRefusal j p handed onward ≡ 0) ↔ Replannable j p handed onward
+    (j : Job) (p : ℕ) (fetched : List Row) (onward : List ℕ) → (replanRefusal j p fetched onward ≡ 0) ↔ Replannable j p fetched onward
 unfolding replanRefusal
-replan-refusal-iff j p handed onward =
+replan-refusal-iff j p fetched onward =
     let k = joined j p onward in
     let kept =
-    unless-as 22 (handedKept k handed) (omega arith)
-    (and-as (rule1 k handed) _ (rule1-iff k handed) (and-as (noMore k handed) _ (no-more-iff k handed) (and-as (rule3 k handed) _ (rule3-iff k handed) (and-as (rule4 k handed) _ (rule4-iff k handed) (and-as (rule5 k handed) _ (rule5-iff k handed) (and-as (rule6 k handed) (inTurn handed) (rule6-iff k handed) (in-turn-iff handed))))))) in
-    let r = orElse-as _ _ (slot-iff (j .programme) p) (orElse-as _ _ (before-iff p handed) (orElse-as _ _ (onward-iff j p onward) kept)) in (
+    unless-as 22 (fetchedKept k fetched) (omega arith)
+    (and-as (rule1 k fetched) _ (rule1-iff k fetched) (and-as (noMore k fetched) _ (no-more-iff k fetched) (and-as (rule3 k fetched) _ (rule3-iff k fetched) (and-as (rule4 k fetched) _ (rule4-iff k fetched) (and-as (rule5 k fetched) _ (rule5-iff k fetched) (and-as (rule6 k fetched) (inTurn fetched) (rule6-iff k fetched) (in-turn-iff fetched))))))) in
+    let r = orElse-as _ _ (slot-iff (j .programme) p) (orElse-as _ _ (before-iff p fetched) (orElse-as _ _ (onward-iff j p onward) kept)) in (
       λ e.
           let u = r .0 e in
           let v = u .1 .1 .1 in
@@ -148,8 +148,8 @@ joined-in j a p low high onward small many =
           );
     }
 
-pub joined-accepted : (j : Job) → Accepted j → (p : ℕ) (handed : List Row) (onward : List ℕ) → Replannable j p handed onward → Accepted (joined j p onward)
-joined-accepted j a p handed onward r = joined-in j a p (r .acceptable .p-low) (r .acceptable .p-high) onward (r .onward-in) (r .slots-in)
+pub joined-accepted : (j : Job) → Accepted j → (p : ℕ) (fetched : List Row) (onward : List ℕ) → Replannable j p fetched onward → Accepted (joined j p onward)
+joined-accepted j a p fetched onward r = joined-in j a p (r .acceptable .p-low) (r .acceptable .p-high) onward (r .onward-in) (r .slots-in)
 
 -- "the forecast hasn't changed"
 pub joined-unchanged : (j : Job) (p : ℕ) → joined j p (drop (p - 1) (j .forecast)) ≡ j

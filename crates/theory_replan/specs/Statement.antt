@@ -1,5 +1,5 @@
 -- Meaning. What a plan made afresh at slot p is: document 02, request 12. The statements and nothing else, to be read from top to
--- bottom, beside schedule's Statement. `handed` are "the rows fetched before p". What they are made of stands once, elsewhere:
+-- bottom, beside schedule's Statement. `fetched` are "the rows fetched before p". What they are made of stands once, elsewhere:
 --   the second checker call: its rule 2, `KeepsFrom` (a list with marks), `PassesFrom`   crate fetch, RulesFrom
 --   its verdict, 0 exactly if its rules are kept                                         crate fetch, VerdictFrom
 --   a choice, the layers settled so far, the counts and marks of a choice                crate schedule, Statement
@@ -16,7 +16,7 @@ use lib.ListN.{take}
 use Rattle.theory_basics.specs.Tests.{All, In}
 use Rattle.job.specs.Job.{Job, Layer, due, lastSlot, size, withForecast}
 use Rattle.fetch.specs.Rows.{Row, Carried, begun, bytesOfLayer, layersCarried}
-use Rattle.fetch.specs.Rules.{FewHeld, InRange, LowerCarried, OnTime, PlayingOrder, WithinForecast}
+use Rattle.fetch.specs.Rules.{FewHeld, RowInRange, LowerCarried, OnTime, PlayingOrder, WithinForecast}
 use Rattle.fetch.specs.RulesFrom.{PassesFrom}
 use Rattle.theory_plan.specs.Own.{ownList}
 use Rattle.theory_plan.specs.Statement.{CarriesExactly, Choice, Same, settled}
@@ -38,53 +38,53 @@ rowsFrom p [] = []
 rowsFrom p (x ∷ xs) = cond (ltb (x .slot) p) (rowsFrom p xs) (x ∷ rowsFrom p xs)
 
 -- Rows that refusals 21 and 22 let pass.
-pub record Acceptable (j : Job) (p : ℕ) (handed : List Row) : Type 0 where
+pub record Acceptable (j : Job) (p : ℕ) (fetched : List Row) : Type 0 where
   -- 21: "p not from 1 to d(C)", "a handed row not before p"
   pub p-low : 1 ≤ p
   pub p-high : p ≤ lastSlot j
-  pub before : All (λ x. x .slot < p) handed
+  pub before : All (λ x. x .slot < p) fetched
   -- 22: "handed rows that break rule 1, 3, 4, 5 or 6, with rule 2 only where a sum exceeds its size,
-  pub in-range : All (InRange j) handed
-  pub no-more : (i n : ℕ) → Layer j i n → bytesOfLayer handed i n ≤ size j i n
-  pub lower : LowerCarried j handed
-  pub within : WithinForecast j handed
-  pub on-time : All (OnTime j) handed
-  pub few-held : FewHeld j handed
+  pub in-range : All (RowInRange j) fetched
+  pub no-more : (i n : ℕ) → Layer j i n → bytesOfLayer fetched i n ≤ size j i n
+  pub lower : LowerCarried j fetched
+  pub within : WithinForecast j fetched
+  pub on-time : All (OnTime j) fetched
+  pub few-held : FewHeld j fetched
   -- or that begin a chunk in an earlier slot than a handed one that plays before it": by the slot of each row, each chunk with a
-  -- handed row that plays before is begun.
-  pub in-turn : (x y : Row) → In x handed → In y handed → y .chunk < x .chunk → T (begun handed (x .slot) (y .chunk))
+  -- fetched row that plays before is begun.
+  pub in-turn : (x y : Row) → In x fetched → In y fetched → y .chunk < x .chunk → T (begun fetched (x .slot) (y .chunk))
 
 -- ---- what can still be carried
 
 -- Some list that begins with the rows fetched, all its other rows in slots from p on, passes the second call in playing order and
--- carries the choice and no other layers. (So a begun layer that is not of the choice stays spent: its handed rows are in the list,
+-- carries the choice and no other layers. (So a begun layer that is not of the choice stays spent: its fetched rows are in the list,
 -- and its chunk is held to its due slot.)
-pub record CanCarryFrom (j : Job) (p : ℕ) (handed : List Row) (choice : ℕ → ℕ) : Type 0 where
+pub record CanCarryFrom (j : Job) (p : ℕ) (fetched : List Row) (choice : ℕ → ℕ) : Type 0 where
   pub more : List Row
   pub later : All (λ x. p ≤ x .slot) more
-  pub passes : PassesFrom j p (handed ++ more)
-  pub in-order : PlayingOrder j (handed ++ more)
-  pub exactly : CarriesExactly j (handed ++ more) choice
+  pub passes : PassesFrom j p (fetched ++ more)
+  pub in-order : PlayingOrder j (fetched ++ more)
+  pub exactly : CarriesExactly j (fetched ++ more) choice
 
 -- ---- the plan made afresh
 
 -- The layers settled as carried so far: those whole before p, and those that the trials before that of layer n of chunk i have
 -- settled. (Layers whole before p are, by rule 3, the lowest ones of their chunk.)
 abbrev pub settledFrom : Job → List Row → (ℕ → ℕ) → ℕ → ℕ → ℕ → ℕ
-settledFrom j handed plan n i k = max (layersCarried j handed k) (settled plan n i k)
+settledFrom j fetched plan n i k = max (layersCarried j fetched k) (settled plan n i k)
 
 -- Those, and layer n of chunk i.
 abbrev pub triedFrom : Job → List Row → (ℕ → ℕ) → ℕ → ℕ → ℕ → ℕ
-triedFrom j handed plan n i k = cond (eqb k i) (suc n) (settledFrom j handed plan n i k)
+triedFrom j fetched plan n i k = cond (eqb k i) (suc n) (settledFrom j fetched plan n i k)
 
 -- "Layers whole before p are carried. Chunks due before p are settled by what they have. Others are settled as in document 01, bases
 -- too, over lists that begin with the rows fetched": a layer is carried exactly if it is whole before p, or else its chunk is due
 -- from p on, the layer below is carried, and some such list carries the layers settled as carried so far, this one and no others.
-pub record IsReplan (j : Job) (p : ℕ) (handed : List Row) (plan : ℕ → ℕ) : Type 0 where
+pub record IsReplan (j : Job) (p : ℕ) (fetched : List Row) (plan : ℕ → ℕ) : Type 0 where
   pub choice : Choice j plan
   pub decided :
       (i n : ℕ) → Layer j i n →
-      (n < plan i) ↔ (Carried j handed i n ⊎ ((p ≤ due j i) × (n ≤ plan i) × CanCarryFrom j p handed (triedFrom j handed plan n i)))
+      (n < plan i) ↔ (Carried j fetched i n ⊎ ((p ≤ due j i) × (n ≤ plan i) × CanCarryFrom j p fetched (triedFrom j fetched plan n i)))
 
 -- ---- a standing plan
 

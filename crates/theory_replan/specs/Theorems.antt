@@ -1,5 +1,5 @@
--- Theorems. What Statement states of planning afresh, proved: the decision, that there is exactly one plan made afresh, that the handed
--- rows with the own rows from p on pass the second call with its marks, in playing order, and carry exactly it, that the handed rows may
+-- Theorems. What Statement states of planning afresh, proved: the decision, that there is exactly one plan made afresh, that the fetched
+-- rows with the own rows from p on pass the second call with its marks, in playing order, and carry exactly it, that the fetched rows may
 -- come in any order, and that a standing plan goes on, from slot 1 too. Desk says the same as the desk calls it.
 use Prim.Native.Nat.{ℕ, _≤_, _<_}
 use mathlib.Core.Path.{_≡_, _∙_, subst}
@@ -11,7 +11,7 @@ use Rattle.theory_basics.specs.Tests.{All}
 use Rattle.theory_basics.specs.lemmas.Tests.{all-map}
 use Rattle.job.specs.Job.{Accepted, Job, Layer, due, lastSlot, layers}
 use Rattle.fetch.specs.Rows.{Carried, Permuted, Row, layerCount}
-use Rattle.fetch.specs.Rules.{InRange, PlayingOrder}
+use Rattle.fetch.specs.Rules.{RowInRange, PlayingOrder}
 use Rattle.fetch.specs.RulesFrom.{KeepsFrom}
 use Rattle.theory_plan.specs.Own.{ownList}
 use Rattle.theory_plan.specs.Statement.{CarriesExactly, Choice, SettledByTrials, Same, countOf, marksOf}
@@ -31,59 +31,59 @@ use Rattle.theory_replan.specs.lemmas.Standing.{before-all, from-all, st
 
 -- Some list that begins with the rows fetched carries exactly the choice, if and only if the computed test holds.
 pub decision-from :
-    (j : Job) → Accepted j → (p : ℕ) (handed : List Row) → Acceptable j p handed → (choice : ℕ → ℕ) → Choice j choice →
-    CanCarryFrom j p handed choice ↔ T (fitsFrom j p handed choice)
-decision-from j a p handed ok lv c =
-    let d = can-carry-from-iff j (accepted-sized j a) p handed ok lv c in
-    let t = fits-from-iff j p handed lv in
+    (j : Job) → Accepted j → (p : ℕ) (fetched : List Row) → Acceptable j p fetched → (choice : ℕ → ℕ) → Choice j choice →
+    CanCarryFrom j p fetched choice ↔ T (fitsFrom j p fetched choice)
+decision-from j a p fetched ok lv c =
+    let d = can-carry-from-iff j (accepted-sized j a) p fetched ok lv c in
+    let t = fits-from-iff j p fetched lv in
     (λ s. t .1 (d .0 s), λ u. d .1 (t .0 u))
 
 -- ---- exactly one plan made afresh
 
-pub replan-exists : (j : Job) → Accepted j → (p : ℕ) (handed : List Row) → Acceptable j p handed → IsReplan j p handed (replan j p handed)
-replan-exists j a p handed ok = replan-is-replan j p handed ok (accepted-sized j a)
+pub replan-exists : (j : Job) → Accepted j → (p : ℕ) (fetched : List Row) → Acceptable j p fetched → IsReplan j p fetched (replan j p fetched)
+replan-exists j a p fetched ok = replan-is-replan j p fetched ok (accepted-sized j a)
 
 pub replan-unique :
-    (j : Job) (p : ℕ) (handed : List Row) → Acceptable j p handed → (a b : ℕ → ℕ) → IsReplan j p handed a → IsReplan j p handed b → Same j a b
-replan-unique j p handed ok = replans-agree j p handed ok
+    (j : Job) (p : ℕ) (fetched : List Row) → Acceptable j p fetched → (a b : ℕ → ℕ) → IsReplan j p fetched a → IsReplan j p fetched b → Same j a b
+replan-unique j p fetched ok = replans-agree j p fetched ok
 
 -- "Layers whole before p are carried."
 pub whole-are-carried :
-    (j : Job) (p : ℕ) (handed : List Row) (plan : ℕ → ℕ) → IsReplan j p handed plan → (i n : ℕ) → Layer j i n → Carried j handed i n → n < plan i
-whole-are-carried j p handed plan d i n r c = d .decided i n r .1 (inl c)
+    (j : Job) (p : ℕ) (fetched : List Row) (plan : ℕ → ℕ) → IsReplan j p fetched plan → (i n : ℕ) → Layer j i n → Carried j fetched i n → n < plan i
+whole-are-carried j p fetched plan d i n r c = d .decided i n r .1 (inl c)
 
 -- "Chunks due before p are settled by what they have."
 pub due-before-by-what-they-have :
-    (j : Job) (p : ℕ) (handed : List Row) (plan : ℕ → ℕ) → IsReplan j p handed plan → (i n : ℕ) → Layer j i n → due j i < p →
-    (n < plan i) ↔ Carried j handed i n
-due-before-by-what-they-have j p handed plan d i n r h =
+    (j : Job) (p : ℕ) (fetched : List Row) (plan : ℕ → ℕ) → IsReplan j p fetched plan → (i n : ℕ) → Layer j i n → due j i < p →
+    (n < plan i) ↔ Carried j fetched i n
+due-before-by-what-they-have j p fetched plan d i n r h =
     (λ l. ⊎-elim (λ c. c) (λ u. absurd (omega (arith, u .0))) (d .decided i n r .0 l), λ c. d .decided i n r .1 (inl c))
 
 -- ---- the rows
 
 -- "only the rows from p on"; "together with the handed rows they pass that call", in playing order, and carry exactly the plan.
-pub record CarriesAfresh (j : Job) (p : ℕ) (handed : List Row) (plan : ℕ → ℕ) (rest : List Row) : Type 0 where
+pub record CarriesAfresh (j : Job) (p : ℕ) (fetched : List Row) (plan : ℕ → ℕ) (rest : List Row) : Type 0 where
   pub later : All (λ x. p ≤ x .slot) rest
-  pub keeps : KeepsFrom j p (marksOf j plan) (handed ++ rest)
-  pub in-order : PlayingOrder j (handed ++ rest)
-  pub exactly : CarriesExactly j (handed ++ rest) plan
-  pub counted : (n : ℕ) → n < layers j → layerCount j (handed ++ rest) n ≡ countOf j plan n
+  pub keeps : KeepsFrom j p (marksOf j plan) (fetched ++ rest)
+  pub in-order : PlayingOrder j (fetched ++ rest)
+  pub exactly : CarriesExactly j (fetched ++ rest) plan
+  pub counted : (n : ℕ) → n < layers j → layerCount j (fetched ++ rest) n ≡ countOf j plan n
 
 pub replan-carries :
-    (j : Job) → Accepted j → (p : ℕ) (handed : List Row) → Acceptable j p handed → (plan : ℕ → ℕ) → IsReplan j p handed plan →
-    CarriesAfresh j p handed plan (ownRest j p handed plan)
-replan-carries j a p handed ok plan d =
+    (j : Job) → Accepted j → (p : ℕ) (fetched : List Row) → Acceptable j p fetched → (plan : ℕ → ℕ) → IsReplan j p fetched plan →
+    CarriesAfresh j p fetched plan (ownRest j p fetched plan)
+replan-carries j a p fetched ok plan d =
     let sized = accepted-sized j a in
-    let f = is-replan-fits j p handed ok sized plan d in
+    let f = is-replan-fits j p fetched ok sized plan d in
     record {
-      later = rest-later j sized p handed ok plan (d .choice) f;
-      keeps = rest-keeps j sized p handed ok plan (d .choice) f;
-      in-order = rest-in-order j sized p handed ok plan (d .choice) f;
-      exactly = rest-exactly j sized p handed ok plan (d .choice) f;
-      counted = count-carried j (handed ++ ownRest j p handed plan) plan (rest-exactly j sized p handed ok plan (d .choice) f);
+      later = rest-later j sized p fetched ok plan (d .choice) f;
+      keeps = rest-keeps j sized p fetched ok plan (d .choice) f;
+      in-order = rest-in-order j sized p fetched ok plan (d .choice) f;
+      exactly = rest-exactly j sized p fetched ok plan (d .choice) f;
+      counted = count-carried j (fetched ++ ownRest j p fetched plan) plan (rest-exactly j sized p fetched ok plan (d .choice) f);
     }
 
--- ---- the handed rows in any order
+-- ---- the fetched rows in any order
 
 -- "Rows may repeat and come in any order": the same refusal, the same plan and the same rows.
 pub record OrderFree (j : Job) (p : ℕ) (a b : List Row) : Type 0 where
@@ -112,7 +112,7 @@ from-the-start j a q is =
     let last : 1 ≤ lastSlot j = omega (arith, a .delay-in .low) in
     let g = standing-plan j a q is 1 (omega arith) last in
     let own = ownList j q in
-    let all : All (λ x. 1 ≤ x .slot) own = all-map (InRange j) (λ x. 1 ≤ x .slot) own (λ x r. r .slot-low) (trials-carried j (accepted-sized j a) q is .0 .in-range) in
+    let all : All (λ x. 1 ≤ x .slot) own = all-map (RowInRange j) (λ x. 1 ≤ x .slot) own (λ x r. r .slot-low) (trials-carried j (accepted-sized j a) q is .0 .in-range) in
     let none : rowsBefore 1 own ≡ [] = before-all 1 [] own tt all in
     let every : rowsFrom 1 own ≡ own = from-all 1 [] own tt all in
     record {

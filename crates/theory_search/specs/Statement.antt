@@ -12,7 +12,7 @@ use Rattle.theory_basics.specs.Tests.{All}
 use Rattle.job.specs.Job.{Job, chunks, layers}
 use Rattle.fetch.specs.Rows.{Row, layerCount}
 use Rattle.fetch.specs.Rules.{Keeps, Passes, PlayingOrder}
-use Rattle.theory_plan.specs.Bases.{Asc, keptAtEnd}
+use Rattle.theory_plan.specs.Bases.{Asc, mooreHodgson}
 use Rattle.theory_plan.specs.Statement.{CanCarry, Choice, Settles, countOf, marksOf}
 
 -- ---- sets of chunks
@@ -73,7 +73,7 @@ pub record FirstOfMost (sets : List (List ℕ)) (best : List ℕ) : Type 0 where
 
 -- "the count of request 9 without the limit": of the bases that its walk keeps, whatever H is and whether or not base sizes vary.
 unfoldable pub mostWithoutLimit : Job → ℕ
-mostWithoutLimit j = length (keptAtEnd j)
+mostWithoutLimit j = length (mooreHodgson j)
 
 pub record Found : Type 0 where
   pub kept : List ℕ

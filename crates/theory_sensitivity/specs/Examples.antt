@@ -14,7 +14,7 @@ use Rattle.job.specs.Refusal.{accepted-iff, refusal}
 use Rattle.job.specs.Uneven.{equal-iff}
 use Rattle.theory_plan.specs.Plan.{plan}
 use Rattle.theory_plan.specs.Statement.{countsOf}
-use Rattle.theory_sensitivity.specs.Statement.{OneSlotMore, RisesLittle, Steady, baseSize, bases}
+use Rattle.theory_sensitivity.specs.Statement.{OneSlotMore, RisesLittle, Steady, equalBaseSize, bases}
 use Rattle.theory_sensitivity.specs.Theorems.{steady}
 
 -- How many bases the plan of a job carries.
@@ -65,11 +65,11 @@ pub A-one-slot : OneSlotMore A A-more 3 1
 A-one-slot = one-slot A A-more 3 1 refl (record { low = omega arith; high = omega arith }) refl tt
 
 -- A carries 2 bases, with the byte 3, and 1 divided by the base size 2, rounded up, is 1.
-pub A-bases : (planBases A ≡ 2) × (planBases A-more ≡ 3) × (dividedUp 1 (baseSize A) ≡ 1)
+pub A-bases : (planBases A ≡ 2) × (planBases A-more ≡ 3) × (dividedUp 1 (equalBaseSize A) ≡ 1)
 unfolding plan sizeIn
 A-bases = (refl, refl, refl)
 
-pub A-steady : RisesLittle (baseSize A) 1 (planBases A) (planBases A-more)
+pub A-steady : RisesLittle (equalBaseSize A) 1 (planBases A) (planBases A-more)
 A-steady = steady A A-accepted A-equal .growing A-more A-more-accepted 3 1 A-one-slot
 
 -- ---- rounding up is needed, and one base more is not the most
@@ -86,7 +86,7 @@ pub two-one-slot : OneSlotMore (two 0) (two 3) 1 3
 two-one-slot = one-slot (two 0) (two 3) 1 3 refl (record { low = omega arith; high = omega arith }) refl tt
 
 -- 3 bytes more carry 2 bases more. Rounded down, 3 divided by 2 is 1.
-pub two-bases : (planBases (two 0) ≡ 0) × (planBases (two 3) ≡ 2) × (dividedUp 3 (baseSize (two 0)) ≡ 2) × (3 / baseSize (two 0) ≡ 1)
+pub two-bases : (planBases (two 0) ≡ 0) × (planBases (two 3) ≡ 2) × (dividedUp 3 (equalBaseSize (two 0)) ≡ 2) × (3 / equalBaseSize (two 0) ≡ 1)
 unfolding plan sizeIn
 two-bases = (refl, refl, refl, refl)
 

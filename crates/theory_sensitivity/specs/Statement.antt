@@ -15,8 +15,8 @@ pub record OneSlotMore (j k : Job) (t b : ℕ) : Type 0 where
   pub other-slots : (u : ℕ) → 1 ≤ u → u ≤ lastSlot j → (u ≡ t → ⊥) → forecast k u ≡ forecast j u
 
 -- Where chunks are equal, the base size is that of chunk 1.
-abbrev pub baseSize : Job → ℕ
-baseSize j = size j 1 0
+abbrev pub equalBaseSize : Job → ℕ
+equalBaseSize j = size j 1 0
 
 -- Of the four layer counts of a plan, the number of bases carried.
 abbrev pub bases : List ℕ → ℕ
@@ -34,7 +34,7 @@ pub record RisesLittle (z b without with-more : ℕ) : Type 0 where
 pub record Steady (j : Job) (counts : Job → List ℕ) : Type 0 where
   -- One slot's forecast grows by b bytes from j to k.
   pub growing :
-      (k : Job) → Accepted k → (t b : ℕ) → OneSlotMore j k t b → RisesLittle (baseSize j) b (bases (counts j)) (bases (counts k))
+      (k : Job) → Accepted k → (t b : ℕ) → OneSlotMore j k t b → RisesLittle (equalBaseSize j) b (bases (counts j)) (bases (counts k))
   -- "and for shrinking likewise": it shrinks by b bytes from j to k, so that j has b bytes more.
   pub shrinking :
-      (k : Job) → Accepted k → (t b : ℕ) → OneSlotMore k j t b → RisesLittle (baseSize j) b (bases (counts k)) (bases (counts j))
+      (k : Job) → Accepted k → (t b : ℕ) → OneSlotMore k j t b → RisesLittle (equalBaseSize j) b (bases (counts k)) (bases (counts j))

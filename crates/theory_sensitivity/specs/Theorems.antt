@@ -16,7 +16,7 @@ use Rattle.theory_plan.specs.Statement.{Best, IsPlan, countOf, countsOf, marksO
 use Rattle.theory_plan.specs.Theorems.{best, plan-exists}
 use Rattle.theory_plan.specs.lemmas.Level.{keeps-passes}
 use Rattle.theory_plan.specs.lemmas.Words.{accepted-sized, layer-of}
-use Rattle.theory_sensitivity.specs.Statement.{OneSlotMore, RisesLittle, Steady, baseSize}
+use Rattle.theory_sensitivity.specs.Statement.{OneSlotMore, RisesLittle, Steady, equalBaseSize}
 use Rattle.theory_sensitivity.specs.lemmas.Bases.{few-fewer}
 use Rattle.theory_sensitivity.specs.lemmas.Grown.{passes-grown}
 
@@ -29,16 +29,16 @@ module _ (j : Job) (a : Accepted j) (equal : EqualChunks j) (f : List ℕ) (t b 
   some : 0 < layers j
   some = a .layers-in .low
 
-  base-is : (i : ℕ) → 1 ≤ i → i ≤ chunks j → size j i 0 ≡ baseSize j
+  base-is : (i : ℕ) → 1 ≤ i → i ≤ chunks j → size j i 0 ≡ equalBaseSize j
   base-is i u v = equal i 1 0 (layer-of j i 0 u v some) (layer-of j 1 0 (omega arith) (a .chunks-in .low) some)
 
   -- What passes for j passes for k, and for what passes for k some list passes for j with at most so many bases fewer.
   best-rises :
-      (p q : ℕ → ℕ) (l m : List Row) → Best j p l → Best k q m → RisesLittle (baseSize j) b (countOf j p 0) (countOf k q 0)
+      (p q : ℕ → ℕ) (l m : List Row) → Best j p l → Best k q m → RisesLittle (equalBaseSize j) b (countOf j p 0) (countOf k q 0)
   best-rises p q l m best-p best-q =
       let z = size-least j a 1 0 some in
       let fewer =
-      few-fewer j (accepted-sized j a) some (baseSize j) base-is (a .span-in .low) f t b more (dividedUp b (baseSize j)) (divided-up-enough b (baseSize j) z)
+      few-fewer j (accepted-sized j a) some (equalBaseSize j) base-is (a .span-in .low) f t b more (dividedUp b (equalBaseSize j)) (divided-up-enough b (equalBaseSize j) z)
       m
       (keeps-passes k (marksOf k q) m (best-q .passes)) in
       record {
@@ -60,10 +60,10 @@ equal-too j k a a′ same equal = equal-iff k a′ .1 (same ∙ equal-iff j a .0
 -- of the two jobs.
 pub plans-rise-little :
     (j k : Job) → Accepted j → Accepted k → EqualChunks j → (t b : ℕ) → OneSlotMore j k t b → (p q : ℕ → ℕ) → IsPlan j p → IsPlan k q →
-    RisesLittle (baseSize j) b (countOf j p 0) (countOf k q 0)
+    RisesLittle (equalBaseSize j) b (countOf j p 0) (countOf k q 0)
 plans-rise-little j k a a′ equal t b more p q dec dec′ =
     subst
-    (λ (x : Job). OneSlotMore j x t b → Best x q (ownList k q) → RisesLittle (baseSize j) b (countOf j p 0) (countOf x q 0))
+    (λ (x : Job). OneSlotMore j x t b → Best x q (ownList k q) → RisesLittle (equalBaseSize j) b (countOf j p 0) (countOf x q 0))
     (sym (more .same-else))
     (λ grown best′. best-rises j a equal (k .forecast) t b grown p q (ownList j p) (ownList k q) (best j a equal p dec) best′)
     more
@@ -75,6 +75,6 @@ steady j a equal =
     record {
       growing = λ k a′ t b more. plans-rise-little j k a a′ equal t b more (plan j) (plan k) (plan-exists j a) (plan-exists k a′);
       shrinking = λ k a′ t b more.
-          let z : baseSize j ≡ baseSize k = ap baseSize (more .same-else) in
+          let z : equalBaseSize j ≡ equalBaseSize k = ap equalBaseSize (more .same-else) in
           rw z (plans-rise-little k j a′ a (equal-too j k a a′ (sym (same-overrides k j t b more)) equal) t b more (plan k) (plan j) (plan-exists k a′) (plan-exists j a));
     }

@@ -17,7 +17,7 @@ use Rattle.theory_basics.specs.Tests.{all}
 use Rattle.theory_basics.specs.lemmas.Tests.{T-true, test}
 use Rattle.job.specs.Refusal.{within}
 use Rattle.trace.specs.declared.TraceRead.the-variants.{Slots, Refused}
-use Rattle.trace.specs.Answer.{Read, readRefusal}
+use Rattle.trace.specs.Answer.{Read, traceReadRefusal}
 use Rattle.trace.specs.Trace.{forecastOf, howMany, inSlot, times, traceRefusal}
 use Rattle.trace.specs.lemmas.Lists.{all-upTo, map-upTo, take-upTo}
 use Rattle.trace.specs.lemmas.Passes.{Counted, fewLines, linesForecast}
@@ -36,7 +36,7 @@ few-same h =
 -- ---- what is handed
 
 module _ (trace : List ℕ) (slots : ℕ) (old : List ℕ) where
-  refused : (n : ℕ) → readRefusal trace slots (length old) ≡ n → (n ≡ 0 → ⊥) → Read trace slots old old (Refused n)
+  refused : (n : ℕ) → traceReadRefusal trace slots (length old) ≡ n → (n ≡ 0 → ⊥) → Read trace slots old old (Refused n)
   refused n e o = record { answer = rw (e, ne-eqb n 0 o); buffer = rw (e, ne-eqb n 0 o) }
 
   by-input : (n : ℕ) → traceRefusal slots trace ≡ n → (n ≡ 0 → ⊥) → Read trace slots old old (Refused n)
@@ -91,7 +91,7 @@ module _ (trace : List ℕ) (slots : ℕ) (old : List ℕ) where
       pub read-few : fewLines (take slots counts) ≡ true
       read-few = T-true (fewLines (take slots counts)) (both .1)
 
-      room-only : readRefusal trace slots (length old) ≡ unless 11 (leb slots (length old))
+      room-only : traceReadRefusal trace slots (length old) ≡ unless 11 (leb slots (length old))
       room-only = orElse-none (traceRefusal slots trace) (unless 11 (leb slots (length old))) (input ∙ none)
 
       pub read-short : length old < slots → Read trace slots old old (Refused 11)
@@ -109,5 +109,5 @@ module _ (trace : List ℕ) (slots : ℕ) (old : List ℕ) where
 
       pub read-done : (new : List ℕ) → slots ≤ length old → new ≡ over (linesForecast (take slots counts)) old → Read trace slots old new (Slots slots)
       read-done new h x =
-          let z : readRefusal trace slots (length old) ≡ 0 = room-only ∙ rw (le-leb slots (length old) h) in
+          let z : traceReadRefusal trace slots (length old) ≡ 0 = room-only ∙ rw (le-leb slots (length old) h) in
           record { answer = rw z; buffer = rw z (x ∙ ap (λ (l : List ℕ). over l old) forecast-is) }

@@ -3,7 +3,7 @@ use Prim.Native.Nat.{ℕ, _*_}
 use mathlib.Core.Path.{_≡_, refl}
 use mathlib.Core.List.{List, [], _∷_, _++_}
 use Rattle.theory_basics.specs.Text.{ascii, digits}
-use Rattle.trace.specs.Trace.{aboveRefusal, forecastOf, forecastRefusal, times, traceOf, traceRefusal}
+use Rattle.trace.specs.Trace.{aboveRefusal, forecastOf, unwritableRefusal, times, traceOf, traceRefusal}
 
 -- `0`, `0999`, `1000`, `5000`.
 abbrev pub small : List ℕ
@@ -30,9 +30,9 @@ small-written = refl
 
 -- 15 in writing: no multiple of 1,500, or above 16,777,216.
 pub write-refused :
-    (forecastRefusal (1499 ∷ []) ≡ 15)
-    × ((forecastRefusal (16776000 ∷ []) ≡ 0) × ((forecastRefusal (16777500 ∷ []) ≡ 15) × (forecastRefusal [] ≡ 7)))
-unfolding forecastRefusal
+    (unwritableRefusal (1499 ∷ []) ≡ 15)
+    × ((unwritableRefusal (16776000 ∷ []) ≡ 0) × ((unwritableRefusal (16777500 ∷ []) ≡ 15) × (unwritableRefusal [] ≡ 7)))
+unfolding unwritableRefusal
 write-refused = (refl, (refl, (refl, refl)))
 
 -- 15 in reading, by itself: 11,184 lines in a slot pass, one more is above.

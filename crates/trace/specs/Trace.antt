@@ -16,9 +16,9 @@ use Rattle.job.specs.Refusal.{within}
 -- ---- what a trace is
 
 -- The bytes of lines: each, then its line feed.
-abbrev pub bytesOf : List (List ℕ) → List ℕ
-bytesOf [] = []
-bytesOf (l ∷ ls) = l ++ (10 ∷ bytesOf ls)
+abbrev pub linesBytes : List (List ℕ) → List ℕ
+linesBytes [] = []
+linesBytes (l ∷ ls) = l ++ (10 ∷ linesBytes ls)
 
 -- A line is 1 to 7 digits.
 pub record Line (l : List ℕ) : Type 0 where
@@ -36,7 +36,7 @@ NotBelow t (x ∷ xs) = (t ≤ x) × NotBelow x xs
 
 -- The trace is these lines.
 pub record Means (trace : List ℕ) (lines : List (List ℕ)) : Type 0 where
-  pub bytes : trace ≡ bytesOf lines
+  pub bytes : trace ≡ linesBytes lines
   pub each : All Line lines
   pub rises : NotBelow 0 (map time lines)
 
@@ -89,7 +89,7 @@ linesFrom t [] = []
 linesFrom t (b ∷ bs) = replicate (b / 1500) (digits (t * 1000)) ++ linesFrom (suc t) bs
 
 unfoldable pub traceOf : List ℕ → List ℕ
-traceOf forecast = bytesOf (linesFrom 0 forecast)
+traceOf forecast = linesBytes (linesFrom 0 forecast)
 
 -- ---- refusals that come from the input: "A slot count out of range is 7 and comes first, then 14, then 15."
 
@@ -120,5 +120,5 @@ traceRefusal slots trace = slotsRefusal slots orElse linesRefusal trace orElse a
 abbrev pub writable : ℕ → Bool
 writable b = within 0 16777216 b && eqb (b % 1500) 0
 
-unfoldable pub forecastRefusal : List ℕ → ℕ
-forecastRefusal forecast = slotsRefusal (length forecast) orElse unless 15 (all writable forecast)
+unfoldable pub unwritableRefusal : List ℕ → ℕ
+unwritableRefusal forecast = slotsRefusal (length forecast) orElse unless 15 (all writable forecast)

@@ -5,7 +5,7 @@ ghost use mathlib.Core.Path.{_≡_};
 ghost use lib.ListN.{length, take, drop, replicate};
 ghost use Rattle.theory_basics.specs.Text.{digits};
 ghost use Rattle.core_text.specs.lemmas.Places.{Put};
-ghost use Rattle.trace.specs.Trace.{bytesOf};
+ghost use Rattle.trace.specs.Trace.{linesBytes};
 
 fn smaller(a: usize, b: usize) -> usize
     ensures { λ r. ⌜ r ≡ min a b ⌝ }
@@ -41,8 +41,8 @@ fn copy_on(out: &mut [u8], from: usize, to: usize, n: usize) -> usize
 
 // So many lines of one time. The place after them.
 pub(crate) fn put_lines(out: &mut [u8], at: usize, time: u64, count: usize) -> usize
-    requires { ⌜ at + length (bytesOf (replicate count (digits time))) ≤ length (now out) ⌝ }
-    ensures { λ r. ⌜ Put (now (out .entry)) at (bytesOf (replicate count (digits time))) (now (out .exit)) r ⌝ }
+    requires { ⌜ at + length (linesBytes (replicate count (digits time))) ≤ length (now out) ⌝ }
+    ensures { λ r. ⌜ Put (now (out .entry)) at (linesBytes (replicate count (digits time))) (now (out .exit)) r ⌝ }
 {
     if count < 1 {
         return at;

@@ -8,13 +8,13 @@ use native.Mathlib.Omega.{arith}
 use Rattle.job.specs.Job.{sizeIn}
 use Rattle.theory_plan.specs.Plan.{plan}
 use Rattle.wait.specs.declared.Answer.the-variants.{Delay, Refused}
-use Rattle.wait.specs.Answer.{HandedFilm, answerOf, filmIn, handedFilm, inputRefusal, shortest, skipsNone, waitRefusal}
+use Rattle.wait.specs.Answer.{WaitInput, answerOf, filmIn, waitInput, inputRefusal, shortest, skipsNone, waitRefusal}
 use Rattle.wait.specs.Theorems.{input-iff, skips-none-iff}
-use Rattle.wait.specs.Wait.{Film, InRange, Works, jobAt}
+use Rattle.wait.specs.Wait.{Film, FilmInRange, Works, jobAt}
 
 -- One chunk of one slot and one byte, nothing held.
-abbrev one : List ℕ → HandedFilm
-one forecast = handedFilm 1 1 0 (1 ∷ []) [] [] [] forecast
+abbrev one : List ℕ → WaitInput
+one forecast = waitInput 1 1 0 (1 ∷ []) [] [] [] forecast
 
 abbrev falling : Film
 falling = filmIn (one (1 ∷ 0 ∷ []))
@@ -24,7 +24,7 @@ pub longer-skips : (skipsNone (jobAt falling 1) ≡ true) × (skipsNone (jobAt f
 unfolding skipsNone plan sizeIn
 longer-skips = (refl, refl)
 
-in-range : InRange falling
+in-range : FilmInRange falling
 unfolding inputRefusal
 in-range = input-iff (one (1 ∷ 0 ∷ [])) .0 refl .1
 
@@ -43,14 +43,14 @@ answers = (refl, refl, refl, refl)
 
 -- C 500 and L 60 are in range, and the forecast is too short for s = 1: 16. No slot: 7.
 pub refused :
-    (answerOf (handedFilm 500 60 0 (1 ∷ []) [] [] [] (1 ∷ [])) ≡ Refused 16)
-    × (answerOf (handedFilm 500 60 0 (1 ∷ []) [] [] [] []) ≡ Refused 7)
+    (answerOf (waitInput 500 60 0 (1 ∷ []) [] [] [] (1 ∷ [])) ≡ Refused 16)
+    × (answerOf (waitInput 500 60 0 (1 ∷ []) [] [] [] []) ≡ Refused 7)
 unfolding waitRefusal inputRefusal shortest
 refused = (refl, refl)
 
 -- Job A without s, on its own forecast: s = 1 skips no base; with s = 2, which is job A, the plan skips chunk 1.
-abbrev filmA : HandedFilm
-filmA = handedFilm 3 2 2 (2 ∷ 1 ∷ []) [] [] [] (3 ∷ 0 ∷ 1 ∷ 0 ∷ 2 ∷ 0 ∷ [])
+abbrev filmA : WaitInput
+filmA = waitInput 3 2 2 (2 ∷ 1 ∷ []) [] [] [] (3 ∷ 0 ∷ 1 ∷ 0 ∷ 2 ∷ 0 ∷ [])
 
 pub A-waits : (answerOf filmA ≡ Delay 1) × (skipsNone (jobAt (filmIn filmA) 2) ≡ false)
 unfolding waitRefusal inputRefusal shortest skipsNone plan sizeIn
@@ -58,8 +58,8 @@ A-waits = (refl, refl)
 
 -- Two chunks of a byte with all held: s = 1 is enough on a byte a slot. With an SZ of three bytes for chunk 2 it takes s = 3, and
 -- one of four bytes comes too late for every s.
-abbrev smoke : (size-chunks size-layers size-bytes : List ℕ) → HandedFilm
-smoke cs ls bs = handedFilm 2 1 2 (1 ∷ []) cs ls bs (1 ∷ 1 ∷ 1 ∷ 1 ∷ [])
+abbrev smoke : (size-chunks size-layers size-bytes : List ℕ) → WaitInput
+smoke cs ls bs = waitInput 2 1 2 (1 ∷ []) cs ls bs (1 ∷ 1 ∷ 1 ∷ 1 ∷ [])
 
 pub uneven-waits :
     (answerOf (smoke [] [] []) ≡ Delay 1) × (answerOf (smoke (2 ∷ []) (0 ∷ []) (3 ∷ [])) ≡ Delay 3)

@@ -60,7 +60,7 @@ NoneWorks w = (s : ℕ) → Works w s → ⊥
 
 -- C, L and the limit as of a job, s and d(C) left out; layers, sizes and SZs as of a job, whatever s is; 1 to 3,600 slots, each of 0 to
 -- 16,777,216 bytes.
-pub record InRange (w : Film) : Type 0 where
+pub record FilmInRange (w : Film) : Type 0 where
   pub chunks-in : Within 1 500 (w .chunks)
   pub span-in : Within 1 60 (w .span)
   pub limit-in : Within 0 65535 (w .limit)

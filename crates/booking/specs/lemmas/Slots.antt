@@ -12,7 +12,7 @@ use Rattle.theory_basics.specs.lemmas.Tables.{all-at}
 use Rattle.theory_basics.specs.lemmas.Tests.{all-map}
 use Rattle.job.specs.Job.{lastSlot}
 use Rattle.fetch.specs.Rows.{Row, bytesIf, bytesInSlot}
-use Rattle.fetch.specs.Rules.{InRange}
+use Rattle.fetch.specs.Rules.{RowInRange}
 use Rattle.booking.specs.Booking.{slotHas, slotBySlot, takenOff, addedBack, SlotsThere, Bookable}
 
 -- ---- slot by slot
@@ -70,6 +70,6 @@ module _ (f : List ℕ) (rows : List Row) (b : Bookable f rows) where
   -- Rule 1.
   pub bookable-there : SlotsThere f rows
   bookable-there =
-      all-map (InRange (b .job)) (λ (x : Row). (1 ≤ x .slot) × (x .slot ≤ length f)) rows
+      all-map (RowInRange (b .job)) (λ (x : Row). (1 ≤ x .slot) × (x .slot ≤ length f)) rows
       (λ x r. (r .slot-low, omega (arith, r .slot-high, its-slots)))
       (b .passes .in-range)

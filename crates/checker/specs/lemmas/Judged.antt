@@ -26,7 +26,7 @@ allowedBy size layersum before i n = allowedSum (getD layersum (4 * (i - 1) + n)
 abbrev pub early : List ℕ → ℕ → ℕ → Bool
 early late i n = eqb (getD late (4 * (i - 1) + n) 0) 0
 
-pub record Late (from : ℕ) (rows : List Row) (late : List ℕ) : Type 0 where
+pub record MarkLatePost (from : ℕ) (rows : List Row) (late : List ℕ) : Type 0 where
   pub is : (i n : ℕ) → 1 ≤ i → i ≤ 500 → n < 4 → early late i n ≡ layerBefore from rows i n
   pub long : length late ≡ 2000
 

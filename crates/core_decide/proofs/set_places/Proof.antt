@@ -4,12 +4,12 @@ use Prim.Native.Nat.{_-_, _≤_}
 use native.Mathlib.Omega.{arith}
 use denote.Ref.{now}
 use Rattle.core_decide.proofs.Sums.{placed-start, placed-more}
-use Rattle.core_decide.specs.lemmas.Decision.{Placed}
+use Rattle.core_decide.specs.lemmas.Decision.{SetPlacesPost}
 use Rattle.core_decide.proofs.set_places.Statement.{statement}
 use Rattle.core_decide.proofs.set_places.Tie as tie
 
 abbrev Inv-loop : tie.InvT-loop
-Inv-loop after₀ from to v k₀ after k = Placed from k v after₀ after × (k ≤ to)
+Inv-loop after₀ from to v k₀ after k = SetPlacesPost from k v after₀ after × (k ≤ to)
 
 abbrev μ-loop : tie.MeasureT-loop
 μ-loop after₀ from to v k₀ after k = to - k

@@ -11,20 +11,20 @@ use Rattle.job.specs.Table.{sizesTable, tableAt}
 use Rattle.job.specs.Uneven.{table-is}
 use Rattle.job.specs.lemmas.Within.{all-most, size-least, size-most}
 use Rattle.theory_plan.specs.Plan.{after}
-use Rattle.theory_plan.specs.lemmas.Parts.{Part, at, leftAfter, padded}
-use Rattle.core_decide.specs.lemmas.Decision.{DecideFrom}
+use Rattle.theory_plan.specs.lemmas.Parts.{ForecastPart, at, leftAfter, padded}
+use Rattle.core_decide.specs.lemmas.Decision.{DecidePre}
 
 module _ (j : Job) (ok : Accepted j) where
   -- The table that a call fills says the job's sizes.
   pub filled : (table : List ℕ) → table ≡ sizesTable (j .sizes) (j .overrides) → tableAt table ≡ size j
   filled table e = ap tableAt e ∙ table-is j ok
 
-  pub part-in : Part 1 (j .forecast)
+  pub part-in : ForecastPart 1 (j .forecast)
   part-in = record { low = omega arith; high = omega (arith, ok .slots-in, ok .last-in); small = all-most 0 16777216 (j .forecast) (ok .forecast-in) }
 
   pub decide-from :
       (own : ℕ → ℕ → ℕ) → own ≡ size j → (ids ready : List ℕ) → length ids ≡ 500 → length ready ≡ 500 →
-      DecideFrom (j .programme) (layers j) own 1 (j .forecast) ids ready (replicate 500 1)
+      DecidePre (j .programme) (layers j) own 1 (j .forecast) ids ready (replicate 500 1)
   decide-from own says ids ready a b =
       record {
         few = ok .chunks-in .high;

@@ -9,18 +9,18 @@ use lib.Dec.{leb, ltb}
 use Rattle.theory_basics.specs.Tests.{All}
 use Rattle.job.specs.declared.Programme.{Programme}
 use Rattle.job.specs.Job.{Job, Override, Within, jobOf, sizeIn, due, dueSlot, heldMost, lastDue}
-use Rattle.core_moore_hodgson.specs.lemmas.Walking.{KeptIn, walkedIn, walksIn}
+use Rattle.core_moore_hodgson.specs.lemmas.Tables.{KeptIn, mooreHodgsonIn, appliesIn}
 use Rattle.theory_plan.specs.lemmas.Sufficiency.{releases}
 use Rattle.theory_plan.specs.Plan.{after, kept, plan}
 use Rattle.theory_plan.specs.lemmas.Trials.{bases, levelMark, Kept, back, decidedOn, keptAt, onLayers}
-use Rattle.theory_plan.specs.lemmas.Parts.{Part, at, leftAfter, padded}
+use Rattle.theory_plan.specs.lemmas.Parts.{ForecastPart, at, leftAfter, padded}
 
 -- The sums of a forecast that can be: 3,600 slots of 16,777,216 bytes.
 abbrev pub Sums : List ℕ → Type 0
 Sums after = (k : ℕ) → getD after k 0 ≤ 60397977600
 
 -- The places from .. k - 1 of a table hold v, the others what they had.
-pub record Placed (from k v : ℕ) (old new : List ℕ) : Type 0 where
+pub record SetPlacesPost (from k v : ℕ) (old new : List ℕ) : Type 0 where
   pub reached : from ≤ k
   pub long : length new ≡ 3601
   pub places : (m : ℕ) → getD new m 0 ≡ cond (leb from m && ltb m k) v (getD old m 0)
@@ -32,7 +32,7 @@ pub record SumTable (start : ℕ) (part after : List ℕ) : Type 0 where
 
 -- ---- the base
 
-pub record BasesFrom (p : Programme) (size : ℕ → ℕ → ℕ) (after ids dues bytes needs : List ℕ) : Type 0 where
+pub record KeepBasesPre (p : Programme) (size : ℕ → ℕ → ℕ) (after ids dues bytes needs : List ℕ) : Type 0 where
   pub few : p .chunks ≤ 500
   pub late : 1 ≤ p .delay
   pub ends : lastDue p ≤ 3600
@@ -46,11 +46,11 @@ stackIn p size A = bases (λ k. size k 0) (dueSlot p) A (p .limit / p .span) 0 (
 
 -- The chunks whose base is kept: by the walk where it settles them, else by the stack.
 abbrev pub basesIn : Programme → (ℕ → ℕ → ℕ) → (ℕ → ℕ) → List ℕ
-basesIn p size A = cond (walksIn p size) (walkedIn p size A) (stackIn p size A)
+basesIn p size A = cond (appliesIn p size) (mooreHodgsonIn p size A) (stackIn p size A)
 
 -- What both ask.
-pub record SettleFrom (p : Programme) (size : ℕ → ℕ → ℕ) (after ids dues bytes needs : List ℕ) : Type 0 where
-  pub from : BasesFrom p size after ids dues bytes needs
+pub record SettleBasesPre (p : Programme) (size : ℕ → ℕ → ℕ) (after ids dues bytes needs : List ℕ) : Type 0 where
+  pub from : KeepBasesPre p size after ids dues bytes needs
   pub least : (i : ℕ) → 1 ≤ i → i ≤ p .chunks → 1 ≤ size i 0
 
 -- ---- a further layer
@@ -67,7 +67,7 @@ keptOf (i ∷ is) (d ∷ ds) (b ∷ bs) (m ∷ ms) = record { chunk = i; due = d
 abbrev pub Slot : ℕ → Type 0
 Slot t = Within 1 3600 t
 
-pub record LayerFrom (size : ℕ → ℕ → ℕ) (n : ℕ) (after ids dues room : List ℕ) (first : ℕ) (bytes mark : List ℕ) : Type 0 where
+pub record TryLayerPre (size : ℕ → ℕ → ℕ) (n : ℕ) (after ids dues room : List ℕ) (first : ℕ) (bytes mark : List ℕ) : Type 0 where
   pub low : 1 ≤ n
   pub high : n ≤ 3
   pub chunks-in : All (Within 1 500) (drop first ids)
@@ -78,7 +78,7 @@ pub record LayerFrom (size : ℕ → ℕ → ℕ) (n : ℕ) (after ids dues room
   pub carried : All (λ b. b ≤ n * 16777216) (drop first bytes)
   pub long : (length after ≡ 3601) × (length ids ≡ 500) × (length dues ≡ 500) × (length room ≡ 500) × (length bytes ≡ 500) × (length mark ≡ 500)
 
-pub record LayerDone (size : ℕ → ℕ → ℕ) (n : ℕ) (after ids dues room : List ℕ) (first : ℕ) (bytes mark bytes' mark' : List ℕ) : Type 0 where
+pub record TryLayerPost (size : ℕ → ℕ → ℕ) (n : ℕ) (after ids dues room : List ℕ) (first : ℕ) (bytes mark bytes' mark' : List ℕ) : Type 0 where
   pub kept :
       keptOf (drop first ids) (drop first dues) (drop first bytes') (drop first mark')
       ≡ back size (at after) n (drop first room) (keptOf (drop first ids) (drop first dues) (drop first bytes) (drop first mark)) .kept
@@ -87,7 +87,7 @@ pub record LayerDone (size : ℕ → ℕ → ℕ) (n : ℕ) (after ids dues room
 
 -- ---- all layers
 
-pub record LayersFrom (layers : ℕ) (size : ℕ → ℕ → ℕ) (after ids dues ready : List ℕ) (first : ℕ) (bytes room mark : List ℕ) : Type 0 where
+pub record SettleLayersPre (layers : ℕ) (size : ℕ → ℕ → ℕ) (after ids dues ready : List ℕ) (first : ℕ) (bytes room mark : List ℕ) : Type 0 where
   pub some : 1 ≤ layers
   pub few : layers ≤ 4
   pub chunks-in : All (Within 1 500) (drop first ids)
@@ -99,7 +99,7 @@ pub record LayersFrom (layers : ℕ) (size : ℕ → ℕ → ℕ) (after ids due
   pub carried : All (λ b. b ≤ 16777216) (drop first bytes)
   pub long : (length after ≡ 3601) × (length ids ≡ 500) × (length dues ≡ 500) × (length ready ≡ 500) × (length bytes ≡ 500) × (length room ≡ 500) × (length mark ≡ 500)
 
-pub record LayersDone (layers : ℕ) (size : ℕ → ℕ → ℕ) (all : ℕ) (after ids dues ready : List ℕ) (first : ℕ) (bytes mark bytes' mark' : List ℕ) : Type 0 where
+pub record SettleLayersPost (layers : ℕ) (size : ℕ → ℕ → ℕ) (all : ℕ) (after ids dues ready : List ℕ) (first : ℕ) (bytes mark bytes' mark' : List ℕ) : Type 0 where
   pub kept :
       keptOf (drop first ids) (drop first dues) (drop first bytes') (drop first mark')
       ≡ onLayers size (at after) all (drop first ready) (layers - 1) (keptOf (drop first ids) (drop first dues) (drop first bytes) (drop first mark))
@@ -108,7 +108,7 @@ pub record LayersDone (layers : ℕ) (size : ℕ → ℕ → ℕ) (all : ℕ) (a
 -- ---- kept chunks, however they were found
 
 -- What the layers above their bases ask for; left: what is forecast after each slot.
-pub record KeptFrom (p : Programme) (layers : ℕ) (size : ℕ → ℕ → ℕ) (left : List ℕ) (first : ℕ) (ids dues bytes room ready mark : List ℕ) : Type 0 where
+pub record SettleKeptPre (p : Programme) (layers : ℕ) (size : ℕ → ℕ → ℕ) (left : List ℕ) (first : ℕ) (ids dues bytes room ready mark : List ℕ) : Type 0 where
   pub few : p .chunks ≤ 500
   pub late : 1 ≤ p .delay
   pub ends : lastDue p ≤ 3600
@@ -129,8 +129,8 @@ pub record Decides (j : Job) (x : ℕ → ℕ) (first : ℕ) (ids ready mark : L
   pub long : (length ids ≡ 500) × (length ready ≡ 500) × (length mark ≡ 500)
 
 -- So for every job that the handed numbers say, however its sizes are stored, and the choice that the passes over these chunks decide.
-abbrev pub DecidesKept : Programme → ℕ → (ℕ → ℕ → ℕ) → List ℕ → ℕ → List ℕ → List ℕ → List ℕ → Type 0
-DecidesKept p layers size left first ids ready mark =
+abbrev pub SettleKeptPost : Programme → ℕ → (ℕ → ℕ → ℕ) → List ℕ → ℕ → List ℕ → List ℕ → List ℕ → Type 0
+SettleKeptPost p layers size left first ids ready mark =
     (sizes : List ℕ) (overrides : List Override) (forecast : List ℕ) → layers ≡ length sizes → size ≡ sizeIn sizes overrides →
     at left ≡ after (jobOf p sizes overrides forecast) → (x : ℕ → ℕ) → drop first ids ≡ kept (jobOf p sizes overrides forecast) x →
     decidedOn (jobOf p sizes overrides forecast) (drop first ids)
@@ -143,7 +143,7 @@ DecidesKept p layers size left first ids ready mark =
 abbrev pub jobFrom : Programme → List ℕ → List Override → ℕ → List ℕ → Job
 jobFrom p sizes overrides start part = jobOf p sizes overrides (padded start part)
 
-pub record DecideFrom (p : Programme) (layers : ℕ) (size : ℕ → ℕ → ℕ) (start : ℕ) (part ids ready mark : List ℕ) : Type 0 where
+pub record DecidePre (p : Programme) (layers : ℕ) (size : ℕ → ℕ → ℕ) (start : ℕ) (part ids ready mark : List ℕ) : Type 0 where
   pub few : p .chunks ≤ 500
   pub late : 1 ≤ p .delay
   pub ends : lastDue p ≤ 3600
@@ -151,13 +151,13 @@ pub record DecideFrom (p : Programme) (layers : ℕ) (size : ℕ → ℕ → ℕ
   pub few-layers : layers ≤ 4
   pub small : (i n : ℕ) → size i n ≤ 16777216
   pub least : (i : ℕ) → 1 ≤ i → i ≤ p .chunks → 1 ≤ size i 0
-  pub part-in : Part start part
+  pub part-in : ForecastPart start part
   pub slots : start - 1 + length part ≡ lastDue p
   pub long : (length ids ≡ 500) × (length ready ≡ 500)
   pub marks : mark ≡ replicate 500 1
 
 -- The tables hold the plan, of every job that the handed numbers say.
-abbrev pub DecidesEach : Programme → ℕ → (ℕ → ℕ → ℕ) → ℕ → List ℕ → ℕ → List ℕ → List ℕ → List ℕ → Type 0
-DecidesEach p layers size start part first ids ready mark =
+abbrev pub DecidePost : Programme → ℕ → (ℕ → ℕ → ℕ) → ℕ → List ℕ → ℕ → List ℕ → List ℕ → List ℕ → Type 0
+DecidePost p layers size start part first ids ready mark =
     (sizes : List ℕ) (overrides : List Override) → layers ≡ length sizes → size ≡ sizeIn sizes overrides →
     Decides (jobFrom p sizes overrides start part) (plan (jobFrom p sizes overrides start part)) first ids ready mark

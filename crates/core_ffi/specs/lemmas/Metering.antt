@@ -14,7 +14,7 @@ use Rattle.theory_basics.specs.lemmas.Tests.{T-true, not-T-false, test, tests, 
 use Rattle.meter.specs.declared.Answer.{Answer}
 use Rattle.meter.specs.declared.Meter.{Meter}
 use Rattle.meter.specs.declared.Taken.{Taken}
-use Rattle.meter.specs.Forecast.{answerOf, bytesOf, forecastOf, forecastRefusal}
+use Rattle.meter.specs.Forecast.{answerOf, bytesOf, forecastOf, meterForecastRefusal}
 use Rattle.meter.specs.Meter.{empty, inRange, lateRefusal, meterRefusal, sample, sampleRefusal, samplesOf, taken}
 use Rattle.meter.specs.lemmas.Order.{in-range-iff}
 use Rattle.core_ffi.specs.Convention.{answered}
@@ -120,10 +120,10 @@ sampled-whole s slot bytes m t a b k e f g z ea eb ek =
 
 pub mean-short : (s : Storage) (r : ℕ) → cellsRefusal s ≡ 11 → r ≡ refusedNumber 11 → r ≡ meanNumber s
 unfolding answered
-mean-short s r e f = f ∙ sym (ap (λ (n : ℕ). answered (n orElse forecastRefusal (samplesOf (meterIn s))) (forecastOf (bytesOf (samplesOf (meterIn s))))) e)
+mean-short s r e f = f ∙ sym (ap (λ (n : ℕ). answered (n orElse meterForecastRefusal (samplesOf (meterIn s))) (forecastOf (bytesOf (samplesOf (meterIn s))))) e)
 
 pub mean-whole : (s : Storage) (m : Meter) (a : Answer) (r : ℕ) → cellsRefusal s ≡ 0 → m ≡ meterIn s → a ≡ answerOf m → r ≡ forecastNumber a → r ≡ meanNumber s
 unfolding answerOf
 mean-whole s m a r e f g h =
-    is-answered forecastNumber _ _ a r (forecastRefusal (samplesOf (meterIn s))) (forecastOf (bytesOf (samplesOf (meterIn s)))) h (g ∙ ap answerOf f) refl refl
-    ∙ sym (ap (λ (n : ℕ). answered (n orElse forecastRefusal (samplesOf (meterIn s))) (forecastOf (bytesOf (samplesOf (meterIn s))))) e)
+    is-answered forecastNumber _ _ a r (meterForecastRefusal (samplesOf (meterIn s))) (forecastOf (bytesOf (samplesOf (meterIn s)))) h (g ∙ ap answerOf f) refl refl
+    ∙ sym (ap (λ (n : ℕ). answered (n orElse meterForecastRefusal (samplesOf (meterIn s))) (forecastOf (bytesOf (samplesOf (meterIn s))))) e)

@@ -72,14 +72,14 @@ planNumber (planned.Rows n) = n
 planNumber (planned.Refused n) = refusedNumber n
 
 -- The counts where a plan is handed over.
-abbrev pub countsHandedBy : PlanAnswer → List ℕ → List ℕ → List ℕ
-countsHandedBy (planned.Rows n) four old = over four old
-countsHandedBy (planned.Refused n) four old = old
+abbrev pub countsStored : PlanAnswer → List ℕ → List ℕ → List ℕ
+countsStored (planned.Rows n) four old = over four old
+countsStored (planned.Refused n) four old = old
 
 -- The walk's three numbers where a plan is handed over.
-abbrev pub walkHandedBy : PlanAnswer → ℕ → Bool → ℕ → List ℕ → List ℕ
-walkHandedBy (planned.Rows n) steps ended shortfall old = over (steps ∷ cond ended 1 0 ∷ shortfall ∷ []) old
-walkHandedBy (planned.Refused n) steps ended shortfall old = old
+abbrev pub walkStored : PlanAnswer → ℕ → Bool → ℕ → List ℕ → List ℕ
+walkStored (planned.Rows n) steps ended shortfall old = over (steps ∷ cond ended 1 0 ∷ shortfall ∷ []) old
+walkStored (planned.Refused n) steps ended shortfall old = old
 
 abbrev pub bookedNumber : Booked → ℕ
 bookedNumber booked.Done = 0

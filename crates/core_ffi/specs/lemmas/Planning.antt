@@ -11,33 +11,33 @@ use lib.ListN.{length}
 use borrow.Author.Tests.{le-leb, lt-leb, ne-eqb}
 use Rattle.theory_basics.specs.lemmas.Refusals.{orElse-iff, orElse-none, orElse-some}
 use Rattle.theory_basics.specs.lemmas.Tests.{eqb-iff, test}
-use Rattle.fetch.specs.Handed.{handedRefusal}
+use Rattle.fetch.specs.Input.{listRefusal}
 use Rattle.theory_replan.specs.Refusal.{replanRefusal}
 use Rattle.replan.specs.Answer as afresh
-use Rattle.replan.specs.Answer.{HandedOn, fetched, holdsOn, inputRefusal, jobOn, planOn, refusalOn, rowsOn}
+use Rattle.replan.specs.Answer.{ReplanInput, fetched, holdsOn, inputRefusal, jobOn, planAfresh, refusalOn, rowsOn}
 use Rattle.theory_basics.specs.Lent.{lentAfter, over}
 use Rattle.theory_basics.specs.Refusals.{_orElse_, unless}
 use Rattle.fetch.specs.Rows.{Row, rowBytes, rowChunk, rowLayer, rowSlot}
-use Rattle.job.specs.Handed.{HandedJob, handed-iff, jobIn, jobRefusal}
+use Rattle.job.specs.Input.{JobInput, input-iff, jobIn, jobRefusal}
 use Rattle.job.specs.Job.{chunks}
-use Rattle.planner.specs.Answer.{Handed, holds, lentOf, planRefusal, planRows}
+use Rattle.planner.specs.Answer.{PlanOutput, holds, lentOf, planRefusal, planRows}
 use Rattle.planner.specs.declared.Answer.{Answer}
 use Rattle.planner.specs.declared.Answer.the-variants.{Refused, Rows}
-use Rattle.planner.specs.declared.Planned.{Planned as Plan}
+use Rattle.planner.specs.declared.Planned.{PlanReturned as Plan}
 use Rattle.theory_plan.specs.Plan.{plan}
 use Rattle.theory_plan.specs.Statement.{countsOf, marksOf}
 use Rattle.core_ffi.specs.Convention.{answered}
-use Rattle.core_ffi.specs.Plans.{PlanHanded, Planned, Replanned, Slices, slices, slicesAfter, withCounts}
-use Rattle.core_ffi.specs.lemmas.Numbers.{countsHandedBy, is-answered, planNumber, refusedNumber}
+use Rattle.core_ffi.specs.Plans.{Returned, PlanReturned, ReplanReturned, PlanSlices, planSlices, slicesAfter, withCounts}
+use Rattle.core_ffi.specs.lemmas.Numbers.{countsStored, is-answered, planNumber, refusedNumber}
 use Rattle.core_ffi.specs.lemmas.Slices.{eleven-first, eleven-once, eleven-some, no-more, refused-keeps}
 
 -- The number of a plan made afresh without room.
-unfoldable pub replanShort : HandedJob → HandedOn → ℕ
+unfoldable pub replanShort : JobInput → ReplanInput → ℕ
 replanShort h o = refusedNumber (inputRefusal h o orElse 11)
 
 -- ---- with room for the counts
 
-counts-after : (b : Bool) (n refused : ℕ) (four zeros old : List ℕ) → countsHandedBy (cond b (Rows n) (Refused refused)) (cond b four zeros) old ≡ cond b (over four old) old
+counts-after : (b : Bool) (n refused : ℕ) (four zeros old : List ℕ) → countsStored (cond b (Rows n) (Refused refused)) (cond b four zeros) old ≡ cond b (over four old) old
 counts-after true n refused four zeros old = refl
 counts-after false n refused four zeros old = refl
 
@@ -45,11 +45,11 @@ room-for-counts : (refused : ℕ) (counts : List ℕ) → 4 ≤ length counts �
 unfolding withCounts
 room-for-counts refused counts h = ap (λ (t : Bool). refused orElse unless 11 t) (le-leb 4 (length counts) h) ∙ no-more refused
 
-same-slices : {m m' s s' c c' l l' b b' k k' : List ℕ} → m ≡ m' → s ≡ s' → c ≡ c' → l ≡ l' → b ≡ b' → k ≡ k' → _≡_ {A = Slices} (slices m s c l b k) (slices m' s' c' l' b' k')
+same-slices : {m m' s s' c c' l l' b b' k k' : List ℕ} → m ≡ m' → s ≡ s' → c ≡ c' → l ≡ l' → b ≡ b' → k ≡ k' → _≡_ {A = PlanSlices} (planSlices m s c l b k) (planSlices m' s' c' l' b' k')
 same-slices e f g h i j = cc
 
 -- W is what the call refuses, the library's own refusal and 11 for what is lent beside it.
-pub whole-handed : (W refused : ℕ) (marks : List ℕ) (rows : List Row) (counts zeros : List ℕ) (m s c l b k m' s' c' l' b' k' : List ℕ) (answer : Answer) (four : List ℕ) (r : ℕ)
+pub whole-returned : (W refused : ℕ) (marks : List ℕ) (rows : List Row) (counts zeros : List ℕ) (m s c l b k m' s' c' l' b' k' : List ℕ) (answer : Answer) (four : List ℕ) (r : ℕ)
     → W ≡ refused
     → answer ≡ cond (eqb refused 0) (Rows (length rows)) (Refused refused)
     → four ≡ cond (eqb refused 0) counts zeros
@@ -58,47 +58,47 @@ pub whole-handed : (W refused : ℕ) (marks : List ℕ) (rows : List Row) (count
     → c' ≡ lentAfter refused (map rowChunk rows) c
     → l' ≡ lentAfter refused (map rowLayer rows) l
     → b' ≡ lentAfter refused (map rowBytes rows) b
-    → k' ≡ countsHandedBy answer four k
+    → k' ≡ countsStored answer four k
     → r ≡ planNumber answer
-    → PlanHanded W marks rows counts (slices m s c l b k) r (slices m' s' c' l' b' k')
-whole-handed W refused marks rows counts zeros m s c l b k m' s' c' l' b' k' answer four r w is fours em es ec el eb ek er =
+    → Returned W marks rows counts (planSlices m s c l b k) r (planSlices m' s' c' l' b' k')
+whole-returned W refused marks rows counts zeros m s c l b k m' s' c' l' b' k' answer four r w is fours em es ec el eb ek er =
     record {
       number = is-answered planNumber (Rows (length rows)) (Refused refused) answer r refused (length rows) er is refl refl ∙ ap (λ (n : ℕ). answered n (length rows)) (sym w);
       slices-are =
-          same-slices em es ec el eb (ek ∙ ap₂ (λ (a : Answer) (f : List ℕ). countsHandedBy a f k) is fours ∙ counts-after (eqb refused 0) (length rows) refused counts zeros k)
-          ∙ ap (λ (n : ℕ). slicesAfter n marks rows counts (slices m s c l b k)) (sym w);
+          same-slices em es ec el eb (ek ∙ ap₂ (λ (a : Answer) (f : List ℕ). countsStored a f k) is fours ∙ counts-after (eqb refused 0) (length rows) refused counts zeros k)
+          ∙ ap (λ (n : ℕ). slicesAfter n marks rows counts (planSlices m s c l b k)) (sym w);
     }
 
-pub plan-whole : (h : HandedJob) (m s c l b k m' s' c' l' b' k' : List ℕ) (p : Plan) (r : ℕ)
+pub plan-whole : (h : JobInput) (m s c l b k m' s' c' l' b' k' : List ℕ) (p : Plan) (r : ℕ)
     → 4 ≤ length k
-    → Handed h m s c l b p m' s' c' l' b'
-    → k' ≡ countsHandedBy (p .answer) (p .counts) k
+    → PlanOutput h m s c l b p m' s' c' l' b'
+    → k' ≡ countsStored (p .answer) (p .counts) k
     → r ≡ planNumber (p .answer)
-    → Planned h (slices m s c l b k) r (slices m' s' c' l' b' k')
+    → PlanReturned h (planSlices m s c l b k) r (planSlices m' s' c' l' b' k')
 plan-whole h m s c l b k m' s' c' l' b' k' p r room made ek er =
-    whole-handed (withCounts (planRefusal h (lentOf m s c l b)) k) (planRefusal h (lentOf m s c l b)) (marksOf (jobIn h) (plan (jobIn h))) (planRows (jobIn h)) (countsOf (jobIn h) (plan (jobIn h))) (0 ∷ 0 ∷ 0 ∷ 0 ∷ [])
+    whole-returned (withCounts (planRefusal h (lentOf m s c l b)) k) (planRefusal h (lentOf m s c l b)) (marksOf (jobIn h) (plan (jobIn h))) (planRows (jobIn h)) (countsOf (jobIn h) (plan (jobIn h))) (0 ∷ 0 ∷ 0 ∷ 0 ∷ [])
     m s c l b k m' s' c' l' b' k' (p .answer) (p .counts) r (room-for-counts (planRefusal h (lentOf m s c l b)) k room)
     (made .answer) (made .counts) (made .marks-are) (made .slots-are) (made .chunks-are) (made .layers-are) (made .bytes-are) ek er
 
-pub replan-whole : (h : HandedJob) (o : HandedOn) (m s c l b k m' s' c' l' b' k' : List ℕ) (p : Plan) (r : ℕ)
+pub replan-whole : (h : JobInput) (o : ReplanInput) (m s c l b k m' s' c' l' b' k' : List ℕ) (p : Plan) (r : ℕ)
     → 4 ≤ length k
-    → afresh.Handed h o m s c l b p m' s' c' l' b'
-    → k' ≡ countsHandedBy (p .answer) (p .counts) k
+    → afresh.ReplanOutput h o m s c l b p m' s' c' l' b'
+    → k' ≡ countsStored (p .answer) (p .counts) k
     → r ≡ planNumber (p .answer)
-    → Replanned h o (slices m s c l b k) r (slices m' s' c' l' b' k')
+    → ReplanReturned h o (planSlices m s c l b k) r (planSlices m' s' c' l' b' k')
 replan-whole h o m s c l b k m' s' c' l' b' k' p r room made ek er =
-    whole-handed (withCounts (refusalOn h o (lentOf m s c l b)) k) (refusalOn h o (lentOf m s c l b)) (marksOf (jobOn h o) (planOn h o)) (rowsOn h o) (countsOf (jobOn h o) (planOn h o)) (0 ∷ 0 ∷ 0 ∷ 0 ∷ [])
+    whole-returned (withCounts (refusalOn h o (lentOf m s c l b)) k) (refusalOn h o (lentOf m s c l b)) (marksOf (jobOn h o) (planAfresh h o)) (rowsOn h o) (countsOf (jobOn h o) (planAfresh h o)) (0 ∷ 0 ∷ 0 ∷ 0 ∷ [])
     m s c l b k m' s' c' l' b' k' (p .answer) (p .counts) r (room-for-counts (refusalOn h o (lentOf m s c l b)) k room)
     (made .answer) (made .counts) (made .marks-are) (made .slots-are) (made .chunks-are) (made .layers-are) (made .bytes-are) ek er
 
 -- ---- without it
 
-pub short-handed : (W before : ℕ) (marks : List ℕ) (rows : List Row) (counts : List ℕ) (m s c l b k : List ℕ) (r : ℕ)
+pub short-returned : (W before : ℕ) (marks : List ℕ) (rows : List Row) (counts : List ℕ) (m s c l b k : List ℕ) (r : ℕ)
     → W ≡ before orElse 11
     → r ≡ refusedNumber (before orElse 11)
-    → PlanHanded W marks rows counts (slices m s c l b k) r (slices m s c l b k)
+    → Returned W marks rows counts (planSlices m s c l b k) r (planSlices m s c l b k)
 unfolding answered
-short-handed W before marks rows counts m s c l b k r is er =
+short-returned W before marks rows counts m s c l b k r is er =
     let some : W ≡ 0 → ⊥ = λ z. eleven-some before (sym is ∙ z) in
     let keeps : (result old : List ℕ) → old ≡ lentAfter W result old = λ result old. sym (refused-keeps W result old some) in
     record {
@@ -111,17 +111,17 @@ unfolding withCounts
 no-room-for-counts before room counts short =
     ap (λ (t : Bool). (before orElse unless 11 room) orElse unless 11 t) (lt-leb 4 (length counts) short) ∙ eleven-once before room
 
-pub plan-short : (h : HandedJob) (m s c l b k : List ℕ) (before r : ℕ)
+pub plan-short : (h : JobInput) (m s c l b k : List ℕ) (before r : ℕ)
     → before ≡ jobRefusal h
     → length k < 4
     → r ≡ refusedNumber (before orElse 11)
-    → Planned h (slices m s c l b k) r (slices m s c l b k)
+    → PlanReturned h (planSlices m s c l b k) r (planSlices m s c l b k)
 plan-short h m s c l b k before r e short er =
-    short-handed (withCounts (planRefusal h (lentOf m s c l b)) k) (jobRefusal h) (marksOf (jobIn h) (plan (jobIn h))) (planRows (jobIn h)) (countsOf (jobIn h) (plan (jobIn h)))
+    short-returned (withCounts (planRefusal h (lentOf m s c l b)) k) (jobRefusal h) (marksOf (jobIn h) (plan (jobIn h))) (planRows (jobIn h)) (countsOf (jobIn h) (plan (jobIn h)))
     m s c l b k r (no-room-for-counts (jobRefusal h) (holds (jobIn h) (lentOf m s c l b)) k short) (er ∙ ap (λ (n : ℕ). refusedNumber (n orElse 11)) e)
 
 -- Planning afresh into no room for marks: 11 after all else.
-no-marks : (h : HandedJob) (o : HandedOn) (s c l b : List ℕ) → refusalOn h o (lentOf [] s c l b) ≡ inputRefusal h o orElse 11
+no-marks : (h : JobInput) (o : ReplanInput) (s c l b : List ℕ) → refusalOn h o (lentOf [] s c l b) ≡ inputRefusal h o orElse 11
 no-marks h o s c l b =
     let asked : ℕ = inputRefusal h o in
     let n = length (rowsOn h o) in
@@ -129,7 +129,7 @@ no-marks h o s c l b =
     ⊎-elim
     (λ t.
     let none = eqb→eq asked 0 t in
-    let fine = handed-iff h .0 (orElse-iff (jobRefusal h) (handedRefusal 0 [] (o .slots) (o .chunks) (o .layers) (o .bytes) orElse replanRefusal (jobIn h) (o .from) (fetched o) (o .onward)) .0 none .0) in
+    let fine = input-iff h .0 (orElse-iff (jobRefusal h) (listRefusal 0 [] (o .slots) (o .chunks) (o .layers) (o .bytes) orElse replanRefusal (jobIn h) (o .from) (fetched o) (o .onward)) .0 none .0) in
     let some : 0 < chunks (jobIn h) = omega (arith, fine .1 .chunks-in .low) in
     orElse-none asked room none
     ∙ eleven-first (leb (chunks (jobIn h)) 0) (leb n (length s) && (leb n (length c) && (leb n (length l) && leb n (length b)))) (lt-leb (chunks (jobIn h)) 0 some)
@@ -140,8 +140,8 @@ no-marks h o s c l b =
     (test (eqb asked 0))
 
 -- What planning afresh without any room answers.
-pub replan-refused : (h : HandedJob) (o : HandedOn) (m' s' c' l' b' : List ℕ) (p : Plan) (r : ℕ)
-    → afresh.Handed h o [] [] [] [] [] p m' s' c' l' b'
+pub replan-refused : (h : JobInput) (o : ReplanInput) (m' s' c' l' b' : List ℕ) (p : Plan) (r : ℕ)
+    → afresh.ReplanOutput h o [] [] [] [] [] p m' s' c' l' b'
     → r ≡ planNumber (p .answer)
     → r ≡ replanShort h o
 unfolding answered replanShort
@@ -153,11 +153,11 @@ replan-refused h o m' s' c' l' b' p r made er =
     ∙ ap (λ (t : Bool). cond t (length (rowsOn h o)) (refusedNumber refused)) (ne-eqb refused 0 some)
     ∙ ap refusedNumber is
 
-pub replan-short : (h : HandedJob) (o : HandedOn) (m s c l b k : List ℕ) (r : ℕ)
+pub replan-short : (h : JobInput) (o : ReplanInput) (m s c l b k : List ℕ) (r : ℕ)
     → length k < 4
     → r ≡ replanShort h o
-    → Replanned h o (slices m s c l b k) r (slices m s c l b k)
+    → ReplanReturned h o (planSlices m s c l b k) r (planSlices m s c l b k)
 unfolding replanShort
 replan-short h o m s c l b k r short er =
-    short-handed (withCounts (refusalOn h o (lentOf m s c l b)) k) (inputRefusal h o) (marksOf (jobOn h o) (planOn h o)) (rowsOn h o) (countsOf (jobOn h o) (planOn h o)) m s c l b k r
+    short-returned (withCounts (refusalOn h o (lentOf m s c l b)) k) (inputRefusal h o) (marksOf (jobOn h o) (planAfresh h o)) (rowsOn h o) (countsOf (jobOn h o) (planAfresh h o)) m s c l b k r
     (no-room-for-counts (inputRefusal h o) (holdsOn h o (lentOf m s c l b)) k short) er

@@ -13,15 +13,15 @@ use Rattle.theory_basics.specs.Lent.{lentAfter, over}
 use Rattle.theory_basics.specs.Refusals.{_orElse_, unless}
 use Rattle.theory_basics.specs.lemmas.Refusals.{orElse-none, orElse-some}
 use Rattle.theory_basics.specs.lemmas.Tests.{eqb-iff, test, tests, true-T}
-use Rattle.job.specs.Handed.{bytesOf, chunksOf, layersOf}
+use Rattle.job.specs.Input.{overrideBytes, overrideChunks, overrideLayers}
 use Rattle.job.specs.Job.{Job, Override, layers}
-use Rattle.jobrecords.specs.Reader.{Buffers, buffers, jobAnswer, lentBy, readAnswer, readRefusal, roomRefusal}
+use Rattle.jobrecords.specs.Reader.{Buffers, buffers, jobAnswer, lentBy, readAnswer, jobReadRefusal, roomRefusal}
 use Rattle.jobrecords.specs.Refusal.{jobOfFile, mixed, refusalOf}
 use Rattle.jobrecords.specs.Theorems.{file-accepted}
 use Rattle.jobrecords.specs.declared.JobRead.{JobRead}
 use Rattle.jobrecords.specs.declared.JobRead.the-variants as jobRead
 use Rattle.core_ffi.specs.Convention.{answered}
-use Rattle.core_ffi.specs.Files.{JobHanded, jobReadRefusal, lengthsOf, programmeOf}
+use Rattle.core_ffi.specs.Files.{JobReturned, jobReturnRefusal, lengthsOf, programmeOf}
 use Rattle.core_ffi.specs.lemmas.Numbers.{jobReadNumber, lengthsRead, programmeRead, refusedNumber, through}
 use Rattle.core_ffi.specs.lemmas.Slices.{eleven-first, eleven-once, eleven-some, no-more, refused-keeps, test-false, test-true}
 
@@ -48,36 +48,36 @@ roomFor j lent =
     && leb (length (j .forecast)) (length (lent .forecast)))))
 
 module _ (sequenced : Bool) (file : List ℕ) where
-  number-read : (lent : Buffers) (read : JobRead) (r : ℕ) → read ≡ readAnswer sequenced file lent → r ≡ jobReadNumber read → r ≡ answered (readRefusal sequenced file lent) (length (jobOfFile sequenced file .forecast))
+  number-read : (lent : Buffers) (read : JobRead) (r : ℕ) → read ≡ readAnswer sequenced file lent → r ≡ jobReadNumber read → r ≡ answered (jobReadRefusal sequenced file lent) (length (jobOfFile sequenced file .forecast))
   unfolding readAnswer answered
   number-read lent read r e f =
-      f ∙ ap jobReadNumber e ∙ through jobReadNumber (eqb (readRefusal sequenced file lent) 0) (jobAnswer (jobOfFile sequenced file)) (jobRead.Refused (readRefusal sequenced file lent))
+      f ∙ ap jobReadNumber e ∙ through jobReadNumber (eqb (jobReadRefusal sequenced file lent) 0) (jobAnswer (jobOfFile sequenced file)) (jobRead.Refused (jobReadRefusal sequenced file lent))
 
-  programme-read : (lent : Buffers) (read : JobRead) (old : List ℕ) → read ≡ readAnswer sequenced file lent → programmeRead read old ≡ lentAfter (readRefusal sequenced file lent) (programmeOf (jobOfFile sequenced file)) old
+  programme-read : (lent : Buffers) (read : JobRead) (old : List ℕ) → read ≡ readAnswer sequenced file lent → programmeRead read old ≡ lentAfter (jobReadRefusal sequenced file lent) (programmeOf (jobOfFile sequenced file)) old
   unfolding readAnswer
   programme-read lent read old e =
       ap (λ (x : JobRead). programmeRead x old) e
-      ∙ through (λ (x : JobRead). programmeRead x old) (eqb (readRefusal sequenced file lent) 0) (jobAnswer (jobOfFile sequenced file)) (jobRead.Refused (readRefusal sequenced file lent))
+      ∙ through (λ (x : JobRead). programmeRead x old) (eqb (jobReadRefusal sequenced file lent) 0) (jobAnswer (jobOfFile sequenced file)) (jobRead.Refused (jobReadRefusal sequenced file lent))
 
-  lengths-read : (lent : Buffers) (read : JobRead) (old : List ℕ) → read ≡ readAnswer sequenced file lent → lengthsRead read old ≡ lentAfter (readRefusal sequenced file lent) (lengthsOf (jobOfFile sequenced file)) old
+  lengths-read : (lent : Buffers) (read : JobRead) (old : List ℕ) → read ≡ readAnswer sequenced file lent → lengthsRead read old ≡ lentAfter (jobReadRefusal sequenced file lent) (lengthsOf (jobOfFile sequenced file)) old
   unfolding readAnswer
   lengths-read lent read old e =
       ap (λ (x : JobRead). lengthsRead x old) e
-      ∙ through (λ (x : JobRead). lengthsRead x old) (eqb (readRefusal sequenced file lent) 0) (jobAnswer (jobOfFile sequenced file)) (jobRead.Refused (readRefusal sequenced file lent))
+      ∙ through (λ (x : JobRead). lengthsRead x old) (eqb (jobReadRefusal sequenced file lent) 0) (jobAnswer (jobOfFile sequenced file)) (jobRead.Refused (jobReadRefusal sequenced file lent))
 
   -- With room.
   pub read-whole : (lent lent' : Buffers) (programme programme' lengths lengths' : List ℕ) (held : Bool) (read : JobRead) (r : ℕ)
       → held ≡ leb 4 (length programme) && leb 2 (length lengths)
       → not held ≡ false
       → read ≡ readAnswer sequenced file lent
-      → lent' ≡ lentBy (readRefusal sequenced file lent) (jobOfFile sequenced file) lent
+      → lent' ≡ lentBy (jobReadRefusal sequenced file lent) (jobOfFile sequenced file) lent
       → programme' ≡ programmeRead read programme
       → lengths' ≡ lengthsRead read lengths
       → r ≡ jobReadNumber read
-      → JobHanded sequenced file lent programme lengths r lent' programme' lengths'
+      → JobReturned sequenced file lent programme lengths r lent' programme' lengths'
   read-whole lent lent' programme programme' lengths lengths' held read r t f e el ep en er =
-      let w : readRefusal sequenced file lent ≡ jobReadRefusal sequenced file lent programme lengths =
-      sym (ap (λ (b : Bool). readRefusal sequenced file lent orElse unless 11 b) (test-true held _ t f) ∙ no-more (readRefusal sequenced file lent)) in
+      let w : jobReadRefusal sequenced file lent ≡ jobReturnRefusal sequenced file lent programme lengths =
+      sym (ap (λ (b : Bool). jobReadRefusal sequenced file lent orElse unless 11 b) (test-true held _ t f) ∙ no-more (jobReadRefusal sequenced file lent)) in
       record {
         number = number-read lent read r e er ∙ ap (λ (n : ℕ). answered n (length (jobOfFile sequenced file .forecast))) w;
         buffers-are = el ∙ ap (λ (n : ℕ). lentBy n (jobOfFile sequenced file) lent) w;
@@ -86,7 +86,7 @@ module _ (sequenced : Bool) (file : List ℕ) where
       }
 
   -- A reading into no room for sizes: 11 after all else.
-  no-room : (cs ls bs f : List ℕ) → readRefusal sequenced file (buffers [] cs ls bs f) ≡ refusalOf sequenced file orElse 11
+  no-room : (cs ls bs f : List ℕ) → jobReadRefusal sequenced file (buffers [] cs ls bs f) ≡ refusalOf sequenced file orElse 11
   no-room cs ls bs f =
       let j = jobOfFile sequenced file in
       let refused : ℕ = refusalOf sequenced file in
@@ -107,7 +107,7 @@ module _ (sequenced : Bool) (file : List ℕ) where
   pub refused-read : (read : JobRead) (r : ℕ) → read ≡ readAnswer sequenced file (buffers [] [] [] [] []) → r ≡ jobReadNumber read → r ≡ refusedNumber (refusalOf sequenced file orElse 11)
   unfolding answered
   refused-read read r e er =
-      let refused : ℕ = readRefusal sequenced file (buffers [] [] [] [] []) in
+      let refused : ℕ = jobReadRefusal sequenced file (buffers [] [] [] [] []) in
       let is = no-room [] [] [] [] in
       let some : refused ≡ 0 → ⊥ = λ z. eleven-some (refusalOf sequenced file) (sym is ∙ z) in
       number-read (buffers [] [] [] [] []) read r e er
@@ -119,20 +119,20 @@ module _ (sequenced : Bool) (file : List ℕ) where
       → held ≡ leb 4 (length programme) && leb 2 (length lengths)
       → not held ≡ true
       → r ≡ refusedNumber (refusalOf sequenced file orElse 11)
-      → JobHanded sequenced file lent programme lengths r lent programme lengths
+      → JobReturned sequenced file lent programme lengths r lent programme lengths
   unfolding answered
   read-short lent programme lengths held r t g er =
       let j = jobOfFile sequenced file in
-      let R : ℕ = jobReadRefusal sequenced file lent programme lengths in
+      let R : ℕ = jobReturnRefusal sequenced file lent programme lengths in
       let is : R ≡ refusalOf sequenced file orElse 11 =
-      ap (λ (b : Bool). readRefusal sequenced file lent orElse unless 11 b) (test-false held _ t g) ∙ eleven-once (refusalOf sequenced file) (roomFor j lent) in
+      ap (λ (b : Bool). jobReadRefusal sequenced file lent orElse unless 11 b) (test-false held _ t g) ∙ eleven-once (refusalOf sequenced file) (roomFor j lent) in
       let some : R ≡ 0 → ⊥ = λ z. eleven-some (refusalOf sequenced file) (sym is ∙ z) in
       let keeps : (result old : List ℕ) → old ≡ lentAfter R result old = λ result old. sym (refused-keeps R result old some) in
       record {
         number = er ∙ sym (ap refusedNumber is) ∙ sym (ap (λ (b : Bool). cond b (length (j .forecast)) (refusedNumber R)) (ne-eqb R 0 some));
         buffers-are =
-            same-buffers (keeps (j .sizes) (lent .sizes)) (keeps (chunksOf (j .overrides)) (lent .size-chunks)) (keeps (layersOf (j .overrides)) (lent .size-layers))
-            (keeps (bytesOf (j .overrides)) (lent .size-bytes)) (keeps (j .forecast) (lent .forecast));
+            same-buffers (keeps (j .sizes) (lent .sizes)) (keeps (overrideChunks (j .overrides)) (lent .size-chunks)) (keeps (overrideLayers (j .overrides)) (lent .size-layers))
+            (keeps (overrideBytes (j .overrides)) (lent .size-bytes)) (keeps (j .forecast) (lent .forecast));
         programme-is = keeps (programmeOf j) programme;
         lengths-are = keeps (lengthsOf j) lengths;
       }

@@ -9,39 +9,39 @@ use lib.ListN.{length}
 use Rattle.theory_basics.specs.Lent.{lentAfter, over}
 use Rattle.theory_basics.specs.Refusals.{_orElse_, unless}
 use Rattle.theory_basics.specs.lemmas.Tests.{tests, true-T}
-use Rattle.job.specs.Handed.{HandedJob, jobIn, jobRefusal}
+use Rattle.job.specs.Input.{JobInput, jobIn, jobRefusal}
 use Rattle.planner.specs.Answer.{lentOf}
 use Rattle.planner.specs.declared.Answer.{Answer}
 use Rattle.planner.specs.declared.Answer.the-variants.{Refused, Rows}
 use Rattle.theory_plan.specs.Statement.{countsOf, marksOf}
 use Rattle.theory_search.specs.Search.{found}
-use Rattle.search.specs.Answer.{Handed, holdsFound, planFound, rowsFound, searchRefusal}
+use Rattle.search.specs.Answer.{SearchOutput, holdsFound, planFound, rowsFound, searchRefusal}
 use Rattle.search.specs.declared.Searched.{Searched}
-use Rattle.core_ffi.specs.Plans.{SearchHanded, walkOf, withWalk}
-use Rattle.core_ffi.specs.lemmas.Numbers.{countsHandedBy, planNumber, refusedNumber, walkHandedBy}
-use Rattle.core_ffi.specs.lemmas.Planning.{short-handed, whole-handed}
+use Rattle.core_ffi.specs.Plans.{SearchReturned, walkOf, withWalk}
+use Rattle.core_ffi.specs.lemmas.Numbers.{countsStored, planNumber, refusedNumber, walkStored}
+use Rattle.core_ffi.specs.lemmas.Planning.{short-returned, whole-returned}
 use Rattle.core_ffi.specs.lemmas.Slices.{eleven-once, eleven-some, no-more, refused-keeps, test-false, test-true}
 
 pub room-for-walk : (a b : ℕ) (r : Bool) → r ≡ leb 4 a && leb 3 b → not r ≡ false → (4 ≤ a) × (3 ≤ b)
 room-for-walk a b r e f = let u = simp tests at (true-T (leb 4 a && leb 3 b) (test-true r _ e f)) in (u .0, u .1)
 
-walk-after : (b : Bool) (n refused steps shortfall : ℕ) (ended : Bool) (old : List ℕ) → walkHandedBy (cond b (Rows n) (Refused refused)) (cond b steps 0) (cond b ended false) (cond b shortfall 0) old ≡ cond b (over (steps ∷ cond ended 1 0 ∷ shortfall ∷ []) old) old
+walk-after : (b : Bool) (n refused steps shortfall : ℕ) (ended : Bool) (old : List ℕ) → walkStored (cond b (Rows n) (Refused refused)) (cond b steps 0) (cond b ended false) (cond b shortfall 0) old ≡ cond b (over (steps ∷ cond ended 1 0 ∷ shortfall ∷ []) old) old
 walk-after true n refused steps shortfall ended old = refl
 walk-after false n refused steps shortfall ended old = refl
 
 -- Four equations under one function.
-four-ways : (a a' : Answer) (s s' : ℕ) (e e' : Bool) (f f' : ℕ) (old : List ℕ) → a ≡ a' → s ≡ s' → e ≡ e' → f ≡ f' → walkHandedBy a s e f old ≡ walkHandedBy a' s' e' f' old
+four-ways : (a a' : Answer) (s s' : ℕ) (e e' : Bool) (f f' : ℕ) (old : List ℕ) → a ≡ a' → s ≡ s' → e ≡ e' → f ≡ f' → walkStored a s e f old ≡ walkStored a' s' e' f' old
 four-ways a a' s s' e e' f f' old p q r t =
-    ap₂ (λ (x : Answer) (y : ℕ). walkHandedBy x y e f old) p q ∙ ap₂ (λ (x : Bool) (y : ℕ). walkHandedBy a' s' x y old) r t
+    ap₂ (λ (x : Answer) (y : ℕ). walkStored x y e f old) p q ∙ ap₂ (λ (x : Bool) (y : ℕ). walkStored a' s' x y old) r t
 
-pub search-whole : (h : HandedJob) (budget : ℕ) (m s c l b k w m' s' c' l' b' k' w' : List ℕ) (held : Bool) (p : Searched) (r : ℕ)
+pub search-whole : (h : JobInput) (budget : ℕ) (m s c l b k w m' s' c' l' b' k' w' : List ℕ) (held : Bool) (p : Searched) (r : ℕ)
     → held ≡ leb 4 (length k) && leb 3 (length w)
     → not held ≡ false
-    → Handed h budget m s c l b p m' s' c' l' b'
-    → k' ≡ countsHandedBy (p .answer) (p .counts) k
-    → w' ≡ walkHandedBy (p .answer) (p .steps) (p .ended) (p .shortfall) w
+    → SearchOutput h budget m s c l b p m' s' c' l' b'
+    → k' ≡ countsStored (p .answer) (p .counts) k
+    → w' ≡ walkStored (p .answer) (p .steps) (p .ended) (p .shortfall) w
     → r ≡ planNumber (p .answer)
-    → SearchHanded h budget m s c l b k w r m' s' c' l' b' k' w'
+    → SearchReturned h budget m s c l b k w r m' s' c' l' b' k' w'
 unfolding withWalk
 search-whole h budget m s c l b k w m' s' c' l' b' k' w' held p r t f made ek ew er =
     let j = jobIn h in
@@ -50,7 +50,7 @@ search-whole h budget m s c l b k w m' s' c' l' b' k' w' held p r t f made ek ew
     let same : W ≡ refused = ap (λ (x : Bool). refused orElse unless 11 x) (test-true held _ t f) ∙ no-more refused in
     record {
       plan =
-          whole-handed W refused (marksOf j (planFound j budget)) (rowsFound j budget) (countsOf j (planFound j budget)) (0 ∷ 0 ∷ 0 ∷ 0 ∷ [])
+          whole-returned W refused (marksOf j (planFound j budget)) (rowsFound j budget) (countsOf j (planFound j budget)) (0 ∷ 0 ∷ 0 ∷ 0 ∷ [])
           m s c l b k m' s' c' l' b' k' (p .answer) (p .counts) r same
           (made .answer) (made .counts) (made .marks-are) (made .slots-are) (made .chunks-are) (made .layers-are) (made .bytes-are) ek er;
       walk-is =
@@ -60,12 +60,12 @@ search-whole h budget m s c l b k w m' s' c' l' b' k' w' held p r t f made ek ew
           ∙ ap (λ (n : ℕ). lentAfter n (walkOf (found j budget)) w) (sym same);
     }
 
-pub search-short : (h : HandedJob) (budget : ℕ) (m s c l b k w : List ℕ) (held : Bool) (before r : ℕ)
+pub search-short : (h : JobInput) (budget : ℕ) (m s c l b k w : List ℕ) (held : Bool) (before r : ℕ)
     → held ≡ leb 4 (length k) && leb 3 (length w)
     → not held ≡ true
     → before ≡ jobRefusal h
     → r ≡ refusedNumber (before orElse 11)
-    → SearchHanded h budget m s c l b k w r m s c l b k w
+    → SearchReturned h budget m s c l b k w r m s c l b k w
 unfolding withWalk
 search-short h budget m s c l b k w held before r t f e er =
     let j = jobIn h in
@@ -75,7 +75,7 @@ search-short h budget m s c l b k w held before r t f e er =
     let some : W ≡ 0 → ⊥ = λ z. eleven-some (jobRefusal h) (sym is ∙ z) in
     record {
       plan =
-          short-handed W (jobRefusal h) (marksOf j (planFound j budget)) (rowsFound j budget) (countsOf j (planFound j budget)) m s c l b k r is
+          short-returned W (jobRefusal h) (marksOf j (planFound j budget)) (rowsFound j budget) (countsOf j (planFound j budget)) m s c l b k r is
           (er ∙ ap (λ (n : ℕ). refusedNumber (n orElse 11)) e);
       walk-is = sym (refused-keeps W (walkOf (found j budget)) w some);
     }

@@ -3,7 +3,7 @@ use Prim.Native.Nat.{_-_}
 use native.Mathlib.Omega.{arith}
 use denote.Ref.{now}
 use Rattle.job.specs.Table.{tableAt}
-use Rattle.core_fill.specs.lemmas.Listing.{layersOf, Levels}
+use Rattle.core_fill.specs.lemmas.Filling.{layersOf, Levels}
 use Rattle.core_fill.proofs.Chunks.{Placing, placing-start, placing-end, chunk-from, placing-more}
 use Rattle.theory_basics.specs.lemmas.Tables.{fewer}
 use Rattle.core_fill.proofs.put_all.Statement.{statement}
@@ -49,7 +49,7 @@ same-length : tie.Need-same-length Inv-loop μ-loop
 same-length c = c .before .loop .inv .puts .long .s
 
 same-length-2 : tie.Need-same-length-2 Inv-loop μ-loop
-same-length-2 c = c .before .loop .inv .puts .long .c
+same-length-2 c = c .before .loop .inv .puts .long .left
 
 same-length-3 : tie.Need-same-length-3 Inv-loop μ-loop
 same-length-3 c = c .before .loop .inv .puts .long .l

@@ -5,7 +5,7 @@ use Prim.Native.Nat.{_-_}
 use mathlib.Core.Path.{_≡_}
 use native.Mathlib.Omega.{arith}
 use denote.Ref.{now}
-use Rattle.core_reasons.proofs.Alls.{Lining, line-from, lining-end, lining-more, lining-start}
+use Rattle.core_reasons.proofs.Lines.{Lining, line-from, lining-end, lining-more, lining-start}
 
 abbrev Inv-loop : tie.InvT-loop
 Inv-loop p held layers most sums after levels i dues₀ ready₀ bytes₀ out₀ at place have next₀ n₀ dues ready bytes out next n = Lining p layers most sums after levels i out₀ at dues ready bytes out next n

@@ -6,7 +6,7 @@ use mathlib.Core.Path.{_≡_, _∙_, sym}
 use Prim.Native.Nat.{_≤_}
 use native.Mathlib.Omega.{arith}
 use denote.Ref.{now}
-use Rattle.core_reasons.proofs.Alls.{cap-most, lower-done, lower-room, short-done, short-room}
+use Rattle.core_reasons.proofs.Lines.{cap-most, lower-done, lower-room, short-done, short-room}
 
 cap-of-requires : tie.Need-cap-of-requires
 cap-of-requires c κs = search needs

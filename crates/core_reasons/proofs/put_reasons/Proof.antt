@@ -6,7 +6,7 @@ use mathlib.Core.Path.{_≡_}
 use native.Mathlib.Omega.{arith}
 use lib.ListN.{length-replicate}
 use denote.Ref.{now}
-use Rattle.core_reasons.proofs.Alls.{Telling, chunk-from, telling-end, telling-more, telling-start}
+use Rattle.core_reasons.proofs.Lines.{Telling, chunk-from, telling-end, telling-more, telling-start}
 
 abbrev Inv-loop : tie.InvT-loop
 Inv-loop p held layers most sums after levels out₀ dues₀ ready₀ bytes₀ next₀ k₀ out dues ready bytes next k = Telling p held layers most sums after levels out₀ dues ready bytes out next k

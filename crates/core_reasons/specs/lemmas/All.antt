@@ -12,7 +12,7 @@ use Rattle.theory_plan.specs.Statement.{Choice}
 use Rattle.theory_reasons.specs.Lines.{lineAt, linesOf}
 use Rattle.theory_reasons.specs.Statement.{Place, missingOf, missingTo, reasonsText, sentence}
 use Rattle.theory_reasons.specs.lemmas.Refused.{Refuses}
-use Rattle.core_reasons.specs.lemmas.Laying.{Given, trial}
+use Rattle.core_reasons.specs.lemmas.Tables.{Given, trial}
 use Rattle.core_text.specs.lemmas.Places.{Put}
 
 -- ---- the choice that a line is against
@@ -47,7 +47,7 @@ pub record Scratch (dues ready bytes : List ℕ) : Type 0 where
   pub ready-long : length ready ≡ 500
   pub bytes-long : length bytes ≡ 500
 
-pub record TablesFrom (p : Programme) (held : ℕ) (sums after levels : List ℕ) : Type 0 where
+pub record TablesPre (p : Programme) (held : ℕ) (sums after levels : List ℕ) : Type 0 where
   pub few : p .chunks ≤ 500
   pub late : 1 ≤ p .delay
   pub ends : lastDue p ≤ 3600
@@ -56,8 +56,8 @@ pub record TablesFrom (p : Programme) (held : ℕ) (sums after levels : List ℕ
   pub long : (length sums ≡ 2000) × (length after ≡ 3601) × (length levels ≡ 500)
 
 -- A job and a plan of which these are the tables are part of what is asked: the room asked for is that of their lines.
-pub record LineFrom (p : Programme) (held : ℕ) (most : Bool) (sums after levels : List ℕ) (i n have : ℕ) (dues ready bytes out : List ℕ) (at : ℕ) : Type 0 where
-  pub tables : TablesFrom p held sums after levels
+pub record PutLinePre (p : Programme) (held : ℕ) (most : Bool) (sums after levels : List ℕ) (i n have : ℕ) (dues ready bytes out : List ℕ) (at : ℕ) : Type 0 where
+  pub tables : TablesPre p held sums after levels
   pub scratch : Scratch dues ready bytes
   pub chunk-low : 1 ≤ i
   pub chunk-high : i ≤ p .chunks
@@ -71,11 +71,11 @@ pub record LineFrom (p : Programme) (held : ℕ) (most : Bool) (sums after level
   pub room : at + length (sentenceAt job plan most (record { chunk = i; layer = n })) ≤ length out
 
 -- The line of every job and plan of which these are the tables.
-pub record LineDone (p : Programme) (most : Bool) (sums after levels : List ℕ) (i n : ℕ) (old : List ℕ) (at : ℕ) (out : List ℕ) (next : ℕ) : Type 0 where
+pub record PutLinePost (p : Programme) (most : Bool) (sums after levels : List ℕ) (i n : ℕ) (old : List ℕ) (at : ℕ) (out : List ℕ) (next : ℕ) : Type 0 where
   pub put : (j : Job) (plan : ℕ → ℕ) → Facts j plan p most sums after levels → n < Job.layers j → Put old at (sentenceAt j plan most (record { chunk = i; layer = n })) out next
 
-pub record ChunkFrom (p : Programme) (held layers : ℕ) (most : Bool) (sums after levels : List ℕ) (i : ℕ) (dues ready bytes out : List ℕ) (at : ℕ) : Type 0 where
-  pub tables : TablesFrom p held sums after levels
+pub record PutChunkPre (p : Programme) (held layers : ℕ) (most : Bool) (sums after levels : List ℕ) (i : ℕ) (dues ready bytes out : List ℕ) (at : ℕ) : Type 0 where
+  pub tables : TablesPre p held sums after levels
   pub scratch : Scratch dues ready bytes
   pub chunk-low : 1 ≤ i
   pub chunk-high : i ≤ p .chunks
@@ -85,11 +85,11 @@ pub record ChunkFrom (p : Programme) (held layers : ℕ) (most : Bool) (sums aft
   pub layers-is : layers ≡ Job.layers job
   pub room : at + length (textAt job plan most (missingOf plan i layers)) ≤ length out
 
-pub record ChunkDone (p : Programme) (layers : ℕ) (most : Bool) (sums after levels : List ℕ) (i : ℕ) (old : List ℕ) (at : ℕ) (out : List ℕ) (next : ℕ) : Type 0 where
+pub record PutChunkPost (p : Programme) (layers : ℕ) (most : Bool) (sums after levels : List ℕ) (i : ℕ) (old : List ℕ) (at : ℕ) (out : List ℕ) (next : ℕ) : Type 0 where
   pub put : (j : Job) (plan : ℕ → ℕ) → Facts j plan p most sums after levels → layers ≡ Job.layers j → Put old at (textAt j plan most (missingOf plan i layers)) out next
 
-pub record AllFrom (p : Programme) (held layers : ℕ) (most : Bool) (sums after levels out : List ℕ) : Type 0 where
-  pub tables : TablesFrom p held sums after levels
+pub record PutReasonsPre (p : Programme) (held layers : ℕ) (most : Bool) (sums after levels out : List ℕ) : Type 0 where
+  pub tables : TablesPre p held sums after levels
   pub job : Job
   pub plan : ℕ → ℕ
   pub facts : Facts job plan p most sums after levels
@@ -97,5 +97,5 @@ pub record AllFrom (p : Programme) (held layers : ℕ) (most : Bool) (sums after
   pub room : length (reasonsText (linesOf job plan (againstBy most plan))) ≤ length out
 
 -- The lines of every job and plan of which these are the tables.
-pub record AllDone (p : Programme) (layers : ℕ) (most : Bool) (sums after levels old out : List ℕ) (next : ℕ) : Type 0 where
+pub record PutReasonsPost (p : Programme) (layers : ℕ) (most : Bool) (sums after levels old out : List ℕ) (next : ℕ) : Type 0 where
   pub put : (j : Job) (plan : ℕ → ℕ) → Facts j plan p most sums after levels → layers ≡ Job.layers j → Put old 0 (reasonsText (linesOf j plan (againstBy most plan))) out next

@@ -46,14 +46,14 @@ spelled s = record { first = s .first; last = s .last; carry = s .carry; need = 
 
 -- ---- what is asked
 
-pub record BackFrom (after ready bytes : List ℕ) (first m : ℕ) : Type 0 where
+pub record FindBeginPre (after ready bytes : List ℕ) (first m : ℕ) : Type 0 where
   pub low : first ≤ m
   pub high : m < 500
   pub sums : (t : ℕ) → getD after t 0 ≤ 60397977600
   pub begins : (k : ℕ) → first ≤ k → k < 500 → Within 1 3600 (getD ready k 0)
   pub long : (length after ≡ 3601) × (length ready ≡ 500) × (length bytes ≡ 500)
 
-pub record PassFrom (after dues ready bytes : List ℕ) (first : ℕ) : Type 0 where
+pub record FindStretchPre (after dues ready bytes : List ℕ) (first : ℕ) : Type 0 where
   pub within : first ≤ 500
   pub sums : (t : ℕ) → getD after t 0 ≤ 60397977600
   pub due-slots : (k : ℕ) → first ≤ k → k < 500 → Within 1 3600 (getD dues k 0)
@@ -70,5 +70,5 @@ pub record Holds (j : Job) (choice : ℕ → ℕ) (after dues ready bytes : List
   pub carried : drop first bytes ≡ map (Plan.bytes j choice) (kept j choice)
 
 -- The stretch: of every choice that the tables hold and that can't be carried, the one that is named.
-pub record Named (after dues ready bytes : List ℕ) (first : ℕ) (s : Stretch) : Type 0 where
+pub record FindStretchPost (after dues ready bytes : List ℕ) (first : ℕ) (s : Stretch) : Type 0 where
   pub found : (j : Job) → Accepted j → (choice : ℕ → ℕ) → Choice j choice → (CanCarry j choice → ⊥) → Holds j choice after dues ready bytes first → spelled s ≡ stretchOf j choice

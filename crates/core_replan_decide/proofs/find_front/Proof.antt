@@ -10,10 +10,10 @@ use borrow.Author.Needs.{needs}
 use denote.Ref.{now}
 
 abbrev Inv-loop : tie.InvT-loop
-Inv-loop p start last begun after front₀ caps₀ fb₀ i₀ front caps fb i = Fronting p start last begun after front caps fb i
+Inv-loop p start last begun after front₀ caps₀ head₀ i₀ front caps head i = Fronting p start last begun after front caps head i
 
 abbrev μ-loop : tie.MeasureT-loop
-μ-loop p start last begun after front₀ caps₀ fb₀ i₀ front caps fb i = i
+μ-loop p start last begun after front₀ caps₀ head₀ i₀ front caps head i = i
 
 loop-holds : tie.Need-loop-holds Inv-loop μ-loop
 loop-holds c = fronting-start (c .args .start) (c .pre)

@@ -1,7 +1,7 @@
 -- `keep_begun` meets its contract: from q on the begun chunks are settled.
 use Rattle.core_replan_decide.proofs.keep_begun.Statement.{statement}
 use Rattle.core_replan_decide.proofs.Bases.{due-in}
-use Rattle.core_replan_decide.proofs.Begun.{first-in, it-in, Walking, walking-end, walking-more, walking-start, want-small}
+use Rattle.core_replan_decide.proofs.Begun.{first-in, it-in, Walking, begun-end, begun-more, begun-start, want-small}
 use Rattle.core_replan_decide.proofs.keep_begun.Tie as tie
 use native.Mathlib.Omega.{arith}
 use Rattle.job.specs.Table.{tableAt}
@@ -11,17 +11,17 @@ use borrow.Author.Needs.{needs}
 use denote.Ref.{now}
 
 abbrev Inv-loop : tie.InvT-loop
-Inv-loop p left whole after front fb need from ids₀ dues₀ bytes₀ mark₀ all used₀ first₀ q₀ ids dues bytes mark used first q =
-    Walking p (tableAt left) whole after front fb need from ids₀ dues₀ bytes₀ mark₀ ids dues bytes mark used first q
+Inv-loop p left whole after front head need from ids₀ dues₀ bytes₀ mark₀ all used₀ first₀ q₀ ids dues bytes mark used first q =
+    Walking p (tableAt left) whole after front head need from ids₀ dues₀ bytes₀ mark₀ ids dues bytes mark used first q
 
 abbrev μ-loop : tie.MeasureT-loop
-μ-loop p left whole after front fb need from ids₀ dues₀ bytes₀ mark₀ all used₀ first₀ q₀ ids dues bytes mark used first q = q
+μ-loop p left whole after front head need from ids₀ dues₀ bytes₀ mark₀ all used₀ first₀ q₀ ids dues bytes mark used first q = q
 
 element-copy-out-all : tie.Need-element-copy-out-all Inv-loop μ-loop
 element-copy-out-all c = omega (arith, c .pre .long .1)
 
 loop-holds : tie.Need-loop-holds Inv-loop μ-loop
-loop-holds c = walking-start (c .before .pre)
+loop-holds c = begun-start (c .before .pre)
 
 sub-r : tie.Need-sub-r Inv-loop μ-loop
 sub-r c = omega arith
@@ -92,10 +92,10 @@ loop-less c = omega arith
 loop-again : tie.Need-loop-again Inv-loop μ-loop
 loop-again c =
     let d = c .before .before .before .before .before .due-slot .ensures in
-    rw d (walking-more (c .before .before .before .before .before .before .before .before .before .before .pre) (c .before .before .before .before .before .before .before .before .loop .inv) (c .before .before .before .before .before .before .before .loop-test .taken) (rw (c .before .size-in .ensures, c .before .before .before .larger .ensures, d) at (c .try-begun .ensures)))
+    rw d (begun-more (c .before .before .before .before .before .before .before .before .before .before .pre) (c .before .before .before .before .before .before .before .before .loop .inv) (c .before .before .before .before .before .before .before .loop-test .taken) (rw (c .before .size-in .ensures, c .before .before .before .larger .ensures, d) at (c .try-begun .ensures)))
 
 returns : tie.Need-returns Inv-loop μ-loop
-returns c = walking-end (c .before .before .before .pre) (c .before .loop .inv) (c .loop-test .left)
+returns c = begun-end (c .before .before .before .pre) (c .before .loop .inv) (c .loop-test .left)
 
 pub keep-begun-spec : {M : Type 1} → statement M
 keep-begun-spec =

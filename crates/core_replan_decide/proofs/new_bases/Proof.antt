@@ -10,17 +10,17 @@ use borrow.Author.Needs.{needs}
 use denote.Ref.{now}
 
 abbrev Inv-loop : tie.InvT-loop
-Inv-loop p start held last left after caps fb ids₀ dues₀ bytes₀ mark₀ needs₀ roof first₀ floor₀ g₀ i₀ ids dues bytes mark needs first floor g i =
-    Basing p start held last (tableAt left) after caps fb ids dues bytes mark needs roof first floor g i
+Inv-loop p start held last left after caps head ids₀ dues₀ bytes₀ mark₀ needs₀ cap first₀ lowest₀ edge₀ i₀ ids dues bytes mark needs first lowest edge i =
+    Basing p start held last (tableAt left) after caps head ids dues bytes mark needs cap first lowest edge i
 
 abbrev μ-loop : tie.MeasureT-loop
-μ-loop p start held last left after caps fb ids₀ dues₀ bytes₀ mark₀ needs₀ roof first₀ floor₀ g₀ i₀ ids dues bytes mark needs first floor g i = i
+μ-loop p start held last left after caps head ids₀ dues₀ bytes₀ mark₀ needs₀ cap first₀ lowest₀ edge₀ i₀ ids dues bytes mark needs first lowest edge i = i
 
-roof-of-requires : tie.Need-roof-of-requires Inv-loop μ-loop
-roof-of-requires c κs = (c .pre .fb-in, c .pre .falls, c .pre .long .1)
+need-cap-requires : tie.Need-need-cap-requires Inv-loop μ-loop
+need-cap-requires c κs = (c .pre .fb-in, c .pre .falls, c .pre .long .1)
 
 loop-holds : tie.Need-loop-holds Inv-loop μ-loop
-loop-holds c = basing-start (c .before .args .start) (c .before .pre) (c .roof-of .ensures)
+loop-holds c = basing-start (c .before .args .start) (c .before .pre) (c .need-cap .ensures)
 
 can-keep-requires : tie.Need-can-keep-requires Inv-loop μ-loop
 can-keep-requires c κs =
@@ -37,11 +37,11 @@ mul-need c = omega (arith, c .before .before .before .before .loop .inv .within)
 element-copy-out-need : tie.Need-element-copy-out-need Inv-loop μ-loop
 element-copy-out-need c = omega (arith, c .before .before .before .before .loop .inv .within, needs-long (c .before .before .before .before .loop .inv) (c .before .before .before .loop-test .taken) (c .before .before .before .before .before .before .pre) (c .before .can-keep .ensures), place (c .before .before .before .before .loop .inv) (c .before .before .before .loop-test .taken) (c .before .before .before .before .before .before .pre), c .before .before .before .loop-test .taken)
 
-fall-requires : tie.Need-fall-requires Inv-loop μ-loop
-fall-requires c κs = (c .before .before .before .before .before .loop .inv .fronted .low, c .before .before .before .before .before .loop .inv .fronted .high, c .before .before .before .before .before .before .before .pre .long .1)
+places-below-requires : tie.Need-places-below-requires Inv-loop μ-loop
+places-below-requires c κs = (c .before .before .before .before .before .loop .inv .fronted .low, c .before .before .before .before .before .loop .inv .fronted .high, c .before .before .before .before .before .before .before .pre .long .1)
 
-raised-requires : tie.Need-raised-requires Inv-loop μ-loop
-raised-requires c κs = (omega (arith, c .before .before .before .before .before .before .loop .inv .within), omega (arith, c .fall .ensures .high, c .before .before .before .before .before .before .loop .inv .fronted .high), c .before .before .before .before .before .before .before .before .pre .most-held)
+raise-lowest-requires : tie.Need-raise-lowest-requires Inv-loop μ-loop
+raise-lowest-requires c κs = (omega (arith, c .before .before .before .before .before .before .loop .inv .within), omega (arith, c .places-below .ensures .high, c .before .before .before .before .before .before .loop .inv .fronted .high), c .before .before .before .before .before .before .before .before .pre .most-held)
 
 mul-ids : tie.Need-mul-ids Inv-loop μ-loop
 mul-ids c = omega (arith, c .before .before .before .before .before .before .before .loop .inv .within)
@@ -81,7 +81,7 @@ loop-less c = omega (arith, c .before .before .before .before .before .before .b
 
 loop-again : tie.Need-loop-again Inv-loop μ-loop
 loop-again c =
-    rw (c .before .due-slot .ensures, c .size-in .ensures) (basing-keep (c .before .before .before .before .before .before .before .before .before .loop .inv) (c .before .before .before .before .before .before .before .before .loop-test .taken) (c .before .before .before .before .before .before .before .before .before .before .before .pre) (c .before .before .before .before .before .before .can-keep .ensures) (c .before .before .before .before .before .if1 .taken) refl (c .before .before .before .fall .ensures) (c .before .before .raised .ensures))
+    rw (c .before .due-slot .ensures, c .size-in .ensures) (basing-keep (c .before .before .before .before .before .before .before .before .before .loop .inv) (c .before .before .before .before .before .before .before .before .loop-test .taken) (c .before .before .before .before .before .before .before .before .before .before .before .pre) (c .before .before .before .before .before .before .can-keep .ensures) (c .before .before .before .before .before .if1 .taken) refl (c .before .before .before .places-below .ensures) (c .before .before .raise-lowest .ensures))
 
 sub-i-2 : tie.Need-sub-i-2 Inv-loop μ-loop
 sub-i-2 c = omega (arith, c .before .before .before .loop-test .taken)
@@ -101,14 +101,14 @@ new-bases-spec =
     (tie.spec
     Inv-loop
     μ-loop
-    roof-of-requires
+    need-cap-requires
     loop-holds
     can-keep-requires
     sub-k
     mul-need
     element-copy-out-need
-    fall-requires
-    raised-requires
+    places-below-requires
+    raise-lowest-requires
     mul-ids
     element-write-ids
     due-slot-requires

@@ -31,9 +31,9 @@ module _ (s d A w : ℕ → ℕ) (cap : ℕ) where
       record { need = c .need; kept = record { chunk = b; due = d b; bytes = c .bytes; mark = c .mark } ∷ o .kept }
 
   -- From the last to the first, behind them a need of n and the chunks ks.
-  abbrev pub walkFront : ℕ → List Kept → List ℕ → Tried
-  walkFront n ks [] = record { need = n; kept = ks }
-  walkFront n ks (b ∷ bs) = frontOne b (walkFront n ks bs)
+  abbrev pub scanFront : ℕ → List Kept → List ℕ → Tried
+  scanFront n ks [] = record { need = n; kept = ks }
+  scanFront n ks (b ∷ bs) = frontOne b (scanFront n ks bs)
 
 -- The chunks of a list that carry their base.
 abbrev pub based : List Kept → List ℕ
@@ -41,13 +41,13 @@ based [] = []
 based (k ∷ ks) = cond (bit (k .mark) 0) (k .chunk ∷ based ks) (based ks)
 
 -- The walk is the pass of afresh, Passes: the same need, and the same begun chunks keep their base.
-pub walk-is-begun :
+pub scan-is-begun :
     (s d A w : ℕ → ℕ) (cap n : ℕ) (bs : List ℕ) →
-    basesBegun s d A (λ b. bit (w b) 0) cap n bs ≡ record { need = walkFront s d A w cap n [] bs .need; kept = based (walkFront s d A w cap n [] bs .kept) }
-walk-is-begun s d A w cap n [] = refl
-walk-is-begun s d A w cap n (b ∷ bs) =
-    let o = walkFront s d A w cap n [] bs in
-    rw (walk-is-begun s d A w cap n bs) (one (bit (w b) 0) (leb (s b + max (A (d b)) (o .need)) cap) (w b) refl o)
+    basesBegun s d A (λ b. bit (w b) 0) cap n bs ≡ record { need = scanFront s d A w cap n [] bs .need; kept = based (scanFront s d A w cap n [] bs .kept) }
+scan-is-begun s d A w cap n [] = refl
+scan-is-begun s d A w cap n (b ∷ bs) =
+    let o = scanFront s d A w cap n [] bs in
+    rw (scan-is-begun s d A w cap n bs) (one (bit (w b) 0) (leb (s b + max (A (d b)) (o .need)) cap) (w b) refl o)
   where
     one :
         (x y : Bool) (m : ℕ) → bit m 0 ≡ x → (o : Tried) →
@@ -60,14 +60,14 @@ walk-is-begun s d A w cap n (b ∷ bs) =
     one false true m e o = refl
     one false false m e o = refl
 
-pub record BegunFrom (p : Programme) (left : ℕ → ℕ → ℕ) (whole after front : List ℕ) (fb need from : ℕ) (ids dues bytes mark : List ℕ) : Type 0 where
+pub record KeepBegunPre (p : Programme) (left : ℕ → ℕ → ℕ) (whole after front : List ℕ) (head need from : ℕ) (ids dues bytes mark : List ℕ) : Type 0 where
   pub fine : Fine p
   pub small : Small left
   pub sums : Sums after
-  pub fb-in : fb ≤ 500
-  pub chunks-in : All (Within 1 (p .chunks)) (drop fb front)
+  pub fb-in : head ≤ 500
+  pub chunks-in : All (Within 1 (p .chunks)) (drop head front)
   pub need-in : need ≤ 60397977600
-  pub room : 500 ≤ fb + from
+  pub room : 500 ≤ head + from
   pub within : from ≤ 500
   pub ids-in : All (Within 1 (p .chunks)) (drop from ids)
   pub slots : All Slot (drop from dues)
@@ -75,12 +75,12 @@ pub record BegunFrom (p : Programme) (left : ℕ → ℕ → ℕ) (whole after f
   pub long : (length whole ≡ 500) × (length after ≡ 3601) × (length front ≡ 500) × (length ids ≡ 500) × (length dues ≡ 500) × (length bytes ≡ 500) × (length mark ≡ 500)
 
 -- The begun chunks in front of those that stand in the tables.
-pub record BegunBases (p : Programme) (left : ℕ → ℕ → ℕ) (whole after front : List ℕ) (fb need from : ℕ) (ids dues bytes mark : List ℕ) (first : ℕ) (ids′ dues′ bytes′ mark′ : List ℕ) : Type 0 where
+pub record KeepBegunPost (p : Programme) (left : ℕ → ℕ → ℕ) (whole after front : List ℕ) (head need from : ℕ) (ids dues bytes mark : List ℕ) (first : ℕ) (ids′ dues′ bytes′ mark′ : List ℕ) : Type 0 where
   pub within : first ≤ 500
   pub kept :
       keptOf (drop first ids′) (drop first dues′) (drop first bytes′) (drop first mark′)
-      ≡ walkFront (baseOf left) (dueSlot p) (at after) (of whole) (at after 0) need (keptOf (drop from ids) (drop from dues) (drop from bytes) (drop from mark)) (drop fb front) .kept
-  pub ids-are : drop first ids′ ≡ drop fb front ++ drop from ids
+      ≡ scanFront (baseOf left) (dueSlot p) (at after) (of whole) (at after 0) need (keptOf (drop from ids) (drop from dues) (drop from bytes) (drop from mark)) (drop head front) .kept
+  pub ids-are : drop first ids′ ≡ drop head front ++ drop from ids
   pub ids-in : All (Within 1 (p .chunks)) (drop first ids′)
   pub slots : All Slot (drop first dues′)
   pub light : All (λ b. b ≤ 16777216) (drop first bytes′)

@@ -48,23 +48,23 @@ abbrev pub capOf : Programme → List ℕ → ℕ → ℕ
 capOf p after b = at after (dueSlot p b - 1)
 
 -- The last begun chunk, or 0.
-pub record LastBegun (p : Programme) (begun : List ℕ) (last : ℕ) : Type 0 where
+pub record LastBegunPost (p : Programme) (begun : List ℕ) (last : ℕ) : Type 0 where
   pub within : last ≤ p .chunks
   pub behind : (i : ℕ) → last < i → i ≤ p .chunks → eqb (of begun i) 1 ≡ false
   pub top : (last ≡ 0) ⊎ (eqb (of begun last) 1 ≡ true)
 
-pub record FrontFrom (p : Programme) (last : ℕ) (begun after front caps : List ℕ) : Type 0 where
+pub record FindFrontPre (p : Programme) (last : ℕ) (begun after front caps : List ℕ) : Type 0 where
   pub fine : Fine p
   pub within : last ≤ p .chunks
   pub long : (length begun ≡ 500) × (length after ≡ 3601) × (length front ≡ 500) × (length caps ≡ 500)
 
 -- The begun chunks up to last that are due from start on, and their caps.
-pub record Front (p : Programme) (start last : ℕ) (begun after : List ℕ) (fb : ℕ) (front caps : List ℕ) : Type 0 where
-  pub within : fb ≤ 500
-  pub chunks : drop fb front ≡ picked (isBegun p start begun) 0 last
-  pub caps-are : drop fb caps ≡ map (capOf p after) (drop fb front)
-  pub ascending : Asc 1 last (drop fb front)
-  pub room : 500 ≤ fb + last
+pub record FindFrontPost (p : Programme) (start last : ℕ) (begun after : List ℕ) (head : ℕ) (front caps : List ℕ) : Type 0 where
+  pub within : head ≤ 500
+  pub chunks : drop head front ≡ picked (isBegun p start begun) 0 last
+  pub caps-are : drop head caps ≡ map (capOf p after) (drop head front)
+  pub ascending : Asc 1 last (drop head front)
+  pub room : 500 ≤ head + last
   pub long : (length front ≡ 500) × (length caps ≡ 500)
 
 -- ---- the new bases
@@ -88,22 +88,22 @@ module _ (s d A : ℕ → ℕ) (p h : ℕ) (cs : List ℕ) where
 
 -- The caps fall from place to place.
 abbrev pub Falls : List ℕ → ℕ → Type 0
-Falls caps fb = (x y : ℕ) → fb ≤ x → x ≤ y → y < 500 → getD caps y 0 ≤ getD caps x 0
+Falls caps head = (x y : ℕ) → head ≤ x → x ≤ y → y < 500 → getD caps y 0 ≤ getD caps x 0
 
 -- What the need in front is held to at once: the caps of the begun chunks that stand h places before it or more.
-pub record Roof (h : ℕ) (caps : List ℕ) (fb roof : ℕ) : Type 0 where
-  pub is : (x : ℕ) → fb ≤ x → x < 500 → h ≤ 500 - x → (c : ℕ) → c ≤ roof → c ≤ 60414754816 → c ≤ getD caps x 0
-  pub only : (c : ℕ) → c ≤ 60414754816 → roof < c → ((x : ℕ) → fb ≤ x → x < 500 → h ≤ 500 - x → c ≤ getD caps x 0) → ⊥
+pub record NeedCapPost (h : ℕ) (caps : List ℕ) (head cap : ℕ) : Type 0 where
+  pub is : (x : ℕ) → head ≤ x → x < 500 → h ≤ 500 - x → (c : ℕ) → c ≤ cap → c ≤ 60414754816 → c ≤ getD caps x 0
+  pub only : (c : ℕ) → c ≤ 60414754816 → cap < c → ((x : ℕ) → head ≤ x → x < 500 → h ≤ 500 - x → c ≤ getD caps x 0) → ⊥
 
 -- From g down to the first place from which on the caps are below c.
-pub record Fallen (caps : List ℕ) (fb g c g′ : ℕ) : Type 0 where
-  pub low : fb ≤ g′
-  pub high : g′ ≤ g
-  pub above : (x : ℕ) → g′ ≤ x → x < g → getD caps x 0 < c
-  pub last : fb < g′ → c ≤ getD caps (g′ - 1) 0
+pub record PlacesBelowPost (caps : List ℕ) (head edge c edge′ : ℕ) : Type 0 where
+  pub low : head ≤ edge′
+  pub high : edge′ ≤ edge
+  pub above : (x : ℕ) → edge′ ≤ x → x < edge → getD caps x 0 < c
+  pub last : head < edge′ → c ≤ getD caps (edge′ - 1) 0
 
 -- One new chunk is tested, in front of the kept ones: roof and floor say what the begun chunks ask.
-pub record TestFrom (p : Programme) (held : ℕ) (left : ℕ → ℕ → ℕ) (after : List ℕ) (i first : ℕ) (needs : List ℕ) : Type 0 where
+pub record CanKeepPre (p : Programme) (held : ℕ) (left : ℕ → ℕ → ℕ) (after : List ℕ) (i first : ℕ) (needs : List ℕ) : Type 0 where
   pub fine : Fine p
   pub most-held : held ≤ 65535
   pub small : Small left
@@ -115,28 +115,28 @@ pub record TestFrom (p : Programme) (held : ℕ) (left : ℕ → ℕ → ℕ) (a
   pub top : getD needs first 0 ≤ getD after 0 0
   pub long : (length after ≡ 3601) × (length needs ≡ 500)
 
-pub record Tested (p : Programme) (start held : ℕ) (left : ℕ → ℕ → ℕ) (after : List ℕ) (roof floor i first : ℕ) (needs needs′ : List ℕ) (r : Bool) : Type 0 where
+pub record CanKeepPost (p : Programme) (start held : ℕ) (left : ℕ → ℕ → ℕ) (after : List ℕ) (cap lowest i first : ℕ) (needs needs′ : List ℕ) (r : Bool) : Type 0 where
   pub is :
       r ≡ leb start (dueSlot p i) && (keeps (baseOf left) (dueSlot p) (at after) held (drop first needs) i
-      && (leb floor (first - 1) && leb (candidate (baseOf left) (dueSlot p) (at after) (drop first needs) i) roof))
+      && (leb lowest (first - 1) && leb (candidate (baseOf left) (dueSlot p) (at after) (drop first needs) i) cap))
   pub wrote : needs′ ≡ set needs (first - 1) (candidate (baseOf left) (dueSlot p) (at after) (drop first needs) i)
 
-pub record NewFrom (p : Programme) (held last : ℕ) (left : ℕ → ℕ → ℕ) (after caps : List ℕ) (fb : ℕ) (ids dues bytes mark needs : List ℕ) : Type 0 where
+pub record NewBasesPre (p : Programme) (held last : ℕ) (left : ℕ → ℕ → ℕ) (after caps : List ℕ) (head : ℕ) (ids dues bytes mark needs : List ℕ) : Type 0 where
   pub fine : Fine p
   pub most-held : held ≤ 65535
   pub within : last ≤ p .chunks
   pub small : Small left
   pub sums : Sums after
-  pub fb-in : fb ≤ 500
-  pub falls : Falls caps fb
+  pub fb-in : head ≤ 500
+  pub falls : Falls caps head
   pub long : (length after ≡ 3601) × (length caps ≡ 500) × (length ids ≡ 500) × (length dues ≡ 500) × (length bytes ≡ 500) × (length mark ≡ 500) × (length needs ≡ 500)
 
 -- The new chunks that are kept, with their due slots, bytes and marks, and what they use up.
-pub record NewBases (p : Programme) (start held last : ℕ) (left : ℕ → ℕ → ℕ) (after caps : List ℕ) (fb first : ℕ) (ids dues bytes mark needs : List ℕ) : Type 0 where
+pub record NewBasesPost (p : Programme) (start held last : ℕ) (left : ℕ → ℕ → ℕ) (after caps : List ℕ) (head first : ℕ) (ids dues bytes mark needs : List ℕ) : Type 0 where
   pub within : first ≤ 500
   -- Whatever begun chunks have these caps: the pass of afresh, Passes.
   pub kept :
-      (bs : List ℕ) → drop fb caps ≡ map (capOf p after) bs →
+      (bs : List ℕ) → drop head caps ≡ map (capOf p after) bs →
       record { needs = drop first needs; chunks = drop first ids } ≡ basesNew (baseOf left) (dueSlot p) (at after) start held bs last (p .chunks - last)
   pub due-slots : drop first dues ≡ map (dueSlot p) (drop first ids)
   pub base-bytes : drop first bytes ≡ map (baseOf left) (drop first ids)

@@ -1,5 +1,5 @@
 -- `put_chunk` meets its contract: the layers below n are placed.
-use Rattle.core_fill.specs.lemmas.Listing.{levelOf}
+use Rattle.core_fill.specs.lemmas.Filling.{levelOf}
 use Rattle.core_replan_fill.proofs.put_chunk.Statement.{statement}
 use Rattle.core_replan_fill.proofs.Chunks.{below-level, in-four, layer-from, Layering, layering-end, layering-more, layering-skip, layering-start}
 use Rattle.core_replan_fill.proofs.put_chunk.Tie as tie
@@ -61,7 +61,7 @@ same-length : tie.Need-same-length Inv-loop μ-loop
 same-length c = c .before .before .loop .inv .puts .long .s
 
 same-length-2 : tie.Need-same-length-2 Inv-loop μ-loop
-same-length-2 c = c .before .before .loop .inv .puts .long .c
+same-length-2 c = c .before .before .loop .inv .puts .long .left
 
 same-length-3 : tie.Need-same-length-3 Inv-loop μ-loop
 same-length-3 c = c .before .before .loop .inv .puts .long .l

@@ -34,8 +34,8 @@ sweep-requires c κs =
 in-turn-requires : tie.Need-in-turn-requires
 in-turn-requires c κs = c .before .before .before .before .before .before .before .before .before .before .before .before .before .before .before .before .before .before .before .before .before .before .before .before .pre .chunks-few
 
-every-requires : tie.Need-every-requires
-every-requires c κs = search needs
+all-six-requires : tie.Need-all-six-requires
+all-six-requires c κs = search needs
 
 returns : tie.Need-returns
 returns c =
@@ -43,7 +43,7 @@ returns c =
     gathered (a .p) (now (a .table)) (a .depth) (now (a .earlier)) (rowsOf (now (a .slots)) (now (a .chunks)) (now (a .layers)) (now (a .bytes)))
     _ (c .before .before .before .before .before .before .before .before .before .before .before .before .before .before .before .before .before .before .before .before .last-due .ensures) (c .before .before .before .before .before .before .before .before .before .before .before .before .before .before .before .before .tally .result) _ _ _ (c .before .before .before .before .before .before .before .before .before .before .before .before .before .before .before .before .tally .ensures) (c .before .before .before .before .before .before .before .before .before .before .before .before .before .before .before .if1 .taken)
     (c .before .before .before .before .before .before .before .set-flags .result) (c .before .before .before .before .before .within .result) (c .before .before .before .sweep .result) (c .before .in-turn .result)
-    (c .before .before .before .before .before .before .before .before .before .before .before .before .set-left .ensures) (c .before .before .before .before .before .before .before .set-flags .ensures) (c .before .before .before .before .before .within .ensures) (c .before .before .before .sweep .ensures) (c .before .in-turn .ensures) (c .every .ensures)
+    (c .before .before .before .before .before .before .before .before .before .before .before .before .set-left .ensures) (c .before .before .before .before .before .before .before .set-flags .ensures) (c .before .before .before .before .before .within .ensures) (c .before .before .before .sweep .ensures) (c .before .in-turn .ensures) (c .all-six .ensures)
 
 returns-2 : tie.Need-returns-2
 returns-2 c =
@@ -62,6 +62,6 @@ gather-spec =
     within-requires
     sweep-requires
     in-turn-requires
-    every-requires
+    all-six-requires
     returns
     returns-2)

@@ -7,10 +7,10 @@ use mathlib.Core.Path.{_≡_}
 use native.Mathlib.Omega.{arith}
 use Rattle.job.specs.Table.{tableAt}
 use Rattle.core_replan_input.proofs.Flags.{flagged-more, flagged-none}
-use Rattle.core_replan_input.specs.lemmas.Gather.{Flagged}
+use Rattle.core_replan_input.specs.lemmas.Gather.{SetFlagsPost}
 
 abbrev Inv-loop : tie.InvT-loop
-Inv-loop table depth sums first count begun₀ whole₀ lower₀ few₀ i₀ begun whole lower few i = (i ≤ count) × Flagged (tableAt table) sums first depth i (record { lower = lower; few = few }) begun whole
+Inv-loop table depth sums first count begun₀ whole₀ lower₀ few₀ i₀ begun whole lower few i = (i ≤ count) × SetFlagsPost (tableAt table) sums first depth i (record { lower = lower; few = few }) begun whole
 
 abbrev μ-loop : tie.MeasureT-loop
 μ-loop table depth sums first count begun₀ whole₀ lower₀ few₀ i₀ begun whole lower few i = count - i
@@ -48,8 +48,8 @@ element-write-begun c = omega (arith, c .before .before .before .wide .ensures, 
 both-requires : tie.Need-both-requires Inv-loop μ-loop
 both-requires c κs = search needs
 
-few-of-requires : tie.Need-few-of-requires Inv-loop μ-loop
-few-of-requires c κs = (c .before .before .before .before .before .before .before .pre .0, omega arith, omega (arith, c .before .before .before .before .before .before .before .pre))
+none-above-requires : tie.Need-none-above-requires Inv-loop μ-loop
+none-above-requires c κs = (c .before .before .before .before .before .before .before .pre .0, omega arith, omega (arith, c .before .before .before .before .before .before .before .pre))
 
 both-requires-2 : tie.Need-both-requires-2 Inv-loop μ-loop
 both-requires-2 c κs = search needs
@@ -60,7 +60,7 @@ loop-less c = omega (arith, c .before .before .before .before .before .before .b
 loop-again : tie.Need-loop-again Inv-loop μ-loop
 loop-again c =
     let w = c .before .before .before .before .before .before .wide .ensures in
-    (omega (arith, c .before .before .before .before .before .before .before .loop-test .taken), rw (c .before .before .both .ensures, c .both2 .ensures, w) (flagged-more (c .before .before .before .before .before .before .before .before .loop .inv .1) (omega (arith, c .before .before .before .before .before .before .before .loop-test .taken, c .before .before .before .before .before .before .before .before .before .pre)) (c .before .before .before .before .before .see-chunk .ensures) (rw w at (c .before .before .before .flag .ensures)) (c .before .few-of .ensures)))
+    (omega (arith, c .before .before .before .before .before .before .before .loop-test .taken), rw (c .before .before .both .ensures, c .both2 .ensures, w) (flagged-more (c .before .before .before .before .before .before .before .before .loop .inv .1) (omega (arith, c .before .before .before .before .before .before .before .loop-test .taken, c .before .before .before .before .before .before .before .before .before .pre)) (c .before .before .before .before .before .see-chunk .ensures) (rw w at (c .before .before .before .flag .ensures)) (c .before .none-above .ensures)))
 
 returns : tie.Need-returns Inv-loop μ-loop
 returns c =
@@ -85,7 +85,7 @@ set-flags-spec =
     flag-requires
     element-write-begun
     both-requires
-    few-of-requires
+    none-above-requires
     both-requires-2
     loop-less
     loop-again

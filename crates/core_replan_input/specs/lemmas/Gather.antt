@@ -1,4 +1,4 @@
--- Lemmas. The tables that the handed rows make, and whether the rows keep what refusal 22 asks: by the sums and first slots of rules, Tables.
+-- Lemmas. The tables that the fetched rows make, and whether the rows keep what refusal 22 asks: by the sums and first slots of rules, Tables.
 use Prim.Native.Nat.{ℕ, suc, _+_, _*_, _-_, _≤_, _<_}
 use mathlib.Core.Path.{_≡_}
 use mathlib.Core.Bool.{Bool, true, false, _&&_}
@@ -10,7 +10,7 @@ use Rattle.job.specs.Job.{Override, lastDue}
 use Rattle.job.specs.Table.{tableAt}
 use Rattle.job.specs.declared.Programme.{Programme}
 use Rattle.fetch.specs.Rows.{Row, markByte}
-use Rattle.theory_replan.specs.Refusal.{handedKept}
+use Rattle.theory_replan.specs.Refusal.{fetchedKept}
 use Rattle.core_replan_decide.specs.lemmas.Decision.{Tabled, jobFrom}
 use Rattle.core_replan_decide.specs.lemmas.Tables.{Small, of}
 use Rattle.core_rules.specs.lemmas.Tables.{Shown, carriedBy, lowerBy}
@@ -29,7 +29,7 @@ pub record Flags (size : ℕ → ℕ → ℕ) (sums first : List ℕ) (depth cou
   pub long : (length begun ≡ 500) × (length whole ≡ 500)
 
 -- And whether they keep rule 3, and no sum exceeds its size.
-pub record Flagged (size : ℕ → ℕ → ℕ) (sums first : List ℕ) (depth count : ℕ) (r : Kept) (begun whole : List ℕ) : Type 0 where
+pub record SetFlagsPost (size : ℕ → ℕ → ℕ) (sums first : List ℕ) (depth count : ℕ) (r : Kept) (begun whole : List ℕ) : Type 0 where
   pub lower : r .lower ≡ allTo count (λ i. allBelow depth (lowerBy (carriedBy size sums i)))
   pub few : r .few ≡ allTo count (λ i. allBelow depth (fewBy size sums i))
   pub flags : Flags size sums first depth count begun whole
@@ -39,19 +39,19 @@ abbrev pub InTurnBy : List ℕ → ℕ → Type 0
 InTurnBy first count =
     (a b : ℕ) → 1 ≤ a → a < b → b ≤ count → getD first a 0 < 65535 → getD first b 0 < 65535 → getD first a 0 ≤ getD first b 0
 
-pub record Turned (first : List ℕ) (count : ℕ) (r : Bool) : Type 0 where
+pub record InTurnPost (first : List ℕ) (count : ℕ) (r : Bool) : Type 0 where
   pub holds : r ≡ true → InTurnBy first count
   pub fails : r ≡ false → InTurnBy first count → ⊥
 
 -- ---- what is left
 
-pub record Rest (table sums left : List ℕ) : Type 0 where
+pub record SetLeftPost (table sums left : List ℕ) : Type 0 where
   pub is : (k : ℕ) → k < 2000 → getD left k 0 ≡ getD table k 0 - getD sums k 0
   pub long : length left ≡ 2000
 
 -- ---- the whole
 
-pub record GatherFrom (p : Programme) (depth : ℕ) (earlier ss cs ls bs left begun whole : List ℕ) : Type 0 where
+pub record GatherPre (p : Programme) (depth : ℕ) (earlier ss cs ls bs left begun whole : List ℕ) : Type 0 where
   pub chunks-few : p .chunks ≤ 500
   pub slots-few : lastDue p ≤ 3600
   pub layers-few : depth ≤ 4
@@ -63,10 +63,10 @@ pub record GatherFrom (p : Programme) (depth : ℕ) (earlier ss cs ls bs left be
 
 -- For every accepted job whose sizes the table has and whose forecast begins with earlier: the rows, all in its slots, keep what 22 asks
 -- exactly if the answer is yes, and then the tables are those that the decision made afresh asks for.
-pub record Gathered (p : Programme) (table : List ℕ) (depth : ℕ) (earlier : List ℕ) (rows : List Row) (r : Bool) (left begun whole : List ℕ) : Type 0 where
+pub record GatherPost (p : Programme) (table : List ℕ) (depth : ℕ) (earlier : List ℕ) (rows : List Row) (r : Bool) (left begun whole : List ℕ) : Type 0 where
   pub kept :
       (sizes : List ℕ) (os : List Override) (part : List ℕ) → Shown table depth (jobFrom p sizes os earlier part) →
-      All (λ x. x .slot < suc (length earlier)) rows → r ≡ handedKept (jobFrom p sizes os earlier part) rows
+      All (λ x. x .slot < suc (length earlier)) rows → r ≡ fetchedKept (jobFrom p sizes os earlier part) rows
   pub tabled :
       r ≡ true → (sizes : List ℕ) (os : List Override) (part : List ℕ) → Shown table depth (jobFrom p sizes os earlier part) →
       Tabled (jobFrom p sizes os earlier part) rows (tableAt left) begun whole

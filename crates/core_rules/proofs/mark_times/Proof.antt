@@ -6,11 +6,11 @@ use mathlib.Core.Path.{_≡_}
 use native.Mathlib.Omega.{arith}
 use denote.Ref.{now}
 use borrow.Author.Needs.{needs}
-use Rattle.core_rules.specs.lemmas.Tables.{Marked}
+use Rattle.core_rules.specs.lemmas.Tables.{MarkTimesPost}
 use Rattle.core_rules.proofs.Held.{marked-none, marked-pass, marked-more, marked-small}
 
 abbrev Inv-loop : tie.InvT-loop
-Inv-loop p first begins₀ ends₀ n i₀ begins ends i = (i ≤ p .chunks) × Marked p first i begins ends
+Inv-loop p first begins₀ ends₀ n i₀ begins ends i = (i ≤ p .chunks) × MarkTimesPost p first i begins ends
 
 abbrev μ-loop : tie.MeasureT-loop
 μ-loop p first begins₀ ends₀ n i₀ begins ends i = p .chunks - i

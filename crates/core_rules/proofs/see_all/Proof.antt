@@ -7,12 +7,12 @@ use native.Mathlib.Omega.{arith}
 use denote.Ref.{now}
 use borrow.Author.Needs.{needs}
 use Rattle.job.specs.Table.{tableAt}
-use Rattle.core_rules.specs.lemmas.Tables.{SeenAll}
+use Rattle.core_rules.specs.lemmas.Tables.{SeeAllPost}
 use Rattle.core_rules.proofs.Seeing.{seen-none, seen-more}
 
 abbrev Inv-loop : tie.InvT-loop
 Inv-loop table depth layersum marks count whole₀ lower₀ said₀ i₀ whole lower said i =
-    (i ≤ count) × SeenAll (tableAt table) layersum marks depth i (record { whole = whole; lower = lower; said = said })
+    (i ≤ count) × SeeAllPost (tableAt table) layersum marks depth i (record { whole = whole; lower = lower; said = said })
 
 abbrev μ-loop : tie.MeasureT-loop
 μ-loop table depth layersum marks count whole₀ lower₀ said₀ i₀ whole lower said i = count - i

@@ -44,7 +44,7 @@ pub record Tallied (rows : List Row) (slotsum layersum first : List ℕ) : Type 
   pub first-long : length first ≡ 501
 
 -- What the pass over the rows finds: rule 1, and where it holds rule 5 and the tables.
-pub record Passed (p : Programme) (last depth : ℕ) (rows : List Row) (r : Pass) (slotsum layersum first : List ℕ) : Type 0 where
+pub record TallyPost (p : Programme) (last depth : ℕ) (rows : List Row) (r : Pass) (slotsum layersum first : List ℕ) : Type 0 where
   pub ranged : r .ranged ≡ all (inRange last (p .chunks) depth) rows
   pub timely : r .ranged ≡ true → r .timely ≡ all (onTime p) rows
   pub tables : r .ranged ≡ true → Tallied rows slotsum layersum first
@@ -68,13 +68,13 @@ abbrev pub lowerBy : (ℕ → Bool) → ℕ → Bool
 lowerBy c n = not (c n) || under c n
 
 -- The layers of chunk i: its mark byte, rules 2 and 3.
-pub record SeenChunk (size : ℕ → ℕ → ℕ) (layersum : List ℕ) (depth i : ℕ) (r : Seen) : Type 0 where
+pub record SeeChunkPost (size : ℕ → ℕ → ℕ) (layersum : List ℕ) (depth i : ℕ) (r : Seen) : Type 0 where
   pub mark : r .mark ≡ markByte (carriedBy size layersum i) depth
   pub whole : r .whole ≡ allBelow depth (wholeBy size layersum i)
   pub lower : r .lower ≡ allBelow depth (lowerBy (carriedBy size layersum i))
 
 -- Every chunk of a list with its marks: rules 2, 3 and 7.
-pub record SeenAll (size : ℕ → ℕ → ℕ) (layersum marks : List ℕ) (depth n : ℕ) (r : Layers) : Type 0 where
+pub record SeeAllPost (size : ℕ → ℕ → ℕ) (layersum marks : List ℕ) (depth n : ℕ) (r : Layers) : Type 0 where
   pub whole : r .whole ≡ allTo n (λ i. allBelow depth (wholeBy size layersum i))
   pub lower : r .lower ≡ allTo n (λ i. allBelow depth (lowerBy (carriedBy size layersum i)))
   pub said : r .said ≡ allTo n (λ i. eqb (getD marks (i - 1) 0) (markByte (carriedBy size layersum i) depth))
@@ -93,7 +93,7 @@ abbrev pub endsAt : Programme → List ℕ → ℕ → ℕ → Bool
 endsAt p first t i = ltb (getD first i 0) (dueSlot p i) && eqb (dueSlot p i) t
 
 -- Tables of how many of the chunks 1 .. n begin and cease to be held in each slot.
-pub record Marked (p : Programme) (first : List ℕ) (n : ℕ) (begins ends : List ℕ) : Type 0 where
+pub record MarkTimesPost (p : Programme) (first : List ℕ) (n : ℕ) (begins ends : List ℕ) : Type 0 where
   pub begin-at : (t : ℕ) → t ≤ 3600 → getD begins t 0 ≡ count (startsAt p first t) n
   pub end-at : (t : ℕ) → t ≤ 3600 → getD ends t 0 ≡ count (endsAt p first t) n
   pub begin-long : length begins ≡ 3601

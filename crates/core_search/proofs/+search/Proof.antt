@@ -106,7 +106,7 @@ search-element-write-ids : (t : ℕ) → search-lts.Need-element-write-ids (
 ) (search-at t) search′.Post
 search-element-write-ids t c = omega (arith, c .before .before .before .before .before .pre .1 .room, c .before .before .before .before .before .pre .1 .within, c .before .before .before .before .before .pre .1 .long .0, pos-of-ne-zero (c .before .before .before .before .if1 .left))
 
-search-note-requires : (t : ℕ) → search-lts.Need-note-requires (
+search-note-requires : (t : ℕ) → search-lts.Need-keep-best-requires (
   can-keep-reads.Asked,
   can-keep-reads.Learnt,
   note-reads.Asked,
@@ -126,7 +126,7 @@ search-search-requires : (t : ℕ) → search-lts.Need-search-requires (
 ) (search-at t) search′.Post
 search-search-requires t c κs =
     let one = pos-of-ne-zero (c .before .before .before .before .before .before .before .before .before .before .before .before .if1 .left) in
-    (omega (arith, c .before .before .before .before .before .before .before .before .before .before .before .before .before .pre .0), keep-from (c .before .before .before .before .before .before .before .before .before .before .before .before .before .pre .1) (c .before .before .before .before .before .before .before .before .before .before .before .before .before .args .left) one (c .before .before .before .before .before .before .before .before .before .before .before .if2 .left) (c .before .before .before .before .before .before .before .before .before .can-keep .ensures) (c .before .before .before .before .before .before .before .before .if3 .taken) (c .before .before .before .before .note .ensures))
+    (omega (arith, c .before .before .before .before .before .before .before .before .before .before .before .before .before .pre .0), keep-from (c .before .before .before .before .before .before .before .before .before .before .before .before .before .pre .1) (c .before .before .before .before .before .before .before .before .before .before .before .before .before .args .left) one (c .before .before .before .before .before .before .before .before .before .before .before .if2 .left) (c .before .before .before .before .before .before .before .before .before .can-keep .ensures) (c .before .before .before .before .before .before .before .before .if3 .taken) (c .before .before .before .before .keep-best .ensures))
 
 -- Where both ways of the keep meet.
 turned : (t : ℕ) (c : search-lts.Joined3 (

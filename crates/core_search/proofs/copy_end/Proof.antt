@@ -3,13 +3,13 @@ use Prim.Native.Nat.{_≤_}
 use mathlib.Core.Path.{subst}
 use native.Mathlib.Omega.{arith}
 use denote.Ref.{now}
-use Rattle.core_search.specs.lemmas.Walking.{Ending}
+use Rattle.core_search.specs.lemmas.Tables.{CopyEndPost}
 use Rattle.core_search.proofs.Laws.{ending-start, ending-more}
 use Rattle.core_search.proofs.copy_end.Statement.{statement}
 use Rattle.core_search.proofs.copy_end.Tie as tie
 
 abbrev Inv-loop : tie.InvT-loop
-Inv-loop from k to₀ q₀ to q = Ending q from to × (k ≤ q) × (q ≤ 500)
+Inv-loop from k to₀ q₀ to q = CopyEndPost q from to × (k ≤ q) × (q ≤ 500)
 
 abbrev μ-loop : tie.MeasureT-loop
 μ-loop from k to₀ q₀ to q = q
@@ -41,7 +41,7 @@ loop-again c =
     (ending-more (v .0) (omega arith) (v .2) (c .before .before .before .pre .1), omega arith, omega arith)
 
 returns : tie.Need-returns Inv-loop μ-loop
-returns c = let v = c .before .loop .inv in subst (λ q. Ending q (now (c .before .before .args .from)) (c .before .loop .to)) (omega arith) (v .0)
+returns c = let v = c .before .loop .inv in subst (λ q. CopyEndPost q (now (c .before .before .args .from)) (c .before .loop .to)) (omega arith) (v .0)
 
 pub copy-end-spec : {M : Type 1} → statement M
 copy-end-spec = tie.close (tie.spec Inv-loop μ-loop loop-holds sub-p mul-to element-copy-out-to mul-to-2 element-write-to loop-less loop-again returns)

@@ -7,7 +7,7 @@ use native.Mathlib.Omega.{arith}
 use mathlib.Core.Path.{subst}
 use denote.Ref.{now}
 use Rattle.theory_plan.specs.lemmas.Words.{due-by}
-use Rattle.core_search.specs.lemmas.Walking.{DueTable}
+use Rattle.core_search.specs.lemmas.Tables.{DueTable}
 use Rattle.core_search.proofs.Found.{due-table-more, due-table-start}
 
 abbrev Inv-loop : tie.InvT-loop

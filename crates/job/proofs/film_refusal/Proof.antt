@@ -21,6 +21,9 @@ is-within-requires-2 c κs = search needs
 cast-is-within-3 : tie.Need-cast-is-within-3
 cast-is-within-3 c = search needs
 
+cast-is-within-4 : tie.Need-cast-is-within-4
+cast-is-within-4 c = search needs
+
 is-within-requires-3 : tie.Need-is-within-requires-3
 is-within-requires-3 c κs = search needs
 
@@ -50,6 +53,7 @@ film-refusal-spec =
     cast-is-within-2
     is-within-requires-2
     cast-is-within-3
+    cast-is-within-4
     is-within-requires-3
     both-requires
     both-requires-2

@@ -12,7 +12,7 @@ use Rattle.theory_basics.specs.lemmas.Division.{divided-up-enough, divided-up-n
 use Rattle.theory_basics.specs.Tests.{All, any, In, here, there}
 use Rattle.theory_basics.specs.lemmas.Tests.{test, T-or-iff, eqb-iff}
 use Rattle.meter.specs.Forecast.{bytesOf, isZero, total, share, meanOf}
-use Rattle.meter.specs.Meter.{Sample, InRange}
+use Rattle.meter.specs.Meter.{Sample, SampleInRange}
 use Rattle.meter.specs.Harmonic.{product, others, NotAbove, WholePart}
 
 -- Bytes of which the mean is taken: in range and not 0.
@@ -169,7 +169,7 @@ zero-in [] t = absurd t
 zero-in (b ∷ bs) t =
     ⊎-elim (λ u. rw (eqb→eq b 0 u) here) (λ u. there (zero-in bs u)) (T-or-iff (isZero b) (any isZero bs) .0 t)
 
-pub counts : (l : List Sample) → All InRange l → T (not (any isZero (bytesOf l))) → All Counts (bytesOf l)
+pub counts : (l : List Sample) → All SampleInRange l → T (not (any isZero (bytesOf l))) → All Counts (bytesOf l)
 counts [] a t = tt
 counts (x ∷ l) a t =
     let u = not-or (isZero (x .bytes)) (any isZero (bytesOf l)) t in

@@ -9,7 +9,7 @@ use borrow.Author.Needs.{needs}
 use lib.ListN.{length}
 use denote.Ref.{now}
 use Rattle.planfile.specs.lemmas.Scan.{refusalOf, Scanned, scanned-start, too-long}
-use Rattle.planfile.proofs.Turns.{none-read, kp-more, kp-ends, ft-more, en-after, en-lacking, en-rows}
+use Rattle.planfile.proofs.Step.{none-read, kp-more, kp-ends, ft-more, en-after, en-lacking, en-rows}
 
 abbrev Inv-loop : tie.InvT-loop
 Inv-loop count file at₀ kept₀ rows₀ at kept rows = Scanned count file at kept rows

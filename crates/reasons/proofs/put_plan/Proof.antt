@@ -26,8 +26,8 @@ cast-held c = search needs
 fill-sizes-requires : tie.Need-fill-sizes-requires
 fill-sizes-requires c κs = search needs
 
-by-walk-requires : tie.Need-by-walk-requires
-by-walk-requires c κs = search needs
+applies-requires : tie.Need-applies-requires
+applies-requires c κs = search needs
 
 decide-requires : tie.Need-decide-requires
 decide-requires c κs =
@@ -66,7 +66,7 @@ put-reasons-requires c κs =
     let o = c .before .before .before .before .before .before .before .before .before .before .before .before .before .before .before .before .before .before .before .before .before .before .before .before .before .before .before .before .before .before .pre in
     let says = filled _ (o .0) _ (c .before .before .before .before .before .before .before .before .before .before .before .before .before .before .before .before .before .before .before .before .fill-sizes .ensures (length-replicate {A = ℕ} 2000 (a .p .chunks))) in
     let d = c .before .before .before .before .before .before .before .before .before .before .before .before .before .decide .ensures _ _ refl says in
-    all-asked _ (o .0) _ _ _ _ d _ _ (zeros-at 500) (length-replicate {A = ℕ} 500 0) (c .before .before .before .before .before .before .before .before .before .set-levels .ensures .1) _ _ says (c .before .before .before .before .before .before .sum-sizes .ensures) _ (c .before .before .before .before .sum-after .ensures) _ (c .before .before .before .before .before .before .before .before .before .before .before .before .before .before .before .before .before .before .by-walk .ensures) _ (c .before .before .before .before .before .before .before .before .before .before .before .before .before .before .before .before .before .before .before .before .before .before .held-most .ensures) _ (c .before .before .before .before .before .before .before .before .before .set-levels .ensures .0) (o .1)
+    all-asked _ (o .0) _ _ _ _ d _ _ (zeros-at 500) (length-replicate {A = ℕ} 500 0) (c .before .before .before .before .before .before .before .before .before .set-levels .ensures .1) _ _ says (c .before .before .before .before .before .before .sum-sizes .ensures) _ (c .before .before .before .before .sum-after .ensures) _ (c .before .before .before .before .before .before .before .before .before .before .before .before .before .before .before .before .before .before .applies .ensures) _ (c .before .before .before .before .before .before .before .before .before .before .before .before .before .before .before .before .before .before .before .before .before .before .held-most .ensures) _ (c .before .before .before .before .before .before .before .before .before .set-levels .ensures .0) (o .1)
 
 same-length : tie.Need-same-length
 same-length c = search needs
@@ -77,7 +77,7 @@ returns c =
     let o = c .before .before .before .before .before .before .before .before .before .before .before .before .before .before .before .before .before .before .before .before .before .before .before .before .before .before .before .before .before .before .before .before .before .pre in
     let says = filled _ (o .0) _ (c .before .before .before .before .before .before .before .before .before .before .before .before .before .before .before .before .before .before .before .before .before .before .before .fill-sizes .ensures (length-replicate {A = ℕ} 2000 (a .p .chunks))) in
     let d = c .before .before .before .before .before .before .before .before .before .before .before .before .before .before .before .before .decide .ensures _ _ refl says in
-    all-put _ (o .0) _ _ _ _ d _ _ (zeros-at 500) (length-replicate {A = ℕ} 500 0) (c .before .before .before .before .before .before .before .before .before .before .before .before .set-levels .ensures .1) _ _ says (c .before .before .before .before .before .before .before .before .before .sum-sizes .ensures) _ (c .before .before .before .before .before .before .before .sum-after .ensures) _ (c .before .before .before .before .before .before .before .before .before .before .before .before .before .before .before .before .before .before .before .before .before .by-walk .ensures) _ _ _ (c .before .before .put-reasons .ensures)
+    all-put _ (o .0) _ _ _ _ d _ _ (zeros-at 500) (length-replicate {A = ℕ} 500 0) (c .before .before .before .before .before .before .before .before .before .before .before .before .set-levels .ensures .1) _ _ says (c .before .before .before .before .before .before .before .before .before .sum-sizes .ensures) _ (c .before .before .before .before .before .before .before .sum-after .ensures) _ (c .before .before .before .before .before .before .before .before .before .before .before .before .before .before .before .before .before .before .before .before .before .applies .ensures) _ _ _ (c .before .before .put-reasons .ensures)
 
 pub put-plan-spec : {M : Type 1} → statement M
 put-plan-spec =
@@ -88,7 +88,7 @@ put-plan-spec =
     held-most-requires
     cast-held
     fill-sizes-requires
-    by-walk-requires
+    applies-requires
     decide-requires
     set-levels-requires
     sum-sizes-requires

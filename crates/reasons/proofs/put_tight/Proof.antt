@@ -5,7 +5,7 @@ use native.Mathlib.Omega.{arith}
 use lib.ListN.{length-replicate}
 use lib.Seq.{length-take-le}
 use Rattle.core_text.specs.lemmas.Places.{put-front}
-use Rattle.reasons.proofs.Told.{accepted, fits, told-copied, told-short}
+use Rattle.reasons.proofs.Answer.{accepted, fits, told-copied, told-short}
 use borrow.Author.Needs.{needs}
 use Rattle.reasons.proofs.put_tight.Statement.{statement}
 use Rattle.reasons.proofs.put_tight.Tie as tie

@@ -1,6 +1,6 @@
 -- `reasons` meets its contract: the refusals in their order, then the text. Assumes nothing.
 use native.Mathlib.Omega.{arith}
-use Rattle.reasons.proofs.Told.{accepted, fits, lines-of-plan, none, told-put, told-refused}
+use Rattle.reasons.proofs.Answer.{accepted, fits, lines-of-plan, none, told-put, told-refused}
 use borrow.Author.Needs.{needs}
 use Rattle.reasons.proofs.reasons.Statement.{statement}
 use Rattle.reasons.proofs.reasons.Tie as tie

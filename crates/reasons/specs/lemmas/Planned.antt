@@ -11,8 +11,8 @@ use lib.Dec.{eqb, ltb}
 use Rattle.theory_basics.specs.Tests.{All}
 use Rattle.job.specs.Job.{Accepted, Job, Within, chunks, heldMost, layers, size}
 use Rattle.job.specs.Table.{tableAt}
-use Rattle.core_moore_hodgson.specs.lemmas.Walking.{walksIn}
-use Rattle.theory_plan.specs.Plan.{after, byWalk, kept, plan}
+use Rattle.core_moore_hodgson.specs.lemmas.Tables.{appliesIn}
+use Rattle.theory_plan.specs.Plan.{after, byMooreHodgson, kept, plan}
 use Rattle.theory_plan.specs.Theorems.{plan-exists}
 use Rattle.theory_plan.specs.lemmas.Ascending.{asc-within}
 use Rattle.theory_plan.specs.lemmas.Choice.{kept-asc}
@@ -24,8 +24,8 @@ use Rattle.theory_reasons.specs.lemmas.Refused.{Refuses, plan-refuses}
 use Rattle.core_decide.specs.lemmas.Accepted.{left-is, part-in}
 use Rattle.core_decide.specs.lemmas.Decision.{Decides, SumTable}
 use Rattle.core_text.specs.lemmas.Places.{Put}
-use Rattle.core_reasons.specs.lemmas.All.{AllDone, AllFrom, Facts, againstBy}
-use Rattle.core_reasons.specs.lemmas.Laying.{Given}
+use Rattle.core_reasons.specs.lemmas.All.{PutReasonsPost, PutReasonsPre, Facts, againstBy}
+use Rattle.core_reasons.specs.lemmas.Tables.{Given}
 use Rattle.reasons.specs.lemmas.Tables.{Summed, plan-levels, spread, sums-are}
 
 -- ---- the choice that a line is against
@@ -42,12 +42,12 @@ either : (b : Bool) (p : ℕ → ℕ) → againstBy b p ≡ cond b (allBasesKept
 either true p = fun-ext (λ i. fun-ext (λ n. fun-ext (λ k. same-base p i n k)))
 either false p = refl
 
-against-plan : (j : Job) (p : ℕ → ℕ) → againstBy (byWalk j) p ≡ against j p
-against-plan j p = either (byWalk j) p
+against-plan : (j : Job) (p : ℕ → ℕ) → againstBy (byMooreHodgson j) p ≡ against j p
+against-plan j p = either (byMooreHodgson j) p
 
 module _ (j : Job) (ok : Accepted j) where
-  abbrev walks : Bool
-  walks = byWalk j
+  abbrev applies : Bool
+  applies = byMooreHodgson j
 
   -- ---- the tables
 
@@ -72,7 +72,7 @@ module _ (j : Job) (ok : Accepted j) where
             carried = λ k u v. rw (spread-is, decided .chunks, decided .marks) (plan-levels j ok zeros long none k u v);
           }
 
-      facts : Facts j (plan j) (j .programme) walks sums rest levels
+      facts : Facts j (plan j) (j .programme) applies sums rest levels
       facts =
           record {
             accepted = ok;
@@ -81,20 +81,20 @@ module _ (j : Job) (ok : Accepted j) where
             refuses = subst (λ (b : ℕ → ℕ → ℕ → ℕ). Refuses j (plan j) b) (sym (against-plan j (plan j))) (plan-refuses j ok (plan j) (plan-exists j ok));
           }
 
-      text-is : reasonsText (linesOf j (plan j) (againstBy walks (plan j))) ≡ planText j
+      text-is : reasonsText (linesOf j (plan j) (againstBy applies (plan j))) ≡ planText j
       unfolding planText
       text-is = ap (λ (b : ℕ → ℕ → ℕ → ℕ). reasonsText (linesOf j (plan j) b)) (against-plan j (plan j))
 
       -- ---- what is asked, and what is put
 
-      module _ (most : Bool) (flag : most ≡ walksIn (j .programme) (tableAt table)) where
+      module _ (most : Bool) (flag : most ≡ appliesIn (j .programme) (tableAt table)) where
         -- The code's flag is the theory's.
-        flag-is : most ≡ walks
-        flag-is = flag ∙ ap (λ (z : ℕ → ℕ → ℕ). walksIn (j .programme) z) says
+        flag-is : most ≡ applies
+        flag-is = flag ∙ ap (λ (z : ℕ → ℕ → ℕ). appliesIn (j .programme) z) says
 
         pub all-asked :
             (held : ℕ) → held ≡ heldMost j → (out : List ℕ) → length levels ≡ 500 → length (planText j) ≤ length out →
-            AllFrom (j .programme) held (layers j) most sums rest levels out
+            PutReasonsPre (j .programme) held (layers j) most sums rest levels out
         all-asked held held-is out levels-long room =
             rw flag-is
             (record {
@@ -113,7 +113,7 @@ module _ (j : Job) (ok : Accepted j) where
               room = rw text-is room;
             })
 
-        pub all-put : (old out : List ℕ) (next : ℕ) → AllDone (j .programme) (layers j) most sums rest levels old out next → Put old 0 (planText j) out next
+        pub all-put : (old out : List ℕ) (next : ℕ) → PutReasonsPost (j .programme) (layers j) most sums rest levels old out next → Put old 0 (planText j) out next
         all-put old out next d =
-            let e : AllDone (j .programme) (layers j) walks sums rest levels old out next = rw flag-is at d in
+            let e : PutReasonsPost (j .programme) (layers j) applies sums rest levels old out next = rw flag-is at d in
             rw text-is at (e .put j (plan j) facts refl)

@@ -25,7 +25,7 @@ use Rattle.theory_plan.specs.lemmas.Plan.{plan-choice}
 use Rattle.theory_plan.specs.lemmas.Queue.{has-low}
 use Rattle.theory_plan.specs.lemmas.Trials.{levelMark}
 use Rattle.core_decide.specs.lemmas.Accepted.{filled}
-use Rattle.core_reasons.specs.lemmas.Laying.{bytesIn}
+use Rattle.core_reasons.specs.lemmas.Tables.{bytesIn}
 
 -- ---- layers by marks
 

@@ -9,7 +9,7 @@ use lib.Dec.{eqb}
 use Rattle.theory_basics.specs.Sums.{sum, count}
 use Rattle.theory_basics.specs.Lists.{upTo}
 use Rattle.job.specs.declared.Programme.{Programme}
-use Rattle.job.specs.Handed.{HandedJob, jobIn, jobRefusal}
+use Rattle.job.specs.Input.{JobInput, jobIn, jobRefusal}
 use Rattle.job.specs.Job.{lastDue}
 use Rattle.job.specs.Table.{tableAt}
 use Rattle.fetch.specs.Rows.{Row, bytesOfLayer}
@@ -42,10 +42,10 @@ pub record Summed (rows : List Row) (table : List ℕ) : Type 0 where
   pub long : length table ≡ 2000
 
 -- The bytes of the plan's rows and their table, or the job's refusal.
-abbrev pub spentOf : HandedJob → Spent
+abbrev pub spentOf : JobInput → Spent
 spentOf h = cond (eqb (jobRefusal h) 0) (sent (bytesInRows (planRows (jobIn h)))) (refused (jobRefusal h))
 
-pub record Tabled (h : HandedJob) (table : List ℕ) (r : Spent) : Type 0 where
+pub record Tabled (h : JobInput) (table : List ℕ) (r : Spent) : Type 0 where
   pub spent : r ≡ spentOf h
   pub by-rows : jobRefusal h ≡ 0 → Summed (planRows (jobIn h)) table
 

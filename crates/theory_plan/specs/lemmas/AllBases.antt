@@ -12,7 +12,7 @@ use Rattle.theory_basics.specs.lemmas.Tests.{test}
 use Rattle.job.specs.Job.{Job, chunks, due, heldMost, layers, size}
 use Rattle.theory_plan.specs.Bases.{isKept}
 use Rattle.theory_plan.specs.Plan.{after, bytes, kept, picked}
-use Rattle.theory_plan.specs.Statement.{BasesWalked, CanCarry, Choice, IsPlan, NoSkip, SettledByTrials, Settles}
+use Rattle.theory_plan.specs.Statement.{BasesMooreHodgson, CanCarry, Choice, IsPlan, NoSkip, SettledByTrials, Settles}
 use Rattle.theory_plan.specs.lemmas.Base.{base-picks}
 use Rattle.theory_plan.specs.lemmas.Best.{by-trials-fits, is-plan-fits}
 use Rattle.theory_plan.specs.lemmas.Choice.{Fits, can-carry-fits, fits-can-carry}
@@ -20,7 +20,7 @@ use Rattle.theory_plan.specs.lemmas.Kept.{feas-picked, picked-cong}
 use Rattle.theory_plan.specs.lemmas.Level.{count-carried}
 use Rattle.theory_plan.specs.lemmas.Need.{Feas, feas-tail}
 use Rattle.theory_plan.specs.lemmas.Plan.{base-taken-iff, either-way}
-use Rattle.theory_plan.specs.lemmas.Walked.{list-bases}
+use Rattle.theory_plan.specs.lemmas.MooreHodgson.{list-bases}
 use Rattle.theory_plan.specs.lemmas.Words.{Sized}
 
 -- The choice with every base and no other layer.
@@ -91,8 +91,8 @@ module _ (j : Job) (some : 0 < layers j) where
     tried-all f i u v = all-fit-kept f (chunks j) 0 (omega arith) i u v
 
   -- As many bases are kept as a list that carries them all has.
-  walked-all : Sized j → (p : ℕ → ℕ) → BasesWalked j p → AllFit j → NoSkip j p
-  walked-all sized p b f i u v =
+  kept-all : Sized j → (p : ℕ → ℕ) → BasesMooreHodgson j p → AllFit j → NoSkip j p
+  kept-all sized p b f i u v =
       let c = can-carry-all-iff sized .1 f in
       let one : T (ltb 0 1) = lt→ltb 0 1 (omega arith) in
       let few = omega-le (count-carried j (c .rows) basesAlone (c .exactly) 0 some) (list-bases j some (c .rows) (c .passes)) in
@@ -105,7 +105,7 @@ module _ (j : Job) (some : 0 < layers j) where
   pub no-skip-iff : Sized j → (p : ℕ → ℕ) → IsPlan j p → NoSkip j p ↔ AllFit j
   no-skip-iff sized p dec = (
     λ n. fits-all-fit p n (is-plan-fits j sized p dec),
-    λ f. either-way j (NoSkip j p) (λ w. walked-all sized p (dec .walked w) f) (λ n. tried-all sized p (dec .choice) (dec .elsewhere n) f),
+    λ f. either-way j (NoSkip j p) (λ w. kept-all sized p (dec .moore-hodgson w) f) (λ n. tried-all sized p (dec .choice) (dec .elsewhere n) f),
   )
 
   -- and so does what document 01's way by itself settles.

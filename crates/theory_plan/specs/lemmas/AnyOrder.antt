@@ -14,13 +14,13 @@ use Rattle.theory_basics.specs.lemmas.Ranges.{pre-mono, bit, count-none, count-
 use Rattle.theory_basics.specs.Tests.{All}
 use Rattle.theory_basics.specs.lemmas.Tests.{T-and, and-T, any-row, at-row, test}
 use Rattle.fetch.specs.Rows.{Row, begun, bytesIf, held}
-use Rattle.fetch.specs.Rules.{InRange, OnTime, Passes}
+use Rattle.fetch.specs.Rules.{RowInRange, OnTime, Passes}
 use Rattle.job.specs.Job.{Job, chunks, due, heldMost, lastSlot}
 use Rattle.theory_plan.specs.lemmas.Ascending.{Asc}
 use Rattle.theory_plan.specs.lemmas.Count.{bytes-disjoint, bytes-mono, some-row}
 use Rattle.theory_plan.specs.lemmas.Necessity.{within-between}
 use Rattle.theory_plan.specs.lemmas.Need.{Feas, Tails}
-use Rattle.theory_plan.specs.Plan.{need, after}
+use Rattle.theory_plan.specs.Plan.{needOf, after}
 use Rattle.theory_plan.specs.lemmas.Words.{bytesOfChunk, due-mono}
 
 -- A row of a chunk before lo that is not begun by slot q.
@@ -94,7 +94,7 @@ module _ (j : Job) (l : List Row) (ok : Passes j l) (z : ℕ) where
     need-beyond-held :
         (gs : List ℕ) (lo c : ℕ) → 1 ≤ lo → base ≤ lo → Asc lo (chunks j) gs → All (λ e. z ≤ bytesOfChunk l e) gs →
         c + most * z ≤ bytesIf (fresh l q lo) l + count (held j l q) (pred lo) * z → c ≤ after j q →
-        c + need (λ k. z) (due j) (after j) gs ≤ after j q
+        c + needOf (λ k. z) (due j) (after j) gs ≤ after j q
     need-beyond-held [] lo c h b s e m n = omega arith
     need-beyond-held (g ∷ gs) lo c h b s e m n =
         let r = fresh-or-held lo g (c + most * z) h b (s .0) (e .0) m in
@@ -106,7 +106,7 @@ module _ (j : Job) (l : List Row) (ok : Passes j l) (z : ℕ) where
     need-after :
         (n : ℕ) (gs : List ℕ) (lo i : ℕ) → i + n ≡ most → 1 ≤ lo → base ≤ lo → Asc lo (chunks j) gs →
         All (λ e. z ≤ bytesOfChunk l e) gs → i * z ≤ bytesIf (fresh l q lo) l + count (held j l q) (pred lo) * z →
-        need (λ k. z) (due j) (after j) (drop n gs) ≤ after j q
+        needOf (λ k. z) (due j) (after j) (drop n gs) ≤ after j q
     need-after zero gs lo i p h b s e m = let y : i ≡ most = omega arith in omega (arith, need-beyond-held gs lo 0 h b s e (let w = rw y at m in omega arith) (omega arith))
     need-after (suc n) [] lo i p h b s e m = omega arith
     need-after (suc n) (g ∷ gs) lo i p h b s e m =
@@ -115,7 +115,7 @@ module _ (j : Job) (l : List Row) (ok : Passes j l) (z : ℕ) where
   begun-from-one : (q g : ℕ) → T (begun l q g) → 1 ≤ q
   begun-from-one q g t =
       let r = some-row (λ x. eqb (x .chunk) g && leb (x .slot) q) l t in
-      omega (arith, at-row (InRange j) (r .1) (ok .in-range) .slot-low, leb→le (r .0 .slot) q (and-T (eqb (r .0 .chunk) g) (leb (r .0 .slot) q) (r .2) .1))
+      omega (arith, at-row (RowInRange j) (r .1) (ok .in-range) .slot-low, leb→le (r .0 .slot) q (and-T (eqb (r .0 .chunk) g) (leb (r .0 .slot) q) (r .2) .1))
 
   -- Rule 6 starts at slot 1; before it nothing is held.
   none-held-at-0 : count (held j l 0) (chunks j) ≡ 0

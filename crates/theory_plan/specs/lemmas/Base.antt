@@ -17,7 +17,7 @@ use Rattle.job.specs.Job.{Job, chunks, due, heldMost, size}
 use Rattle.theory_plan.specs.lemmas.AnyOrder.{any-order-fit}
 use Rattle.theory_plan.specs.lemmas.Ascending.{Asc, count-all}
 use Rattle.theory_plan.specs.lemmas.Choice.{Fits, chunk-bytes}
-use Rattle.theory_plan.specs.Plan.{bytes, kept, picked, need, after}
+use Rattle.theory_plan.specs.Plan.{bytes, kept, picked, needOf, after}
 use Rattle.theory_plan.specs.lemmas.Kept.{feas-picked, length-picked, picked-asc, picked-cong, picked-each, picked-skip}
 use Rattle.theory_plan.specs.lemmas.Level.{level, level-choice, level-exactly}
 use Rattle.theory_plan.specs.lemmas.Need.{Feas, feas-mono, feas-tail}
@@ -109,7 +109,7 @@ at-most-drop (suc n) (both h r) = at-most-drop n r
 module _
     (w d A : ℕ → ℕ) (h : ℕ) (w-anti : (x y : ℕ) → x ≤ y → w y ≤ w x) (d-mono : (x y : ℕ) → x ≤ y → d x ≤ d y)
     (A-anti : (x y : ℕ) → x ≤ y → A y ≤ A x) where
-  need-of-later : {ks gs : List ℕ} → AtMost ks gs → need w d A gs ≤ need w d A ks
+  need-of-later : {ks gs : List ℕ} → AtMost ks gs → needOf w d A gs ≤ needOf w d A ks
   need-of-later none = omega arith
   need-of-later (both {k = k} {g = g} l r) =
       omega (arith, need-of-later r, w-anti k g l, A-anti (d k) (d g) (d-mono k g l))

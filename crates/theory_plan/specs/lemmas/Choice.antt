@@ -11,7 +11,7 @@ use lib.Dec.{T, leb, ltb, leb→le, ltb→lt, nltb→le, le→leb}
 use Rattle.theory_basics.specs.Sums.{sum}
 use Rattle.theory_basics.specs.lemmas.Tests.{all-map, test}
 use Rattle.fetch.specs.Rows.{Carried, Row, bytesOfLayer}
-use Rattle.fetch.specs.Rules.{InRange, Passes, PlayingOrder, WholeLayers}
+use Rattle.fetch.specs.Rules.{RowInRange, Passes, PlayingOrder, WholeLayers}
 use Rattle.job.specs.Job.{Job, Layer, chunks, due, heldMost, layers, size}
 use Rattle.theory_plan.specs.lemmas.Ascending.{Asc}
 use Rattle.theory_plan.specs.lemmas.Count.{chunk-by-layers}
@@ -67,7 +67,7 @@ pub chunk-bytes :
     (j : Job) (l : List Row) (lv : ℕ → ℕ) → Passes j l → Choice j lv → CarriesExactly j l lv → (i : ℕ) → 1 ≤ i → i ≤ chunks j →
     bytesOfChunk l i ≡ bytes j lv i
 chunk-bytes j l lv ok c a i g h =
-    chunk-by-layers i (layers j) l (all-map (InRange j) (λ x. x .layer < layers j) l (λ x r. r .layer-in) (ok .in-range))
+    chunk-by-layers i (layers j) l (all-map (RowInRange j) (λ x. x .layer < layers j) l (λ x r. r .layer-in) (ok .in-range))
     ∙ sum-cong (bytesOfLayer l i) (λ n. cond (ltb n (lv i)) (size j i n) 0) (layers j) (λ n u. exactly-sizes j l lv (ok .whole) a i n (layer-of j i n g h u))
     ∙ sum-below (size j i) (lv i) (layers j) (c i g h)
 

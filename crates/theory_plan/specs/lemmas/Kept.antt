@@ -14,7 +14,7 @@ use Rattle.theory_basics.specs.lemmas.Tests.{by-cond, test}
 use Rattle.theory_plan.specs.lemmas.Ascending.{Asc, asc-lower}
 use Rattle.theory_basics.specs.lemmas.Ranges.{bit}
 use Rattle.theory_plan.specs.lemmas.Need.{Feas}
-use Rattle.theory_plan.specs.Plan.{need, picked}
+use Rattle.theory_plan.specs.Plan.{needOf, picked}
 pub use Rattle.theory_plan.specs.lemmas.Need.{feas-mono, need-mono}
 use Rattle.theory_basics.specs.Lists.{has}
 use Rattle.theory_plan.specs.lemmas.Sufficiency.{has-low}
@@ -85,7 +85,7 @@ picked-has lo (suc n) hi (k ∷ ks) h a =
 
 pub need-picked :
     (v w d A : ℕ → ℕ) (p : ℕ → Bool) (lo n : ℕ) → ((i : ℕ) → lo < i → i ≤ n + lo → T (p i) → v i ≤ w i) →
-    need v d A (picked p lo n) ≤ need w d A (picked p lo n)
+    needOf v d A (picked p lo n) ≤ needOf w d A (picked p lo n)
 need-picked v w d A p lo n f = need-mono v w d A (picked p lo n) (picked-each p (λ k. v k ≤ w k) lo n f)
 
 pub feas-picked :

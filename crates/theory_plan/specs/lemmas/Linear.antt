@@ -20,15 +20,15 @@ use Rattle.fetch.specs.Rows.{markByte}
 use Rattle.fetch.specs.lemmas.Marks.{mark-bit, mark-cong, mark-high, with-next}
 use Rattle.theory_plan.specs.lemmas.Base.{base-picks}
 use Rattle.theory_plan.specs.lemmas.Choice.{Fits}
-use Rattle.theory_plan.specs.Bases.{Asc, baseSize, forecastBy, keptAtEnd}
-use Rattle.theory_plan.specs.Plan.{byWalk, bytes, kept, picked, need, plan, planByTrials}
+use Rattle.theory_plan.specs.Bases.{Asc, baseSize, forecastBy, mooreHodgson}
+use Rattle.theory_plan.specs.Plan.{byMooreHodgson, bytes, kept, picked, needOf, plan, planByTrials}
 use Rattle.theory_plan.specs.lemmas.Kept.{feas-mono, need-mono, picked-cong, picked-each, picked-has}
 use Rattle.theory_plan.specs.lemmas.Necessity.{Each, after}
 use Rattle.theory_plan.specs.lemmas.Need.{Feas, Tails}
-use Rattle.theory_plan.specs.lemmas.Plan.{TakesFitting, by-walk-iff, either-way, plan-bases, plan-choice, plan-fits, plan-takes, plan-elsewhere, tried-kept, trials-choice, trials-fit, trials-take}
-use Rattle.theory_plan.specs.Statement.{BasesWalked, Choice, tried}
+use Rattle.theory_plan.specs.lemmas.Plan.{TakesFitting, by-moore-hodgson-iff, either-way, plan-bases, plan-choice, plan-fits, plan-takes, plan-elsewhere, tried-kept, trials-choice, trials-fit, trials-take}
+use Rattle.theory_plan.specs.Statement.{BasesMooreHodgson, Choice, tried}
 use Rattle.theory_plan.specs.lemmas.Sufficiency.{RelOk, each, feas-relok, ones, releases}
-use Rattle.theory_plan.specs.lemmas.Trials.{Stack, candidate, keeps, push, bases, levelMark, Kept, rooms, Tried, tryOne, back, bytesOf, keptAt, onLayer, onLayers, based, stacked, keptBases, decidedOn, decided}
+use Rattle.theory_plan.specs.lemmas.Trials.{Stack, candidate, keeps, push, bases, levelMark, Kept, rooms, Tried, tryOne, back, bytesKept, keptAt, onLayer, onLayers, based, stacked, keptBases, decidedOn, decided}
 use Rattle.theory_plan.specs.lemmas.Walk.{kept-asc}
 use Rattle.theory_plan.specs.lemmas.Words.{layer-of}
 
@@ -37,16 +37,16 @@ use Rattle.theory_plan.specs.lemmas.Words.{layer-of}
 -- What the stack holds.
 abbrev pub needs-of : (w d A : ℕ → ℕ) → List ℕ → List ℕ
 needs-of w d A [] = []
-needs-of w d A (k ∷ ks) = need w d A (k ∷ ks) ∷ needs-of w d A ks
+needs-of w d A (k ∷ ks) = needOf w d A (k ∷ ks) ∷ needs-of w d A ks
 
-pub needs-at : (w d A : ℕ → ℕ) (ks : List ℕ) (h : ℕ) → getD (needs-of w d A ks) h 0 ≡ need w d A (drop h ks)
+pub needs-at : (w d A : ℕ → ℕ) (ks : List ℕ) (h : ℕ) → getD (needs-of w d A ks) h 0 ≡ needOf w d A (drop h ks)
 needs-at w d A [] zero = refl
 needs-at w d A [] (suc h) = refl
 needs-at w d A (k ∷ ks) zero = refl
 needs-at w d A (k ∷ ks) (suc h) = needs-at w d A ks h
 
 -- The need of a chunk in front of a set, from the set's stack.
-pub candidate-is : (s d A : ℕ → ℕ) (ks : List ℕ) (i : ℕ) → candidate s d A (needs-of s d A ks) i ≡ need s d A (i ∷ ks)
+pub candidate-is : (s d A : ℕ → ℕ) (ks : List ℕ) (i : ℕ) → candidate s d A (needs-of s d A ks) i ≡ needOf s d A (i ∷ ks)
 candidate-is s d A ks i = omega (arith, needs-at s d A ks 0)
 
 -- Beside a set that fits, the chunk in front fits exactly if the test says so.
@@ -55,7 +55,7 @@ pub keeps-iff-feas :
 keeps-iff-feas s d A h i ks g =
     let ns = needs-of s d A ks in
     let c = candidate-is s d A ks i in
-    let e : getD (candidate s d A ns i ∷ ns) h 0 ≡ need s d A (drop h (i ∷ ks)) = rw c (needs-at s d A (i ∷ ks) h) in (
+    let e : getD (candidate s d A ns i ∷ ns) h 0 ≡ needOf s d A (drop h (i ∷ ks)) = rw c (needs-at s d A (i ∷ ks) h) in (
       λ t. let u = simp tests at t in record { whole = omega (arith, u .0); tails = (omega (arith, u .1), g .tails) },
       λ f. simp tests (omega (arith, f .whole), omega (arith, f .tails .0)),
     )
@@ -102,7 +102,7 @@ module _ (j : Job) (p : ℕ → ℕ) (accepts : (i : ℕ) → 1 ≤ i → i ≤ 
 
 -- ---- releases and tails
 
-relok-uncons : (w d A : ℕ → ℕ) (gs : List ℕ) (r : ℕ) (rs : List ℕ) → RelOk w d A gs (r ∷ rs) → (need w d A gs ≤ A (r - 1)) × RelOk w d A (drop 1 gs) rs
+relok-uncons : (w d A : ℕ → ℕ) (gs : List ℕ) (r : ℕ) (rs : List ℕ) → RelOk w d A gs (r ∷ rs) → (needOf w d A gs ≤ A (r - 1)) × RelOk w d A (drop 1 gs) rs
 relok-uncons w d A [] r rs t = (omega arith, tt)
 relok-uncons w d A (g ∷ gs) r rs t = (t .0, t .1)
 
@@ -121,7 +121,7 @@ relok-rest w d A (suc h) (g ∷ gs) rs t = relok-rest w d A h gs rs (t .1)
 
 -- The chunks ks fit behind their releases and into the room.
 pub record Roomy (w d A : ℕ → ℕ) (room : ℕ) (ks rs : List ℕ) : Type 0 where
-  pub within : need w d A ks ≤ room
+  pub within : needOf w d A ks ≤ room
   pub released : RelOk w d A ks rs
 
 pub feas-roomy : (w d A : ℕ → ℕ) (h : ℕ) (ks : List ℕ) → Feas w d A h ks ↔ Roomy w d A (A 0) ks (releases d h ks)
@@ -206,7 +206,7 @@ module _ (j : Job) (n : ℕ) (up : 1 ≤ n) (few : n < 8) (p : ℕ → ℕ) (acc
   takes k = ltb n (p k)
 
   abbrev result : List ℕ → Tried
-  result ks = record { need = need upto (due j) (after j) ks; kept = map (keptAt j level) ks }
+  result ks = record { needOf = needOf upto (due j) (after j) ks; kept = map (keptAt j level) ks }
 
   abbrev run : ℕ → List ℕ → List ℕ → Tried
   run room ks rs = back (size j) (after j) n (rooms (after j) room (map (bytes j lower) ks) rs) (map (keptAt j lower) ks)
@@ -253,7 +253,7 @@ module _ (j : Job) (n : ℕ) (up : 1 ≤ n) (few : n < 8) (p : ℕ → ℕ) (acc
     ks = picked kept-at i m
 
     abbrev want : ℕ
-    want = bytes j lower i + max (after j (due j i)) (need upto (due j) (after j) ks)
+    want = bytes j lower i + max (after j (due j i)) (needOf upto (due j) (after j) ks)
 
     abbrev test-here : Bool
     test-here = eqb (lower i) n && leb (want + size j i n) here
@@ -306,12 +306,12 @@ module _ (j : Job) (n : ℕ) (up : 1 ≤ n) (few : n < 8) (p : ℕ → ℕ) (acc
         let l = ltb→lt n (p i) t in
         let e : level i ≡ suc n = omega arith in
         let e′ : lower i ≡ n = omega arith in
-        let s : want + size j i n ≡ upto i + max (after j (due j i)) (need upto (due j) (after j) ks) = rw (e, e′) (omega arith) in
+        let s : want + size j i n ≡ upto i + max (after j (due j i)) (needOf upto (due j) (after j) ks) = rw (e, e′) (omega arith) in
         rw (lt-ltb n (p i) l, s, level-takes i l))
         (λ t.
         let l = nltb→le n (p i) t in
         let e : level i ≡ lower i = omega arith in
-        let s : want ≡ upto i + max (after j (due j i)) (need upto (due j) (after j) ks) = rw e in
+        let s : want ≡ upto i + max (after j (due j i)) (needOf upto (due j) (after j) ks) = rw e in
         rw (le-ltb n (p i) l, s, level-stays i l))
         (test (takes i)))
 
@@ -319,19 +319,19 @@ module _ (j : Job) (n : ℕ) (up : 1 ≤ n) (few : n < 8) (p : ℕ → ℕ) (acc
     unfolding back
     stepped e = ap (tryOne (size j) (after j) n here (keptAt j lower i)) e ∙ one-trial
 
-  front-walk : (m lo room : ℕ) (rs : List ℕ) → lo + suc m ≡ chunks j → ((room : ℕ) (rs : List ℕ) → Ready room (suc lo) (picked kept-at (suc lo) m) rs → run room (picked kept-at (suc lo) m) rs ≡ result (picked kept-at (suc lo) m)) → Ready room lo (suc lo ∷ picked kept-at (suc lo) m) rs → run room (suc lo ∷ picked kept-at (suc lo) m) rs ≡ result (suc lo ∷ picked kept-at (suc lo) m)
-  front-walk m lo room [] h next b = absurd (b .plan-in .released)
-  front-walk m lo room (r ∷ rs) h next b = stepped room lo m r rs h b (next (min room (after j (r - 1)) - bytes j lower (suc lo)) rs (ready-front room lo m r rs h b))
+  front-scan : (m lo room : ℕ) (rs : List ℕ) → lo + suc m ≡ chunks j → ((room : ℕ) (rs : List ℕ) → Ready room (suc lo) (picked kept-at (suc lo) m) rs → run room (picked kept-at (suc lo) m) rs ≡ result (picked kept-at (suc lo) m)) → Ready room lo (suc lo ∷ picked kept-at (suc lo) m) rs → run room (suc lo ∷ picked kept-at (suc lo) m) rs ≡ result (suc lo ∷ picked kept-at (suc lo) m)
+  front-scan m lo room [] h next b = absurd (b .plan-in .released)
+  front-scan m lo room (r ∷ rs) h next b = stepped room lo m r rs h b (next (min room (after j (r - 1)) - bytes j lower (suc lo)) rs (ready-front room lo m r rs h b))
 
-  walk : (m lo room : ℕ) (rs : List ℕ) → lo + m ≡ chunks j → Ready room lo (picked kept-at lo m) rs → run room (picked kept-at lo m) rs ≡ result (picked kept-at lo m)
+  onward : (m lo room : ℕ) (rs : List ℕ) → lo + m ≡ chunks j → Ready room lo (picked kept-at lo m) rs → run room (picked kept-at lo m) rs ≡ result (picked kept-at lo m)
   unfolding back
-  walk zero lo room rs h a = refl
-  walk (suc m) lo room rs h a =
-      let next : (room : ℕ) (rs : List ℕ) → Ready room (suc lo) (picked kept-at (suc lo) m) rs → run room (picked kept-at (suc lo) m) rs ≡ result (picked kept-at (suc lo) m) = λ room rs b. walk m (suc lo) room rs (omega arith) b in
+  onward zero lo room rs h a = refl
+  onward (suc m) lo room rs h a =
+      let next : (room : ℕ) (rs : List ℕ) → Ready room (suc lo) (picked kept-at (suc lo) m) rs → run room (picked kept-at (suc lo) m) rs ≡ result (picked kept-at (suc lo) m) = λ room rs b. onward m (suc lo) room rs (omega arith) b in
       ⊎-elim
       (λ t.
       let e : kept-at (suc lo) ≡ true = le-leb 1 (p (suc lo)) (leb→le 1 (p (suc lo)) t) in
-      rw e (front-walk m lo room rs h next (rw e at a)))
+      rw e (front-scan m lo room rs h next (rw e at a)))
       (λ t.
       let e : kept-at (suc lo) ≡ false = lt-leb 1 (p (suc lo)) (nleb→lt 1 (p (suc lo)) t) in
       let a′ : Ready room lo (picked kept-at (suc lo) m) rs = rw e at a in
@@ -344,7 +344,7 @@ module _ (j : Job) (n : ℕ) (up : 1 ≤ n) (few : n < 8) (p : ℕ → ℕ) (acc
       let ks = kept j p in
       let rs = releases (due j) (heldMost j) ks in
       let t : (w : ℕ → ℕ) → Feas w (due j) (after j) (heldMost j) ks ↔ Roomy w (due j) (after j) (after j 0) ks rs = λ w. feas-roomy w (due j) (after j) (heldMost j) ks in
-      walk (chunks j) 0 (after j 0) rs (omega arith)
+      onward (chunks j) 0 (after j 0) rs (omega arith)
       (record {
         trials = λ i u v h. rw (tried-kept j n p i up h) (t (bytes j (tried p n i)));
         plan-in = t upto .0 (feas-mono upto (bytes j p) (due j) (after j) (heldMost j) ks (picked-each kept-at (λ k. upto k ≤ bytes j p k) 0 (chunks j) (λ k u v h. sum-mono (size j k) (min (p k) (suc n)) (p k) (omega arith))) fp);
@@ -381,7 +381,7 @@ module _ (j : Job) (p : ℕ → ℕ) (c : Choice j p) (f : Fits j p) (takes : (n
       onLayer (size j) (after j) (after j 0) releases-of (suc n) (map (keptAt j (below-layer (suc n))) (kept j p)) ≡ map (keptAt j (below-layer (suc (suc n)))) (kept j p)
   pass-is n h few =
       let here : List Kept = map (keptAt j (below-layer (suc n))) (kept j p) in
-      ap (λ (ws : List ℕ). back (size j) (after j) (suc n) (rooms (after j) (after j 0) ws releases-of) here .kept) (map-map bytesOf (keptAt j (below-layer (suc n))) (kept j p))
+      ap (λ (ws : List ℕ). back (size j) (after j) (suc n) (rooms (after j) (after j 0) ws releases-of) here .kept) (map-map bytesKept (keptAt j (below-layer (suc n))) (kept j p))
       ∙ ap (λ (o : Tried). o .kept) (layer-is j (suc n) (omega arith) (omega arith) p (λ i u v. takes n i (layer-of j i (suc n) u v h)) f)
 
   passes-are :
@@ -420,15 +420,15 @@ kept-of-set j p ks a b =
     same-test (leb 1 (p i)) (has ks i) (λ t. k .0 (leb→le 1 (p i) t)) (λ t. le→leb 1 (p i) (k .1 t)))
     ∙ picked-has 0 (chunks j) (chunks j) ks (omega arith) a
 
-walked-kept : (j : Job) (p : ℕ → ℕ) → BasesWalked j p → keptAtEnd j ≡ kept j p
-walked-kept j p b = sym (kept-of-set j p (keptAtEnd j) (kept-asc (baseSize j) (forecastBy j) (chunks j)) b)
+kept-is-moore-hodgson : (j : Job) (p : ℕ → ℕ) → BasesMooreHodgson j p → mooreHodgson j ≡ kept j p
+kept-is-moore-hodgson j p b = sym (kept-of-set j p (mooreHodgson j) (kept-asc (baseSize j) (forecastBy j) (chunks j)) b)
 
--- The walk or the stack keeps the plan's chunks,
+-- The onward or the stack keeps the plan's chunks,
 pub bases-kept : (j : Job) → 0 < layers j → keptBases j ≡ kept j (plan j)
 bases-kept j h =
     either-way j (keptBases j ≡ kept j (plan j))
-    (λ w. rw (T-true (byWalk j) (by-walk-iff j .1 w)) (walked-kept j (plan j) (plan-bases j h w)))
-    (λ n. rw (not-T-false (byWalk j) (not-T (byWalk j) (λ t. n (by-walk-iff j .0 t))), plan-elsewhere j n) (stacked-kept j h))
+    (λ w. rw (T-true (byMooreHodgson j) (by-moore-hodgson-iff j .1 w)) (kept-is-moore-hodgson j (plan j) (plan-bases j h w)))
+    (λ n. rw (not-T-false (byMooreHodgson j) (not-T (byMooreHodgson j) (λ t. n (by-moore-hodgson-iff j .0 t))), plan-elsewhere j n) (stacked-kept j h))
 
 -- and the passes decide the plan: its chunks, each with the plan's layers.
 pub decided-is : (j : Job) → 0 < layers j → layers j ≤ 8 → decided j ≡ map (keptAt j (plan j)) (kept j (plan j))

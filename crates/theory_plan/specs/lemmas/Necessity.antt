@@ -13,12 +13,12 @@ use Rattle.theory_basics.specs.lemmas.Ranges.{pre-mono, pre-step}
 use Rattle.theory_basics.specs.Tests.{All, In}
 use Rattle.theory_basics.specs.lemmas.Tests.{T-and, any-row, at-row, each-row, test, tests}
 use Rattle.fetch.specs.Rows.{Carried, Row, begun, bytesIf, bytesInSlot, held}
-use Rattle.fetch.specs.Rules.{FewHeld, InRange, OnTime, Passes, PlayingOrder}
+use Rattle.fetch.specs.Rules.{FewHeld, RowInRange, OnTime, Passes, PlayingOrder}
 use Rattle.job.specs.Job.{Job, chunks, due, forecast, heldMost, lastSlot}
 use Rattle.theory_plan.specs.lemmas.Ascending.{Asc, asc-drop, asc-lower, asc-nth, count-to-nth}
 use Rattle.theory_plan.specs.lemmas.Count.{bytes-between, bytes-disjoint}
 use Rattle.theory_plan.specs.lemmas.Need.{Feas, Tails}
-use Rattle.theory_plan.specs.Plan.{need}
+use Rattle.theory_plan.specs.Plan.{needOf}
 pub use Rattle.theory_plan.specs.Plan.{after}
 use Rattle.theory_plan.specs.lemmas.Words.{bytesOfChunk, due-mono}
 
@@ -48,13 +48,13 @@ Between j A more =
     bytesIf P more + A d ≤ A q
 
 module _
-    (j : Job) (A : ℕ → ℕ) (l more : List Row) (between : Between j A more) (range : All (InRange j) more)
+    (j : Job) (A : ℕ → ℕ) (l more : List Row) (between : Between j A more) (range : All (RowInRange j) more)
     (on-time : All (OnTime j) more) (few : FewHeld j l) (P : ℕ → Type 0)
     (starts : (x : Row) → In x more → (e : ℕ) → 1 ≤ e → e ≤ x .chunk → P e → T (begun l (x .slot) e)) where
   -- If the rows of the chunks from a on stand after slot q, those chunks need no more than the forecast after q.
   need-behind :
       (a q : ℕ) → q ≤ due j a → ((x : Row) → In x more → a ≤ x .chunk → q < x .slot) → (ks : List ℕ) (lo c : ℕ) → a ≤ lo →
-      Asc lo (chunks j) ks → c ≤ bytesIf (inRun a lo) more → c ≤ A q → c + need (bytesOfChunk more) (due j) A ks ≤ A q
+      Asc lo (chunks j) ks → c ≤ bytesIf (inRun a lo) more → c ≤ A q → c + needOf (bytesOfChunk more) (due j) A ks ≤ A q
   need-behind a q h f [] lo c g s m n = omega arith
   need-behind a q h f (k ∷ ks) lo c g s m n =
       let r = run-grows a lo k g (s .0) more in
@@ -75,7 +75,7 @@ module _
       (k : ℕ) (ks : List ℕ) → Asc 1 (chunks j) (k ∷ ks) → All P (k ∷ ks) →
       heldMost j < length (k ∷ ks) → (x : Row) → In x more → getD (k ∷ ks) (heldMost j) 0 ≤ x .chunk → due j k ≤ x .slot
   row-after-due k ks s m h x i g =
-      let z = at-row (InRange j) i range in
+      let z = at-row (RowInRange j) i range in
       ⊎-elim
       (λ u.
       let u′ : x .slot < due j k = ltb→lt (x .slot) (due j k) u in
@@ -116,7 +116,7 @@ module _
               a
               (due j k - 1)
               (omega (arith, due-mono j k a (r .0)))
-              (λ x i g. omega (arith, row-after-due k ks (omega arith, s .1, s .2) m b x i g, at-row (InRange j) i range .slot-low))
+              (λ x i g. omega (arith, row-after-due k ks (omega arith, s .1, s .2) m b x i g, at-row (RowInRange j) i range .slot-low))
               (drop (heldMost j) (k ∷ ks))
               a
               0
@@ -132,7 +132,7 @@ module _
 
   pub begun-fit : (ks : List ℕ) → Asc 1 (chunks j) ks → All P ks → Feas (bytesOfChunk more) (due j) A (heldMost j) ks
   begun-fit ks s m =
-      let from-one : (x : Row) → In x more → 0 ≤ x .chunk → 0 < x .slot = λ x i h. at-row (InRange j) i range .slot-low in
+      let from-one : (x : Row) → In x more → 0 ≤ x .chunk → 0 < x .slot = λ x i h. at-row (RowInRange j) i range .slot-low in
       let a = asc-lower 0 1 (chunks j) ks (omega arith) s in
       record {
         whole = omega (arith, need-behind 0 0 (omega arith) from-one ks 0 0 (omega arith) a (omega arith) (omega arith));

@@ -9,16 +9,16 @@ use lib.Dec.{T}
 use Rattle.theory_basics.specs.Tests.{All}
 use Rattle.theory_basics.specs.lemmas.Tests.{tests}
 use Rattle.theory_basics.specs.lemmas.Tables.{all-drop}
-use Rattle.theory_plan.specs.Plan.{feas, need, tails}
+use Rattle.theory_plan.specs.Plan.{feas, needOf, tails}
 
 -- For each chunk, those from h places behind it on fit into the slots from its due slot on.
 abbrev pub Tails : (w d A : ℕ → ℕ) (h : ℕ) → List ℕ → Type 0
 Tails w d A h [] = Unit {0}
-Tails w d A h (k ∷ ks) = (need w d A (drop h (k ∷ ks)) ≤ A (d k - 1)) × Tails w d A h ks
+Tails w d A h (k ∷ ks) = (needOf w d A (drop h (k ∷ ks)) ≤ A (d k - 1)) × Tails w d A h ks
 
 -- The chunks fit: all of them into the whole forecast, and each behind the chunk that must be gone when it begins.
 pub record Feas (w d A : ℕ → ℕ) (h : ℕ) (ks : List ℕ) : Type 0 where
-  pub whole : need w d A ks ≤ A 0
+  pub whole : needOf w d A ks ≤ A 0
   pub tails : Tails w d A h ks
 
 -- ---- as tests
@@ -43,12 +43,12 @@ feas-iff w d A h ks =
 
 -- Without its first n chunks, of at least z bytes each, a list needs n × z bytes less, or nothing.
 pub need-without :
-    (w d A : ℕ → ℕ) (z : ℕ) → ((k : ℕ) → z ≤ w k) → (ks : List ℕ) (n : ℕ) → need w d A (drop n ks) ≤ need w d A ks - n * z
+    (w d A : ℕ → ℕ) (z : ℕ) → ((k : ℕ) → z ≤ w k) → (ks : List ℕ) (n : ℕ) → needOf w d A (drop n ks) ≤ needOf w d A ks - n * z
 need-without w d A z f ks zero = omega arith
 need-without w d A z f [] (suc n) = omega arith
 need-without w d A z f (k ∷ ks) (suc n) = omega (arith, need-without w d A z f ks n, f k)
 
-pub need-drop : (w d A : ℕ → ℕ) (ks : List ℕ) (n : ℕ) → need w d A (drop n ks) ≤ need w d A ks
+pub need-drop : (w d A : ℕ → ℕ) (ks : List ℕ) (n : ℕ) → needOf w d A (drop n ks) ≤ needOf w d A ks
 need-drop w d A ks n = omega (arith, need-without w d A 0 (λ k. omega arith) ks n)
 
 pub tails-drop : (w d A : ℕ → ℕ) (h : ℕ) (ks : List ℕ) (n : ℕ) → Tails w d A h ks → Tails w d A h (drop n ks)
@@ -60,7 +60,7 @@ tails-drop w d A h (k ∷ ks) (suc n) f = tails-drop w d A h ks n (f .1)
 pub feas-tail : (w d A : ℕ → ℕ) (h k : ℕ) (ks : List ℕ) → Feas w d A h (k ∷ ks) → Feas w d A h ks
 feas-tail w d A h k ks f = record { whole = omega (arith, f .whole); tails = f .tails .1 }
 
-pub need-mono : (v w d A : ℕ → ℕ) (ks : List ℕ) → All (λ k. v k ≤ w k) ks → need v d A ks ≤ need w d A ks
+pub need-mono : (v w d A : ℕ → ℕ) (ks : List ℕ) → All (λ k. v k ≤ w k) ks → needOf v d A ks ≤ needOf w d A ks
 need-mono v w d A [] a = omega arith
 need-mono v w d A (k ∷ ks) a = omega (arith, need-mono v w d A ks (a .1), a .0)
 
@@ -75,14 +75,14 @@ feas-mono v w d A h ks a f = record { whole = omega (arith, need-mono v w d A ks
 -- Chunks that need, from each place on, no more than one or the other of two that fit.
 tails-max :
     (t u v d A : ℕ → ℕ) (h : ℕ) (ks : List ℕ) →
-    ((m : ℕ) → need t d A (drop m ks) ≤ max (need u d A (drop m ks)) (need v d A (drop m ks))) → Tails u d A h ks →
+    ((m : ℕ) → needOf t d A (drop m ks) ≤ max (needOf u d A (drop m ks)) (needOf v d A (drop m ks))) → Tails u d A h ks →
     Tails v d A h ks → Tails t d A h ks
 tails-max t u v d A h [] f a b = tt
 tails-max t u v d A h (k ∷ ks) f a b = (omega (arith, f h, a .0, b .0), tails-max t u v d A h ks (λ m. f (suc m)) (a .1) (b .1))
 
 pub feas-max :
     (t u v d A : ℕ → ℕ) (h : ℕ) (ks : List ℕ) →
-    ((m : ℕ) → need t d A (drop m ks) ≤ max (need u d A (drop m ks)) (need v d A (drop m ks))) → Feas u d A h ks → Feas v d A h ks →
+    ((m : ℕ) → needOf t d A (drop m ks) ≤ max (needOf u d A (drop m ks)) (needOf v d A (drop m ks))) → Feas u d A h ks → Feas v d A h ks →
     Feas t d A h ks
 feas-max t u v d A h ks f a b = record { whole = omega (arith, f 0, a .whole, b .whole); tails = tails-max t u v d A h ks f (a .tails) (b .tails) }
 

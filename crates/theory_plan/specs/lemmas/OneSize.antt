@@ -13,17 +13,17 @@ use Rattle.theory_basics.specs.lemmas.Ranges.{bit-no, bit-yes, count-cong, risi
 use Rattle.theory_basics.specs.lemmas.Tests.{by-cond, last, test}
 use Rattle.job.specs.Job.{EqualBases, HoldsAll, Job, chunks, due, heldMost, layers}
 use Rattle.theory_plan.specs.Bases.{baseSize, forecastBy, isKept, keptAfter}
-use Rattle.theory_plan.specs.Plan.{after, basesWalked, need, picked}
-use Rattle.theory_plan.specs.Statement.{BasesWalked, Choice, SettledByTrials, tried}
+use Rattle.theory_plan.specs.Plan.{after, basesMooreHodgson, needOf, picked}
+use Rattle.theory_plan.specs.Statement.{BasesMooreHodgson, Choice, SettledByTrials, tried}
 use Rattle.theory_plan.specs.lemmas.Base.{base-most, base-picks}
 use Rattle.theory_plan.specs.lemmas.Best.{by-trials-fits}
 use Rattle.theory_plan.specs.lemmas.Choice.{Fits, fits-can-carry}
 use Rattle.theory_plan.specs.lemmas.Kept.{length-picked-le}
 use Rattle.theory_plan.specs.lemmas.Level.{count-carried, level, level-exactly}
 use Rattle.theory_plan.specs.lemmas.Need.{tails-few}
-use Rattle.theory_plan.specs.lemmas.Plan.{base-taken-iff, walked-le}
+use Rattle.theory_plan.specs.lemmas.Plan.{base-taken-iff, kept-le}
 use Rattle.theory_plan.specs.lemmas.Walk.{Step, added, added-asc, added-has, drops, has-in, has-all-but, stays, step}
-use Rattle.theory_plan.specs.lemmas.Walked.{list-bases, walked-fits}
+use Rattle.theory_plan.specs.lemmas.MooreHodgson.{list-bases, moore-hodgson-fits}
 use Rattle.theory_plan.specs.lemmas.Words.{Sized, after-anti, due-mono}
 
 -- A test that passes from some number of 1 .. n on.
@@ -57,7 +57,7 @@ module _ (s room : ℕ → ℕ) where
 -- ---- document 01's base: if a chunk fits before those kept behind it, so does a later one
 
 -- What is picked from further on needs no more.
-need-further : (w d A : ℕ → ℕ) (p : ℕ → Bool) (m lo n : ℕ) → need w d A (picked p (m + lo) n) ≤ need w d A (picked p lo (m + n))
+need-further : (w d A : ℕ → ℕ) (p : ℕ → Bool) (m lo n : ℕ) → needOf w d A (picked p (m + lo) n) ≤ needOf w d A (picked p lo (m + n))
 need-further w d A p zero lo n = let e : 0 + n ≡ n = omega arith in let e′ : 0 + lo ≡ lo = omega arith in rw (e, e′) (omega arith)
 need-further w d A p (suc m) lo n =
     let e : suc m + n ≡ suc (m + n) = omega arith in
@@ -65,7 +65,7 @@ need-further w d A p (suc m) lo n =
     let r = need-further w d A p m (suc lo) n in
     rw (e, e′)
     (by-cond
-    (λ (ks : List ℕ). need w d A (picked p (m + suc lo) n) ≤ need w d A ks)
+    (λ (ks : List ℕ). needOf w d A (picked p (m + suc lo) n) ≤ needOf w d A ks)
     (p (suc lo))
     {x = suc lo ∷ picked p (suc lo) (m + n)}
     {y = picked p (suc lo) (m + n)}
@@ -124,15 +124,15 @@ module _ (j : Job) (sized : Sized j) (some : 0 < layers j) (wide : HoldsAll j) (
 
   trials-no-fewer : count (isKept j) (chunks j) ≤ count (λ i. ltb 0 (p i)) (chunks j)
   trials-no-fewer =
-      let alone : Choice j (basesWalked j) = λ i u v. omega (arith, walked-le j i) in
-      let c = fits-can-carry j sized (basesWalked j) alone (walked-fits j wide) in
+      let alone : Choice j (basesMooreHodgson j) = λ i u v. omega (arith, kept-le j i) in
+      let c = fits-can-carry j sized (basesMooreHodgson j) alone (moore-hodgson-fits j wide) in
       let l = c .rows in
       omega (
         arith,
         base-most j (baseSize j 1) (λ i u v. equal i 1 (record { low = u; high = v }) (record { low = omega arith; high = omega arith })) p (base-taken-iff j sized p (dec .choice) (dec .decided 0) some) l (c .passes),
         count-carried j l (level j l) (level-exactly j l (c .passes)) 0 some,
-        count-carried j l (basesWalked j) (c .exactly) 0 some,
-        count-cong (isKept j) (λ i. ltb 0 (basesWalked j i)) (chunks j) (λ i u v. by (isKept j i)),
+        count-carried j l (basesMooreHodgson j) (c .exactly) 0 some,
+        count-cong (isKept j) (λ i. ltb 0 (basesMooreHodgson j i)) (chunks j) (λ i u v. by (isKept j i)),
       )
     where
       by : (b : Bool) → b ≡ ltb 0 (cond b 1 0)
@@ -149,8 +149,8 @@ module _ (j : Job) (sized : Sized j) (some : 0 < layers j) (wide : HoldsAll j) (
       lt→ltb 0 (p y) (leb→le 1 (p y) (base-rises j wide equal p (base-taken-iff j sized p (dec .choice) (dec .decided 0) some) x y g h l (le→leb 1 (p x) (ltb→lt 0 (p x) t))))
 
   -- Document 01's way carries exactly the bases that the walk keeps.
-  pub trials-walked : BasesWalked j p
-  trials-walked i u v =
+  pub trials-moore-hodgson : BasesMooreHodgson j p
+  trials-moore-hodgson i u v =
       let e : count (λ i. ltb 0 (p i)) (chunks j) ≡ count (isKept j) (chunks j) = omega (arith, trials-no-more, trials-no-fewer) in (
         λ h. rising-within (λ i. ltb 0 (p i)) (isKept j) (chunks j) trials-last kept-last e i u v (lt→ltb 0 (p i) h),
         λ t. ltb→lt 0 (p i) (rising-within (isKept j) (λ i. ltb 0 (p i)) (chunks j) kept-last trials-last (sym e) i u v t),

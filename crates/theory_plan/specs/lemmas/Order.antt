@@ -10,10 +10,10 @@ use Rattle.theory_basics.specs.Tests.{All, In, here, there}
 use Rattle.theory_basics.specs.lemmas.Tests.{all-append, all-map, and-T, any-row, at-row, in-append, tests}
 use Rattle.job.specs.Job.{Job, chunks, due, forecast, heldMost, lastSlot, layers, size}
 use Rattle.fetch.specs.Rows.{Row}
-use Rattle.fetch.specs.Rules.{InRange, PlayingOrder}
+use Rattle.fetch.specs.Rules.{RowInRange, PlayingOrder}
 use Rattle.theory_plan.specs.lemmas.Ascending.{Asc}
 use Rattle.theory_plan.specs.lemmas.Count.{some-row, sum-any}
-use Rattle.theory_plan.specs.lemmas.Fill.{Out, Piece, by-slot, fill, fill-in-slots, slot-in-slot, take-slot}
+use Rattle.theory_plan.specs.lemmas.Fill.{Out, QueuedPiece, by-slot, fill, fill-in-slots, slot-in-slot, take-slot}
 use Rattle.theory_plan.specs.lemmas.Need.{Feas}
 use Rattle.theory_plan.specs.lemmas.Queue.{pieces, queue, releases, weight}
 use Rattle.theory_plan.specs.lemmas.Sufficiency.{fetch, sufficient}
@@ -21,11 +21,11 @@ use Rattle.theory_plan.specs.lemmas.Words.{Sized}
 use Rattle.theory_plan.specs.Plan.{after}
 
 -- The pieces' chunks never fall, from chunk lo on.
-abbrev Sorted : ℕ → List Piece → Type 0
+abbrev Sorted : ℕ → List QueuedPiece → Type 0
 Sorted lo [] = Unit {0}
 Sorted lo (p ∷ ps) = (lo ≤ p .chunk) × Sorted (p .chunk) ps
 
-sorted-lower : (lo hi : ℕ) (q : List Piece) → lo ≤ hi → Sorted hi q → Sorted lo q
+sorted-lower : (lo hi : ℕ) (q : List QueuedPiece) → lo ≤ hi → Sorted hi q → Sorted lo q
 sorted-lower lo hi [] h s = tt
 sorted-lower lo hi (p ∷ ps) h s = (omega arith, s .1)
 
@@ -37,7 +37,7 @@ record Cut (lo : ℕ) (o : Out) : Type 0 where
   taken : All (λ x. (lo ≤ x .chunk) × (x .chunk ≤ mid)) (o .rows)
   kept : Sorted mid (o .rest)
 
-slot-cut : (t c : ℕ) (q : List Piece) (lo : ℕ) → Sorted lo q → Cut lo (take-slot t c q)
+slot-cut : (t c : ℕ) (q : List QueuedPiece) (lo : ℕ) → Sorted lo q → Cut lo (take-slot t c q)
 slot-cut t =
     by-slot
     t
@@ -56,7 +56,7 @@ slot-cut t =
 
 -- ---- no row of a chunk comes in a later slot than a row of a chunk behind it
 
-fill-from : (B : ℕ → ℕ) (n t lo : ℕ) (q : List Piece) → Sorted lo q → All (λ x. lo ≤ x .chunk) (fill B n t q)
+fill-from : (B : ℕ → ℕ) (n t lo : ℕ) (q : List QueuedPiece) → Sorted lo q → All (λ x. lo ≤ x .chunk) (fill B n t q)
 fill-from B zero t lo q s = tt
 fill-from B (suc n) t lo q s =
     let o = take-slot (suc t) (B (suc t)) q in
@@ -69,7 +69,7 @@ fill-from B (suc n) t lo q s =
     (fill-from B n (suc t) lo (o .rest) (sorted-lower lo (c .mid) (o .rest) (c .low) (c .kept)))
 
 fill-order :
-    (B : ℕ → ℕ) (n t lo : ℕ) (q : List Piece) → Sorted lo q → (x y : Row) → In x (fill B n t q) → In y (fill B n t q) →
+    (B : ℕ → ℕ) (n t lo : ℕ) (q : List QueuedPiece) → Sorted lo q → (x y : Row) → In x (fill B n t q) → In y (fill B n t q) →
     y .chunk < x .chunk → y .slot ≤ x .slot
 fill-order B zero t lo q s x y i j l = absurd (at-row (λ x. ⊥) i tt)
 fill-order B (suc n) t lo q s x y i j l =
@@ -93,7 +93,7 @@ fill-order B (suc n) t lo q s x y i j l =
 
 -- ---- the queue of ascending chunks
 
-sorted-pieces : (size : ℕ → ℕ → ℕ) (k r m n lo : ℕ) (q : List Piece) → lo ≤ k → Sorted k q → Sorted lo (pieces size k r m n ++ q)
+sorted-pieces : (size : ℕ → ℕ → ℕ) (k r m n lo : ℕ) (q : List QueuedPiece) → lo ≤ k → Sorted k q → Sorted lo (pieces size k r m n ++ q)
 sorted-pieces size k r m zero lo q h s = sorted-lower lo k q h s
 sorted-pieces size k r m (suc n) lo q h s = (h, sorted-pieces size k r (suc m) n k q (omega arith) s)
 
@@ -110,7 +110,7 @@ pub fetch-order :
 unfolding fetch PlayingOrder
 fetch-order j sized lv lim ks asc ok x i e g h t =
     let rs = releases (due j) (heldMost j) ks in
-    let range = at-row (InRange j) i (sufficient j sized lv lim ks asc ok .in-range) in
+    let range = at-row (RowInRange j) i (sufficient j sized lv lim ks asc ok .in-range) in
     let some : 1 ≤ size j e 0 = sized e 0 (record { chunk-low = g; chunk-high = omega (arith, range .chunk-high); layer-in = omega (arith, range .layer-in) }) in
     let y = some-row (λ z. eqb (z .chunk) e) (fetch j lv ks) (sum-any (λ z. eqb (z .chunk) e && eqb (z .layer) 0) (λ z. eqb (z .chunk) e) (λ z u. and-T (eqb (z .chunk) e) (eqb (z .layer) 0) u .0) (fetch j lv ks) (omega arith)) in
     let c : y .0 .chunk ≡ e = simp tests at (y .2) in

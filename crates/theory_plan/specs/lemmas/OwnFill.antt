@@ -17,10 +17,10 @@ use Rattle.fetch.specs.Rows.{Row, begun}
 use Rattle.job.specs.Job.{Job, chunks, due, forecast, heldMost, lastSlot, size}
 use Rattle.theory_plan.specs.Plan.{kept, picked}
 use Rattle.theory_plan.specs.lemmas.Choice.{kept-asc}
-use Rattle.theory_plan.specs.lemmas.Fill.{Out, Piece, fill, rest-after, slot-in-slot, take-slot}
+use Rattle.theory_plan.specs.lemmas.Fill.{Out, QueuedPiece, fill, rest-after, slot-in-slot, take-slot}
 use Rattle.theory_plan.specs.lemmas.Kept.{picked-each}
-use Rattle.theory_plan.specs.Own.{Fetched, Part, allowed, carriedTo, fetchedBy, ownList, rowOf, slotTakes, wholeLayer}
-use Rattle.theory_plan.specs.lemmas.Release.{Fair, Released, fair-queue, with, with-twice}
+use Rattle.theory_plan.specs.Own.{Fetched, Piece, allowed, carriedTo, fetchedBy, ownList, rowOf, slotTakes, wholeLayer}
+use Rattle.theory_plan.specs.lemmas.Release.{Fair, ReleasedAt, fair-queue, with, with-twice}
 use Rattle.theory_plan.specs.lemmas.Queue.{each, ones, pieces, queue, releases}
 use Rattle.theory_plan.specs.lemmas.Sufficiency.{fetch}
 
@@ -52,18 +52,18 @@ carries-last rows x = fun-ext (λ i. at i rows)
 -- ---- a slot takes what the fill takes
 
 -- A piece without its release.
-abbrev part : Piece → Part
-part p = record { chunk = p .chunk; layer = p .layer; bytes = p .left }
+abbrev pieceOf : QueuedPiece → Piece
+pieceOf p = record { chunk = p .chunk; layer = p .layer; bytes = p .left }
 
-abbrev parts : List Piece → List Part
+abbrev parts : List QueuedPiece → List Piece
 parts [] = []
-parts (p ∷ ps) = part p ∷ parts ps
+parts (p ∷ ps) = pieceOf p ∷ parts ps
 
 allowed-from-release :
-    (j : Job) (rows : List Row) (t : ℕ) (p : Piece) → 1 ≤ t → All (λ x. x .slot ≤ t) rows →
-    Released j (with (p .chunk) (carries rows)) (p .ready) → allowed j rows t (part p) ≡ leb (p .ready) t
+    (j : Job) (rows : List Row) (t : ℕ) (p : QueuedPiece) → 1 ≤ t → All (λ x. x .slot ≤ t) rows →
+    ReleasedAt j (with (p .chunk) (carries rows)) (p .ready) → allowed j rows t (pieceOf p) ≡ leb (p .ready) t
 allowed-from-release j rows t p u a r =
-    let x = rowOf t (part p) 1 in
+    let x = rowOf t (pieceOf p) 1 in
     let e = begun-by-slot t (rows ++ (x ∷ [])) (all-append (λ y. y .slot ≤ t) rows (x ∷ []) a (omega arith, tt)) ∙ carries-last rows x in
     ap (λ (b : ℕ → Bool). leb (count (λ i. b i && ltb t (due j i)) (chunks j)) (heldMost j)) e ∙ r t u
 
@@ -74,11 +74,11 @@ record Matches (j : Job) (rows : List Row) (f : Fetched) (o : Out) : Type 0 wher
   fair : Fair j (carries (rows ++ o .rows)) (o .rest)
 
 slot-matches :
-    (j : Job) (t c : ℕ) (rows : List Row) (q : List Piece) → 1 ≤ t → All (λ x. x .slot ≤ t) rows → Fair j (carries rows) q →
+    (j : Job) (t c : ℕ) (rows : List Row) (q : List QueuedPiece) → 1 ≤ t → All (λ x. x .slot ≤ t) rows → Fair j (carries rows) q →
     Matches j rows (slotTakes j t c rows (parts q)) (take-slot t c q)
 slot-matches j t c rows [] u a f = record { rows-are = sym (append-nil rows); left-is = refl; fair = tt }
 slot-matches j t c rows (p ∷ ps) u a f =
-    let x : ℕ → Row = λ b. rowOf t (part p) b in
+    let x : ℕ → Row = λ b. rowOf t (pieceOf p) b in
     let begin : (b : ℕ) → with (p .chunk) (carries rows) ≡ carries (rows ++ (x b ∷ [])) = λ b. sym (carries-last rows (x b)) in
     let fair : (b : ℕ) → Fair j (carries (rows ++ (x b ∷ []))) ps = λ b. subst (λ (s : ℕ → Bool). Fair j s ps) (begin b) (f .1) in
     let more = slot-matches j t (c - p .left) (rows ++ (x (p .left) ∷ [])) ps u (all-append (λ y. y .slot ≤ t) rows (x (p .left) ∷ []) a (omega arith, tt)) (fair (p .left)) in
@@ -92,14 +92,14 @@ slot-matches j t c rows (p ∷ ps) u a f =
     (Matches j rows)
     (leb (p .left) c)
     (λ w. record { rows-are = more .rows-are ∙ append-assoc rows (x (p .left) ∷ []) (take-slot t (c - p .left) ps .rows); left-is = more .left-is; fair = rw append-assoc at (more .fair) })
-    (λ w. record { rows-are = refl; left-is = refl; fair = subst (λ (s : ℕ → Bool). Released j s (p .ready) × Fair j s ps) (sym (with-twice (p .chunk) (carries rows)) ∙ ap (with (p .chunk)) (begin c)) (f .0, f .1) }))
+    (λ w. record { rows-are = refl; left-is = refl; fair = subst (λ (s : ℕ → Bool). ReleasedAt j s (p .ready) × Fair j s ps) (sym (with-twice (p .chunk) (carries rows)) ∙ ap (with (p .chunk)) (begin c)) (f .0, f .1) }))
     (λ v. record { rows-are = sym (append-nil rows); left-is = refl; fair = subst (λ (l : List Row). Fair j (carries l) (p ∷ ps)) (sym (append-nil rows)) f }))
 
 -- ---- all slots take what the fill takes
 
 -- The fill's last slot.
 fill-last :
-    (B : ℕ → ℕ) (n t s : ℕ) (q : List Piece) → s ≡ n + t →
+    (B : ℕ → ℕ) (n t s : ℕ) (q : List QueuedPiece) → s ≡ n + t →
     (fill B (suc n) t q ≡ fill B n t q ++ take-slot (suc s) (B (suc s)) (rest-after B n t q) .rows) × (rest-after B (suc n) t q ≡ take-slot (suc s) (B (suc s)) (rest-after B n t q) .rest)
 fill-last B zero t s q h = let e : s ≡ t = omega arith in rw e (append-nil (take-slot (suc t) (B (suc t)) q .rows), refl)
 fill-last B (suc n) t s q h =
@@ -110,11 +110,11 @@ fill-last B (suc n) t s q h =
     )
 
 -- What n slots fetch.
-abbrev filled : Job → List Piece → ℕ → Out
+abbrev filled : Job → List QueuedPiece → ℕ → Out
 filled j q n = record { rows = fill (forecast j) n 0 q; rest = rest-after (forecast j) n 0 q }
 
 slots-match :
-    (j : Job) (lv : ℕ → ℕ) (q : List Piece) → carriedTo j lv (chunks j) ≡ parts q → Fair j (λ i. false) q → (n : ℕ) →
+    (j : Job) (lv : ℕ → ℕ) (q : List QueuedPiece) → carriedTo j lv (chunks j) ≡ parts q → Fair j (λ i. false) q → (n : ℕ) →
     All (λ x. x .slot ≤ n) (filled j q n .rows) × Matches j [] (fetchedBy j lv n) (filled j q n)
 slots-match j lv q e f zero = (tt, record { rows-are = refl; left-is = e; fair = f })
 slots-match j lv q e f (suc n) =
@@ -134,9 +134,9 @@ slots-match j lv q e f (suc n) =
 
 -- ---- the carried bytes are the queue
 
-parts-append : (a b : List Piece) → parts (a ++ b) ≡ parts a ++ parts b
+parts-append : (a b : List QueuedPiece) → parts (a ++ b) ≡ parts a ++ parts b
 parts-append [] b = refl
-parts-append (p ∷ ps) b = ap (λ (l : List Part). part p ∷ l) (parts-append ps b)
+parts-append (p ∷ ps) b = ap (λ (l : List Piece). pieceOf p ∷ l) (parts-append ps b)
 
 parts-pieces : (j : Job) (k r m n : ℕ) → upTo (wholeLayer j k) m ++ parts (pieces (size j) k r m n) ≡ upTo (wholeLayer j k) (n + m)
 parts-pieces j k r m zero = let e : 0 + m ≡ m = omega arith in rw e (append-nil (upTo (wholeLayer j k) m))

@@ -29,7 +29,7 @@ abbrev pub Small : List ℕ → Type 0
 Small l = (k : ℕ) → getD l k 0 ≤ 16777216
 
 -- A part of a forecast of at most 3,600 slots.
-pub record Part (start : ℕ) (part : List ℕ) : Type 0 where
+pub record ForecastPart (start : ℕ) (part : List ℕ) : Type 0 where
   pub low : 1 ≤ start
   pub high : start + length part ≤ 3601
   pub small : Small part
@@ -81,5 +81,5 @@ padded-small start part h k =
     (λ t. let e : start - 1 + (k - (start - 1)) ≡ k = omega (arith, nltb→le k (start - 1) t) in rw e at (rw (sym (padded-at start part (k - (start - 1)))) at (h (k - (start - 1)))))
     (test (ltb k (start - 1)))
 
-pub part-small : (start : ℕ) (part : List ℕ) → Part start part → (t : ℕ) → leftAfter (padded start part) t ≤ 60397977600
+pub part-small : (start : ℕ) (part : List ℕ) → ForecastPart start part → (t : ℕ) → leftAfter (padded start part) t ≤ 60397977600
 part-small start part p t = left-small (padded start part) (padded-small start part (p .small)) (omega (arith, padded-long start part, p .high, p .low)) t

@@ -14,12 +14,12 @@ use Rattle.theory_basics.specs.lemmas.Tests.{T-and, T-and-iff, T-true, allTo-if
 use Rattle.job.specs.Job.{EqualBases, Job, Layer, Within, chunks, due, heldMost, layers, size}
 use Rattle.theory_plan.specs.Bases.{baseSize, isKept}
 use Rattle.theory_plan.specs.lemmas.Choice.{Fits, can-carry-iff-fits}
-use Rattle.theory_plan.specs.Statement.{BasesWalked, ByWalk, CanCarry, Choice, IsPlan, Same, SettledByTrials, Settles}
-use Rattle.theory_plan.specs.Plan.{after, basesTried, basesWalked, byWalk, bytes, equalBases, fits, kept, picked, plan, planByTrials, planOn, planTo, raise, sweep, takes, try}
+use Rattle.theory_plan.specs.Statement.{BasesMooreHodgson, ByMooreHodgson, CanCarry, Choice, IsPlan, Same, SettledByTrials, Settles}
+use Rattle.theory_plan.specs.Plan.{after, basesTried, basesMooreHodgson, byMooreHodgson, bytes, equalBases, fits, kept, picked, plan, planByTrials, planOn, planTo, raise, sweep, takes, try}
 use Rattle.theory_plan.specs.lemmas.Kept.{feas-picked, picked-cong}
 use Rattle.theory_plan.specs.lemmas.Need.{Feas, feas-iff}
 pub use Rattle.theory_plan.specs.Statement.{settled, tried}
-use Rattle.theory_plan.specs.lemmas.Walked.{walked-fits}
+use Rattle.theory_plan.specs.lemmas.MooreHodgson.{moore-hodgson-fits}
 use Rattle.theory_plan.specs.lemmas.Words.{Sized, layer-of}
 
 -- ---- how it is computed
@@ -294,8 +294,8 @@ pub equal-bases-if-not : (j : Job) → ((EqualBases j → ⊥) → ⊥) → Equa
 equal-bases-if-not j n =
     ⊎-elim (λ t. equal-bases-iff j .0 t) (λ t. absurd (n (λ e. T-not (equalBases j) t (equal-bases-iff j .1 e)))) (test (equalBases j))
 
-pub by-walk-iff : (j : Job) → T (byWalk j) ↔ ByWalk j
-by-walk-iff j =
+pub by-moore-hodgson-iff : (j : Job) → T (byMooreHodgson j) ↔ ByMooreHodgson j
+by-moore-hodgson-iff j =
     let a = T-and-iff (leb (chunks j) (heldMost j)) (not (equalBases j)) in
     let l = leb-iff (chunks j) (heldMost j) in
     let e = equal-bases-iff j in (
@@ -304,49 +304,49 @@ by-walk-iff j =
     )
 
 -- One of the two ways.
-pub either-way : (j : Job) (P : Type 0) → (ByWalk j → P) → ((ByWalk j → ⊥) → P) → P
-either-way j P f g = ⊎-elim (λ t. f (by-walk-iff j .0 t)) (λ t. g (λ w. T-not (byWalk j) t (by-walk-iff j .1 w))) (test (byWalk j))
+pub either-way : (j : Job) (P : Type 0) → (ByMooreHodgson j → P) → ((ByMooreHodgson j → ⊥) → P) → P
+either-way j P f g = ⊎-elim (λ t. f (by-moore-hodgson-iff j .0 t)) (λ t. g (λ w. T-not (byMooreHodgson j) t (by-moore-hodgson-iff j .1 w))) (test (byMooreHodgson j))
 
 -- ---- the computed plan
 
-pub walked-le : (j : Job) (k : ℕ) → basesWalked j k ≤ 1
-walked-le j = tested-le (isKept j)
+pub kept-le : (j : Job) (k : ℕ) → basesMooreHodgson j k ≤ 1
+kept-le j = tested-le (isKept j)
 
-pub plan-by-walk : (j : Job) → ByWalk j → plan j ≡ planOn j (basesWalked j)
+pub plan-by-moore-hodgson : (j : Job) → ByMooreHodgson j → plan j ≡ planOn j (basesMooreHodgson j)
 unfolding plan
-plan-by-walk j w = rw (T-true (byWalk j) (by-walk-iff j .1 w))
+plan-by-moore-hodgson j w = rw (T-true (byMooreHodgson j) (by-moore-hodgson-iff j .1 w))
 
-pub plan-elsewhere : (j : Job) → (ByWalk j → ⊥) → plan j ≡ planByTrials j
+pub plan-elsewhere : (j : Job) → (ByMooreHodgson j → ⊥) → plan j ≡ planByTrials j
 unfolding plan planByTrials
-plan-elsewhere j n = rw (not-T-false (byWalk j) (not-T (byWalk j) (λ t. n (by-walk-iff j .0 t))))
+plan-elsewhere j n = rw (not-T-false (byMooreHodgson j) (not-T (byMooreHodgson j) (λ t. n (by-moore-hodgson-iff j .0 t))))
 
 pub plan-choice : (j : Job) → Choice j (plan j)
 plan-choice j =
     either-way j (Choice j (plan j))
-    (λ w. rw (plan-by-walk j w) (on-choice j (basesWalked j) (walked-le j)))
+    (λ w. rw (plan-by-moore-hodgson j w) (on-choice j (basesMooreHodgson j) (kept-le j)))
     (λ n. rw (plan-elsewhere j n) (trials-choice j))
 
 pub plan-fits : (j : Job) → Fits j (plan j)
 plan-fits j =
     either-way j (Fits j (plan j))
-    (λ w. rw (plan-by-walk j w) (planTo-fits j (basesWalked j) (walked-fits j (w .0)) (layers j)))
+    (λ w. rw (plan-by-moore-hodgson j w) (planTo-fits j (basesMooreHodgson j) (moore-hodgson-fits j (w .0)) (layers j)))
     (λ n. rw (plan-elsewhere j n) (trials-fit j))
 
 pub plan-takes : (j : Job) (n : ℕ) → TakesFitting j (plan j) (suc n)
 plan-takes j n =
     either-way j (TakesFitting j (plan j) (suc n))
-    (λ w. rw (plan-by-walk j w) (on-upper j (basesWalked j) (walked-le j) n))
+    (λ w. rw (plan-by-moore-hodgson j w) (on-upper j (basesMooreHodgson j) (kept-le j) n))
     (λ o. rw (plan-elsewhere j o) (trials-take j (suc n)))
 
 -- Its bases are the ones that the walk keeps.
-pub plan-bases : (j : Job) → 0 < layers j → ByWalk j → BasesWalked j (plan j)
-plan-bases j some w i u v = rw (plan-by-walk j w) (on-bases j (isKept j) some i)
+pub plan-bases : (j : Job) → 0 < layers j → ByMooreHodgson j → BasesMooreHodgson j (plan j)
+plan-bases j some w i u v = rw (plan-by-moore-hodgson j w) (on-bases j (isKept j) some i)
 
 pub plan-is-plan : (j : Job) → Sized j → 0 < layers j → IsPlan j (plan j)
 plan-is-plan j sized some =
     record {
       choice = plan-choice j;
-      walked = plan-bases j some;
+      moore-hodgson = plan-bases j some;
       elsewhere = λ n. rw (plan-elsewhere j n) (trials-settled j sized .decided 0);
       upper = λ n. settles-iff j sized (plan j) (plan-choice j) (suc n) .1 (plan-takes j n);
     }

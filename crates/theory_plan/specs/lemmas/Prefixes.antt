@@ -8,10 +8,10 @@ use lib.Dec.{leb, eqb, leb→le}
 use Rattle.theory_basics.specs.Sums.{pre}
 use Rattle.theory_basics.specs.lemmas.Tests.{at-row, by-cond, tests}
 use Rattle.fetch.specs.Rows.{Row, bytesIf}
-use Rattle.fetch.specs.Rules.{InRange, OnTime, Passes}
+use Rattle.fetch.specs.Rules.{RowInRange, OnTime, Passes}
 use Rattle.job.specs.Job.{HoldsAll, Job, chunks, due, heldMost}
 use Rattle.theory_plan.specs.lemmas.Choice.{Fits, chunk-bytes}
-use Rattle.theory_plan.specs.Plan.{bytes, kept, picked, need, after}
+use Rattle.theory_plan.specs.Plan.{bytes, kept, picked, needOf, after}
 use Rattle.theory_plan.specs.lemmas.Count.{bytes-disjoint}
 use Rattle.theory_plan.specs.lemmas.Kept.{length-picked-le}
 use Rattle.theory_plan.specs.lemmas.Necessity.{within-between}
@@ -43,7 +43,7 @@ list-prefixes j l lv ok c a b g h =
       bytes-to b h,
       within-between j l ok (λ x. leb (x .chunk) b) 0 (due j b) (omega arith) (due-mono j b (chunks j) h) (λ x i t.
           let u : x .chunk ≤ b = leb→le (x .chunk) b t in
-          (at-row (InRange j) i (ok .in-range) .slot-low, omega (arith, at-row (OnTime j) i (ok .on-time), due-mono j (x .chunk) b u))),
+          (at-row (RowInRange j) i (ok .in-range) .slot-low, omega (arith, at-row (OnTime j) i (ok .on-time), due-mono j (x .chunk) b u))),
     )
   where
     bytes-to : (b : ℕ) → b ≤ chunks j → pre (bytes j lv) b ≤ bytesIf (λ x. leb (x .chunk) b) l
@@ -53,12 +53,12 @@ list-prefixes j l lv ok c a b g h =
 -- The need of the picked chunks is bounded by the prefixes.
 prefix-need :
     (w d A : ℕ → ℕ) (p : ℕ → Bool) (x c lo m : ℕ) → c ≤ x → c ≤ pre w lo → ((b : ℕ) → lo < b → b ≤ m + lo → pre w b + A (d b) ≤ x) →
-    c + need w d A (picked p lo m) ≤ x
+    c + needOf w d A (picked p lo m) ≤ x
 prefix-need w d A p x c lo zero h g f = omega arith
 prefix-need w d A p x c lo (suc m) h g f =
     let s = f (suc lo) (omega arith) (omega arith) in
     by-cond
-    (λ (ks : List ℕ). c + need w d A ks ≤ x)
+    (λ (ks : List ℕ). c + needOf w d A ks ≤ x)
     (p (suc lo))
     {x = suc lo ∷ picked p (suc lo) m}
     {y = picked p (suc lo) m}

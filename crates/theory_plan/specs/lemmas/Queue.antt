@@ -13,16 +13,16 @@ use lib.Seq.{drop-drop}
 use lib.Dec.{T-not, ltb, eqb, ltb→lt, nltb→le, eqb→eq, eqb-refl}
 use Rattle.theory_basics.specs.lemmas.Tests.{test}
 use Rattle.theory_plan.specs.lemmas.Ascending.{Asc}
-use Rattle.theory_plan.specs.lemmas.Fill.{Piece, Ready, left-of, needs}
+use Rattle.theory_plan.specs.lemmas.Fill.{QueuedPiece, Ready, left-of, needs}
 use Rattle.theory_plan.specs.lemmas.Need.{Feas, Tails}
-use Rattle.theory_plan.specs.Plan.{need}
+use Rattle.theory_plan.specs.Plan.{needOf}
 use Rattle.theory_basics.specs.Lists.{has}
 use Rattle.theory_basics.specs.Tests.{All}
 
 -- ---- the queue
 
 -- Layers m .. m + n - 1 of chunk k, released at r; and how many bytes they have.
-abbrev pub pieces : (ℕ → ℕ → ℕ) → (k r m n : ℕ) → List Piece
+abbrev pub pieces : (ℕ → ℕ → ℕ) → (k r m n : ℕ) → List QueuedPiece
 pieces size k r m zero = []
 pieces size k r m (suc n) = record { chunk = k; layer = m; left = size k m; ready = r } ∷ pieces size k r (suc m) n
 
@@ -31,7 +31,7 @@ weight size k m zero = 0
 weight size k m (suc n) = size k m + weight size k (suc m) n
 
 -- The layers of the chunks ks, of chunk k the first lv k, by chunk, then layer; rs are the chunks' releases.
-abbrev pub queue : (ℕ → ℕ → ℕ) → (ℕ → ℕ) → List ℕ → List ℕ → List Piece
+abbrev pub queue : (ℕ → ℕ → ℕ) → (ℕ → ℕ) → List ℕ → List ℕ → List QueuedPiece
 queue size lv [] rs = []
 queue size lv (k ∷ ks) [] = []
 queue size lv (k ∷ ks) (r ∷ rs) = pieces size k r 0 (lv k) ++ queue size lv ks rs
@@ -53,10 +53,10 @@ releases d h ks = ones h ++ each d ks
 abbrev pub RelOk : (w d A : ℕ → ℕ) → List ℕ → List ℕ → Type 0
 RelOk w d A [] rs = Unit {0}
 RelOk w d A (k ∷ ks) [] = ⊥
-RelOk w d A (k ∷ ks) (r ∷ rs) = (need w d A (k ∷ ks) ≤ A (r - 1)) × RelOk w d A ks rs
+RelOk w d A (k ∷ ks) (r ∷ rs) = (needOf w d A (k ∷ ks) ≤ A (r - 1)) × RelOk w d A ks rs
 
 relok-cons :
-    (w d A : ℕ → ℕ) (gs : List ℕ) (r : ℕ) (rs : List ℕ) → need w d A gs ≤ A (r - 1) → RelOk w d A (drop 1 gs) rs →
+    (w d A : ℕ → ℕ) (gs : List ℕ) (r : ℕ) (rs : List ℕ) → needOf w d A gs ≤ A (r - 1) → RelOk w d A (drop 1 gs) rs →
     RelOk w d A gs (r ∷ rs)
 relok-cons w d A [] r rs m t = tt
 relok-cons w d A (g ∷ gs) r rs m t = (m, t)
@@ -69,7 +69,7 @@ relok-later w d A (suc h) (k ∷ ks) t =
     relok-cons w d A (drop h ks) (d k) (each d ks) (t .0) (rw (drop-drop, add-one) (relok-later w d A (suc h) ks (t .1)))
 
 relok-first :
-    (w d A : ℕ → ℕ) (h : ℕ) (gs rs : List ℕ) → need w d A gs ≤ A 0 → RelOk w d A (drop h gs) rs → RelOk w d A gs (ones h ++ rs)
+    (w d A : ℕ → ℕ) (h : ℕ) (gs rs : List ℕ) → needOf w d A gs ≤ A 0 → RelOk w d A (drop h gs) rs → RelOk w d A gs (ones h ++ rs)
 relok-first w d A zero gs rs m t = t
 relok-first w d A (suc h) [] rs m t = tt
 relok-first w d A (suc h) (g ∷ gs) rs m t = (m, relok-first w d A h gs rs (omega arith) t)
@@ -86,12 +86,12 @@ SomeBytes size lv c = (k i : ℕ) → 1 ≤ k → k ≤ c → i < lv k → 1 ≤
 
 module _ (d A : ℕ → ℕ) (size : ℕ → ℕ → ℕ) where
   needs-pieces :
-      (k r m n : ℕ) (q : List Piece) → needs d A (pieces size k r m n ++ q) ≤ weight size k m n + max (A (d k)) (needs d A q)
+      (k r m n : ℕ) (q : List QueuedPiece) → needs d A (pieces size k r m n ++ q) ≤ weight size k m n + max (A (d k)) (needs d A q)
   needs-pieces k r m zero q = omega arith
   needs-pieces k r m (suc n) q = omega (arith, needs-pieces k r (suc m) n q)
 
   ready-pieces :
-      (k r m n : ℕ) (q : List Piece) → ((i : ℕ) → i < n + m → 1 ≤ size k i) → Ready d A q →
+      (k r m n : ℕ) (q : List QueuedPiece) → ((i : ℕ) → i < n + m → 1 ≤ size k i) → Ready d A q →
       weight size k m n + max (A (d k)) (needs d A q) ≤ A (r - 1) → Ready d A (pieces size k r m n ++ q)
   ready-pieces k r m zero q pos a h = a
   ready-pieces k r m (suc n) q pos a h =
@@ -100,7 +100,7 @@ module _ (d A : ℕ → ℕ) (size : ℕ → ℕ → ℕ) where
   pub ready-queue :
       (lv : ℕ → ℕ) (lo c : ℕ) → SomeBytes size lv c → 1 ≤ lo → (ks rs : List ℕ) → Asc lo c ks →
       RelOk (λ k. weight size k 0 (lv k)) d A ks rs →
-      (needs d A (queue size lv ks rs) ≤ need (λ k. weight size k 0 (lv k)) d A ks) × Ready d A (queue size lv ks rs)
+      (needs d A (queue size lv ks rs) ≤ needOf (λ k. weight size k 0 (lv k)) d A ks) × Ready d A (queue size lv ks rs)
   ready-queue lv lo c pos l [] rs s a = (omega arith, tt)
   ready-queue lv lo c pos l (k ∷ ks) [] s a = absurd a
   ready-queue lv lo c pos l (k ∷ ks) (r ∷ rs) s a =
@@ -115,7 +115,7 @@ module _ (d A : ℕ → ℕ) (size : ℕ → ℕ → ℕ) where
 abbrev pub at-layer : ℕ → ℕ → ℕ → ℕ → Bool
 at-layer i n k m = eqb k i && eqb m n
 
-left-of-append : (P : ℕ → ℕ → Bool) (a b : List Piece) → left-of P (a ++ b) ≡ left-of P a + left-of P b
+left-of-append : (P : ℕ → ℕ → Bool) (a b : List QueuedPiece) → left-of P (a ++ b) ≡ left-of P a + left-of P b
 left-of-append P [] b = omega arith
 left-of-append P (p ∷ ps) b = omega (arith, left-of-append P ps b)
 

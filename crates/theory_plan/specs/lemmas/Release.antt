@@ -15,7 +15,7 @@ use Rattle.theory_basics.specs.Tests.{All}
 use Rattle.theory_basics.specs.lemmas.Tests.{test}
 use Rattle.job.specs.Job.{Job, chunks, due, heldMost, size}
 use Rattle.theory_plan.specs.lemmas.Ascending.{Asc}
-use Rattle.theory_plan.specs.lemmas.Fill.{Piece}
+use Rattle.theory_plan.specs.lemmas.Fill.{QueuedPiece}
 use Rattle.theory_plan.specs.lemmas.Queue.{each, ones, pieces, queue, releases}
 use Rattle.theory_basics.specs.Lists.{has}
 use Rattle.theory_plan.specs.lemmas.Words.{due-mono}
@@ -119,8 +119,8 @@ window-first d (suc h) (k ∷ ks) rs = window-first d h ks (d k ∷ rs)
 -- ---- the queue: each piece's release says when rule 6 allows it
 
 -- With the chunks b begun, at most H are held at the end of slot t exactly if t is r or later.
-abbrev pub Released : Job → (ℕ → Bool) → ℕ → Type 0
-Released j b r = (t : ℕ) → 1 ≤ t → leb (count (λ i. b i && ltb t (due j i)) (chunks j)) (heldMost j) ≡ leb r t
+abbrev pub ReleasedAt : Job → (ℕ → Bool) → ℕ → Type 0
+ReleasedAt j b r = (t : ℕ) → 1 ≤ t → leb (count (λ i. b i && ltb t (due j i)) (chunks j)) (heldMost j) ≡ leb r t
 
 -- The chunks b and chunk k.
 abbrev pub with : ℕ → (ℕ → Bool) → ℕ → Bool
@@ -134,22 +134,22 @@ with-twice k b = fun-ext (λ i. or-twice (eqb k i) (b i))
     or-twice false y = refl
 
 -- Where the chunks b have begun: each piece of the queue has the release of its chunk, those before it begun.
-abbrev pub Fair : Job → (ℕ → Bool) → List Piece → Type 0
+abbrev pub Fair : Job → (ℕ → Bool) → List QueuedPiece → Type 0
 Fair j b [] = Unit {0}
-Fair j b (p ∷ ps) = Released j (with (p .chunk) b) (p .ready) × Fair j (with (p .chunk) b) ps
+Fair j b (p ∷ ps) = ReleasedAt j (with (p .chunk) b) (p .ready) × Fair j (with (p .chunk) b) ps
 
 fair-pieces :
-    (j : Job) (size : ℕ → ℕ → ℕ) (k r m n : ℕ) (b : ℕ → Bool) (q : List Piece) → Released j (with k b) r → Fair j (with k b) q →
+    (j : Job) (size : ℕ → ℕ → ℕ) (k r m n : ℕ) (b : ℕ → Bool) (q : List QueuedPiece) → ReleasedAt j (with k b) r → Fair j (with k b) q →
     Fair j b (pieces size k r m (suc n) ++ q)
 fair-pieces j size k r m zero b q u v = (u, v)
 fair-pieces j size k r m (suc n) b q u v = (
   u,
-  fair-pieces j size k r (suc m) n (with k b) q (subst (λ (s : ℕ → Bool). Released j s r) (sym (with-twice k b)) u) (subst (λ (s : ℕ → Bool). Fair j s q) (sym (with-twice k b)) v),
+  fair-pieces j size k r (suc m) n (with k b) q (subst (λ (s : ℕ → Bool). ReleasedAt j s r) (sym (with-twice k b)) u) (subst (λ (s : ℕ → Bool). Fair j s q) (sym (with-twice k b)) v),
 )
 
 released :
     (j : Job) (k : ℕ) (ks : List ℕ) → Desc (suc k) (k ∷ ks) → k ≤ chunks j →
-    Released j (has (k ∷ ks)) (releaseOf (due j) (heldMost j) (k ∷ ks))
+    ReleasedAt j (has (k ∷ ks)) (releaseOf (due j) (heldMost j) (k ∷ ks))
 released j k ks a h t u =
     ap (λ (n : ℕ). leb n (heldMost j)) (count-has (λ i. ltb t (due j i)) (suc k) (chunks j) (k ∷ ks) (omega arith) a)
     ∙ few-late (due j) (due-mono j) t (suc k) (heldMost j) (k ∷ ks) u a

@@ -13,12 +13,12 @@ use Rattle.theory_basics.specs.lemmas.Tests.{all-map, test}
 use Rattle.fetch.specs.Rows.{Row}
 use Rattle.job.specs.Job.{Accepted, Job, chunks, due, forecast, heldMost, lastSlot, layers, size}
 use Rattle.theory_plan.specs.Statement.{Choice}
-use Rattle.theory_plan.specs.Own.{Ascending, Before, ownList}
+use Rattle.theory_plan.specs.Own.{Ascending, RowBefore, ownList}
 use Rattle.theory_plan.specs.lemmas.Ascending.{Asc}
 use Rattle.theory_plan.specs.lemmas.Kept.{length-picked-le}
 use Rattle.theory_plan.specs.Plan.{kept}
 use Rattle.theory_plan.specs.lemmas.Choice.{kept-asc}
-use Rattle.theory_plan.specs.lemmas.Fill.{Out, Piece, by-slot, fill, slot-in-slot, take-slot}
+use Rattle.theory_plan.specs.lemmas.Fill.{Out, QueuedPiece, by-slot, fill, slot-in-slot, take-slot}
 use Rattle.theory_plan.specs.lemmas.Queue.{pieces, queue, releases}
 use Rattle.theory_plan.specs.lemmas.Sufficiency.{fetch}
 use Rattle.theory_plan.specs.lemmas.OwnFill.{own-list-is}
@@ -46,7 +46,7 @@ at-or-after-trans t k n x y (inl u) (inr v) = inl (omega arith)
 at-or-after-trans t k n x y (inr u) (inl v) = inl (omega arith)
 at-or-after-trans t k n x y (inr u) (inr v) = inr (omega arith, upto-trans k n (x .chunk) (x .layer) (y .chunk) (y .layer) (u .1) (v .1))
 
-after-before : (x y : Row) → AtOrAfter (x .slot) (x .chunk) (suc (x .layer)) y → Before x y
+after-before : (x y : Row) → AtOrAfter (x .slot) (x .chunk) (suc (x .layer)) y → RowBefore x y
 after-before x y (inl u) = inl u
 after-before x y (inr u) = inr (u .0, ⊎-elim (λ v. inl v) (λ v. inr (v .0, omega arith)) (u .1))
 
@@ -65,18 +65,18 @@ rising-all t k n (x ∷ xs) r = (
 rising-ascending : (t k n : ℕ) (l : List Row) → Rising t k n l → Ascending l
 rising-ascending t k n [] r = tt
 rising-ascending t k n (x ∷ xs) r = (
-  all-map (AtOrAfter (x .slot) (x .chunk) (suc (x .layer))) (Before x) xs (after-before x) (rising-all (x .slot) (x .chunk) (suc (x .layer)) xs (r .1)),
+  all-map (AtOrAfter (x .slot) (x .chunk) (suc (x .layer))) (RowBefore x) xs (after-before x) (rising-all (x .slot) (x .chunk) (suc (x .layer)) xs (r .1)),
   rising-ascending (x .slot) (x .chunk) (suc (x .layer)) xs (r .1),
 )
 
 -- ---- a queue that rises gives rows that rise
 
 -- The pieces rise from chunk k, layer n on.
-abbrev QueueFrom : ℕ → ℕ → List Piece → Type 0
+abbrev QueueFrom : ℕ → ℕ → List QueuedPiece → Type 0
 QueueFrom k n [] = Unit {0}
 QueueFrom k n (p ∷ ps) = Upto k n (p .chunk) (p .layer) × QueueFrom (p .chunk) (suc (p .layer)) ps
 
-queue-lower : (a b c d : ℕ) (q : List Piece) → Upto a b c d → QueueFrom c (suc d) q → QueueFrom a b q
+queue-lower : (a b c d : ℕ) (q : List QueuedPiece) → Upto a b c d → QueueFrom c (suc d) q → QueueFrom a b q
 queue-lower a b c d [] h f = tt
 queue-lower a b c d (p ∷ ps) h f = (upto-trans a b c d (p .chunk) (p .layer) h (f .0), f .1)
 
@@ -85,7 +85,7 @@ record Rises (t k n : ℕ) (o : Out) : Type 0 where
   rows-rise : Rising t k n (o .rows)
   rest-rises : QueueFrom k n (o .rest)
 
-slot-rises : (t c : ℕ) (q : List Piece) (k n : ℕ) → QueueFrom k n q → Rises t k n (take-slot t c q)
+slot-rises : (t c : ℕ) (q : List QueuedPiece) (k n : ℕ) → QueueFrom k n q → Rises t k n (take-slot t c q)
 slot-rises t =
     by-slot
     t
@@ -107,7 +107,7 @@ rising-append t k n (x ∷ xs) b f s g =
       subst (λ (y : ℕ). Rising y (x .chunk) (suc (x .layer)) (xs ++ b)) (sym e) (rising-append t (x .chunk) (suc (x .layer)) xs b (subst (λ (y : ℕ). Rising y (x .chunk) (suc (x .layer)) xs) e (f .1)) (s .1) g),
     )
 
-fill-rises : (B : ℕ → ℕ) (n t : ℕ) (q : List Piece) → QueueFrom 0 0 q → Rising (suc t) 0 0 (fill B n t q)
+fill-rises : (B : ℕ → ℕ) (n t : ℕ) (q : List QueuedPiece) → QueueFrom 0 0 q → Rising (suc t) 0 0 (fill B n t q)
 fill-rises B zero t q f = tt
 fill-rises B (suc n) t q f =
     let o = take-slot (suc t) (B (suc t)) q in
@@ -117,11 +117,11 @@ fill-rises B (suc n) t q f =
 -- ---- the queue of a choice rises
 
 pieces-rise :
-    (size : ℕ → ℕ → ℕ) (k r m n : ℕ) (q : List Piece) → ((n : ℕ) → QueueFrom k n q) → QueueFrom k m (pieces size k r m n ++ q)
+    (size : ℕ → ℕ → ℕ) (k r m n : ℕ) (q : List QueuedPiece) → ((n : ℕ) → QueueFrom k n q) → QueueFrom k m (pieces size k r m n ++ q)
 pieces-rise size k r m zero q f = f m
 pieces-rise size k r m (suc n) q f = (inr (refl, omega arith), pieces-rise size k r (suc m) n q f)
 
-queue-before : (a b m : ℕ) (q : List Piece) → a < b → QueueFrom b 0 q → QueueFrom a m q
+queue-before : (a b m : ℕ) (q : List QueuedPiece) → a < b → QueueFrom b 0 q → QueueFrom a m q
 queue-before a b m [] h f = tt
 queue-before a b m (p ∷ ps) h f = (inl (⊎-elim (λ u. omega arith) (λ u. omega arith) (f .0)), f .1)
 
@@ -151,7 +151,7 @@ own-ascending j choice =
 
 -- A row that does not finish its piece is its slot's last, and no piece has two.
 slot-count :
-    (t c : ℕ) (q : List Piece) →
+    (t c : ℕ) (q : List QueuedPiece) →
     (length (take-slot t c q .rows) + length (take-slot t c q .rest) ≤ suc (length q)) × (length (take-slot t c q .rows) ≤ length q)
 slot-count t =
     by-slot
@@ -163,7 +163,7 @@ slot-count t =
     (λ c p ps h m l. omega arith)
 
 -- At most pieces + slots - 1 rows.
-fill-count : (B : ℕ → ℕ) (n t : ℕ) (q : List Piece) → length (fill B n t q) ≤ length q + (n - 1)
+fill-count : (B : ℕ → ℕ) (n t : ℕ) (q : List QueuedPiece) → length (fill B n t q) ≤ length q + (n - 1)
 fill-count B zero t q = omega arith
 fill-count B (suc zero) t q = omega (arith, length-append (take-slot (suc t) (B (suc t)) q .rows) [], slot-count (suc t) (B (suc t)) q .1)
 fill-count B (suc (suc n)) t q =

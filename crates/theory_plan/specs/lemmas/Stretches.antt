@@ -12,7 +12,7 @@ use lib.Seq.{drop-drop, getD-drop}
 use lib.Dec.{ltb, ltb→lt, nltb→le}
 use Rattle.theory_basics.specs.lemmas.Tests.{by-cond, test}
 use Rattle.theory_plan.specs.lemmas.Need.{Feas, Tails, need-drop}
-use Rattle.theory_plan.specs.Plan.{need}
+use Rattle.theory_plan.specs.Plan.{needOf}
 
 -- The bytes of the chunks together.
 abbrev pub total : (ℕ → ℕ) → List ℕ → ℕ
@@ -29,14 +29,14 @@ Stretches w d A h ks = (a n : ℕ) → a + n < length ks → total w (take (suc 
 
 -- ---- a need is bounded exactly if each run from the first chunk is
 
-run-under-need : (w d A : ℕ → ℕ) (ks : List ℕ) (n : ℕ) → n < length ks → total w (take (suc n) ks) + A (d (getD ks n 0)) ≤ need w d A ks
+run-under-need : (w d A : ℕ → ℕ) (ks : List ℕ) (n : ℕ) → n < length ks → total w (take (suc n) ks) + A (d (getD ks n 0)) ≤ needOf w d A ks
 run-under-need w d A [] n h = absurd (omega arith)
 run-under-need w d A (k ∷ ks) zero h = omega arith
 run-under-need w d A (k ∷ ks) (suc n) h = omega (arith, run-under-need w d A ks n (omega arith))
 
 need-least :
     (w d A : ℕ → ℕ) (ks : List ℕ) (c x : ℕ) → c ≤ x →
-    ((n : ℕ) → n < length ks → c + total w (take (suc n) ks) + A (d (getD ks n 0)) ≤ x) → c + need w d A ks ≤ x
+    ((n : ℕ) → n < length ks → c + total w (take (suc n) ks) + A (d (getD ks n 0)) ≤ x) → c + needOf w d A ks ≤ x
 need-least w d A [] c x g h = omega arith
 need-least w d A (k ∷ ks) c x g h =
     let h₀ = h 0 (omega arith) in
@@ -44,7 +44,7 @@ need-least w d A (k ∷ ks) c x g h =
 
 need-iff-runs :
     (w d A : ℕ → ℕ) (ks : List ℕ) (x : ℕ) →
-    (need w d A ks ≤ x) ↔ ((n : ℕ) → n < length ks → total w (take (suc n) ks) + A (d (getD ks n 0)) ≤ x)
+    (needOf w d A ks ≤ x) ↔ ((n : ℕ) → n < length ks → total w (take (suc n) ks) + A (d (getD ks n 0)) ≤ x)
 need-iff-runs w d A ks x = (
   λ u n h. omega (arith, run-under-need w d A ks n h),
   λ f. omega (arith, need-least w d A ks 0 x (omega arith) (λ n h. omega (arith, f n h))),
@@ -53,23 +53,23 @@ need-iff-runs w d A ks x = (
 -- ---- the chunks fit exactly if each, with those behind it, fits behind its release
 
 -- Each kept chunk, with those behind it, fits into the slots from its release on.
-abbrev Released : (w d A : ℕ → ℕ) (h : ℕ) → List ℕ → Type 0
-Released w d A h ks = (m : ℕ) → m < length ks → need w d A (drop m ks) ≤ A (release d h ks m - 1)
+abbrev FitsReleases : (w d A : ℕ → ℕ) (h : ℕ) → List ℕ → Type 0
+FitsReleases w d A h ks = (m : ℕ) → m < length ks → needOf w d A (drop m ks) ≤ A (release d h ks m - 1)
 
 module _ (w d A : ℕ → ℕ) (h : ℕ) where
-  tails-at : (ks : List ℕ) (m : ℕ) → m < length ks → Tails w d A h ks → need w d A (drop h (drop m ks)) ≤ A (d (getD ks m 0) - 1)
+  tails-at : (ks : List ℕ) (m : ℕ) → m < length ks → Tails w d A h ks → needOf w d A (drop h (drop m ks)) ≤ A (d (getD ks m 0) - 1)
   tails-at [] m l f = absurd (omega arith)
   tails-at (k ∷ ks) zero l f = f .0
   tails-at (k ∷ ks) (suc m) l f = tails-at ks m (omega arith) (f .1)
 
-  tails-from : (ks : List ℕ) → ((m : ℕ) → m < length ks → need w d A (drop h (drop m ks)) ≤ A (d (getD ks m 0) - 1)) → Tails w d A h ks
+  tails-from : (ks : List ℕ) → ((m : ℕ) → m < length ks → needOf w d A (drop h (drop m ks)) ≤ A (d (getD ks m 0) - 1)) → Tails w d A h ks
   tails-from [] f = tt
   tails-from (k ∷ ks) f = (f 0 (omega arith), tails-from ks (λ m l. f (suc m) (omega arith)))
 
-  feas-released : (ks : List ℕ) → Feas w d A h ks → Released w d A h ks
+  feas-released : (ks : List ℕ) → Feas w d A h ks → FitsReleases w d A h ks
   feas-released ks f m l =
       by-cond
-      (λ r. need w d A (drop m ks) ≤ A (r - 1))
+      (λ r. needOf w d A (drop m ks) ≤ A (r - 1))
       (ltb m h)
       (λ t. omega (arith, need-drop w d A ks m, f .whole))
       (λ t.
@@ -77,12 +77,12 @@ module _ (w d A : ℕ → ℕ) (h : ℕ) where
       rw e at (rw drop-drop at (tails-at ks (m - h) (omega arith) (f .tails))))
 
   module _ (A-anti : (x y : ℕ) → x ≤ y → A y ≤ A x) where
-    released-whole : (ks : List ℕ) → Released w d A h ks → need w d A ks ≤ A 0
+    released-whole : (ks : List ℕ) → FitsReleases w d A h ks → needOf w d A ks ≤ A 0
     released-whole [] f = omega arith
     released-whole (k ∷ ks) f = omega (arith, f 0 (omega arith), A-anti 0 (release d h (k ∷ ks) 0 - 1) (omega arith))
 
     released-tail :
-        (ks : List ℕ) → Released w d A h ks → (m : ℕ) → m < length ks → need w d A (drop h (drop m ks)) ≤ A (d (getD ks m 0) - 1)
+        (ks : List ℕ) → FitsReleases w d A h ks → (m : ℕ) → m < length ks → needOf w d A (drop h (drop m ks)) ≤ A (d (getD ks m 0) - 1)
     released-tail ks f m l =
         rw drop-drop
         (⊎-elim
@@ -93,7 +93,7 @@ module _ (w d A : ℕ → ℕ) (h : ℕ) where
         (λ t. rw (drop-of-length-le ks (nltb→le (m + h) (length ks) t)) (omega arith))
         (test (ltb (m + h) (length ks))))
 
-    released-feas : (ks : List ℕ) → Released w d A h ks → Feas w d A h ks
+    released-feas : (ks : List ℕ) → FitsReleases w d A h ks → Feas w d A h ks
     released-feas ks f = record { whole = released-whole ks f; tails = tails-from ks (released-tail ks f) }
 
 pub stretches-iff : (w d A : ℕ → ℕ) (h : ℕ) → ((x y : ℕ) → x ≤ y → A y ≤ A x) → (ks : List ℕ) → Feas w d A h ks ↔ Stretches w d A h ks

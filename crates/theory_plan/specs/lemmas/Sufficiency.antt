@@ -15,7 +15,7 @@ use Rattle.theory_basics.specs.Tests.{All}
 use Rattle.theory_basics.specs.lemmas.Tests.{T-and, T-or-iff, all-append, and-T, at-row, by-cond, each-row, test, tests}
 use Rattle.job.specs.Job.{Job, chunks, due, forecast, heldMost, lastSlot, layers, size}
 use Rattle.fetch.specs.Rows.{Row, begun, bytesOfLayer, held}
-use Rattle.fetch.specs.Rules.{InRange, Passes}
+use Rattle.fetch.specs.Rules.{RowInRange, Passes}
 use Rattle.theory_plan.specs.lemmas.Ascending.{Asc, asc-lower}
 use Rattle.theory_plan.specs.lemmas.Count.{some-row}
 use Rattle.theory_plan.specs.lemmas.Fill.{Ready, Sent, Still, fill, fill-done, fill-in-slots, fill-loses-nothing, fill-on-time, fill-sent, fill-within, needs}
@@ -213,7 +213,7 @@ module _ (j : Job) (sized : Sized j) (lv : ℕ → ℕ) (lim : (k : ℕ) → 1 �
   sufficient =
       record {
         in-range =
-            each-row (InRange j) (fetch j lv ks) (λ x i.
+            each-row (RowInRange j) (fetch j lv ks) (λ x i.
             let s = at-row (Sent Q) i sent in
             let t = at-row (λ x. (0 < x .slot) × (x .slot ≤ lastSlot j + 0)) i in-slots in
             record { slot-low = t .0; slot-high = omega arith; chunk-low = s .from .chunk-low; chunk-high = s .from .chunk-high; layer-in = s .from .layer-in; some-bytes = s .some });

@@ -9,8 +9,8 @@ use Rattle.job.specs.Job.{Job, chunks, due, heldMost, layers, size}
 use Rattle.theory_basics.specs.Sums.{sum}
 use Rattle.fetch.specs.Rows.{markByte}
 use Rattle.fetch.specs.Marks.{bit, withLayer}
-use Rattle.theory_plan.specs.Bases.{keptAtEnd}
-use Rattle.theory_plan.specs.Plan.{byWalk}
+use Rattle.theory_plan.specs.Bases.{mooreHodgson}
+use Rattle.theory_plan.specs.Plan.{byMooreHodgson}
 use Rattle.theory_plan.specs.lemmas.Necessity.{after}
 use Rattle.theory_plan.specs.lemmas.Sufficiency.{releases}
 
@@ -81,8 +81,8 @@ back size A n hs (k ∷ ks) = tryOne size A n (getD hs 0 0) k (back size A n (dr
 abbrev pub chunkOf : Kept → ℕ
 chunkOf k = k .chunk
 
-abbrev pub bytesOf : Kept → ℕ
-bytesOf k = k .bytes
+abbrev pub bytesKept : Kept → ℕ
+bytesKept k = k .bytes
 
 abbrev pub markOf : Kept → ℕ
 markOf k = k .mark
@@ -95,7 +95,7 @@ keptAt j lv k = record { chunk = k; due = due j k; bytes = sum (size j k) (lv k)
 
 -- Layer n over what the layers below have settled. room: what all chunks together may use up; rs: the releases.
 abbrev pub onLayer : (ℕ → ℕ → ℕ) → (ℕ → ℕ) → ℕ → List ℕ → ℕ → List Kept → List Kept
-onLayer size A room rs n ks = back size A n (rooms A room (map bytesOf ks) rs) ks .kept
+onLayer size A room rs n ks = back size A n (rooms A room (map bytesKept ks) rs) ks .kept
 
 -- Layers 1 to n, one after the other.
 abbrev pub onLayers : (ℕ → ℕ → ℕ) → (ℕ → ℕ) → ℕ → List ℕ → ℕ → List Kept → List Kept
@@ -112,7 +112,7 @@ stacked j = bases (λ k. size j k 0) (due j) (after j) (heldMost j) 0 (chunks j)
 
 -- The chunks whose base is kept: by request 9's walk where it settles them, else by the stack.
 abbrev pub keptBases : Job → List ℕ
-keptBases j = cond (byWalk j) (keptAtEnd j) (stacked j)
+keptBases j = cond (byMooreHodgson j) (mooreHodgson j) (stacked j)
 
 -- What the trials of the upper layers decide of kept chunks: these, with their layers.
 abbrev pub decidedOn : Job → List ℕ → List Kept

@@ -11,7 +11,7 @@ use lib.Dec.{T, T-not, ltb, eqb, ltb→lt, nltb→le, eqb→eq, eqb-refl}
 use Rattle.theory_basics.specs.lemmas.Tests.{test}
 use Rattle.job.specs.Job.{Job, chunks, lastSlot, layers}
 use Rattle.theory_plan.specs.Bases.{isKept}
-use Rattle.theory_plan.specs.Statement.{BasesWalked, CanCarry, Choice, IsPlan, Same, SettledByTrials, Settles, tried}
+use Rattle.theory_plan.specs.Statement.{BasesMooreHodgson, CanCarry, Choice, IsPlan, Same, SettledByTrials, Settles, tried}
 use Rattle.theory_plan.specs.Own.{Fetched, carriedTo, fetchedBy, ownList}
 use Rattle.theory_plan.specs.lemmas.Plan.{either-way}
 use Rattle.theory_plan.specs.lemmas.Words.{layer-of}
@@ -110,8 +110,8 @@ same-tested j r p q dp dq k u v =
     (test (ltb 0 (p k)))
 
 -- as the ones kept by the walk.
-pub same-walked : (j : Job) (p q : ℕ → ℕ) → BasesWalked j p → BasesWalked j q → Same j (below p 1) (below q 1)
-same-walked j = same-tested j (isKept j)
+pub same-moore-hodgson : (j : Job) (p q : ℕ → ℕ) → BasesMooreHodgson j p → BasesMooreHodgson j q → Same j (below p 1) (below q 1)
+same-moore-hodgson j = same-tested j (isKept j)
 
 -- On the same bases, the layers above them.
 module _
@@ -134,4 +134,4 @@ trials-agree j p q dp dq =
 pub plans-agree : (j : Job) (p q : ℕ → ℕ) → IsPlan j p → IsPlan j q → Same j p q
 plans-agree j p q dp dq =
     same-on-bases j p q (dp .choice) (dq .choice) (dp .upper) (dq .upper) (λ h.
-    either-way j (Same j (below p 1) (below q 1)) (λ w. same-walked j p q (dp .walked w) (dq .walked w)) (λ n. same-tried j p q (dp .elsewhere n) (dq .elsewhere n) h))
+    either-way j (Same j (below p 1) (below q 1)) (λ w. same-moore-hodgson j p q (dp .moore-hodgson w) (dq .moore-hodgson w)) (λ n. same-tried j p q (dp .elsewhere n) (dq .elsewhere n) h))

@@ -14,7 +14,7 @@ use Rattle.theory_basics.specs.lemmas.Ranges.{sum-mono, bit}
 use Rattle.theory_basics.specs.lemmas.Tests.{by-cond, test}
 use Rattle.job.specs.Job.{Job, chunks, due, heldMost, size}
 use Rattle.theory_plan.specs.lemmas.Choice.{Fits}
-use Rattle.theory_plan.specs.Plan.{bytes, kept, picked, need, after}
+use Rattle.theory_plan.specs.Plan.{bytes, kept, picked, needOf, after}
 use Rattle.theory_plan.specs.lemmas.Kept.{need-picked, picked-drop}
 use Rattle.theory_plan.specs.lemmas.Need.{feas-max}
 use Rattle.theory_plan.specs.lemmas.Plan.{same-kept, tried-kept}
@@ -55,7 +55,7 @@ module _
 
   -- The need of chunks of the job.
   abbrev need-of : (ℕ → ℕ) → List ℕ → ℕ
-  need-of w = need w (due j) (after j)
+  need-of w = needOf w (due j) (after j)
 
   upToLayer-is : (lv : ℕ → ℕ) (k : ℕ) → 1 ≤ k → k ≤ chunks j → upToLayer lv k ≡ sum (size j k) (min (lv k) n) + cond (ltb n (lv k)) z 0
   upToLayer-is lv k g h =

@@ -10,7 +10,7 @@ use Rattle.theory_basics.specs.Sums.{sum}
 use Rattle.theory_basics.specs.Tests.{All}
 use Rattle.job.specs.Job.{Job, chunks, due, heldMost, layers, size}
 use Rattle.theory_plan.specs.lemmas.Ascending.{asc-nth}
-use Rattle.theory_plan.specs.Plan.{byWalk, bytes, kept}
+use Rattle.theory_plan.specs.Plan.{byMooreHodgson, bytes, kept}
 use Rattle.theory_plan.specs.Statement.{Same}
 use Rattle.theory_plan.specs.lemmas.Choice.{kept-asc}
 use Rattle.theory_plan.specs.lemmas.Kept.{picked-cong}
@@ -115,7 +115,7 @@ kept-bases-agree j p q e i zero k u v = rw (e k u v)
 kept-bases-agree j p q e i (suc n) k u v = rw (e k u v)
 
 pub against-agree : (j : Job) (p q : ℕ → ℕ) → Same j p q → (i n : ℕ) → Same j (against j p i n) (against j q i n)
-against-agree j p q e i n = by (byWalk j) where
+against-agree j p q e i n = by (byMooreHodgson j) where
   by : (b : Bool) → Same j (cond b (allBasesKept p) (settledBefore p) i n) (cond b (allBasesKept q) (settledBefore q) i n)
   by true = kept-bases-agree j p q e i n
   by false = settled-agree j p q e i n

@@ -13,7 +13,7 @@ use Rattle.theory_basics.specs.lemmas.Tests.{all-append, at-row, by-cond, last,
 use Rattle.job.specs.Job.{Job, Layer, chunks, layers}
 use Rattle.theory_plan.specs.lemmas.Words.{layer-of}
 use Rattle.theory_reasons.specs.lemmas.Named.{missing-of-each, missing-to-each}
-use Rattle.theory_reasons.specs.Statement.{Before, InTurn, IsMissing, Place, missing, missingOf, missingTo}
+use Rattle.theory_reasons.specs.Statement.{PlaceBefore, InTurn, IsMissing, Place, missing, missingOf, missingTo}
 
 in-left : (x : Place) (a b : List Place) → In x a → In x (a ++ b)
 in-left x _ b (here {xs = xs}) = here
@@ -49,23 +49,23 @@ missing-iff j plan x = (
 
 -- ---- by chunk and then layer
 
-turn-append : (a b : List Place) → InTurn a → InTurn b → All (λ x. All (Before x) b) a → InTurn (a ++ b)
+turn-append : (a b : List Place) → InTurn a → InTurn b → All (λ x. All (PlaceBefore x) b) a → InTurn (a ++ b)
 turn-append [] b u v w = v
-turn-append (x ∷ a) b u v w = (all-append (Before x) a b (u .0) (w .0), turn-append a b (u .1) v (w .1))
+turn-append (x ∷ a) b u v w = (all-append (PlaceBefore x) a b (u .0) (w .0), turn-append a b (u .1) v (w .1))
 
 of-turn : (plan : ℕ → ℕ) (i n : ℕ) → InTurn (missingOf plan i n)
 of-turn plan i zero = tt
 of-turn plan i (suc n) =
     turn-append (missingOf plan i n) _ (of-turn plan i n) (by-cond InTurn (ltb n (plan i)) (λ t. tt) (λ t. (tt, tt)))
-    (missing-of-each plan (λ x. All (Before x) (cond (ltb n (plan i)) [] (record { chunk = i; layer = n } ∷ []))) i n
-    (λ m u v. by-cond (All (Before (record { chunk = i; layer = m }))) (ltb n (plan i)) (λ t. tt) (λ t. (inr (refl, u), tt))))
+    (missing-of-each plan (λ x. All (PlaceBefore x) (cond (ltb n (plan i)) [] (record { chunk = i; layer = n } ∷ []))) i n
+    (λ m u v. by-cond (All (PlaceBefore (record { chunk = i; layer = m }))) (ltb n (plan i)) (λ t. tt) (λ t. (inr (refl, u), tt))))
 
 to-turn : (plan : ℕ → ℕ) (n i : ℕ) → InTurn (missingTo plan n i)
 to-turn plan n zero = tt
 to-turn plan n (suc i) =
     turn-append (missingTo plan n i) (missingOf plan (suc i) n) (to-turn plan n i) (of-turn plan (suc i) n)
-    (missing-to-each plan (λ x. All (Before x) (missingOf plan (suc i) n)) n i
-    (λ k m u v w h. missing-of-each plan (Before (record { chunk = k; layer = m })) (suc i) n (λ q x y. inl (omega arith))))
+    (missing-to-each plan (λ x. All (PlaceBefore x) (missingOf plan (suc i) n)) n i
+    (λ k m u v w h. missing-of-each plan (PlaceBefore (record { chunk = k; layer = m })) (suc i) n (λ q x y. inl (omega arith))))
 
 pub missing-in-turn : (j : Job) (plan : ℕ → ℕ) → InTurn (missing j plan)
 missing-in-turn j plan = to-turn plan (layers j) (chunks j)

@@ -13,11 +13,11 @@ use Rattle.job.specs.Job.{Accepted, Job, Layer, chunks, layers}
 use Rattle.fetch.specs.Rows.{Row, layerCount}
 use Rattle.fetch.specs.Rules.{Passes}
 use Rattle.theory_plan.specs.Pictures.{most-pictures}
-use Rattle.theory_plan.specs.Plan.{byWalk}
+use Rattle.theory_plan.specs.Plan.{byMooreHodgson}
 use Rattle.theory_plan.specs.Statement.{CanCarry, Choice, IsPlan, Settles, countOf}
 use Rattle.theory_plan.specs.lemmas.Choice.{fits-can-carry}
 use Rattle.theory_plan.specs.lemmas.Level.{count-carried}
-use Rattle.theory_plan.specs.lemmas.Plan.{by-walk-iff, tried-choice}
+use Rattle.theory_plan.specs.lemmas.Plan.{by-moore-hodgson-iff, tried-choice}
 use Rattle.theory_plan.specs.lemmas.Words.{accepted-sized}
 use Rattle.theory_reasons.specs.Lines.{linesOf, stretchOf}
 use Rattle.theory_reasons.specs.Statement.{Line, Reason, Reasons, against, allBases, allBasesKept, missing, settledBefore}
@@ -62,14 +62,14 @@ module _ (j : Job) (p : ℕ → ℕ) (most : (other : List Row) → Passes j oth
 -- ---- the plan
 
 module _ (j : Job) (a : Accepted j) (p : ℕ → ℕ) (d : IsPlan j p) where
-  by-walk-refuses : T (byWalk j) → Refuses j p (allBasesKept p)
-  by-walk-refuses t i zero l e =
-      (λ k u v. by-cond (λ (x : ℕ). x ≤ layers j) (eqb k i) (λ t. l .layer-in) (λ t. omega (arith, l .layer-in)), one-more-base j p (most-pictures j a p d (by-walk-iff j .0 t .0)) i l e)
-  by-walk-refuses t i (suc n) l e = one-refused j p (d .choice) (suc n) (d .upper n) i l e
+  moore-hodgson-refuses : T (byMooreHodgson j) → Refuses j p (allBasesKept p)
+  moore-hodgson-refuses t i zero l e =
+      (λ k u v. by-cond (λ (x : ℕ). x ≤ layers j) (eqb k i) (λ t. l .layer-in) (λ t. omega (arith, l .layer-in)), one-more-base j p (most-pictures j a p d (by-moore-hodgson-iff j .0 t .0)) i l e)
+  moore-hodgson-refuses t i (suc n) l e = one-refused j p (d .choice) (suc n) (d .upper n) i l e
 
-  elsewhere-refuses : T (not (byWalk j)) → Refuses j p (settledBefore p)
-  elsewhere-refuses t i zero l e = one-refused j p (d .choice) 0 (d .elsewhere (λ w. T-not (byWalk j) t (by-walk-iff j .1 w))) i l e
+  elsewhere-refuses : T (not (byMooreHodgson j)) → Refuses j p (settledBefore p)
+  elsewhere-refuses t i zero l e = one-refused j p (d .choice) 0 (d .elsewhere (λ w. T-not (byMooreHodgson j) t (by-moore-hodgson-iff j .1 w))) i l e
   elsewhere-refuses t i (suc n) l e = one-refused j p (d .choice) (suc n) (d .upper n) i l e
 
   pub plan-refuses : Refuses j p (against j p)
-  plan-refuses = by-cond (Refuses j p) (byWalk j) by-walk-refuses elsewhere-refuses
+  plan-refuses = by-cond (Refuses j p) (byMooreHodgson j) moore-hodgson-refuses elsewhere-refuses

@@ -104,10 +104,10 @@ module _ (j : Job) (acc : Accepted j) (plan : ℕ → ℕ) (held : ℕ → ℕ �
   abbrev lineOfPlace : Place → Line
   lineOfPlace x = lineAt j plan held (x .chunk) (x .layer)
 
-  abbrev bytesOf : List Place → ℕ
-  bytesOf xs = length (reasonsText (map lineOfPlace xs))
+  abbrev textLength : List Place → ℕ
+  textLength xs = length (reasonsText (map lineOfPlace xs))
 
-  one : (x : Place) → bytesOf (x ∷ []) ≡ length (sentence (lineOfPlace x))
+  one : (x : Place) → textLength (x ∷ []) ≡ length (sentence (lineOfPlace x))
   one x = omega (arith, length-append (sentence (lineOfPlace x)) [])
 
   first-missing : (i n : ℕ) → Layer j i n → plan i ≡ n → length (sentence (lineAt j plan held i n)) ≤ 74
@@ -133,7 +133,7 @@ module _ (j : Job) (acc : Accepted j) (plan : ℕ → ℕ) (held : ℕ → ℕ �
 
   -- The lines of one chunk: one of the first kind at most.
   abbrev OfChunk : ℕ → ℕ → Type 0
-  OfChunk i n = (n ≤ plan i → bytesOf (missingOf plan i n) ≡ 0) × (plan i < n → bytesOf (missingOf plan i n) ≤ (n - plan i) * 38 + 36)
+  OfChunk i n = (n ≤ plan i → textLength (missingOf plan i n) ≡ 0) × (plan i < n → textLength (missingOf plan i n) ≤ (n - plan i) * 38 + 36)
 
   of-chunk : (i n : ℕ) → 1 ≤ i → i ≤ chunks j → n ≤ layers j → OfChunk i n
   of-chunk i zero u v h = (λ l. refl, λ l. absurd (omega arith))
@@ -162,11 +162,11 @@ module _ (j : Job) (acc : Accepted j) (plan : ℕ → ℕ) (held : ℕ → ℕ �
       ))
       (test (ltb n (plan i)))
 
-  to-chunk : (i : ℕ) → i ≤ chunks j → bytesOf (missingTo plan (layers j) i) ≤ i * 188
+  to-chunk : (i : ℕ) → i ≤ chunks j → textLength (missingTo plan (layers j) i) ≤ i * 188
   to-chunk zero h = omega arith
   to-chunk (suc i) h =
       let r = of-chunk (suc i) (layers j) (omega arith) h (omega arith) in
-      let here : bytesOf (missingOf plan (suc i) (layers j)) ≤ 188 =
+      let here : textLength (missingOf plan (suc i) (layers j)) ≤ 188 =
       ⊎-elim
       (λ t. omega (arith, r .1 (ltb→lt (plan (suc i)) (layers j) t), acc .layers-in .high))
       (λ t. omega (arith, r .0 (nltb→le (plan (suc i)) (layers j) t)))

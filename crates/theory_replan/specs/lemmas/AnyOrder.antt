@@ -1,5 +1,5 @@
--- Lemmas. The handed rows may come in any order: the refusal, what is settled and the own rows from p on are the same. So a standing plan
--- goes on from its own rows before p in whatever order they are handed.
+-- Lemmas. The fetched rows may come in any order: the refusal, what is settled and the own rows from p on are the same. So a standing plan
+-- goes on from its own rows before p in whatever order they are fetched.
 use Prim.Native.Nat.{ℕ, zero, suc, _+_, _-_, _≤_, _<_, max, min}
 use mathlib.Core.Path.{_≡_, refl, sym, ap, _∙_, subst, fun-ext}
 use mathlib.Core.Bool.{Bool, true, false, cond, _&&_, _||_}
@@ -14,12 +14,12 @@ use Rattle.theory_basics.specs.lemmas.Ranges.{bit, sum-cong}
 use Rattle.theory_basics.specs.lemmas.Tests.{at-row, each-row}
 use Rattle.job.specs.Job.{Accepted, chunks, due, forecast, heldMost, Job, lastSlot, Layer, layers, size}
 use Rattle.fetch.specs.Rows.{begun, bytesIf, bytesOfLayer, Carried, carried, heldCount, keep, marksGiven, next, none, Permuted, Row, swap}
-use Rattle.fetch.specs.Rules.{InRange, OnTime, PlayingOrder}
+use Rattle.fetch.specs.Rules.{RowInRange, OnTime, PlayingOrder}
 use Rattle.fetch.specs.RulesFrom.{KeepsFrom, PassesFrom}
 use Rattle.fetch.specs.VerdictFrom.{order-free-from, verdict-from-iff, verdictFrom}
 use Rattle.fetch.specs.Verdict.{lowerCarried}
 use Rattle.fetch.specs.lemmas.Rows.{all-permuted, any-permuted, bytes-permuted, lower-permuted}
-use Rattle.theory_plan.specs.Own.{allowed, carriedTo, Fetched, ownList, Part, rowOf, slotTakes, without}
+use Rattle.theory_plan.specs.Own.{allowed, carriedTo, Fetched, ownList, Piece, rowOf, slotTakes, without}
 use Rattle.theory_plan.specs.Statement.{SettledByTrials, Same}
 use Rattle.theory_plan.specs.lemmas.Level.{level}
 use Rattle.theory_replan.specs.Own.{fetchedFrom, ownRest, unfetched}
@@ -101,7 +101,7 @@ module _ (j : Job) {a b : List Row} (h : Permuted a b) where
         p-low = ok .p-low;
         p-high = ok .p-high;
         before = each-permuted (λ x. x .slot < p) (ok .before);
-        in-range = each-permuted (InRange j) (ok .in-range);
+        in-range = each-permuted (RowInRange j) (ok .in-range);
         no-more = λ i n r. omega (arith, ok .no-more i n r, layer-permuted i n);
         lower = λ i n r c. sym (layer-permuted i n) ∙ ok .lower i n r (layer-permuted i (suc n) ∙ c);
         within = λ t u v. omega (arith, ok .within t u v, bytes-permuted (λ x. eqb (x .slot) t) h);
@@ -157,11 +157,11 @@ record Alike (a b : List Row) (f g : Fetched) : Type 0 where
   left : f .left ≡ g .left
 
 module _ (j : Job) {a b : List Row} (h : Permuted a b) where
-  allowed-permuted : (r : List Row) (t : ℕ) (q : Part) → allowed j (a ++ r) t q ≡ allowed j (b ++ r) t q
+  allowed-permuted : (r : List Row) (t : ℕ) (q : Piece) → allowed j (a ++ r) t q ≡ allowed j (b ++ r) t q
   allowed-permuted r t q =
       ap (λ (n : ℕ). leb n (heldMost j)) (held-permuted j (permuted-append (rowOf t q 1 ∷ []) (permuted-append r h)) t)
 
-  slot-alike : (t c : ℕ) (r : List Row) (ps : List Part) → Alike a b (slotTakes j t c (a ++ r) ps) (slotTakes j t c (b ++ r) ps)
+  slot-alike : (t c : ℕ) (r : List Row) (ps : List Piece) → Alike a b (slotTakes j t c (a ++ r) ps) (slotTakes j t c (b ++ r) ps)
   slot-alike t c r [] = record { added = r; first = refl; second = refl; left = refl }
   slot-alike t c r (q ∷ ps) = rw (allowed-permuted r t q) (by (slot-alike t (c - q .bytes) (r ++ (rowOf t q (q .bytes) ∷ [])) ps) (allowed j (b ++ r) t q && ltb 0 c))
     where
@@ -190,7 +190,7 @@ module _ (j : Job) {a b : List Row} (h : Permuted a b) where
       by further true = whole further (leb (q .bytes) c)
       by further false = record { added = r; first = refl; second = refl; left = refl }
 
-  unfetched-permuted : (ps : List Part) → unfetched a ps ≡ unfetched b ps
+  unfetched-permuted : (ps : List Piece) → unfetched a ps ≡ unfetched b ps
   unfetched-permuted [] = refl
   unfetched-permuted (q ∷ ps) = rw (layer-permuted j h (q .chunk) (q .layer), unfetched-permuted ps)
 
@@ -208,7 +208,7 @@ module _ (j : Job) {a b : List Row} (h : Permuted a b) where
       let c = forecast j t in
       subst (λ (x : List Row). Alike a b (slotTakes j t c x (f .left)) (slotTakes j t c (g .rows) (g .left))) (sym (s .first))
       (subst (λ (x : List Row). Alike a b (slotTakes j t c (a ++ s .added) (f .left)) (slotTakes j t c x (g .left))) (sym (s .second))
-      (subst (λ (x : List Part). Alike a b (slotTakes j t c (a ++ s .added) x) (slotTakes j t c (b ++ s .added) (g .left))) (sym (s .left))
+      (subst (λ (x : List Piece). Alike a b (slotTakes j t c (a ++ s .added) x) (slotTakes j t c (b ++ s .added) (g .left))) (sym (s .left))
       (slot-alike t c (s .added) (g .left))))
 
   pub rest-order-free : (p : ℕ) (lv : ℕ → ℕ) → ownRest j p a lv ≡ ownRest j p b lv
@@ -217,12 +217,12 @@ module _ (j : Job) {a b : List Row} (h : Permuted a b) where
       let s = alike p lv (suc (lastSlot j) - p) in
       ap (drop (length a)) (s .first) ∙ drop-first a (s .added) ∙ sym (ap (drop (length b)) (s .second) ∙ drop-first b (s .added))
 
--- A standing plan whose own rows before p are handed in any order: it goes on.
+-- A standing plan whose own rows before p are fetched in any order: it goes on.
 pub standing-any-order :
-    (j : Job) → Accepted j → (q : ℕ → ℕ) → SettledByTrials j q → (p : ℕ) → 1 ≤ p → p ≤ lastSlot j → (handed : List Row) →
-    Permuted handed (rowsBefore p (ownList j q)) → (plan : ℕ → ℕ) → IsReplan j p handed plan →
-    Acceptable j p handed × Same j plan q × (ownRest j p handed plan ≡ rowsFrom p (ownList j q))
-standing-any-order j a q is p lo hi handed h plan d =
+    (j : Job) → Accepted j → (q : ℕ → ℕ) → SettledByTrials j q → (p : ℕ) → 1 ≤ p → p ≤ lastSlot j → (fetched : List Row) →
+    Permuted fetched (rowsBefore p (ownList j q)) → (plan : ℕ → ℕ) → IsReplan j p fetched plan →
+    Acceptable j p fetched × Same j plan q × (ownRest j p fetched plan ≡ rowsFrom p (ownList j q))
+standing-any-order j a q is p lo hi fetched h plan d =
     let g = standing-plan j a q is p lo hi in
     let d′ = replan-order-free j p h plan d in
     (acceptable-permuted j (permuted-back h) p (g .acceptable), g .only plan d′, rest-order-free j h p plan ∙ g .rest plan d′)

@@ -17,8 +17,8 @@ use Rattle.theory_basics.specs.lemmas.Ranges.{count-none}
 use Rattle.theory_basics.specs.lemmas.Tests.{and-T, at-row, by-cond, not-T-false, T-and, T-or-iff, T-true, test}
 use Rattle.job.specs.Job.{chunks, due, heldMost, Job, lastSlot}
 use Rattle.fetch.specs.Rows.{begun, held, Row}
-use Rattle.fetch.specs.Rules.{InRange}
-use Rattle.theory_plan.specs.Plan.{after, need, picked}
+use Rattle.fetch.specs.Rules.{RowInRange}
+use Rattle.theory_plan.specs.Plan.{after, needOf, picked}
 use Rattle.theory_plan.specs.lemmas.Ascending.{Asc, count-all}
 use Rattle.theory_plan.specs.lemmas.Count.{some-row}
 use Rattle.theory_plan.specs.lemmas.Kept.{picked-asc, picked-cong, picked-each}
@@ -81,53 +81,53 @@ module _ (w d A : ℕ → ℕ) (h p : ℕ) (d-mono : (x y : ℕ) → x ≤ y →
             λ u.
                 let g = r .1 (u .0 .1, u .1) in
                 let e : w (suc lo) ≡ 0 = u .0 .0 l in
-                let all : need w d A (suc lo ∷ picked b (suc lo) n) ≤ A 0 = omega (arith, e, z, g .whole) in
+                let all : needOf w d A (suc lo ∷ picked b (suc lo) n) ≤ A 0 = omega (arith, e, z, g .whole) in
                 record { whole = all; tails = (omega (arith, all, z′, need-drop w d A (suc lo ∷ picked b (suc lo) n) h), g .tails) },
           ))
           (test (leb p (d (suc lo))))
 
 -- The busy chunks that are due from p on.
 abbrev pub busyFrom : Job → ℕ → List Row → (ℕ → ℕ) → List ℕ
-busyFrom j p handed lv = picked (λ i. busy handed lv i && leb p (due j i)) 0 (chunks j)
+busyFrom j p fetched lv = picked (λ i. busy fetched lv i && leb p (due j i)) 0 (chunks j)
 
 pub feas-from-due :
-    (j : Job) (p : ℕ) (handed : List Row) (lv : ℕ → ℕ) →
-    Feas (bytesLeft j handed lv) (due j) (afterFrom j p) (heldMost j) (busyChunks j handed lv) ↔
-    (All (λ k. due j k < p → bytesLeft j handed lv k ≡ 0) (busyChunks j handed lv) × Feas (bytesLeft j handed lv) (due j) (afterFrom j p) (heldMost j) (busyFrom j p handed lv))
-feas-from-due j p handed lv =
-    feas-due (bytesLeft j handed lv) (due j) (afterFrom j p) (heldMost j) p (due-mono j)
+    (j : Job) (p : ℕ) (fetched : List Row) (lv : ℕ → ℕ) →
+    Feas (bytesLeft j fetched lv) (due j) (afterFrom j p) (heldMost j) (busyChunks j fetched lv) ↔
+    (All (λ k. due j k < p → bytesLeft j fetched lv k ≡ 0) (busyChunks j fetched lv) × Feas (bytesLeft j fetched lv) (due j) (afterFrom j p) (heldMost j) (busyFrom j p fetched lv))
+feas-from-due j p fetched lv =
+    feas-due (bytesLeft j fetched lv) (due j) (afterFrom j p) (heldMost j) p (due-mono j)
     (λ t l. let e : max t (p - 1) ≡ max 0 (p - 1) = omega arith in ap (after j) e)
-    (busy handed lv) 0 (chunks j)
+    (busy fetched lv) 0 (chunks j)
 
 -- ---- the begun chunks that are due from p on are at most H
 
 pub begun-few :
-    (j : Job) (p : ℕ) (handed : List Row) → Acceptable j p handed →
-    length (picked (λ i. carries handed i && leb p (due j i)) 0 (chunks j)) ≤ heldMost j
-begun-few j p handed ok =
-    let ks = picked (λ i. carries handed i && leb p (due j i)) 0 (chunks j) in
+    (j : Job) (p : ℕ) (fetched : List Row) → Acceptable j p fetched →
+    length (picked (λ i. carries fetched i && leb p (due j i)) 0 (chunks j)) ≤ heldMost j
+begun-few j p fetched ok =
+    let ks = picked (λ i. carries fetched i && leb p (due j i)) 0 (chunks j) in
     ⊎-elim
     (λ u.
     let l = leb→le 2 p u in
     let all =
-    picked-each (λ i. carries handed i && leb p (due j i)) (λ i. T (held j handed (p - 1) i)) 0 (chunks j) (λ i a b t.
-    let v = and-T (carries handed i) (leb p (due j i)) t in
-    let x = some-row (λ y. eqb (y .chunk) i) handed (v .0) in
+    picked-each (λ i. carries fetched i && leb p (due j i)) (λ i. T (held j fetched (p - 1) i)) 0 (chunks j) (λ i a b t.
+    let v = and-T (carries fetched i) (leb p (due j i)) t in
+    let x = some-row (λ y. eqb (y .chunk) i) fetched (v .0) in
     let early = at-row (λ y. y .slot < p) (x .1) (ok .before) in
-    T-and (begun handed (p - 1) i) (ltb (p - 1) (due j i)) (begun-row handed (p - 1) i (x .0) (x .1) (eqb→eq _ _ (x .2)) (omega arith)) (lt→ltb (p - 1) (due j i) (omega (arith, leb→le p (due j i) (v .1))))) in
+    T-and (begun fetched (p - 1) i) (ltb (p - 1) (due j i)) (begun-row fetched (p - 1) i (x .0) (x .1) (eqb→eq _ _ (x .2)) (omega arith)) (lt→ltb (p - 1) (due j i) (omega (arith, leb→le p (due j i) (v .1))))) in
     omega (
       arith,
       ok .few-held (p - 1) (omega arith) (omega (arith, ok .p-high)),
-      count-all (held j handed (p - 1)) 0 (chunks j) ks (omega arith) (picked-asc (λ i. carries handed i && leb p (due j i)) 0 (chunks j) (chunks j) (omega arith)) all,
+      count-all (held j fetched (p - 1)) 0 (chunks j) ks (omega arith) (picked-asc (λ i. carries fetched i && leb p (due j i)) 0 (chunks j) (chunks j) (omega arith)) all,
     ))
     (λ u.
     let l = nleb→lt 2 p u in
     let none =
-    picked-each (λ i. carries handed i && leb p (due j i)) (λ i. T false) 0 (chunks j) (λ i a b t.
-    let v = and-T (carries handed i) (leb p (due j i)) t in
-    let x = some-row (λ y. eqb (y .chunk) i) handed (v .0) in
-    absurd (omega (arith, at-row (λ y. y .slot < p) (x .1) (ok .before), at-row (InRange j) (x .1) (ok .in-range) .slot-low))) in
-    omega (arith, count-all (λ i. false) 0 (chunks j) ks (omega arith) (picked-asc (λ i. carries handed i && leb p (due j i)) 0 (chunks j) (chunks j) (omega arith)) none, count-none (λ i. false) (chunks j) (λ i a b. tt)))
+    picked-each (λ i. carries fetched i && leb p (due j i)) (λ i. T false) 0 (chunks j) (λ i a b t.
+    let v = and-T (carries fetched i) (leb p (due j i)) t in
+    let x = some-row (λ y. eqb (y .chunk) i) fetched (v .0) in
+    absurd (omega (arith, at-row (λ y. y .slot < p) (x .1) (ok .before), at-row (RowInRange j) (x .1) (ok .in-range) .slot-low))) in
+    omega (arith, count-all (λ i. false) 0 (chunks j) ks (omega arith) (picked-asc (λ i. carries fetched i && leb p (due j i)) 0 (chunks j) (chunks j) (omega arith)) none, count-none (λ i. false) (chunks j) (λ i a b. tt)))
     (test (leb 2 p))
 
 -- ---- begun chunks in front
@@ -147,14 +147,14 @@ module _ (w d A : ℕ → ℕ) (h : ℕ) where
   front-tails [] ks l = (λ t. (tt, t), λ u. u .1)
   front-tails (b ∷ bs) ks l =
       let r = front-tails bs ks (omega arith) in
-      let e : need w d A (drop h (b ∷ (bs ++ ks))) ≡ getD (needs-of w d A ks) (h - length (b ∷ bs)) 0 =
-      ap (need w d A) (drop-past (b ∷ bs) ks h l) ∙ sym (needs-at w d A ks (h - length (b ∷ bs))) in (
+      let e : needOf w d A (drop h (b ∷ (bs ++ ks))) ≡ getD (needs-of w d A ks) (h - length (b ∷ bs)) 0 =
+      ap (needOf w d A) (drop-past (b ∷ bs) ks h l) ∙ sym (needs-at w d A ks (h - length (b ∷ bs))) in (
         λ t. let u = r .0 (t .1) in ((omega (arith, t .0, e), u .0), u .1),
         λ u. (omega (arith, u .0 .0, e), r .1 (u .0 .1, u .1)),
       )
 
   -- Chunks with nothing to be fetched need what stands behind them.
-  pub front-need : (bs ks : List ℕ) (x : ℕ) → ((t : ℕ) → A t ≤ x) → All (λ b. w b ≡ 0) bs → (need w d A (bs ++ ks) ≤ x) ↔ (need w d A ks ≤ x)
+  pub front-need : (bs ks : List ℕ) (x : ℕ) → ((t : ℕ) → A t ≤ x) → All (λ b. w b ≡ 0) bs → (needOf w d A (bs ++ ks) ≤ x) ↔ (needOf w d A ks ≤ x)
   front-need [] ks x f a = (λ u. u, λ u. u)
   front-need (b ∷ bs) ks x f a =
       let r = front-need bs ks x f (a .1) in
@@ -163,7 +163,7 @@ module _ (w d A : ℕ → ℕ) (h : ℕ) where
   -- A new chunk i in front of the kept ones, behind the begun ones with nothing to be fetched yet.
   pub front-feas :
       (bs ks : List ℕ) (i : ℕ) → ((t : ℕ) → A t ≤ A 0) → length bs ≤ h → All (λ b. w b ≡ 0) bs → Tails w d A h ks →
-      Feas w d A h (bs ++ (i ∷ ks)) ↔ ((need w d A (i ∷ ks) ≤ A 0) × (need w d A (drop h (i ∷ ks)) ≤ A (d i - 1)) × FrontOk d A h bs (needs-of w d A (i ∷ ks)))
+      Feas w d A h (bs ++ (i ∷ ks)) ↔ ((needOf w d A (i ∷ ks) ≤ A 0) × (needOf w d A (drop h (i ∷ ks)) ≤ A (d i - 1)) × FrontOk d A h bs (needs-of w d A (i ∷ ks)))
   front-feas bs ks i f l a t =
       let n = front-need bs (i ∷ ks) (A 0) f a in
       let r = front-tails bs (i ∷ ks) l in (

@@ -16,15 +16,15 @@ use Rattle.theory_basics.specs.lemmas.Ranges.{count-cong, count-mono}
 use Rattle.theory_basics.specs.lemmas.Tests.{and-T, at-row, by-cond-both, in-append, in-left, in-right, not-T-false, same-test, T-and, T-or-iff, T-true, test}
 use Rattle.job.specs.Job.{chunks, due, forecast, heldMost, Job, lastSlot, size}
 use Rattle.fetch.specs.Rows.{begun, held, heldCount, Row}
-use Rattle.theory_plan.specs.Own.{allowed, carriedTo, Fetched, Part, rowOf, slotTakes, without}
+use Rattle.theory_plan.specs.Own.{allowed, carriedTo, Fetched, Piece, rowOf, slotTakes, without}
 use Rattle.theory_plan.specs.Plan.{picked}
 use Rattle.theory_plan.specs.Statement.{Choice}
 use Rattle.theory_plan.specs.lemmas.Ascending.{Asc}
 use Rattle.theory_plan.specs.lemmas.Count.{some-row}
-use Rattle.theory_plan.specs.lemmas.Fill.{after-row, fill, less, Out, Piece, rest-after, row, take-slot}
+use Rattle.theory_plan.specs.lemmas.Fill.{after-row, fill, less, Out, QueuedPiece, rest-after, row, take-slot}
 use Rattle.theory_plan.specs.lemmas.Kept.{has-picked, picked-asc, picked-each}
 use Rattle.theory_plan.specs.lemmas.Queue.{each, has-low, ones, queue, releases}
-use Rattle.theory_plan.specs.lemmas.Release.{Fair, fair-queue, Released, with}
+use Rattle.theory_plan.specs.lemmas.Release.{Fair, fair-queue, ReleasedAt, with}
 use Rattle.theory_plan.specs.lemmas.Words.{carries, Sized}
 use Rattle.theory_replan.specs.Plan.{busy}
 use Rattle.theory_replan.specs.Own.{fetchedFrom, ownRest, unfetched}
@@ -51,7 +51,7 @@ FairList j b ks rs = Fair j b (queue (size j) (λ k. 1) ks rs)
 -- Rule 6 with the chunks of the list up to k begun.
 released-at :
     (j : Job) (lo hi : ℕ) (b : ℕ → Bool) (ks rs : List ℕ) (k : ℕ) → Asc lo hi ks → length ks ≤ length rs → FairList j b ks rs → T (has ks k) →
-    Released j (λ i. b i || (has ks i && leb i k)) (readyOf ks rs k)
+    ReleasedAt j (λ i. b i || (has ks i && leb i k)) (readyOf ks rs k)
 released-at j lo hi b [] rs k a l f t = absurd t
 released-at j lo hi b (x ∷ ks) [] k a l f t = absurd (omega arith)
 released-at j lo hi b (x ∷ ks) (r ∷ rs) k a l f t =
@@ -64,7 +64,7 @@ released-at j lo hi b (x ∷ ks) (r ∷ rs) k a l f t =
     (λ y. T-or-iff (eqb x i) (b i) .1 (⊎-elim (λ z. inr z) (λ z.
     let w = and-T (eqb x i || has ks i) (leb i k) z in
     ⊎-elim (λ v. inl v) (λ v. absurd (omega (arith, leb→le i k (w .1), later ks i (a .2) v))) (T-or-iff (eqb x i) (has ks i) .0 (w .0))) (T-or-iff (b i) ((eqb x i || has ks i) && leb i k) .0 y)))) in
-    rw (T-true (eqb x k) u) (subst (λ (c : ℕ → Bool). Released j c r) s (f .0)))
+    rw (T-true (eqb x k) u) (subst (λ (c : ℕ → Bool). ReleasedAt j c r) s (f .0)))
     (λ u.
     let o : x ≡ k → ⊥ = λ e. T-not (eqb x k) u (rw e (eqb-refl k)) in
     let t′ : T (has ks k) = ⊎-elim (λ v. absurd (T-not (eqb x k) u v)) (λ v. v) (T-or-iff (eqb x k) (has ks k) .0 t) in
@@ -82,7 +82,7 @@ released-at j lo hi b (x ∷ ks) (r ∷ rs) k a l f t =
     let w = and-T (eqb x i || has ks i) (leb i k) z in
     ⊎-elim (λ v. inl (T-or-iff (eqb x i) (b i) .1 (inl v))) (λ v. inr (T-and (has ks i) (leb i k) v (w .1))) (T-or-iff (eqb x i) (has ks i) .0 (w .0)))
     (T-or-iff (b i) ((eqb x i || has ks i) && leb i k) .0 y)))) in
-    rw (not-T-false (eqb x k) u) (subst (λ (c : ℕ → Bool). Released j c (readyOf ks rs k)) s g))
+    rw (not-T-false (eqb x k) u) (subst (λ (c : ℕ → Bool). ReleasedAt j c (readyOf ks rs k)) s g))
     (test (eqb x k))
   where
     later : (l : List ℕ) (i : ℕ) → Asc (suc x) hi l → T (has l i) → suc x ≤ i
@@ -106,30 +106,30 @@ append-none (x ∷ l) = ap (λ (y : List Row). x ∷ y) (append-none l)
 
 -- ---- rule 6 allows the first part left exactly if its release has come
 
-module _ (j : Job) (sized : Sized j) (p : ℕ) (handed : List Row) (ok : Acceptable j p handed) (lv : ℕ → ℕ) (choice : Choice j lv) (f : FitsFrom j p handed lv) where
+module _ (j : Job) (sized : Sized j) (p : ℕ) (fetched : List Row) (ok : Acceptable j p fetched) (lv : ℕ → ℕ) (choice : Choice j lv) (f : FitsFrom j p fetched lv) where
   -- The chunks begun or kept and due from p on, and their releases.
   abbrev pub chunksFrom : List ℕ
-  chunksFrom = busyFrom j p handed lv
+  chunksFrom = busyFrom j p fetched lv
 
   abbrev pub ready : ℕ → ℕ
   ready k = readyOf chunksFrom (releases (due j) (heldMost j) chunksFrom) k
 
   abbrev member : ℕ → Bool
-  member k = busy handed lv k && leb p (due j k)
+  member k = busy fetched lv k && leb p (due j k)
 
   -- A part with the release of its chunk.
-  abbrev pub piece : Part → Piece
+  abbrev pub piece : Piece → QueuedPiece
   piece q = record { chunk = q .chunk; layer = q .layer; left = q .bytes; ready = ready (q .chunk) }
 
-  abbrev I : ℕ → ℕ → List Row → List Part → Type 0
-  I = Inv j sized p handed ok lv choice f
+  abbrev I : ℕ → ℕ → List Row → List Piece → Type 0
+  I = Inv j sized p fetched ok lv choice f
 
-  released : (k : ℕ) → T (has chunksFrom k) → Released j (λ i. has chunksFrom i && leb i k) (ready k)
+  released : (k : ℕ) → T (has chunksFrom k) → ReleasedAt j (λ i. has chunksFrom i && leb i k) (ready k)
   released k t =
       let asc : Asc 1 (chunks j) chunksFrom = picked-asc member 0 (chunks j) (chunks j) (omega arith) in
       released-at j 1 (chunks j) (λ i. false) chunksFrom (releases (due j) (heldMost j) chunksFrom) k asc (enough (due j) (heldMost j) chunksFrom) (fair-queue j (λ k. 1) chunksFrom asc (picked-each member (λ k. 1 ≤ 1) 0 (chunks j) (λ i u v t. omega arith))) t
 
-  module _ (t : ℕ) (from : p ≤ t) (to : t ≤ lastSlot j) (c : ℕ) (rows : List Row) (q : Part) (qs : List Part) (v : I t c rows (q ∷ qs)) where
+  module _ (t : ℕ) (from : p ≤ t) (to : t ≤ lastSlot j) (c : ℕ) (rows : List Row) (q : Piece) (qs : List Piece) (v : I t c rows (q ∷ qs)) where
     abbrev k : ℕ
     k = q .chunk
 
@@ -139,26 +139,26 @@ module _ (j : Job) (sized : Sized j) (p : ℕ) (handed : List Row) (ok : Accepta
     abbrev asked : ℕ → Bool
     asked i = (has chunksFrom i && leb i k) && ltb t (due j i)
 
-    in-list : (i : ℕ) → 1 ≤ i → i ≤ chunks j → T (busy handed lv i) → p ≤ due j i → T (has chunksFrom i)
-    in-list i u w b d = subst T (sym (has-picked member 0 (chunks j) i u (omega arith))) (T-and (busy handed lv i) (leb p (due j i)) b (le→leb p (due j i) d))
+    in-list : (i : ℕ) → 1 ≤ i → i ≤ chunks j → T (busy fetched lv i) → p ≤ due j i → T (has chunksFrom i)
+    in-list i u w b d = subst T (sym (has-picked member 0 (chunks j) i u (omega arith))) (T-and (busy fetched lv i) (leb p (due j i)) b (le→leb p (due j i) d))
 
     k-in : T (has chunksFrom k)
     k-in =
         let g = v .good .0 .0 in
-        in-list k (g .chunk-low) (g .chunk-high) (T-or-iff (carries handed k) (leb 1 (lv k)) .1 (inr (le→leb 1 (lv k) (omega (arith, g .layer-in))))) (omega (arith, due-later j sized p handed ok lv choice f t from to c rows q qs v))
+        in-list k (g .chunk-low) (g .chunk-high) (T-or-iff (carries fetched k) (leb 1 (lv k)) .1 (inr (le→leb 1 (lv k) (omega (arith, g .layer-in))))) (omega (arith, due-later j sized p fetched ok lv choice f t from to c rows q qs v))
 
     -- A chunk of the list before k has begun.
     started : (i : ℕ) → 1 ≤ i → i ≤ chunks j → T (has chunksFrom i && leb i k) → (i ≡ k) ⊎ T (carries rows i)
     started i u w s =
         let x = and-T (has chunksFrom i) (leb i k) s in
-        let b = and-T (busy handed lv i) (leb p (due j i)) (subst T (has-picked member 0 (chunks j) i u (omega arith)) (x .0)) in
+        let b = and-T (busy fetched lv i) (leb p (due j i)) (subst T (has-picked member 0 (chunks j) i u (omega arith)) (x .0)) in
         ⊎-elim
         (λ y.
         inr
         (⊎-elim
-        (λ z. subst (λ (l : List Row). T (carries l i)) (sym (v .made-is)) (carries-more handed (v .made) i z))
-        (λ z. before-first j sized p handed ok lv choice f t from to c rows q qs v i u (ltb→lt i k y) (leb→le 1 (lv i) z))
-        (T-or-iff (carries handed i) (leb 1 (lv i)) .0 (b .0))))
+        (λ z. subst (λ (l : List Row). T (carries l i)) (sym (v .made-is)) (carries-more fetched (v .made) i z))
+        (λ z. before-first j sized p fetched ok lv choice f t from to c rows q qs v i u (ltb→lt i k y) (leb→le 1 (lv i) z))
+        (T-or-iff (carries fetched i) (leb 1 (lv i)) .0 (b .0))))
         (λ y. inl (omega (arith, nltb→le i k y, leb→le i k (x .1))))
         (test (ltb i k))
 
@@ -183,7 +183,7 @@ module _ (j : Job) (sized : Sized j) (p : ℕ) (handed : List Row) (ok : Accepta
         T-and (has chunksFrom i && leb i k) (ltb t (due j i))
         (⊎-elim
         (λ (m : In (y .row) rows).
-        let b = subst (λ (e : ℕ). T (busy handed lv e)) (y .chunk-is) (at-row (λ (x : Row). T (busy handed lv (x .chunk))) m (v .busy-rows)) in
+        let b = subst (λ (e : ℕ). T (busy fetched lv e)) (y .chunk-is) (at-row (λ (x : Row). T (busy fetched lv (x .chunk))) m (v .busy-rows)) in
         T-and (has chunksFrom i) (leb i k) (in-list i u w b (omega arith)) (le→leb i k (omega (arith, at-row (λ x. x .chunk ≤ k) m a, y .chunk-is))))
         (λ (m : In (y .row) (one ∷ [])).
         let e = in-last one (y .row) m in
@@ -214,7 +214,7 @@ module _ (j : Job) (sized : Sized j) (p : ℕ) (handed : List Row) (ok : Accepta
     left-is : map piece (g .left) ≡ o .rest
 
   slot-fill :
-      (t : ℕ) → p ≤ t → t ≤ lastSlot j → (c : ℕ) (rows : List Row) (left : List Part) → I t c rows left →
+      (t : ℕ) → p ≤ t → t ≤ lastSlot j → (c : ℕ) (rows : List Row) (left : List Piece) → I t c rows left →
       Alike rows (slotTakes j t c rows left) (take-slot t c (map piece left))
   slot-fill t from to c rows [] v = record { rows-are = append-none rows; left-is = refl }
   slot-fill t from to c rows (q ∷ qs) v =
@@ -229,7 +229,7 @@ module _ (j : Job) (sized : Sized j) (p : ℕ) (handed : List Row) (ok : Accepta
       (Alike rows)
       (leb (q .bytes) c)
       (λ w.
-      let next = step j sized p handed ok lv choice f t from to c rows q qs (q .bytes) (c - q .bytes) qs (all-of (omega (arith, leb→le (q .bytes) c w))) al v in
+      let next = step j sized p fetched ok lv choice f t from to c rows q qs (q .bytes) (c - q .bytes) qs (all-of (omega (arith, leb→le (q .bytes) c w))) al v in
       let more = slot-fill t from to (c - q .bytes) (rows ++ (x ∷ [])) qs next in
       record { rows-are = more .rows-are ∙ append-assoc rows (x ∷ []) (take-slot t (c - q .bytes) (map piece qs) .rows); left-is = more .left-is })
       (λ w. record { rows-are = refl; left-is = refl }))
@@ -239,36 +239,36 @@ module _ (j : Job) (sized : Sized j) (p : ℕ) (handed : List Row) (ok : Accepta
 
   all-slots :
       (n m : ℕ) → n + m ≤ suc (lastSlot j) - p →
-      fetchedFrom j p handed lv (n + m) .rows ≡ fetchedFrom j p handed lv m .rows ++ fill (forecast j) n (m + (p - 1)) (map piece (fetchedFrom j p handed lv m .left))
-  all-slots zero m h = let e : 0 + m ≡ m = omega arith in rw e (append-none (fetchedFrom j p handed lv m .rows))
+      fetchedFrom j p fetched lv (n + m) .rows ≡ fetchedFrom j p fetched lv m .rows ++ fill (forecast j) n (m + (p - 1)) (map piece (fetchedFrom j p fetched lv m .left))
+  all-slots zero m h = let e : 0 + m ≡ m = omega arith in rw e (append-none (fetchedFrom j p fetched lv m .rows))
   all-slots (suc n) m h =
-      let g = fetchedFrom j p handed lv m in
+      let g = fetchedFrom j p fetched lv m in
       let e : suc n + m ≡ n + suc m = omega arith in
       let t : ℕ = m + p in
       let s : suc (m + (p - 1)) ≡ m + p = omega (arith, ok .p-low) in
       let s′ : suc m + (p - 1) ≡ suc (m + (p - 1)) = omega arith in
-      let a = slot-fill t (omega arith) (omega (arith, ok .p-low, ok .p-high)) (forecast j t) (g .rows) (g .left) (run j sized p handed ok lv choice f m (omega (arith, ok .p-low, ok .p-high))) in
+      let a = slot-fill t (omega arith) (omega (arith, ok .p-low, ok .p-high)) (forecast j t) (g .rows) (g .left) (run j sized p fetched ok lv choice f m (omega (arith, ok .p-low, ok .p-high))) in
       let o = take-slot t (forecast j t) (map piece (g .left)) in
       let u : ℕ = m + (p - 1) in
       let B = forecast j in
-      ap (λ (i : ℕ). fetchedFrom j p handed lv i .rows) e
+      ap (λ (i : ℕ). fetchedFrom j p fetched lv i .rows) e
       ∙ all-slots n (suc m) (omega arith)
       ∙ ap (λ (i : ℕ). slotTakes j t (B t) (g .rows) (g .left) .rows ++ fill B n i (map piece (slotTakes j t (B t) (g .rows) (g .left) .left))) s′
       ∙ ap (λ (l : List Row). l ++ fill B n (suc u) (map piece (slotTakes j t (B t) (g .rows) (g .left) .left))) (a .rows-are)
-      ∙ ap (λ (l : List Piece). (g .rows ++ o .rows) ++ fill B n (suc u) l) (a .left-is)
+      ∙ ap (λ (l : List QueuedPiece). (g .rows ++ o .rows) ++ fill B n (suc u) l) (a .left-is)
       ∙ append-assoc (g .rows) (o .rows) (fill B n (suc u) (o .rest))
       ∙ ap (λ (i : ℕ). g .rows ++ (take-slot i (B i) (map piece (g .left)) .rows ++ fill B n (suc u) (take-slot i (B i) (map piece (g .left)) .rest))) (sym s)
 
   -- The own rows from p on are the fill from p on of what is left, each layer with its chunk's release.
   pub rest-is-fill :
-      ownRest j p handed lv ≡ fill (forecast j) (suc (lastSlot j) - p) (p - 1) (map piece (unfetched handed (carriedTo j lv (chunks j))))
+      ownRest j p fetched lv ≡ fill (forecast j) (suc (lastSlot j) - p) (p - 1) (map piece (unfetched fetched (carriedTo j lv (chunks j))))
   unfolding ownRest
   rest-is-fill =
       let n : ℕ = suc (lastSlot j) - p in
       let e : n ≡ n + 0 = omega arith in
       let z : 0 + (p - 1) ≡ p - 1 = omega arith in
-      let q = map piece (unfetched handed (carriedTo j lv (chunks j))) in
-      ap (λ (i : ℕ). drop (length handed) (fetchedFrom j p handed lv i .rows)) e
-      ∙ ap (drop (length handed)) (all-slots n 0 (omega arith))
-      ∙ drop-first handed (fill (forecast j) n (0 + (p - 1)) q)
+      let q = map piece (unfetched fetched (carriedTo j lv (chunks j))) in
+      ap (λ (i : ℕ). drop (length fetched) (fetchedFrom j p fetched lv i .rows)) e
+      ∙ ap (drop (length fetched)) (all-slots n 0 (omega arith))
+      ∙ drop-first fetched (fill (forecast j) n (0 + (p - 1)) q)
       ∙ ap (λ (i : ℕ). fill (forecast j) n i q) z

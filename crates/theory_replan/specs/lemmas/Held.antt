@@ -13,7 +13,7 @@ use Rattle.theory_basics.specs.lemmas.Tests.{and-T, any-row, at-row, eqb-iff, i
 use Rattle.job.specs.Job.{chunks, due, heldMost, Job, lastSlot}
 use Rattle.fetch.specs.Rows.{begun, held, heldCount, Row}
 use Rattle.fetch.specs.Rules.{FewHeld}
-use Rattle.theory_plan.specs.Own.{allowed, Part, rowOf}
+use Rattle.theory_plan.specs.Own.{allowed, Piece, rowOf}
 use Rattle.theory_plan.specs.lemmas.Count.{some-row}
 use Rattle.theory_plan.specs.lemmas.Words.{carries}
 
@@ -49,7 +49,7 @@ in-last x y (there m) = absurd (at-row (λ x. ⊥) m tt)
 
 module _ (j : Job) (rows : List Row) (t : ℕ) (slots : All (λ x. x .slot ≤ t) rows) where
   -- A chunk held with one row of p more, in slot t, at the end of some slot: held before, or held at the end of t as `allowed` asks.
-  held-early : (p : Part) (b s i : ℕ) → s < t → T (held j (rows ++ (rowOf t p b ∷ [])) s i) → T (held j rows s i)
+  held-early : (p : Piece) (b s i : ℕ) → s < t → T (held j (rows ++ (rowOf t p b ∷ [])) s i) → T (held j rows s i)
   held-early p b s i h u =
       let v = and-T (begun (rows ++ (rowOf t p b ∷ [])) s i) (ltb s (due j i)) u in
       let y = begun-by (rows ++ (rowOf t p b ∷ [])) s i (v .0) in
@@ -58,7 +58,7 @@ module _ (j : Job) (rows : List Row) (t : ℕ) (slots : All (λ x. x .slot ≤ t
       (λ m. let e = in-last (rowOf t p b) (y .row) m in let l : t ≤ s = rw e at (y .slot-by) in absurd (omega arith))
       (in-append rows (rowOf t p b ∷ []) (y .listed))
 
-  pub held-late : (p : Part) (b s i : ℕ) → t ≤ s → T (held j (rows ++ (rowOf t p b ∷ [])) s i) → T (held j (rows ++ (rowOf t p 1 ∷ [])) t i)
+  pub held-late : (p : Piece) (b s i : ℕ) → t ≤ s → T (held j (rows ++ (rowOf t p b ∷ [])) s i) → T (held j (rows ++ (rowOf t p 1 ∷ [])) t i)
   held-late p b s i h u =
       let one = rowOf t p 1 in
       let v = and-T (begun (rows ++ (rowOf t p b ∷ [])) s i) (ltb s (due j i)) u in
@@ -73,7 +73,7 @@ module _ (j : Job) (rows : List Row) (t : ℕ) (slots : All (λ x. x .slot ≤ t
       (in-append rows (rowOf t p b ∷ []) (y .listed)))
       (lt→ltb t (due j i) (omega (arith, ltb→lt s (due j i) (v .1))))
 
-  pub few-step : (p : Part) (b : ℕ) → FewHeld j rows → T (allowed j rows t p) → FewHeld j (rows ++ (rowOf t p b ∷ []))
+  pub few-step : (p : Piece) (b : ℕ) → FewHeld j rows → T (allowed j rows t p) → FewHeld j (rows ++ (rowOf t p b ∷ []))
   few-step p b few ok s u v =
       ⊎-elim
       (λ h.
@@ -91,7 +91,7 @@ module _ (j : Job) (rows : List Row) (t : ℕ) (slots : All (λ x. x .slot ≤ t
       (test (ltb s t))
 
   -- A row of a chunk that has begun changes nothing.
-  pub held-same : (p : Part) (i : ℕ) → T (carries rows (p .chunk)) → T (held j (rows ++ (rowOf t p 1 ∷ [])) t i) → T (held j rows t i)
+  pub held-same : (p : Piece) (i : ℕ) → T (carries rows (p .chunk)) → T (held j (rows ++ (rowOf t p 1 ∷ [])) t i) → T (held j rows t i)
   held-same p i c u =
       let one = rowOf t p 1 in
       let v = and-T (begun (rows ++ (one ∷ [])) t i) (ltb t (due j i)) u in

@@ -14,7 +14,7 @@ use Rattle.theory_basics.specs.lemmas.Tests.{all-append, all-map, and-T, at-row
 use Rattle.job.specs.Job.{chunks, forecast, Job, layers, size}
 use Rattle.fetch.specs.Rows.{bytesOfLayer, Row}
 use Rattle.fetch.specs.lemmas.Rows.{bytes-append}
-use Rattle.theory_plan.specs.Own.{allowed, carriedTo, Fetched, fetchedBy, Part, rowOf, slotTakes, wholeLayer, without}
+use Rattle.theory_plan.specs.Own.{allowed, carriedTo, Fetched, fetchedBy, Piece, rowOf, slotTakes, wholeLayer, without}
 use Rattle.theory_plan.specs.Statement.{Choice}
 use Rattle.theory_plan.specs.lemmas.Words.{layer-of, Sized}
 use Rattle.theory_replan.specs.Own.{unfetched}
@@ -25,20 +25,20 @@ use Rattle.theory_replan.specs.lemmas.Unfetched.{carried-all, carried-ri
 -- ---- one row more
 
 -- The row is of the part's layer.
-abbrev ofPart : Row → Part → Bool
+abbrev ofPart : Row → Piece → Bool
 ofPart x q = eqb (x .chunk) (q .chunk) && eqb (x .layer) (q .layer)
 
 -- What a row leaves of parts.
-abbrev off : Row → List Part → List Part
+abbrev off : Row → List Piece → List Piece
 off x [] = []
 off x (q ∷ qs) = cond (ofPart x q) (cond (ltb (x .bytes) (q .bytes)) (without q (x .bytes) ∷ off x qs) (off x qs)) (q ∷ off x qs)
 
-without-twice : (q : Part) (a b : ℕ) → without (without q a) b ≡ without q (a + b)
+without-twice : (q : Piece) (a b : ℕ) → without (without q a) b ≡ without q (a + b)
 without-twice q a b =
     let e : q .bytes - a - b ≡ q .bytes - (a + b) = omega arith in
     ap (λ (n : ℕ). record { chunk = q .chunk; layer = q .layer; bytes = n }) e
 
-unfetched-last : (rows : List Row) (x : Row) (W : List Part) → unfetched (rows ++ (x ∷ [])) W ≡ off x (unfetched rows W)
+unfetched-last : (rows : List Row) (x : Row) (W : List Piece) → unfetched (rows ++ (x ∷ [])) W ≡ off x (unfetched rows W)
 unfetched-last rows x [] = refl
 unfetched-last rows x (q ∷ W) =
     let got = bytesOfLayer rows (q .chunk) (q .layer) in
@@ -75,35 +75,35 @@ unfetched-last rows x (q ∷ W) =
     (test (ltb got (q .bytes)))))
     (test (ofPart x q))
 
-off-none : (x : Row) (qs : List Part) → All (λ q. T (ofPart x q) → ⊥) qs → off x qs ≡ qs
+off-none : (x : Row) (qs : List Piece) → All (λ q. T (ofPart x q) → ⊥) qs → off x qs ≡ qs
 off-none x [] a = refl
 off-none x (q ∷ qs) a =
-    by-cond (λ (l : List Part). l ≡ q ∷ qs) (ofPart x q) (λ t. absurd (a .0 t)) (λ t. ap (λ (l : List Part). q ∷ l) (off-none x qs (a .1)))
+    by-cond (λ (l : List Piece). l ≡ q ∷ qs) (ofPart x q) (λ t. absurd (a .0 t)) (λ t. ap (λ (l : List Piece). q ∷ l) (off-none x qs (a .1)))
 
-others : (t b : ℕ) (q : Part) (qs : List Part) → All (PartBefore q) qs → All (λ r. T (ofPart (rowOf t q b) r) → ⊥) qs
+others : (t b : ℕ) (q : Piece) (qs : List Piece) → All (PartBefore q) qs → All (λ r. T (ofPart (rowOf t q b) r) → ⊥) qs
 others t b q qs a =
     all-map (PartBefore q) (λ r. T (ofPart (rowOf t q b) r) → ⊥) qs (λ r h u.
     let v = and-T (eqb (q .chunk) (r .chunk)) (eqb (q .layer) (r .layer)) u in
     ⊎-elim (λ k. omega (arith, eqb→eq (q .chunk) (r .chunk) (v .0))) (λ k. omega (arith, k .1, eqb→eq (q .layer) (r .layer) (v .1))) h) a
 
 off-taken :
-    (t c : ℕ) (q : Part) (qs : List Part) (b c′ : ℕ) (left : List Part) → Taken c q qs b c′ left → Rising (q ∷ qs) →
+    (t c : ℕ) (q : Piece) (qs : List Piece) (b c′ : ℕ) (left : List Piece) → Taken c q qs b c′ left → Rising (q ∷ qs) →
     off (rowOf t q b) (q ∷ qs) ≡ left
 off-taken t c q qs b c′ left (all-of e) r =
     rw (eq-eqb (q .chunk) (q .chunk) refl, eq-eqb (q .layer) (q .layer) refl, le-ltb (q .bytes) (q .bytes) (omega arith)) (off-none (rowOf t q (q .bytes)) qs (others t (q .bytes) q qs (r .0)))
 off-taken t c q qs b c′ left (part-of m l) r =
-    rw (eq-eqb (q .chunk) (q .chunk) refl, eq-eqb (q .layer) (q .layer) refl, lt-ltb b (q .bytes) l) (ap (λ (x : List Part). without q b ∷ x) (off-none (rowOf t q b) qs (others t b q qs (r .0))))
+    rw (eq-eqb (q .chunk) (q .chunk) refl, eq-eqb (q .layer) (q .layer) refl, lt-ltb b (q .bytes) l) (ap (λ (x : List Piece). without q b ∷ x) (off-none (rowOf t q b) qs (others t b q qs (r .0))))
 
 -- ---- at the start
 
-unfetched-none : (W : List Part) → All (λ q. 1 ≤ q .bytes) W → unfetched [] W ≡ W
+unfetched-none : (W : List Piece) → All (λ q. 1 ≤ q .bytes) W → unfetched [] W ≡ W
 unfetched-none [] a = refl
 unfetched-none (q ∷ W) a =
     let z : without q 0 ≡ q = let e : q .bytes - 0 ≡ q .bytes = omega arith in ap (λ (n : ℕ). record { chunk = q .chunk; layer = q .layer; bytes = n }) e in
     rw (lt-ltb 0 (q .bytes) (a .0), unfetched-none W (a .1), z)
 
 module _ (j : Job) (sized : Sized j) (lv : ℕ → ℕ) (choice : Choice j lv) where
-  abbrev W : List Part
+  abbrev W : List Piece
   W = carriedTo j lv (chunks j)
 
   layer-sizes : (i m : ℕ) → All (λ q. q .bytes ≡ size j (q .chunk) (q .layer)) (upTo (wholeLayer j i) m)
@@ -117,8 +117,8 @@ module _ (j : Job) (sized : Sized j) (lv : ℕ → ℕ) (choice : Choice j lv) w
   all-some : All (λ q. 1 ≤ q .bytes) W
   all-some =
       each-row (λ q. 1 ≤ q .bytes) W (λ q i.
-      let k = at-row (λ (q : Part). Chosen j lv (chunks j) (q .chunk) (q .layer)) i (carried-all j lv (chunks j)) in
-      let e = at-row (λ (q : Part). q .bytes ≡ size j (q .chunk) (q .layer)) i (sizes (chunks j)) in
+      let k = at-row (λ (q : Piece). Chosen j lv (chunks j) (q .chunk) (q .layer)) i (carried-all j lv (chunks j)) in
+      let e = at-row (λ (q : Piece). q .bytes ≡ size j (q .chunk) (q .layer)) i (sizes (chunks j)) in
       omega (arith, e, sized (q .chunk) (q .layer) (layer-of j (q .chunk) (q .layer) (k .chunk-low) (k .chunk-high) (omega (arith, k .layer-in, choice (q .chunk) (k .chunk-low) (k .chunk-high))))))
 
   -- ---- after some slots
@@ -127,14 +127,14 @@ module _ (j : Job) (sized : Sized j) (lv : ℕ → ℕ) (choice : Choice j lv) w
   abbrev UpTo : ℕ → ℕ → Row → Type 0
   UpTo i n x = (x .chunk < i) ⊎ ((x .chunk ≡ i) × (x .layer ≤ n))
 
-  pub record Sofar (t : ℕ) (rows : List Row) (left : List Part) : Type 0 where
+  pub record Sofar (t : ℕ) (rows : List Row) (left : List Piece) : Type 0 where
     pub rising : Rising left
     pub left-is : left ≡ unfetched rows W
     pub slots : All (λ x. x .slot ≤ t) rows
     pub first-in : All (λ q. All (UpTo (q .chunk) (q .layer)) rows) left
 
   take-one :
-      (t c : ℕ) (rows : List Row) (q : Part) (qs : List Part) (b c′ : ℕ) (left : List Part) → Taken c q qs b c′ left →
+      (t c : ℕ) (rows : List Row) (q : Piece) (qs : List Piece) (b c′ : ℕ) (left : List Piece) → Taken c q qs b c′ left →
       T (allowed j rows t q) → Sofar t rows (q ∷ qs) → Sofar t (rows ++ (rowOf t q b ∷ [])) left
   take-one t c rows q qs b c′ left k al s =
       let x = rowOf t q b in
@@ -174,7 +174,7 @@ module _ (j : Job) (sized : Sized j) (lv : ℕ → ℕ) (choice : Choice j lv) w
     pub later : All (λ x. t < x .slot) more
 
   grow-one :
-      (t s : ℕ) (old : List Row) → t < s → (c : ℕ) (rows : List Row) (q : Part) (qs : List Part) (b c′ : ℕ) (left : List Part) →
+      (t s : ℕ) (old : List Row) → t < s → (c : ℕ) (rows : List Row) (q : Piece) (qs : List Piece) (b c′ : ℕ) (left : List Piece) →
       Taken c q qs b c′ left → T (allowed j rows s q) → Grown t old rows → Grown t old (rows ++ (rowOf s q b ∷ []))
   grow-one t s old h c rows q qs b c′ left k al g =
       let x = rowOf s q b in

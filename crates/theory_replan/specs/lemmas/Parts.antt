@@ -14,15 +14,15 @@ use Rattle.theory_basics.specs.Sums.{count, pre}
 use Rattle.theory_basics.specs.Tests.{All}
 use Rattle.theory_basics.specs.lemmas.Ranges.{bit, bit-le, bit-mono}
 use Rattle.theory_basics.specs.lemmas.Tests.{all-map, and-T, by-cond, T-or-iff, test}
-use Rattle.theory_plan.specs.Own.{Part}
-use Rattle.theory_plan.specs.Plan.{need, picked}
+use Rattle.theory_plan.specs.Own.{Piece}
+use Rattle.theory_plan.specs.Plan.{needOf, picked}
 use Rattle.theory_plan.specs.lemmas.Ascending.{Asc}
 use Rattle.theory_plan.specs.lemmas.Need.{Tails}
 
 -- ---- lists of parts
 
 -- The bytes left of the layers that pass.
-abbrev pub leftIf : (ℕ → ℕ → Bool) → List Part → ℕ
+abbrev pub leftIf : (ℕ → ℕ → Bool) → List Piece → ℕ
 leftIf P [] = 0
 leftIf P (p ∷ ps) = cond (P (p .chunk) (p .layer)) (p .bytes) 0 + leftIf P ps
 
@@ -31,27 +31,27 @@ abbrev pub ofChunk : ℕ → ℕ → ℕ → Bool
 ofChunk k i n = eqb k i
 
 -- How much of the forecast, counted from its end, the parts use up.
-abbrev pub needsOf : (d A : ℕ → ℕ) → List Part → ℕ
+abbrev pub needsOf : (d A : ℕ → ℕ) → List Piece → ℕ
 needsOf d A [] = 0
 needsOf d A (p ∷ ps) = p .bytes + max (A (d (p .chunk))) (needsOf d A ps)
 
 -- Part x stands before part y by chunk, then layer.
-abbrev pub PartBefore : Part → Part → Type 0
+abbrev pub PartBefore : Piece → Piece → Type 0
 PartBefore x y = (x .chunk < y .chunk) ⊎ ((x .chunk ≡ y .chunk) × (x .layer < y .layer))
 
-abbrev pub Rising : List Part → Type 0
+abbrev pub Rising : List Piece → Type 0
 Rising [] = Unit {0}
 Rising (p ∷ ps) = All (PartBefore p) ps × Rising ps
 
-pub chunk-rises : (x y : Part) → PartBefore x y → x .chunk ≤ y .chunk
+pub chunk-rises : (x y : Piece) → PartBefore x y → x .chunk ≤ y .chunk
 chunk-rises x y (inl h) = omega arith
 chunk-rises x y (inr h) = omega arith
 
 -- The chunks never fall.
-pub rising-chunks : (p : Part) (ps : List Part) → Rising (p ∷ ps) → All (λ q. p .chunk ≤ q .chunk) (p ∷ ps)
+pub rising-chunks : (p : Piece) (ps : List Piece) → Rising (p ∷ ps) → All (λ q. p .chunk ≤ q .chunk) (p ∷ ps)
 rising-chunks p ps r = (omega arith, all-map (PartBefore p) (λ q. p .chunk ≤ q .chunk) ps (λ q h. chunk-rises p q h) (r .0))
 
-pub left-none : (P : ℕ → ℕ → Bool) (ps : List Part) → All (λ q. T (P (q .chunk) (q .layer)) → ⊥) ps → leftIf P ps ≡ 0
+pub left-none : (P : ℕ → ℕ → Bool) (ps : List Piece) → All (λ q. T (P (q .chunk) (q .layer)) → ⊥) ps → leftIf P ps ≡ 0
 left-none P [] a = refl
 left-none P (p ∷ ps) a =
     omega (arith, left-none P ps (a .1), by-cond (λ n. n ≤ 0) (P (p .chunk) (p .layer)) {x = p .bytes} {y = 0} (λ t. absurd (a .0 t)) (λ t. omega arith))
@@ -61,9 +61,9 @@ left-none P (p ∷ ps) a =
 module _ (w d A : ℕ → ℕ) where
   needs-first :
       (k : ℕ) (ks : List ℕ) →
-      ((L : List Part) → Rising L → All (λ q. T (has ks (q .chunk))) L → ((g : ℕ) → leftIf (ofChunk g) L ≤ w g) → needsOf d A L ≤ need w d A ks) →
-      (L : List Part) → Rising L → All (λ q. (k ≤ q .chunk) × T (has (k ∷ ks) (q .chunk))) L → ((g : ℕ) → leftIf (ofChunk g) L ≤ w g) →
-      needsOf d A L ≤ leftIf (ofChunk k) L + max (A (d k)) (need w d A ks)
+      ((L : List Piece) → Rising L → All (λ q. T (has ks (q .chunk))) L → ((g : ℕ) → leftIf (ofChunk g) L ≤ w g) → needsOf d A L ≤ needOf w d A ks) →
+      (L : List Piece) → Rising L → All (λ q. (k ≤ q .chunk) × T (has (k ∷ ks) (q .chunk))) L → ((g : ℕ) → leftIf (ofChunk g) L ≤ w g) →
+      needsOf d A L ≤ leftIf (ofChunk k) L + max (A (d k)) (needOf w d A ks)
   needs-first k ks f [] r a b = omega arith
   needs-first k ks f (q ∷ L) r a b =
       ⊎-elim
@@ -83,7 +83,7 @@ module _ (w d A : ℕ → ℕ) where
       strict x y h o = ⊎-elim (λ t. ltb→lt x y t) (λ t. absurd (o (omega (arith, nltb→le x y t)))) (test (ltb x y))
 
       all-both :
-          (L′ : List Part) → k < q .chunk → All (λ p. q .chunk ≤ p .chunk) L′ → All (λ q. (k ≤ q .chunk) × T (has (k ∷ ks) (q .chunk))) L′ →
+          (L′ : List Piece) → k < q .chunk → All (λ p. q .chunk ≤ p .chunk) L′ → All (λ q. (k ≤ q .chunk) × T (has (k ∷ ks) (q .chunk))) L′ →
           All (λ q. T (has ks (q .chunk))) L′
       all-both [] h u v = tt
       all-both (p ∷ ps) h u v =
@@ -95,8 +95,8 @@ module _ (w d A : ℕ → ℕ) where
       ⊎-elim (λ u. omega (arith, eqb→eq k i u)) (λ u. omega (arith, has-from (suc k) hi ks i (a .2) u)) (T-or-iff (eqb k i) (has ks i) .0 t)
 
   pub needs-le :
-      (ks : List ℕ) (lo hi : ℕ) → Asc lo hi ks → (L : List Part) → Rising L → All (λ q. T (has ks (q .chunk))) L →
-      ((g : ℕ) → leftIf (ofChunk g) L ≤ w g) → needsOf d A L ≤ need w d A ks
+      (ks : List ℕ) (lo hi : ℕ) → Asc lo hi ks → (L : List Piece) → Rising L → All (λ q. T (has ks (q .chunk))) L →
+      ((g : ℕ) → leftIf (ofChunk g) L ≤ w g) → needsOf d A L ≤ needOf w d A ks
   needs-le [] lo hi s [] r a b = omega arith
   needs-le [] lo hi s (q ∷ L) r a b = absurd (a .0)
   needs-le (k ∷ ks) lo hi s L r a b =
@@ -134,19 +134,19 @@ none-up-to p c lo hi [] s h = refl
 none-up-to p c lo hi (k ∷ ks) s h = rw (lt-leb k c (omega arith)) (omega (arith, none-up-to p c (suc k) hi ks (s .2) (omega arith)))
 
 module _ (w d A : ℕ → ℕ) where
-  need-since : (c : ℕ) (ks : List ℕ) → need w d A (since c ks) ≤ need w d A ks
+  need-since : (c : ℕ) (ks : List ℕ) → needOf w d A (since c ks) ≤ needOf w d A ks
   need-since c [] = omega arith
   need-since c (k ∷ ks) =
-      by-cond (λ (l : List ℕ). need w d A l ≤ need w d A (k ∷ ks)) (ltb k c) (λ t. omega (arith, need-since c ks)) (λ t. omega arith)
+      by-cond (λ (l : List ℕ). needOf w d A l ≤ needOf w d A (k ∷ ks)) (ltb k c) (λ t. omega (arith, need-since c ks)) (λ t. omega arith)
 
   -- Where more than m of the chunks are up to c, those from c on are among those behind the first m.
   need-behind-first :
       (p : ℕ → Bool) (c m lo hi : ℕ) (ks : List ℕ) → Asc lo hi ks → suc m ≤ upToCount p c ks →
-      need w d A (since c ks) ≤ need w d A (drop m ks)
+      needOf w d A (since c ks) ≤ needOf w d A (drop m ks)
   need-behind-first p c zero lo hi ks s h = need-since c ks
   need-behind-first p c (suc m) lo hi [] s h = absurd (omega arith)
   need-behind-first p c (suc m) lo hi (k ∷ ks) s h =
-      by-cond (λ (l : List ℕ). need w d A l ≤ need w d A (drop m ks)) (ltb k c)
+      by-cond (λ (l : List ℕ). needOf w d A l ≤ needOf w d A (drop m ks)) (ltb k c)
       (λ t. need-behind-first p c m (suc k) hi ks (s .2) (omega (arith, bit-le (leb k c && p k))))
       (λ t. absurd (omega (arith, nltb→le k c t, none-up-to p c (suc k) hi ks (s .2) (omega (arith, nltb→le k c t)), bit-le (leb k c && p k))))
 
@@ -154,7 +154,7 @@ module _ (w d A : ℕ → ℕ) where
     -- Where more than h of the chunks up to c are due after t, the chunks from c on fit behind t.
     pub blocked-need :
         (c lo hi : ℕ) (ks : List ℕ) → Asc lo hi ks → Tails w d A h ks → suc h ≤ upToCount (λ k. ltb t (d k)) c ks →
-        need w d A (since c ks) ≤ A t
+        needOf w d A (since c ks) ≤ A t
     blocked-need c lo hi [] s f l = absurd (omega arith)
     blocked-need c lo hi (k ∷ ks) s f l =
         ⊎-elim
@@ -163,7 +163,7 @@ module _ (w d A : ℕ → ℕ) where
         omega (arith, need-behind-first (λ k. ltb t (d k)) c h lo hi (k ∷ ks) s l, f .0, A-anti t (d k - 1) (omega arith)))
         (λ u.
         let z : upToCount (λ k. ltb t (d k)) c (k ∷ ks) ≡ upToCount (λ k. ltb t (d k)) c ks = rw (le-ltb t (d k) (nltb→le t (d k) u)) (omega (arith, and-false (leb k c))) in
-        by-cond (λ (l : List ℕ). need w d A l ≤ A t) (ltb k c)
+        by-cond (λ (l : List ℕ). needOf w d A l ≤ A t) (ltb k c)
         (λ v. blocked-need c (suc k) hi ks (s .2) (f .1) (omega (arith, z)))
         (λ v. absurd (omega (arith, z, none-up-to (λ k. ltb t (d k)) c (suc k) hi ks (s .2) (omega (arith, nltb→le k c v))))))
         (test (ltb t (d k)))

@@ -16,10 +16,10 @@ use Rattle.theory_basics.specs.lemmas.Ranges.{count-mono, sum-cong, sum-mono}
 use Rattle.theory_basics.specs.lemmas.Tests.{all-map, and-T, any-row, at-row, by-cond, each-row, eqb-iff, in-append, in-left, in-right, T-and, test, tests}
 use Rattle.job.specs.Job.{Accepted, chunks, due, forecast, heldMost, Job, lastSlot, Layer, layers, size}
 use Rattle.fetch.specs.Rows.{begun, bytesOfLayer, Carried, carried, held, marksGiven, Row}
-use Rattle.fetch.specs.Rules.{InRange, Keeps, OnTime, PlayingOrder}
+use Rattle.fetch.specs.Rules.{RowInRange, Keeps, OnTime, PlayingOrder}
 use Rattle.fetch.specs.RulesFrom.{PassesFrom}
 use Rattle.fetch.specs.lemmas.Rows.{bytes-append, row-counts, some-row}
-use Rattle.theory_plan.specs.Own.{carriedTo, Fetched, fetchedBy, ownList, Part, slotTakes}
+use Rattle.theory_plan.specs.Own.{carriedTo, Fetched, fetchedBy, ownList, Piece, slotTakes}
 use Rattle.theory_plan.specs.Plan.{after, bytes, kept}
 use Rattle.theory_plan.specs.Statement.{CanCarry, CarriesExactly, Choice, SettledByTrials, marksOf, Same, tried}
 use Rattle.theory_plan.specs.Theorems.{trials-carried}
@@ -57,7 +57,7 @@ from-all p [] (x ∷ b) u v = rw (le-ltb (x .slot) p (v .0)) (ap (λ (l : List R
 from-all p (x ∷ a) b u v = rw (lt-ltb (x .slot) p (u .0)) (from-all p a b (u .1) v)
 
 -- A part left of a layer that passes.
-some-part : (P : ℕ → ℕ → Bool) (ps : List Part) → 1 ≤ leftIf P ps → (q : Part) × In q ps × T (P (q .chunk) (q .layer))
+some-part : (P : ℕ → ℕ → Bool) (ps : List Piece) → 1 ≤ leftIf P ps → (q : Piece) × In q ps × T (P (q .chunk) (q .layer))
 some-part P [] h = absurd (omega arith)
 some-part P (q ∷ ps) h =
     ⊎-elim
@@ -69,9 +69,9 @@ some-part P (q ∷ ps) h =
 
 -- ---- what can be carried from p on, with more whole layers, can be carried from the start
 
-module _ (j : Job) (sized : Sized j) (p : ℕ) (handed : List Row) (lv low : ℕ → ℕ) (choice : Choice j lv) (s : CanCarryFrom j p handed lv) (below : (k : ℕ) → 1 ≤ k → k ≤ chunks j → low k ≤ lv k) where
+module _ (j : Job) (sized : Sized j) (p : ℕ) (fetched : List Row) (lv low : ℕ → ℕ) (choice : Choice j lv) (s : CanCarryFrom j p fetched lv) (below : (k : ℕ) → 1 ≤ k → k ≤ chunks j → low k ≤ lv k) where
   abbrev l : List Row
-  l = handed ++ s .more
+  l = fetched ++ s .more
 
   all-begun : (x : Row) → In x l → (e : ℕ) → 1 ≤ e → e ≤ x .chunk → Carried j l e 0 → T (begun l (x .slot) e)
   unfolding PlayingOrder
@@ -90,7 +90,7 @@ module _ (j : Job) (sized : Sized j) (p : ℕ) (handed : List Row) (lv low : ℕ
   low-bytes i g h =
       omega (
         arith,
-        chunk-by-layers i (layers j) l (all-map (InRange j) (λ x. x .layer < layers j) l (λ x r. r .layer-in) (s .passes .in-range)),
+        chunk-by-layers i (layers j) l (all-map (RowInRange j) (λ x. x .layer < layers j) l (λ x r. r .layer-in) (s .passes .in-range)),
         sum-mono (bytesOfLayer l i) (low i) (layers j) (omega (arith, below i g h, choice i g h)),
         sum-cong (size j i) (bytesOfLayer l i) (low i) (λ n u. sym (low-carried i n g h u)),
       )
@@ -98,7 +98,7 @@ module _ (j : Job) (sized : Sized j) (p : ℕ) (handed : List Row) (lv low : ℕ
   pub fits-from-start : Fits j low
   fits-from-start =
       let keeps : ℕ → Bool = λ i. leb 1 (low i) in
-      let from-one : All (λ x. 1 ≤ x .slot) l = all-map (InRange j) (λ x. 1 ≤ x .slot) l (λ x r. r .slot-low) (s .passes .in-range) in
+      let from-one : All (λ x. 1 ≤ x .slot) l = all-map (RowInRange j) (λ x. 1 ≤ x .slot) l (λ x r. r .slot-low) (s .passes .in-range) in
       let fit =
       begun-fit j (afterFrom j 1) l l (between-from j 1 l from-one (s .passes .within) (omega arith)) (s .passes .in-range) (s .passes .on-time) (s .passes .few-held) (λ e. Carried j l e 0) all-begun (kept j low) (kept-asc j low)
       (picked-each keeps (λ e. Carried j l e 0) 0 (chunks j) (λ i u v t. low-carried i 0 u (omega arith) (leb→le 1 (low i) t))) in
@@ -108,10 +108,10 @@ module _ (j : Job) (sized : Sized j) (p : ℕ) (handed : List Row) (lv low : ℕ
 
 -- ---- the standing plan
 
-tried-under : (j : Job) (handed : List Row) (plan : ℕ → ℕ) (n i k : ℕ) → tried plan n i k ≤ triedFrom j handed plan n i k
-tried-under j handed plan n i k = by (eqb k i)
+tried-under : (j : Job) (fetched : List Row) (plan : ℕ → ℕ) (n i k : ℕ) → tried plan n i k ≤ triedFrom j fetched plan n i k
+tried-under j fetched plan n i k = by (eqb k i)
   where
-    by : (b : Bool) → cond b (suc n) (min (plan k) (cond (ltb i k) (suc n) n)) ≤ cond b (suc n) (max (level j handed k) (min (plan k) (cond (ltb i k) (suc n) n)))
+    by : (b : Bool) → cond b (suc n) (min (plan k) (cond (ltb i k) (suc n) n)) ≤ cond b (suc n) (max (level j fetched k) (min (plan k) (cond (ltb i k) (suc n) n)))
     by true = omega arith
     by false = omega arith
 
@@ -184,13 +184,13 @@ module _ (j : Job) (sized : Sized j) (q : ℕ → ℕ) (plan : SettledByTrials j
       (λ u. omega (arith, nltb→le (bytesOfLayer old i n) (size j i n) u, old-no-more i n r′))
       (test (ltb (bytesOfLayer old i n) (size j i n)))
 
-  old-range : All (InRange j) old
-  old-range = each-row (InRange j) old (λ x i. at-row (InRange j) (in-left old more i) (own .0 .in-range))
+  old-range : All (RowInRange j) old
+  old-range = each-row (RowInRange j) old (λ x i. at-row (RowInRange j) (in-left old more i) (own .0 .in-range))
 
   old-in-turn : (x y : Row) → In x old → In y old → y .chunk < x .chunk → T (begun old (x .slot) (y .chunk))
   unfolding PlayingOrder
   old-in-turn x y i k h =
-      let z = at-row (InRange j) k old-range in
+      let z = at-row (RowInRange j) k old-range in
       let r = layer-of j (y .chunk) (y .layer) (z .chunk-low) (z .chunk-high) (z .layer-in) in
       let some = row-counts (λ w. eqb (w .chunk) (y .chunk) && eqb (w .layer) (y .layer)) k (T-and (eqb (y .chunk) (y .chunk)) (eqb (y .layer) (y .layer)) (eqb-refl (y .chunk)) (eqb-refl (y .layer))) in
       let has = old-of-plan (y .chunk) (y .layer) r (omega (arith, some, z .some-bytes)) in
@@ -291,7 +291,7 @@ module _ (j : Job) (sized : Sized j) (q : ℕ → ℕ) (plan : SettledByTrials j
   same-state : (m : ℕ) → fetchedFrom j p old q m ≡ fetchedBy j q (m + t)
   same-state zero =
       let e : t ≡ 0 + t = omega arith in
-      ap (λ (l : List Part). record { rows = old; left = l }) (sym (so .left-is)) ∙ ap (fetchedBy j q) e
+      ap (λ (l : List Piece). record { rows = old; left = l }) (sym (so .left-is)) ∙ ap (fetchedBy j q) e
   same-state (suc m) =
       let e : m + p ≡ suc (m + t) = omega arith in
       let e′ : suc (m + t) ≡ suc m + t = omega arith in
@@ -309,14 +309,14 @@ module _ (j : Job) (sized : Sized j) (q : ℕ → ℕ) (plan : SettledByTrials j
 
 -- ---- the theorem
 
-fetched-cong : (j : Job) (p : ℕ) (handed : List Row) (a b : ℕ → ℕ) → Same j a b → (m : ℕ) → fetchedFrom j p handed a m ≡ fetchedFrom j p handed b m
-fetched-cong j p handed a b e zero = rw (carried-cong j a b e (chunks j) (omega arith))
-fetched-cong j p handed a b e (suc m) = rw (fetched-cong j p handed a b e m)
+fetched-cong : (j : Job) (p : ℕ) (fetched : List Row) (a b : ℕ → ℕ) → Same j a b → (m : ℕ) → fetchedFrom j p fetched a m ≡ fetchedFrom j p fetched b m
+fetched-cong j p fetched a b e zero = rw (carried-cong j a b e (chunks j) (omega arith))
+fetched-cong j p fetched a b e (suc m) = rw (fetched-cong j p fetched a b e m)
 
 -- The own rows from p on depend on the layers of the job's chunks alone.
-pub own-rest-cong : (j : Job) (p : ℕ) (handed : List Row) (a b : ℕ → ℕ) → Same j a b → ownRest j p handed a ≡ ownRest j p handed b
+pub own-rest-cong : (j : Job) (p : ℕ) (fetched : List Row) (a b : ℕ → ℕ) → Same j a b → ownRest j p fetched a ≡ ownRest j p fetched b
 unfolding ownRest
-own-rest-cong j p handed a b e = ap (λ (g : Fetched). drop (length handed) (g .rows)) (fetched-cong j p handed a b e (suc (lastSlot j) - p))
+own-rest-cong j p fetched a b e = ap (λ (g : Fetched). drop (length fetched) (g .rows)) (fetched-cong j p fetched a b e (suc (lastSlot j) - p))
 
 pub standing-plan : (j : Job) → Accepted j → (q : ℕ → ℕ) → SettledByTrials j q → (p : ℕ) → 1 ≤ p → p ≤ lastSlot j → GoesOn j q p
 standing-plan j a q plan p lo hi =

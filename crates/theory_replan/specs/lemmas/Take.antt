@@ -10,30 +10,30 @@ use Rattle.theory_basics.specs.Tests.{All}
 use Rattle.theory_basics.specs.lemmas.Tests.{and-T, by-cond, not-and}
 use Rattle.job.specs.Job.{Job}
 use Rattle.fetch.specs.Rows.{Row}
-use Rattle.theory_plan.specs.Own.{allowed, Fetched, Part, rowOf, slotTakes, without}
+use Rattle.theory_plan.specs.Own.{allowed, Fetched, Piece, rowOf, slotTakes, without}
 use Rattle.theory_replan.specs.lemmas.Parts.{leftIf, needsOf, Rising}
 
 -- Of part p, before ps, b bytes are taken of the c that the slot has: all of it, or a part. c′ and the last list are what is left then.
-pub data Taken (c : ℕ) (p : Part) (ps : List Part) : ℕ → ℕ → List Part → Type 0 where
+pub data Taken (c : ℕ) (p : Piece) (ps : List Piece) : ℕ → ℕ → List Piece → Type 0 where
   all-of : {c′ : ℕ} → p .bytes + c′ ≡ c → Taken c p ps (p .bytes) c′ ps
   part-of : 1 ≤ c → c < p .bytes → Taken c p ps c 0 (without p c ∷ ps)
 
 -- The slot has ended: its forecast is spent, nothing is left, or rule 6 does not allow the next byte.
-abbrev pub Stop : Job → ℕ → ℕ → List Row → List Part → Type 0
+abbrev pub Stop : Job → ℕ → ℕ → List Row → List Piece → Type 0
 Stop j t c rows [] = Unit {0}
 Stop j t c rows (p ∷ ps) = (c ≡ 0) ⊎ T (not (allowed j rows t p))
 
 module _
-    (j : Job) (t : ℕ) (P : ℕ → List Row → List Part → Type 0)
+    (j : Job) (t : ℕ) (P : ℕ → List Row → List Piece → Type 0)
     (step :
-    (c : ℕ) (rows : List Row) (p : Part) (ps : List Part) (b c′ : ℕ) (left : List Part) → Taken c p ps b c′ left →
+    (c : ℕ) (rows : List Row) (p : Piece) (ps : List Piece) (b c′ : ℕ) (left : List Piece) → Taken c p ps b c′ left →
     T (allowed j rows t p) → P c rows (p ∷ ps) → P c′ (rows ++ (rowOf t p b ∷ [])) left) where
   pub record Ends (f : Fetched) : Type 0 where
     pub over : ℕ
     pub holds : P over (f .rows) (f .left)
     pub why : Stop j t over (f .rows) (f .left)
 
-  pub slot-ends : (c : ℕ) (rows : List Row) (left : List Part) → P c rows left → Ends (slotTakes j t c rows left)
+  pub slot-ends : (c : ℕ) (rows : List Row) (left : List Piece) → P c rows left → Ends (slotTakes j t c rows left)
   slot-ends c rows [] h = record { over = c; holds = h; why = tt }
   slot-ends c rows (p ∷ ps) h =
       by-cond
@@ -60,17 +60,17 @@ module _
 
 -- ---- what a row taken leaves
 
-module _ {c : ℕ} {p : Part} {ps : List Part} where
-  pub taken-paid : {b c′ : ℕ} {left : List Part} → Taken c p ps b c′ left → b + c′ ≡ c
+module _ {c : ℕ} {p : Piece} {ps : List Piece} where
+  pub taken-paid : {b c′ : ℕ} {left : List Piece} → Taken c p ps b c′ left → b + c′ ≡ c
   taken-paid (all-of e) = e
   taken-paid (part-of m l) = omega arith
 
-  pub taken-some : {b c′ : ℕ} {left : List Part} → Taken c p ps b c′ left → 1 ≤ p .bytes → 1 ≤ b
+  pub taken-some : {b c′ : ℕ} {left : List Piece} → Taken c p ps b c′ left → 1 ≤ p .bytes → 1 ≤ b
   taken-some (all-of e) h = h
   taken-some (part-of m l) h = m
 
   pub taken-left :
-      (P : ℕ → ℕ → Bool) {b c′ : ℕ} {left : List Part} → Taken c p ps b c′ left →
+      (P : ℕ → ℕ → Bool) {b c′ : ℕ} {left : List Piece} → Taken c p ps b c′ left →
       cond (P (p .chunk) (p .layer)) b 0 + leftIf P left ≡ leftIf P (p ∷ ps)
   taken-left P (all-of e) = refl
   taken-left P (part-of m l) = by (P (p .chunk) (p .layer))
@@ -79,23 +79,23 @@ module _ {c : ℕ} {p : Part} {ps : List Part} where
       by true = omega arith
       by false = omega arith
 
-  pub taken-needs : (d A : ℕ → ℕ) {b c′ : ℕ} {left : List Part} → Taken c p ps b c′ left → b + needsOf d A left ≤ needsOf d A (p ∷ ps)
+  pub taken-needs : (d A : ℕ → ℕ) {b c′ : ℕ} {left : List Piece} → Taken c p ps b c′ left → b + needsOf d A left ≤ needsOf d A (p ∷ ps)
   taken-needs d A (all-of e) = omega arith
   taken-needs d A (part-of m l) = omega arith
 
-  pub taken-rising : {b c′ : ℕ} {left : List Part} → Taken c p ps b c′ left → Rising (p ∷ ps) → Rising left
+  pub taken-rising : {b c′ : ℕ} {left : List Piece} → Taken c p ps b c′ left → Rising (p ∷ ps) → Rising left
   taken-rising (all-of e) r = r .1
   taken-rising (part-of m l) r = r
 
   -- What holds of all parts by their chunks and layers, and that they have bytes, holds of those left.
   pub taken-all :
-      (Q : ℕ → ℕ → Type 0) {b c′ : ℕ} {left : List Part} → Taken c p ps b c′ left →
+      (Q : ℕ → ℕ → Type 0) {b c′ : ℕ} {left : List Piece} → Taken c p ps b c′ left →
       All (λ q. Q (q .chunk) (q .layer) × (1 ≤ q .bytes)) (p ∷ ps) → All (λ q. Q (q .chunk) (q .layer) × (1 ≤ q .bytes)) left
   taken-all Q (all-of e) a = a .1
   taken-all Q (part-of m l) a = ((a .0 .0, omega arith), a .1)
 
   pub taken-keys :
-      (Q : ℕ → ℕ → Type 0) {b c′ : ℕ} {left : List Part} → Taken c p ps b c′ left →
+      (Q : ℕ → ℕ → Type 0) {b c′ : ℕ} {left : List Piece} → Taken c p ps b c′ left →
       All (λ q. Q (q .chunk) (q .layer)) (p ∷ ps) → All (λ q. Q (q .chunk) (q .layer)) left
   taken-keys Q (all-of e) a = a .1
   taken-keys Q (part-of m l) a = (a .0, a .1)

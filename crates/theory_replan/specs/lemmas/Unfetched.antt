@@ -1,4 +1,4 @@
--- Lemmas. What the handed rows leave of the carried bytes: its layers rise, each is of the choice and has bytes, and how many.
+-- Lemmas. What the fetched rows leave of the carried bytes: its layers rise, each is of the choice and has bytes, and how many.
 use Prim.Native.Nat.{ℕ, zero, suc, _+_, _-_, _≤_, _<_}
 use mathlib.Core.Path.{_≡_, refl, sym, ap, _∙_}
 use mathlib.Core.Bool.{Bool, true, false, not, cond, _&&_}
@@ -14,7 +14,7 @@ use Rattle.theory_basics.specs.lemmas.Ranges.{point, point-in, point-total, pre
 use Rattle.theory_basics.specs.lemmas.Tests.{all-append, all-map, by-cond, by-cond-both, test}
 use Rattle.job.specs.Job.{chunks, Job, size}
 use Rattle.fetch.specs.Rows.{bytesOfLayer, Row}
-use Rattle.theory_plan.specs.Own.{carriedTo, Part, wholeLayer, without}
+use Rattle.theory_plan.specs.Own.{carriedTo, Piece, wholeLayer, without}
 use Rattle.theory_plan.specs.lemmas.Queue.{at-layer}
 use Rattle.theory_replan.specs.Plan.{bytesLeft}
 use Rattle.theory_replan.specs.Own.{unfetched}
@@ -22,53 +22,53 @@ use Rattle.theory_replan.specs.lemmas.Parts.{leftIf, ofChunk, PartBefore
 
 -- ---- what holds of the layers of all parts holds of those left
 
-module _ (handed : List Row) where
+module _ (fetched : List Row) where
   pub unfetched-all :
-      (Q : ℕ → ℕ → Type 0) (ps : List Part) → All (λ q. Q (q .chunk) (q .layer)) ps →
-      All (λ q. Q (q .chunk) (q .layer) × (1 ≤ q .bytes)) (unfetched handed ps)
+      (Q : ℕ → ℕ → Type 0) (ps : List Piece) → All (λ q. Q (q .chunk) (q .layer)) ps →
+      All (λ q. Q (q .chunk) (q .layer) × (1 ≤ q .bytes)) (unfetched fetched ps)
   unfetched-all Q [] a = tt
   unfetched-all Q (p ∷ ps) a =
       let more = unfetched-all Q ps (a .1) in
-      let got = bytesOfLayer handed (p .chunk) (p .layer) in
+      let got = bytesOfLayer fetched (p .chunk) (p .layer) in
       by-cond
       (All (λ q. Q (q .chunk) (q .layer) × (1 ≤ q .bytes)))
       (ltb got (p .bytes))
       (λ t. ((a .0, omega (arith, ltb→lt got (p .bytes) t)), more))
       (λ t. more)
 
-  unfetched-behind : (x : Part) (ps : List Part) → All (PartBefore x) ps → All (PartBefore x) (unfetched handed ps)
+  unfetched-behind : (x : Piece) (ps : List Piece) → All (PartBefore x) ps → All (PartBefore x) (unfetched fetched ps)
   unfetched-behind x [] a = tt
   unfetched-behind x (p ∷ ps) a =
       let more = unfetched-behind x ps (a .1) in
-      by-cond (All (PartBefore x)) (ltb (bytesOfLayer handed (p .chunk) (p .layer)) (p .bytes)) (λ t. (a .0, more)) (λ t. more)
+      by-cond (All (PartBefore x)) (ltb (bytesOfLayer fetched (p .chunk) (p .layer)) (p .bytes)) (λ t. (a .0, more)) (λ t. more)
 
-  pub unfetched-rising : (ps : List Part) → Rising ps → Rising (unfetched handed ps)
+  pub unfetched-rising : (ps : List Piece) → Rising ps → Rising (unfetched fetched ps)
   unfetched-rising [] r = tt
   unfetched-rising (p ∷ ps) r =
       let more = unfetched-rising ps (r .1) in
-      by-cond Rising (ltb (bytesOfLayer handed (p .chunk) (p .layer)) (p .bytes)) (λ t. (unfetched-behind p ps (r .0), more)) (λ t. more)
+      by-cond Rising (ltb (bytesOfLayer fetched (p .chunk) (p .layer)) (p .bytes)) (λ t. (unfetched-behind p ps (r .0), more)) (λ t. more)
 
   -- ---- how many bytes are left
 
   left-append :
-      (P : ℕ → ℕ → Bool) (a b : List Part) →
-      leftIf P (unfetched handed (a ++ b)) ≡ leftIf P (unfetched handed a) + leftIf P (unfetched handed b)
+      (P : ℕ → ℕ → Bool) (a b : List Piece) →
+      leftIf P (unfetched fetched (a ++ b)) ≡ leftIf P (unfetched fetched a) + leftIf P (unfetched fetched b)
   left-append P [] b = omega arith
   left-append P (p ∷ ps) b =
       by-cond-both
-      (λ (x y : List Part). leftIf P x ≡ leftIf P y + leftIf P (unfetched handed b))
-      (ltb (bytesOfLayer handed (p .chunk) (p .layer)) (p .bytes))
+      (λ (x y : List Piece). leftIf P x ≡ leftIf P y + leftIf P (unfetched fetched b))
+      (ltb (bytesOfLayer fetched (p .chunk) (p .layer)) (p .bytes))
       (λ t. omega (arith, left-append P ps b))
       (λ t. left-append P ps b)
 
   left-one :
-      (P : ℕ → ℕ → Bool) (p : Part) →
-      leftIf P (unfetched handed (p ∷ [])) ≡ cond (P (p .chunk) (p .layer)) (p .bytes - bytesOfLayer handed (p .chunk) (p .layer)) 0
+      (P : ℕ → ℕ → Bool) (p : Piece) →
+      leftIf P (unfetched fetched (p ∷ [])) ≡ cond (P (p .chunk) (p .layer)) (p .bytes - bytesOfLayer fetched (p .chunk) (p .layer)) 0
   left-one P p =
-      let got = bytesOfLayer handed (p .chunk) (p .layer) in
+      let got = bytesOfLayer fetched (p .chunk) (p .layer) in
       let b = P (p .chunk) (p .layer) in
       by-cond
-      (λ (x : List Part). leftIf P x ≡ cond b (p .bytes - got) 0)
+      (λ (x : List Piece). leftIf P x ≡ cond b (p .bytes - got) 0)
       (ltb got (p .bytes))
       (λ t. omega arith)
       (λ t. sym (by-cond (λ (x : ℕ). x ≡ 0) b (λ u. omega (arith, nltb→le got (p .bytes) t)) (λ u. refl)))
@@ -76,41 +76,41 @@ module _ (handed : List Row) where
   module _ (j : Job) (lv : ℕ → ℕ) where
     -- What is left of a layer of the choice.
     abbrev rest : ℕ → ℕ → ℕ
-    rest i n = size j i n - bytesOfLayer handed i n
+    rest i n = size j i n - bytesOfLayer fetched i n
 
-    left-layers : (P : ℕ → ℕ → Bool) (i m : ℕ) → leftIf P (unfetched handed (upTo (wholeLayer j i) m)) ≡ sum (λ n. cond (P i n) (rest i n) 0) m
+    left-layers : (P : ℕ → ℕ → Bool) (i m : ℕ) → leftIf P (unfetched fetched (upTo (wholeLayer j i) m)) ≡ sum (λ n. cond (P i n) (rest i n) 0) m
     left-layers P i zero = refl
     left-layers P i (suc m) =
         omega (arith, left-append P (upTo (wholeLayer j i) m) (wholeLayer j i m ∷ []), left-layers P i m, left-one P (wholeLayer j i m))
 
     left-chunks :
         (P : ℕ → ℕ → Bool) (c : ℕ) →
-        leftIf P (unfetched handed (carriedTo j lv c)) ≡ pre (λ i. sum (λ n. cond (P i n) (rest i n) 0) (lv i)) c
+        leftIf P (unfetched fetched (carriedTo j lv c)) ≡ pre (λ i. sum (λ n. cond (P i n) (rest i n) 0) (lv i)) c
     left-chunks P zero = refl
     left-chunks P (suc c) =
         omega (arith, left-append P (carriedTo j lv c) (upTo (wholeLayer j (suc c)) (lv (suc c))), left-chunks P c, left-layers P (suc c) (lv (suc c)))
 
     -- Of chunk k no more than the bytes left of it.
-    pub left-of-chunk : (k : ℕ) → leftIf (ofChunk k) (unfetched handed (carriedTo j lv (chunks j))) ≤ bytesLeft j handed lv k
+    pub left-of-chunk : (k : ℕ) → leftIf (ofChunk k) (unfetched fetched (carriedTo j lv (chunks j))) ≤ bytesLeft j fetched lv k
     left-of-chunk k =
         omega (
           arith,
           left-chunks (ofChunk k) (chunks j),
-          pre-le (λ i. sum (λ n. cond (eqb k i) (rest i n) 0) (lv i)) (point k (bytesLeft j handed lv k)) (chunks j) at-chunk,
-          point-total k (bytesLeft j handed lv k) (chunks j),
+          pre-le (λ i. sum (λ n. cond (eqb k i) (rest i n) 0) (lv i)) (point k (bytesLeft j fetched lv k)) (chunks j) at-chunk,
+          point-total k (bytesLeft j fetched lv k) (chunks j),
         )
       where
-        at-chunk : (i : ℕ) → sum (λ n. cond (eqb k i) (rest i n) 0) (lv i) ≤ point k (bytesLeft j handed lv k) i
+        at-chunk : (i : ℕ) → sum (λ n. cond (eqb k i) (rest i n) 0) (lv i) ≤ point k (bytesLeft j fetched lv k) i
         at-chunk i =
             ⊎-elim
             (λ t. let e : k ≡ i = eqb→eq k i t in rw (eq-eqb k i e, e) (omega arith))
             (λ t. rw (ne-eqb k i (λ e. T-not (eqb k i) t (rw e (eqb-refl i)))) (omega (arith, sum-zero (lv i))))
             (test (eqb k i))
 
-    -- Of a layer of the choice what is not handed, of another nothing.
+    -- Of a layer of the choice what is not fetched, of another nothing.
     pub left-of-layer :
         (i n : ℕ) → 1 ≤ i → i ≤ chunks j →
-        leftIf (at-layer i n) (unfetched handed (carriedTo j lv (chunks j))) ≡ cond (ltb n (lv i)) (rest i n) 0
+        leftIf (at-layer i n) (unfetched fetched (carriedTo j lv (chunks j))) ≡ cond (ltb n (lv i)) (rest i n) 0
     left-of-layer i n g h =
         let x : ℕ = cond (ltb n (lv i)) (rest i n) 0 in
         left-chunks (at-layer i n) (chunks j)
@@ -145,7 +145,7 @@ module _ (handed : List Row) where
 
 -- ---- the carried bytes rise by chunk, then layer
 
-rising-append : (a b : List Part) → Rising a → Rising b → All (λ x. All (PartBefore x) b) a → Rising (a ++ b)
+rising-append : (a b : List Piece) → Rising a → Rising b → All (λ x. All (PartBefore x) b) a → Rising (a ++ b)
 rising-append [] b r s f = s
 rising-append (p ∷ ps) b r s f = (all-append (PartBefore p) ps b (r .0) (f .0), rising-append ps b (r .1) s (f .1))
 

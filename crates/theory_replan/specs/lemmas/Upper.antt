@@ -1,6 +1,6 @@
 -- Lemmas. A layer above the base in linear time: the passes `rooms` and `back` of schedule's Trials, which the code has, take from slot p on
 -- what the plan made afresh takes. The list is that of the chunks begun or kept and due from p on, each with the bytes still to be
--- fetched; the sizes are what the handed rows leave of each layer, so a layer whole before p costs nothing and stays.
+-- fetched; the sizes are what the fetched rows leave of each layer, so a layer whole before p costs nothing and stays.
 use Prim.Native.Nat.{ℕ, zero, suc, _+_, _-_, _≤_, _<_, max, min}
 use mathlib.Core.Path.{_≡_, refl, sym, ap, _∙_, subst}
 use mathlib.Core.Bool.{Bool, true, false, cond, _&&_, _||_}
@@ -19,7 +19,7 @@ use Rattle.job.specs.Job.{chunks, due, heldMost, Job, Layer, layers, size}
 use Rattle.fetch.specs.Marks.{bit, withLayer}
 use Rattle.fetch.specs.Rows.{bytesOfLayer, Row}
 use Rattle.fetch.specs.lemmas.Marks.{mark-bit, mark-high, mark-lt, same-bits, with-bit, with-lt}
-use Rattle.theory_plan.specs.Plan.{need, picked}
+use Rattle.theory_plan.specs.Plan.{needOf, picked}
 use Rattle.theory_plan.specs.Statement.{Choice}
 use Rattle.theory_plan.specs.lemmas.Kept.{feas-picked, has-picked, picked-cong, picked-each}
 use Rattle.theory_plan.specs.lemmas.Level.{level, level-iff}
@@ -48,27 +48,27 @@ level-set m n h few =
 -- ---- a layer above the base
 
 module _
-    (j : Job) (p : ℕ) (handed : List Row) (ok : Acceptable j p handed) (n : ℕ) (up : 1 ≤ n) (few : layers j ≤ 8) (in-job : n < layers j)
-    (q : ℕ → ℕ) (choice : Choice j q) (fq : FitsFrom j p handed q)
+    (j : Job) (p : ℕ) (fetched : List Row) (ok : Acceptable j p fetched) (n : ℕ) (up : 1 ≤ n) (few : layers j ≤ 8) (in-job : n < layers j)
+    (q : ℕ → ℕ) (choice : Choice j q) (fq : FitsFrom j p fetched q)
     (accepts :
     (i : ℕ) → 1 ≤ i → i ≤ chunks j →
-    (n < q i) ↔ ((n < level j handed i) ⊎ ((p ≤ due j i) × (n ≤ q i) × FitsFrom j p handed (triedFrom j handed q n i)))) where
+    (n < q i) ↔ ((n < level j fetched i) ⊎ ((p ≤ due j i) × (n ≤ q i) × FitsFrom j p fetched (triedFrom j fetched q n i)))) where
   -- What is whole before p; what is left of a layer; what is left of a chunk in a choice.
   abbrev base : ℕ → ℕ
-  base k = level j handed k
+  base k = level j fetched k
 
   abbrev rest : ℕ → ℕ → ℕ
-  rest k m = size j k m - bytesOfLayer handed k m
+  rest k m = size j k m - bytesOfLayer fetched k m
 
   abbrev left : (ℕ → ℕ) → ℕ → ℕ
-  left lv k = bytesLeft j handed lv k
+  left lv k = bytesLeft j fetched lv k
 
   abbrev A : ℕ → ℕ
   A = afterFrom j p
 
   -- The chunks of the list.
   abbrev member : ℕ → Bool
-  member i = busy handed q i && leb p (due j i)
+  member i = busy fetched q i && leb p (due j i)
 
   -- What is carried of the layers below n, and of the layers up to n.
   abbrev lower : ℕ → ℕ
@@ -81,14 +81,14 @@ module _
   upto k = left upper k
 
   abbrev trial : ℕ → ℕ → ℕ
-  trial i = left (triedFrom j handed q n i)
+  trial i = left (triedFrom j fetched q n i)
 
   -- A chunk of the list: its due slot, the bytes still to be fetched, its mark.
   abbrev keptRest : (ℕ → ℕ) → ℕ → Kept
   keptRest lv k = record { chunk = k; due = due j k; bytes = left lv k; mark = levelMark (lv k) }
 
   abbrev result : List ℕ → Tried
-  result ks = record { need = need upto (due j) A ks; kept = map (keptRest upper) ks }
+  result ks = record { needOf = needOf upto (due j) A ks; kept = map (keptRest upper) ks }
 
   abbrev run : ℕ → List ℕ → List ℕ → Tried
   run room ks rs = back rest A n (rooms A room (map (left lower) ks) rs) (map (keptRest lower) ks)
@@ -98,7 +98,7 @@ module _
 
   -- What is known of the room before the chunks ks, which stand behind lo.
   record Ready (room lo : ℕ) (ks rs : List ℕ) : Type 0 where
-    trials : (i : ℕ) → lo < i → i ≤ chunks j → T (member i) → n ≤ q i → base i ≤ n → FitsFrom j p handed (triedFrom j handed q n i) ↔ InRoom (trial i) room ks rs
+    trials : (i : ℕ) → lo < i → i ≤ chunks j → T (member i) → n ≤ q i → base i ≤ n → FitsFrom j p fetched (triedFrom j fetched q n i) ↔ InRoom (trial i) room ks rs
     plan-in : InRoom upto room ks rs
 
   below : (k : ℕ) → left lower k ≤ upto k
@@ -124,7 +124,7 @@ module _
     ks = picked member i m
 
     abbrev want : ℕ
-    want = left lower i + max (A (due j i)) (need upto (due j) A ks)
+    want = left lower i + max (A (due j i)) (needOf upto (due j) A ks)
 
     own-base : base i ≤ q i
     own-base = fq .whole i (omega arith) (omega arith)
@@ -157,7 +157,7 @@ module _
           let y = simp tests at x in
           let o = at-own i (y .0) in
           let reached : n ≤ q i = omega (arith, y .0, lacks, own-base) in
-          let due-then = leb→le p (due j i) (and-T (busy handed q i) (leb p (due j i)) mem .1) in
+          let due-then = leb→le p (due j i) (and-T (busy fetched q i) (leb p (due j i)) mem .1) in
           lt→ltb n (q i) (a .1 (inr (due-then, reached, known .trials i (omega arith) (omega arith) mem reached lacks .1 (record { within = omega (arith, y .1, o, nle); released = (omega (arith, y .1, o, nle), relok-mono t upto (due j) A ks rs le (known .plan-in .released .1)) }))))
 
       only-if : T (ltb n (q i)) → T test-here
@@ -188,13 +188,13 @@ module _
           let l = ltb→lt n (q i) t in
           let e : upper i ≡ suc n = omega (arith, lacks) in
           let e′ : lower i ≡ n = omega (arith, lacks) in
-          let s : want + rest i n ≡ upto i + max (A (due j i)) (need upto (due j) A ks) = rw (e, e′) (omega arith) in
+          let s : want + rest i n ≡ upto i + max (A (due j i)) (needOf upto (due j) A ks) = rw (e, e′) (omega arith) in
           let k : record { chunk = i; due = due j i; bytes = left lower i + rest i n; mark = withLayer (levelMark (lower i)) n } ≡ keptRest upper i = rw (e, e′, level-next n (omega arith)) in
           rw (lt-ltb n (q i) l, s, k))
           (λ t.
           let l = nltb→le n (q i) t in
           let e : upper i ≡ lower i = omega arith in
-          let s : want ≡ upto i + max (A (due j i)) (need upto (due j) A ks) = rw e in
+          let s : want ≡ upto i + max (A (due j i)) (needOf upto (due j) A ks) = rw e in
           let k : keptRest lower i ≡ keptRest upper i = ap (λ (m : ℕ). keptRest (λ k. m) i) (sym e) in
           rw (le-ltb n (q i) l, s, k))
           (test (ltb n (q i))))
@@ -203,14 +203,14 @@ module _
     whole-trial : n < base i → tryOne rest A n here (keptRest lower i) (result ks) ≡ result (i ∷ ks)
     whole-trial h =
         let r′ = layer-of j i n (omega arith) (omega arith) in-job in
-        let z : rest i n ≡ 0 = omega (arith, level-iff j handed (ok .lower) i n r′ .1 h) in
+        let z : rest i n ≡ 0 = omega (arith, level-iff j fetched (ok .lower) i n r′ .1 h) in
         let e : lower i ≡ base i = omega arith in
         let e′ : upper i ≡ base i = omega arith in
         let f = known .plan-in in
         let same : left lower i ≡ upto i = ap (sum (rest i)) (e ∙ sym e′) in
         let c : bit (levelMark (lower i)) (n - 1) ≡ true = level-bit (lower i) (n - 1) ∙ lt-ltb (n - 1) (lower i) (omega (arith, e)) in
         let fits : leb (want + rest i n) here ≡ true = le-leb (want + rest i n) here (omega (arith, z, same, f .within, f .released .0)) in
-        let s : want + rest i n ≡ upto i + max (A (due j i)) (need upto (due j) A ks) = omega (arith, z, same) in
+        let s : want + rest i n ≡ upto i + max (A (due j i)) (needOf upto (due j) A ks) = omega (arith, z, same) in
         let b : left lower i + rest i n ≡ left upper i = omega (arith, z, same) in
         let mk : withLayer (levelMark (lower i)) n ≡ levelMark (upper i) = rw (e, e′) (level-set (base i) n h (omega (arith, own-base, choice i (omega arith) (omega arith)))) in
         rw (c, fits, s, b, mk)
@@ -222,22 +222,22 @@ module _
     unfolding back
     stepped e = ap (tryOne rest A n here (keptRest lower i)) e ∙ one-trial
 
-  front-walk :
+  front-scan :
       (m lo room : ℕ) (rs : List ℕ) → lo + suc m ≡ chunks j → T (member (suc lo)) →
       ((room : ℕ) (rs : List ℕ) → Ready room (suc lo) (picked member (suc lo) m) rs → run room (picked member (suc lo) m) rs ≡ result (picked member (suc lo) m)) →
       Ready room lo (suc lo ∷ picked member (suc lo) m) rs → run room (suc lo ∷ picked member (suc lo) m) rs ≡ result (suc lo ∷ picked member (suc lo) m)
-  front-walk m lo room [] h mem next b = absurd (b .plan-in .released)
-  front-walk m lo room (r ∷ rs) h mem next b = stepped room lo m r rs h mem b (next (min room (A (r - 1)) - left lower (suc lo)) rs (ready-front room lo m r rs h mem b))
+  front-scan m lo room [] h mem next b = absurd (b .plan-in .released)
+  front-scan m lo room (r ∷ rs) h mem next b = stepped room lo m r rs h mem b (next (min room (A (r - 1)) - left lower (suc lo)) rs (ready-front room lo m r rs h mem b))
 
-  walk : (m lo room : ℕ) (rs : List ℕ) → lo + m ≡ chunks j → Ready room lo (picked member lo m) rs → run room (picked member lo m) rs ≡ result (picked member lo m)
+  scan : (m lo room : ℕ) (rs : List ℕ) → lo + m ≡ chunks j → Ready room lo (picked member lo m) rs → run room (picked member lo m) rs ≡ result (picked member lo m)
   unfolding back
-  walk zero lo room rs h a = refl
-  walk (suc m) lo room rs h a =
-      let next : (room : ℕ) (rs : List ℕ) → Ready room (suc lo) (picked member (suc lo) m) rs → run room (picked member (suc lo) m) rs ≡ result (picked member (suc lo) m) = λ room rs b. walk m (suc lo) room rs (omega arith) b in
+  scan zero lo room rs h a = refl
+  scan (suc m) lo room rs h a =
+      let next : (room : ℕ) (rs : List ℕ) → Ready room (suc lo) (picked member (suc lo) m) rs → run room (picked member (suc lo) m) rs ≡ result (picked member (suc lo) m) = λ room rs b. scan m (suc lo) room rs (omega arith) b in
       ⊎-elim
       (λ t.
       let e : member (suc lo) ≡ true = T-true (member (suc lo)) t in
-      rw e (front-walk m lo room rs h t next (rw e at a)))
+      rw e (front-scan m lo room rs h t next (rw e at a)))
       (λ t.
       let e : member (suc lo) ≡ false = not-T-false (member (suc lo)) t in
       let a′ : Ready room lo (picked member (suc lo) m) rs = rw e at a in
@@ -246,12 +246,12 @@ module _
 
   -- ---- what is tried fits exactly if it has room
 
-  tried-le : (i k : ℕ) → n ≤ q i → 1 ≤ k → k ≤ chunks j → (k ≡ i → ⊥) → triedFrom j handed q n i k ≤ q k
+  tried-le : (i k : ℕ) → n ≤ q i → 1 ≤ k → k ≤ chunks j → (k ≡ i → ⊥) → triedFrom j fetched q n i k ≤ q k
   tried-le i k h u v o = rw (ne-eqb k i o) (omega (arith, fq .whole k u v))
 
-  same-busy : (i k : ℕ) → n ≤ q i → 1 ≤ k → k ≤ chunks j → busy handed (triedFrom j handed q n i) k ≡ busy handed q k
+  same-busy : (i k : ℕ) → n ≤ q i → 1 ≤ k → k ≤ chunks j → busy fetched (triedFrom j fetched q n i) k ≡ busy fetched q k
   same-busy i k h u v =
-      ap (λ (b : Bool). carries handed k || b)
+      ap (λ (b : Bool). carries fetched k || b)
       (⊎-elim
       (λ t. let e = eqb→eq k i t in rw (e, eq-eqb i i refl, le-leb 1 (suc n) (omega arith)) (sym (le-leb 1 (q i) (omega arith))))
       (λ t.
@@ -272,21 +272,21 @@ module _
   nothing-left k u v h =
       ⊎-elim
       (λ t.
-      all-has (λ k. due j k < p → bytesLeft j handed q k ≡ 0) (busyChunks j handed q) k (feas-from-due j p handed q .0 (fq .feas) .0)
-      (subst T (sym (has-picked (busy handed q) 0 (chunks j) k u (omega arith))) (T-or-iff (carries handed k) (leb 1 (q k)) .1 (inr t))) h)
+      all-has (λ k. due j k < p → bytesLeft j fetched q k ≡ 0) (busyChunks j fetched q) k (feas-from-due j p fetched q .0 (fq .feas) .0)
+      (subst T (sym (has-picked (busy fetched q) 0 (chunks j) k u (omega arith))) (T-or-iff (carries fetched k) (leb 1 (q k)) .1 (inr t))) h)
       (λ t. let e : q k ≡ 0 = omega (arith, nleb→lt 1 (q k) t) in rw e)
       (test (leb 1 (q k)))
 
   tried-fits :
       (i : ℕ) → 1 ≤ i → i ≤ chunks j → T (member i) → n ≤ q i → base i ≤ n →
-      FitsFrom j p handed (triedFrom j handed q n i) ↔ Feas (trial i) (due j) A (heldMost j) (busyFrom j p handed q)
+      FitsFrom j p fetched (triedFrom j fetched q n i) ↔ Feas (trial i) (due j) A (heldMost j) (busyFrom j p fetched q)
   tried-fits i u v mem reached lacks =
-      let z = triedFrom j handed q n i in
-      let d = feas-from-due j p handed z in
-      let e : busyFrom j p handed z ≡ busyFrom j p handed q = picked-cong (λ k. busy handed z k && leb p (due j k)) member 0 (chunks j) (λ k x y. ap (λ (b : Bool). b && leb p (due j k)) (same-busy i k reached x (omega arith))) in
-      let due-then = leb→le p (due j i) (and-T (busy handed q i) (leb p (due j i)) mem .1) in
-      let over : All (λ k. due j k < p → bytesLeft j handed z k ≡ 0) (busyChunks j handed z) =
-      picked-each (busy handed z) (λ k. due j k < p → bytesLeft j handed z k ≡ 0) 0 (chunks j) (λ k x y t l.
+      let z = triedFrom j fetched q n i in
+      let d = feas-from-due j p fetched z in
+      let e : busyFrom j p fetched z ≡ busyFrom j p fetched q = picked-cong (λ k. busy fetched z k && leb p (due j k)) member 0 (chunks j) (λ k x y. ap (λ (b : Bool). b && leb p (due j k)) (same-busy i k reached x (omega arith))) in
+      let due-then = leb→le p (due j i) (and-T (busy fetched q i) (leb p (due j i)) mem .1) in
+      let over : All (λ k. due j k < p → bytesLeft j fetched z k ≡ 0) (busyChunks j fetched z) =
+      picked-each (busy fetched z) (λ k. due j k < p → bytesLeft j fetched z k ≡ 0) 0 (chunks j) (λ k x y t l.
       ⊎-elim
       (λ w. absurd (omega (arith, ap (due j) (eqb→eq k i w))))
       (λ w. let o : k ≡ i → ⊥ = λ e. T-not (eqb k i) w (rw e (eqb-refl i)) in omega (arith, sum-mono (rest k) (z k) (q k) (tried-le i k reached x (omega arith) o), nothing-left k x (omega arith) l))
@@ -303,12 +303,12 @@ module _
       )
 
   -- The pass takes the layer where the plan made afresh does.
-  pub layer-from-is : run (A 0) (busyFrom j p handed q) (releases (due j) (heldMost j) (busyFrom j p handed q)) ≡ result (busyFrom j p handed q)
+  pub layer-from-is : run (A 0) (busyFrom j p fetched q) (releases (due j) (heldMost j) (busyFrom j p fetched q)) ≡ result (busyFrom j p fetched q)
   layer-from-is =
-      let cs = busyFrom j p handed q in
+      let cs = busyFrom j p fetched q in
       let rs = releases (due j) (heldMost j) cs in
       let t : (w : ℕ → ℕ) → Feas w (due j) A (heldMost j) cs ↔ Roomy w (due j) A (A 0) cs rs = λ w. feas-roomy w (due j) A (heldMost j) cs in
-      walk (chunks j) 0 (A 0) rs (omega arith)
+      scan (chunks j) 0 (A 0) rs (omega arith)
       (record {
         trials = λ i u v mem reached lacks.
             let x = tried-fits i u v mem reached lacks in
@@ -317,5 +317,5 @@ module _
         plan-in =
             t upto .0
             (feas-picked upto (left q) (due j) A (heldMost j) member 0 (chunks j) (λ k u v h. sum-mono (rest k) (upper k) (q k) (omega (arith, fq .whole k u (omega arith))))
-            (feas-from-due j p handed q .0 (fq .feas) .1));
+            (feas-from-due j p fetched q .0 (fq .feas) .1));
       })

@@ -107,26 +107,26 @@ cutAt ss left b = record { left = left - length ss; best = bestOf b (setsIn (tak
 abbrev pub from : ℕ → List ℕ → Walked
 from left b = record { left = left; best = b; ended = true }
 
-same-walked :
+same-moore-hodgson :
     {l m : ℕ} {a b : List ℕ} {e f : Bool} → l ≡ m → a ≡ b → e ≡ f →
     _≡_ {A = Walked} (record { left = l; best = a; ended = e }) (record { left = m; best = b; ended = f })
-same-walked p q r = cc
+same-moore-hodgson p q r = cc
 
 leb-suc : (a b : ℕ) → leb a b ≡ leb (suc a) (suc b)
 leb-suc a b = same-test (leb a b) (leb (suc a) (suc b)) (λ t. le→leb (suc a) (suc b) (omega (arith, leb→le a b t))) (λ t. le→leb a b (omega (arith, leb→le (suc a) (suc b) t)))
 
 pub run-cuts : (ss : List Step) (left : ℕ) (b : List ℕ) → run ss (from left b) ≡ cutAt ss left b
 run-cuts [] zero b = refl
-run-cuts [] (suc n) b = same-walked (omega arith) refl (sym (le-leb 0 (suc n) (omega arith)))
-run-cuts (x ∷ xs) zero b = run-cut xs (from 0 b) ∙ same-walked (omega arith) refl (sym (lt-leb (suc (length xs)) 0 (omega arith)))
+run-cuts [] (suc n) b = same-moore-hodgson (omega arith) refl (sym (le-leb 0 (suc n) (omega arith)))
+run-cuts (x ∷ xs) zero b = run-cut xs (from 0 b) ∙ same-moore-hodgson (omega arith) refl (sym (lt-leb (suc (length xs)) 0 (omega arith)))
 run-cuts (refused ∷ xs) (suc n) b =
     let on : ltb 0 (suc n) ≡ true = lt-ltb 0 (suc n) (omega arith) in
     let e : suc n - 1 ≡ n = omega arith in
-    rw (on, e) (run-cuts xs n b ∙ same-walked (omega arith) refl (leb-suc (length xs) n))
+    rw (on, e) (run-cuts xs n b ∙ same-moore-hodgson (omega arith) refl (leb-suc (length xs) n))
 run-cuts (met ks ∷ xs) (suc n) b =
     let on : ltb 0 (suc n) ≡ true = lt-ltb 0 (suc n) (omega arith) in
     let e : suc n - 1 ≡ n = omega arith in
-    rw (on, e) (run-cuts xs n (better b ks) ∙ same-walked (omega arith) refl (leb-suc (length xs) n))
+    rw (on, e) (run-cuts xs n (better b ks) ∙ same-moore-hodgson (omega arith) refl (leb-suc (length xs) n))
 
 -- The whole search.
 pub search-cuts : (allowed : List ℕ → Bool) (c budget : ℕ) → search allowed c [] (from budget []) ≡ cutAt (walk allowed c []) budget []

@@ -12,7 +12,7 @@ use Rattle.theory_basics.specs.lemmas.Ranges.{point, point-in, point-out, pre-a
 use Rattle.theory_basics.specs.lemmas.Tests.{all-map, test}
 use Rattle.job.specs.Job.{Job, forecast, lastSlot, withForecast}
 use Rattle.fetch.specs.Rows.{Row}
-use Rattle.fetch.specs.Rules.{InRange, Passes}
+use Rattle.fetch.specs.Rules.{RowInRange, Passes}
 use Rattle.theory_plan.specs.Plan.{after}
 use Rattle.theory_plan.specs.lemmas.Words.{layer-of}
 use Rattle.theory_sensitivity.specs.Statement.{OneSlotMore}
@@ -34,7 +34,7 @@ module _ (j : Job) (f : List ℕ) (t b : ℕ) (more : OneSlotMore j (withForecas
   pub passes-grown : (l : List Row) → Passes j l → Passes k l
   passes-grown l ok =
       record {
-        in-range = all-map (InRange j) (InRange k) l
+        in-range = all-map (RowInRange j) (RowInRange k) l
             (λ x r. record { slot-low = r .slot-low; slot-high = r .slot-high; chunk-low = r .chunk-low; chunk-high = r .chunk-high; layer-in = r .layer-in; some-bytes = r .some-bytes })
             (ok .in-range);
         whole = λ i n r. ok .whole i n (layer-of j i n (r .chunk-low) (r .chunk-high) (r .layer-in));

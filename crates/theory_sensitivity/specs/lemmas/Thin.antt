@@ -13,7 +13,7 @@ use lib.Seq.{drop-drop}
 use Rattle.theory_basics.specs.Tests.{All}
 use Rattle.theory_basics.specs.lemmas.Tables.{all-drop}
 use Rattle.theory_basics.specs.lemmas.Tests.{all-map, by-cond, test}
-use Rattle.theory_plan.specs.Plan.{need}
+use Rattle.theory_plan.specs.Plan.{needOf}
 use Rattle.theory_plan.specs.lemmas.Ascending.{Asc, asc-without}
 use Rattle.theory_plan.specs.lemmas.Need.{Feas, Tails, need-without, tails-drop}
 
@@ -46,11 +46,11 @@ module _
   at-most x = ⊎-elim (λ u. omega (arith, early x (ltb→lt x t u))) (λ u. omega (arith, late x (nltb→le x t u))) (test (ltb x t))
 
   -- Chunks due in slot t or later need the same under both.
-  late-need : (ks : List ℕ) → All (λ k. t ≤ d k) ks → need (λ k. z) d A ks ≡ need (λ k. z) d A′ ks
+  late-need : (ks : List ℕ) → All (λ k. t ≤ d k) ks → needOf (λ k. z) d A ks ≡ needOf (λ k. z) d A′ ks
   late-need [] a = refl
   late-need (k ∷ ks) a = omega (arith, late-need ks (a .1), late (d k) (a .0))
 
-  late-need-behind : (m : ℕ) (ks : List ℕ) → All (λ k. t ≤ d k) ks → need (λ k. z) d A (drop m ks) ≡ need (λ k. z) d A′ (drop m ks)
+  late-need-behind : (m : ℕ) (ks : List ℕ) → All (λ k. t ≤ d k) ks → needOf (λ k. z) d A (drop m ks) ≡ needOf (λ k. z) d A′ (drop m ks)
   late-need-behind m ks a = late-need (drop m ks) (all-drop (λ k. t ≤ d k) m ks a)
 
   -- Behind a chunk due in slot t or later, all are due after slot t.
@@ -65,20 +65,20 @@ module _
 
   -- One chunk more in front, due before slot t.
   need-front :
-      (k : ℕ) (ks ls : List ℕ) → d k < t → ((m : ℕ) → need (λ k. z) d A (drop m ls) ≤ need (λ k. z) d A′ (drop m ks) - b) → (m : ℕ) →
-      need (λ k. z) d A (drop m (k ∷ ls)) ≤ need (λ k. z) d A′ (drop m (k ∷ ks)) - b
+      (k : ℕ) (ks ls : List ℕ) → d k < t → ((m : ℕ) → needOf (λ k. z) d A (drop m ls) ≤ needOf (λ k. z) d A′ (drop m ks) - b) → (m : ℕ) →
+      needOf (λ k. z) d A (drop m (k ∷ ls)) ≤ needOf (λ k. z) d A′ (drop m (k ∷ ks)) - b
   need-front k ks ls u f zero = omega (arith, f 0, early (d k) u)
   need-front k ks ls u f (suc m) = f m
 
   -- From each place on, what is left needs b bytes less, or nothing.
   thin-need :
       (lo hi : ℕ) (ks : List ℕ) → 1 ≤ lo → Asc lo hi ks → (m : ℕ) →
-      need (λ k. z) d A (drop m (thin d t n ks)) ≤ need (λ k. z) d A′ (drop m ks) - b
+      needOf (λ k. z) d A (drop m (thin d t n ks)) ≤ needOf (λ k. z) d A′ (drop m ks) - b
   thin-need lo hi [] g a zero = omega arith
   thin-need lo hi [] g a (suc m) = omega arith
   thin-need lo hi (k ∷ ks) g a m =
       by-cond
-      (λ (l : List ℕ). need (λ k. z) d A (drop m l) ≤ need (λ k. z) d A′ (drop m (k ∷ ks)) - b)
+      (λ (l : List ℕ). needOf (λ k. z) d A (drop m l) ≤ needOf (λ k. z) d A′ (drop m (k ∷ ks)) - b)
       (ltb (d k) t)
       (λ u. need-front k ks (thin d t n ks) (ltb→lt (d k) t u) (thin-need (suc k) hi ks (omega arith) (a .2)) m)
       (λ u.

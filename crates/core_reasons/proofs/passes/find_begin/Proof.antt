@@ -10,7 +10,7 @@ use lib.Dec.{ltb}
 use borrow.Author.Needs.{needs}
 use denote.Ref.{now}
 use Rattle.core_reasons.specs.lemmas.Passes.{startsIn, upToIn}
-use Rattle.core_reasons.proofs.Backs.{Backing, backing-start, backing-more, backing-found, backing-end, reach}
+use Rattle.core_reasons.proofs.PassBack.{Backing, backing-start, backing-more, backing-found, backing-end, reach}
 
 abbrev Inv-loop : tie.InvT-loop
 Inv-loop after ready bytes first most m all sum₀ k₀ sum k = Backing after ready bytes first most m sum k

@@ -8,7 +8,7 @@ use lib.ListN.{getD}
 use borrow.Author.Needs.{needs}
 use denote.Ref.{now}
 use Rattle.core_reasons.specs.lemmas.Passes.{upToIn}
-use Rattle.core_reasons.proofs.Seeks.{Seeking, seeking-start, seeking-more, seeking-found, seeking-end, spentAt}
+use Rattle.core_reasons.proofs.PassForward.{Seeking, seeking-start, seeking-more, seeking-found, seeking-end, spentAt}
 
 abbrev Inv-loop : tie.InvT-loop
 Inv-loop after dues ready bytes first all used₀ q₀ used q = Seeking after dues ready bytes first used q

@@ -4,7 +4,7 @@ use Rattle.core_reasons.proofs.passes.starts.Statement.{statement}
 use Rattle.core_reasons.proofs.passes.starts.Tie as tie
 use native.Mathlib.Omega.{arith}
 use denote.Ref.{now}
-use Rattle.core_reasons.proofs.Backs.{starts-first, starts-next, starts-not}
+use Rattle.core_reasons.proofs.PassBack.{starts-first, starts-next, starts-not}
 
 returns : tie.Need-returns
 returns c = let a = c .before .before .args in starts-first (now (a .ready)) (a .first) (a .h) (a .most) (a .reach) (c .before .if1 .taken) (c .if2 .taken)

@@ -18,8 +18,8 @@ returns c = read-short oneSequence (c .before .before .before .before .before .b
 read-job-requires : tie.Need-read-job-requires
 read-job-requires c κs = search needs
 
-hand-job-requires : tie.Need-hand-job-requires
-hand-job-requires c κs = room-for-job _ _ _ (c .before .before .before .before .before .before .before .before .before .before .before .before .before .before .before .before .before .before .before .holds-job .ensures) (c .before .before .before .before .before .before .before .before .before .before .before .before .before .before .before .before .before .before .if1 .left)
+store-job-requires : tie.Need-store-job-requires
+store-job-requires c κs = room-for-job _ _ _ (c .before .before .before .before .before .before .before .before .before .before .before .before .before .before .before .before .before .before .before .holds-job .ensures) (c .before .before .before .before .before .before .before .before .before .before .before .before .before .before .before .before .before .before .if1 .left)
 
 job-number-requires : tie.Need-job-number-requires
 job-number-requires c κs = search needs
@@ -47,7 +47,7 @@ same-length-7 c = search needs
 
 returns-2 : tie.Need-returns-2
 unfolding lentRead
-returns-2 c = read-whole oneSequence (c .before .before .before .before .before .before .before .before .before .before .before .before .before .before .before .before .before .before .before .before .before .before .before .before .before .before .before .before .before .before .before .before .before .before .args .file .now) _ _ _ _ _ _ _ _ _ (c .before .before .before .before .before .before .before .before .before .before .before .before .before .before .before .before .before .before .before .before .before .before .before .before .before .holds-job .ensures) (c .before .before .before .before .before .before .before .before .before .before .before .before .before .before .before .before .before .before .before .before .before .before .before .before .if1 .left) (c .before .before .before .before .before .before .before .before .before .before .before .before .before .before .before .before .before .before .read-job .ensures .0) (same-buffers (c .before .before .before .before .before .before .before .before .before .before .before .before .before .before .before .before .before .before .read-job .ensures .1 .0) (c .before .before .before .before .before .before .before .before .before .before .before .before .before .before .before .before .before .before .read-job .ensures .1 .1 .0) (c .before .before .before .before .before .before .before .before .before .before .before .before .before .before .before .before .before .before .read-job .ensures .1 .1 .1 .0) (c .before .before .before .before .before .before .before .before .before .before .before .before .before .before .before .before .before .before .read-job .ensures .1 .1 .1 .1 .0) (c .before .before .before .before .before .before .before .before .before .before .before .before .before .before .before .before .before .before .read-job .ensures .1 .1 .1 .1 .1)) (c .before .before .before .before .before .hand-job .ensures .0) (c .before .before .before .before .before .hand-job .ensures .1) (c .job-number .ensures)
+returns-2 c = read-whole oneSequence (c .before .before .before .before .before .before .before .before .before .before .before .before .before .before .before .before .before .before .before .before .before .before .before .before .before .before .before .before .before .before .before .before .before .before .args .file .now) _ _ _ _ _ _ _ _ _ (c .before .before .before .before .before .before .before .before .before .before .before .before .before .before .before .before .before .before .before .before .before .before .before .before .before .holds-job .ensures) (c .before .before .before .before .before .before .before .before .before .before .before .before .before .before .before .before .before .before .before .before .before .before .before .before .if1 .left) (c .before .before .before .before .before .before .before .before .before .before .before .before .before .before .before .before .before .before .read-job .ensures .0) (same-buffers (c .before .before .before .before .before .before .before .before .before .before .before .before .before .before .before .before .before .before .read-job .ensures .1 .0) (c .before .before .before .before .before .before .before .before .before .before .before .before .before .before .before .before .before .before .read-job .ensures .1 .1 .0) (c .before .before .before .before .before .before .before .before .before .before .before .before .before .before .before .before .before .before .read-job .ensures .1 .1 .1 .0) (c .before .before .before .before .before .before .before .before .before .before .before .before .before .before .before .before .before .before .read-job .ensures .1 .1 .1 .1 .0) (c .before .before .before .before .before .before .before .before .before .before .before .before .before .before .before .before .before .before .read-job .ensures .1 .1 .1 .1 .1)) (c .before .before .before .before .before .store-job .ensures .0) (c .before .before .before .before .before .store-job .ensures .1) (c .job-number .ensures)
 
 pub film-read-job-spec : {M : Type 1} → statement M
 film-read-job-spec =
@@ -57,7 +57,7 @@ film-read-job-spec =
     job-refused-requires
     returns
     read-job-requires
-    hand-job-requires
+    store-job-requires
     job-number-requires
     same-length
     same-length-2

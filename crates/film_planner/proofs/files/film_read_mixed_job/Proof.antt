@@ -4,7 +4,7 @@ use Rattle.film_planner.proofs.files.film_read_mixed_job.Statement.{sta
 use Rattle.film_planner.proofs.files.film_read_mixed_job.Tie as tie
 use mathlib.Core.List.{[]}
 use Rattle.job.specs.Job.{Override}
-use Rattle.jobrecords.specs.Reader.{buffers, lentRead, readRefusal}
+use Rattle.jobrecords.specs.Reader.{buffers, lentRead, jobReadRefusal}
 use Rattle.jobrecords.specs.Refusal.{mixed}
 use Rattle.jobrecords.specs.Theorems.{no-overrides}
 use Rattle.core_ffi.specs.lemmas.Reading.{nothing, read-short, read-whole, room-for-job, same-buffers}
@@ -21,8 +21,8 @@ returns c = read-short mixed (c .before .before .before .before .before .before 
 read-mixed-job-requires : tie.Need-read-mixed-job-requires
 read-mixed-job-requires c κs = search needs
 
-hand-job-requires : tie.Need-hand-job-requires
-hand-job-requires c κs = room-for-job _ _ _ (c .before .before .before .before .before .before .before .before .before .before .holds-job .ensures) (c .before .before .before .before .before .before .before .before .before .if1 .left)
+store-job-requires : tie.Need-store-job-requires
+store-job-requires c κs = room-for-job _ _ _ (c .before .before .before .before .before .before .before .before .before .before .holds-job .ensures) (c .before .before .before .before .before .before .before .before .before .if1 .left)
 
 job-number-requires : tie.Need-job-number-requires
 job-number-requires c κs = search needs
@@ -41,7 +41,7 @@ same-length-4 c = search needs
 
 returns-2 : tie.Need-returns-2
 unfolding lentRead
-returns-2 c = read-whole mixed (c .before .before .before .before .before .before .before .before .before .before .before .before .before .before .before .before .before .before .before .before .before .before .args .file .now) _ _ _ _ _ _ _ _ _ (c .before .before .before .before .before .before .before .before .before .before .before .before .before .before .before .before .holds-job .ensures) (c .before .before .before .before .before .before .before .before .before .before .before .before .before .before .before .if1 .left) (c .before .before .before .before .before .before .before .before .before .before .before .before .read-mixed-job .ensures .0) (same-buffers (c .before .before .before .before .before .before .before .before .before .before .before .before .read-mixed-job .ensures .1 .0) (nothing (λ (o : Override). o .chunk) (readRefusal mixed (c .before .before .before .before .before .before .before .before .before .before .before .before .before .before .before .before .before .before .before .before .before .before .args .file .now) (buffers (c .before .before .before .before .before .before .before .before .before .before .before .before .before .before .before .before .before .before .before .before .before .before .args .sizes .now) [] [] [] (c .before .before .before .before .before .before .before .before .before .before .before .before .before .before .before .before .before .before .before .before .before .before .args .forecast .now))) _ (no-overrides (c .before .before .before .before .before .before .before .before .before .before .before .before .before .before .before .before .before .before .before .before .before .before .args .file .now))) (nothing (λ (o : Override). o .layer) (readRefusal mixed (c .before .before .before .before .before .before .before .before .before .before .before .before .before .before .before .before .before .before .before .before .before .before .args .file .now) (buffers (c .before .before .before .before .before .before .before .before .before .before .before .before .before .before .before .before .before .before .before .before .before .before .args .sizes .now) [] [] [] (c .before .before .before .before .before .before .before .before .before .before .before .before .before .before .before .before .before .before .before .before .before .before .args .forecast .now))) _ (no-overrides (c .before .before .before .before .before .before .before .before .before .before .before .before .before .before .before .before .before .before .before .before .before .before .args .file .now))) (nothing (λ (o : Override). o .bytes) (readRefusal mixed (c .before .before .before .before .before .before .before .before .before .before .before .before .before .before .before .before .before .before .before .before .before .before .args .file .now) (buffers (c .before .before .before .before .before .before .before .before .before .before .before .before .before .before .before .before .before .before .before .before .before .before .args .sizes .now) [] [] [] (c .before .before .before .before .before .before .before .before .before .before .before .before .before .before .before .before .before .before .before .before .before .before .args .forecast .now))) _ (no-overrides (c .before .before .before .before .before .before .before .before .before .before .before .before .before .before .before .before .before .before .before .before .before .before .args .file .now))) (c .before .before .before .before .before .before .before .before .before .before .before .before .read-mixed-job .ensures .1 .1)) (c .before .before .before .before .before .hand-job .ensures .0) (c .before .before .before .before .before .hand-job .ensures .1) (c .job-number .ensures)
+returns-2 c = read-whole mixed (c .before .before .before .before .before .before .before .before .before .before .before .before .before .before .before .before .before .before .before .before .before .before .args .file .now) _ _ _ _ _ _ _ _ _ (c .before .before .before .before .before .before .before .before .before .before .before .before .before .before .before .before .holds-job .ensures) (c .before .before .before .before .before .before .before .before .before .before .before .before .before .before .before .if1 .left) (c .before .before .before .before .before .before .before .before .before .before .before .before .read-mixed-job .ensures .0) (same-buffers (c .before .before .before .before .before .before .before .before .before .before .before .before .read-mixed-job .ensures .1 .0) (nothing (λ (o : Override). o .chunk) (jobReadRefusal mixed (c .before .before .before .before .before .before .before .before .before .before .before .before .before .before .before .before .before .before .before .before .before .before .args .file .now) (buffers (c .before .before .before .before .before .before .before .before .before .before .before .before .before .before .before .before .before .before .before .before .before .before .args .sizes .now) [] [] [] (c .before .before .before .before .before .before .before .before .before .before .before .before .before .before .before .before .before .before .before .before .before .before .args .forecast .now))) _ (no-overrides (c .before .before .before .before .before .before .before .before .before .before .before .before .before .before .before .before .before .before .before .before .before .before .args .file .now))) (nothing (λ (o : Override). o .layer) (jobReadRefusal mixed (c .before .before .before .before .before .before .before .before .before .before .before .before .before .before .before .before .before .before .before .before .before .before .args .file .now) (buffers (c .before .before .before .before .before .before .before .before .before .before .before .before .before .before .before .before .before .before .before .before .before .before .args .sizes .now) [] [] [] (c .before .before .before .before .before .before .before .before .before .before .before .before .before .before .before .before .before .before .before .before .before .before .args .forecast .now))) _ (no-overrides (c .before .before .before .before .before .before .before .before .before .before .before .before .before .before .before .before .before .before .before .before .before .before .args .file .now))) (nothing (λ (o : Override). o .bytes) (jobReadRefusal mixed (c .before .before .before .before .before .before .before .before .before .before .before .before .before .before .before .before .before .before .before .before .before .before .args .file .now) (buffers (c .before .before .before .before .before .before .before .before .before .before .before .before .before .before .before .before .before .before .before .before .before .before .args .sizes .now) [] [] [] (c .before .before .before .before .before .before .before .before .before .before .before .before .before .before .before .before .before .before .before .before .before .before .args .forecast .now))) _ (no-overrides (c .before .before .before .before .before .before .before .before .before .before .before .before .before .before .before .before .before .before .before .before .before .before .args .file .now))) (c .before .before .before .before .before .before .before .before .before .before .before .before .read-mixed-job .ensures .1 .1)) (c .before .before .before .before .before .store-job .ensures .0) (c .before .before .before .before .before .store-job .ensures .1) (c .job-number .ensures)
 
 pub film-read-mixed-job-spec : {M : Type 1} → statement M
 film-read-mixed-job-spec =
@@ -51,7 +51,7 @@ film-read-mixed-job-spec =
     mixed-refused-requires
     returns
     read-mixed-job-requires
-    hand-job-requires
+    store-job-requires
     job-number-requires
     same-length
     same-length-2

@@ -8,8 +8,8 @@ use Rattle.core_ffi.specs.lemmas.Numbers.{planReadNumber, is-answered}
 read-plan-requires : tie.Need-read-plan-requires
 read-plan-requires c κs = search needs
 
-plan-read-requires : tie.Need-plan-read-requires
-plan-read-requires c κs = search needs
+plan-read-number-requires : tie.Need-plan-read-number-requires
+plan-read-number-requires c κs = search needs
 
 same-length : tie.Need-same-length
 same-length c = search needs
@@ -27,14 +27,14 @@ same-length-5 : tie.Need-same-length-5
 same-length-5 c = search needs
 
 returns : tie.Need-returns
-returns c = (is-answered planReadNumber _ _ _ _ _ _ (c .plan-read .ensures) (c .before .before .before .before .before .before .before .before .before .before .before .read-plan .ensures .0) refl refl, c .before .before .before .before .before .before .before .before .before .before .before .read-plan .ensures .1)
+returns c = (is-answered planReadNumber _ _ _ _ _ _ (c .plan-read-number .ensures) (c .before .before .before .before .before .before .before .before .before .before .before .read-plan .ensures .0) refl refl, c .before .before .before .before .before .before .before .before .before .before .before .read-plan .ensures .1)
 
 pub film-read-plan-spec : {M : Type 1} → statement M
 film-read-plan-spec =
     tie.close
     (tie.spec
     read-plan-requires
-    plan-read-requires
+    plan-read-number-requires
     same-length
     same-length-2
     same-length-3

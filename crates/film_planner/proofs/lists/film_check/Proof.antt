@@ -8,11 +8,11 @@ use Rattle.core_ffi.specs.lemmas.Numbers.{checkedNumber, is-answered}
 check-requires : tie.Need-check-requires
 check-requires c κs = search needs
 
-checked-requires : tie.Need-checked-requires
-checked-requires c κs = search needs
+verdict-number-requires : tie.Need-verdict-number-requires
+verdict-number-requires c κs = search needs
 
 returns : tie.Need-returns
-returns c = is-answered checkedNumber _ _ _ _ _ _ (c .checked .ensures) (c .before .check .ensures) refl refl
+returns c = is-answered checkedNumber _ _ _ _ _ _ (c .verdict-number .ensures) (c .before .check .ensures) refl refl
 
 pub film-check-spec : {M : Type 1} → statement M
-film-check-spec = tie.close (tie.spec check-requires checked-requires returns)
+film-check-spec = tie.close (tie.spec check-requires verdict-number-requires returns)

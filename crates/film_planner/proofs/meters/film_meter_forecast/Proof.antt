@@ -20,11 +20,11 @@ meter-in-requires c κs = cells-room _ _ _ _ (c .before .holds-meter .ensures) (
 forecast-requires : tie.Need-forecast-requires
 forecast-requires c κs = search needs
 
-mean-number-requires : tie.Need-mean-number-requires
-mean-number-requires c κs = search needs
+forecast-number-requires : tie.Need-forecast-number-requires
+forecast-number-requires c κs = search needs
 
 returns-2 : tie.Need-returns-2
-returns-2 c = mean-whole (storage (c .before .before .before .before .before .before .before .before .args .slots .now) (c .before .before .before .before .before .before .before .before .args .bytes .now) (c .before .before .before .before .before .before .before .before .args .kept .now)) _ _ _ (cells (storage (c .before .before .before .before .before .before .before .before .args .slots .now) (c .before .before .before .before .before .before .before .before .args .bytes .now) (c .before .before .before .before .before .before .before .before .args .kept .now)) _ (c .before .before .before .before .holds-meter .ensures) (c .before .before .before .if1 .left)) (c .before .before .meter-in .ensures) (c .before .forecast .ensures) (c .mean-number .ensures)
+returns-2 c = mean-whole (storage (c .before .before .before .before .before .before .before .before .args .slots .now) (c .before .before .before .before .before .before .before .before .args .bytes .now) (c .before .before .before .before .before .before .before .before .args .kept .now)) _ _ _ (cells (storage (c .before .before .before .before .before .before .before .before .args .slots .now) (c .before .before .before .before .before .before .before .before .args .bytes .now) (c .before .before .before .before .before .before .before .before .args .kept .now)) _ (c .before .before .before .before .holds-meter .ensures) (c .before .before .before .if1 .left)) (c .before .before .meter-in .ensures) (c .before .forecast .ensures) (c .forecast-number .ensures)
 
 pub film-meter-forecast-spec : {M : Type 1} → statement M
 film-meter-forecast-spec =
@@ -35,5 +35,5 @@ film-meter-forecast-spec =
     returns
     meter-in-requires
     forecast-requires
-    mean-number-requires
+    forecast-number-requires
     returns-2)

@@ -12,11 +12,11 @@ holds-meter-requires c κs = search needs
 sample-refusal-requires : tie.Need-sample-refusal-requires
 sample-refusal-requires c κs = search needs
 
-or-eleven-requires : tie.Need-or-eleven-requires
-or-eleven-requires c κs = search needs
+refused-or-11-requires : tie.Need-refused-or-11-requires
+refused-or-11-requires c κs = search needs
 
 returns : tie.Need-returns
-returns c = sampled-short (storage (c .before .before .before .before .before .before .before .args .slots .now) (c .before .before .before .before .before .before .before .args .bytes .now) (c .before .before .before .before .before .before .before .args .kept .now)) _ _ _ _ _ (no-cells (storage (c .before .before .before .before .before .before .before .args .slots .now) (c .before .before .before .before .before .before .before .args .bytes .now) (c .before .before .before .before .before .before .before .args .kept .now)) _ (c .before .before .before .holds-meter .ensures) (c .before .before .if1 .taken)) (c .before .sample-refusal .ensures) refl (c .or-eleven .ensures)
+returns c = sampled-short (storage (c .before .before .before .before .before .before .before .args .slots .now) (c .before .before .before .before .before .before .before .args .bytes .now) (c .before .before .before .before .before .before .before .args .kept .now)) _ _ _ _ _ (no-cells (storage (c .before .before .before .before .before .before .before .args .slots .now) (c .before .before .before .before .before .before .before .args .bytes .now) (c .before .before .before .before .before .before .before .args .kept .now)) _ (c .before .before .before .holds-meter .ensures) (c .before .before .if1 .taken)) (c .before .sample-refusal .ensures) refl (c .refused-or-11 .ensures)
 
 meter-in-requires : tie.Need-meter-in-requires
 meter-in-requires c κs = cells-room _ _ _ _ (c .before .before .before .before .holds-meter .ensures) (c .before .before .before .if1 .left)
@@ -60,7 +60,7 @@ film-meter-take-spec =
     (tie.spec
     holds-meter-requires
     sample-refusal-requires
-    or-eleven-requires
+    refused-or-11-requires
     returns
     meter-in-requires
     take-requires

@@ -7,17 +7,17 @@ use Rattle.core_ffi.specs.lemmas.Planning.{plan-short, plan-whole}
 refusal-requires : tie.Need-refusal-requires
 refusal-requires c κs = search needs
 
-or-eleven-requires : tie.Need-or-eleven-requires
-or-eleven-requires c κs = search needs
+refused-or-11-requires : tie.Need-refused-or-11-requires
+refused-or-11-requires c κs = search needs
 
 returns : tie.Need-returns
-returns c = plan-short _ _ _ _ _ _ _ _ _ (c .before .refusal .ensures) (c .before .before .if1 .taken) (c .or-eleven .ensures)
+returns c = plan-short _ _ _ _ _ _ _ _ _ (c .before .refusal .ensures) (c .before .before .if1 .taken) (c .refused-or-11 .ensures)
 
 plan-requires : tie.Need-plan-requires
 plan-requires c κs = search needs
 
-hand-counts-requires : tie.Need-hand-counts-requires
-hand-counts-requires c κs = search needs
+store-counts-requires : tie.Need-store-counts-requires
+store-counts-requires c κs = search needs
 
 plan-number-requires : tie.Need-plan-number-requires
 plan-number-requires c κs = search needs
@@ -41,17 +41,17 @@ same-length-6 : tie.Need-same-length-6
 same-length-6 c = search needs
 
 returns-2 : tie.Need-returns-2
-returns-2 c = plan-whole _ _ _ _ _ _ _ _ _ _ _ _ _ _ _ (c .before .before .before .before .before .before .before .before .before .before .before .before .before .before .before .before .before .before .before .before .before .before .if1 .left) (c .before .before .before .before .before .before .before .before .before .before .before .before .before .before .before .before .plan .ensures .0) (c .before .before .before .hand-counts .ensures) (c .plan-number .ensures)
+returns-2 c = plan-whole _ _ _ _ _ _ _ _ _ _ _ _ _ _ _ (c .before .before .before .before .before .before .before .before .before .before .before .before .before .before .before .before .before .before .before .before .before .before .if1 .left) (c .before .before .before .before .before .before .before .before .before .before .before .before .before .before .before .before .plan .ensures .0) (c .before .before .before .store-counts .ensures) (c .plan-number .ensures)
 
 pub film-plan-spec : {M : Type 1} → statement M
 film-plan-spec =
     tie.close
     (tie.spec
     refusal-requires
-    or-eleven-requires
+    refused-or-11-requires
     returns
     plan-requires
-    hand-counts-requires
+    store-counts-requires
     plan-number-requires
     same-length
     same-length-2

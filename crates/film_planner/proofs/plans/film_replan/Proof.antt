@@ -13,8 +13,8 @@ returns c = replan-short _ _ _ _ _ _ _ _ _ (c .before .if1 .taken) (c .replan-re
 replan-requires : tie.Need-replan-requires
 replan-requires c κs = search needs
 
-hand-counts-requires : tie.Need-hand-counts-requires
-hand-counts-requires c κs = search needs
+store-counts-requires : tie.Need-store-counts-requires
+store-counts-requires c κs = search needs
 
 plan-number-requires : tie.Need-plan-number-requires
 plan-number-requires c κs = search needs
@@ -38,7 +38,7 @@ same-length-6 : tie.Need-same-length-6
 same-length-6 c = search needs
 
 returns-2 : tie.Need-returns-2
-returns-2 c = replan-whole _ _ _ _ _ _ _ _ _ _ _ _ _ _ _ _ (c .before .before .before .before .before .before .before .before .before .before .before .before .before .before .before .before .before .before .before .before .before .before .if1 .left) (c .before .before .before .before .before .before .before .before .before .before .before .before .before .before .before .before .replan .ensures .0) (c .before .before .before .hand-counts .ensures) (c .plan-number .ensures)
+returns-2 c = replan-whole _ _ _ _ _ _ _ _ _ _ _ _ _ _ _ _ (c .before .before .before .before .before .before .before .before .before .before .before .before .before .before .before .before .before .before .before .before .before .before .if1 .left) (c .before .before .before .before .before .before .before .before .before .before .before .before .before .before .before .before .replan .ensures .0) (c .before .before .before .store-counts .ensures) (c .plan-number .ensures)
 
 pub film-replan-spec : {M : Type 1} → statement M
 film-replan-spec =
@@ -47,7 +47,7 @@ film-replan-spec =
     replan-refused-requires
     returns
     replan-requires
-    hand-counts-requires
+    store-counts-requires
     plan-number-requires
     same-length
     same-length-2

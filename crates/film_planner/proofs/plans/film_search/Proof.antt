@@ -11,20 +11,20 @@ holds-walk-requires c κs = search needs
 refusal-requires : tie.Need-refusal-requires
 refusal-requires c κs = search needs
 
-or-eleven-requires : tie.Need-or-eleven-requires
-or-eleven-requires c κs = search needs
+refused-or-11-requires : tie.Need-refused-or-11-requires
+refused-or-11-requires c κs = search needs
 
 returns : tie.Need-returns
-returns c = search-short _ _ _ _ _ _ _ _ _ _ _ _ (c .before .before .before .holds-walk .ensures) (c .before .before .if1 .taken) (c .before .refusal .ensures) (c .or-eleven .ensures)
+returns c = search-short _ _ _ _ _ _ _ _ _ _ _ _ (c .before .before .before .holds-walk .ensures) (c .before .before .if1 .taken) (c .before .refusal .ensures) (c .refused-or-11 .ensures)
 
 search-requires : tie.Need-search-requires
 search-requires c κs = search needs
 
-hand-counts-requires : tie.Need-hand-counts-requires
-hand-counts-requires c κs = room-for-walk (length (c .before .before .before .before .before .before .before .before .before .before .before .before .before .before .before .before .before .before .before .before .before .before .before .before .before .before .before .before .before .before .before .before .args .counts .now)) (length (c .before .before .before .before .before .before .before .before .before .before .before .before .before .before .before .before .before .before .before .before .before .before .before .before .before .before .before .before .before .before .before .before .args .walk .now)) _ (c .before .before .before .before .before .before .before .before .before .before .before .before .before .before .before .before .before .before .before .holds-walk .ensures) (c .before .before .before .before .before .before .before .before .before .before .before .before .before .before .before .before .before .before .if1 .left) .0
+store-counts-requires : tie.Need-store-counts-requires
+store-counts-requires c κs = room-for-walk (length (c .before .before .before .before .before .before .before .before .before .before .before .before .before .before .before .before .before .before .before .before .before .before .before .before .before .before .before .before .before .before .before .before .args .counts .now)) (length (c .before .before .before .before .before .before .before .before .before .before .before .before .before .before .before .before .before .before .before .before .before .before .before .before .before .before .before .before .before .before .before .before .args .walk .now)) _ (c .before .before .before .before .before .before .before .before .before .before .before .before .before .before .before .before .before .before .before .holds-walk .ensures) (c .before .before .before .before .before .before .before .before .before .before .before .before .before .before .before .before .before .before .if1 .left) .0
 
-hand-walk-requires : tie.Need-hand-walk-requires
-hand-walk-requires c κs = room-for-walk (length (c .before .before .before .before .before .before .before .before .before .before .before .before .before .before .before .before .before .before .before .before .before .before .before .before .before .before .before .before .before .before .before .before .before .before .before .before .args .counts .now)) (length (c .before .before .before .before .before .before .before .before .before .before .before .before .before .before .before .before .before .before .before .before .before .before .before .before .before .before .before .before .before .before .before .before .before .before .before .before .args .walk .now)) _ (c .before .before .before .before .before .before .before .before .before .before .before .before .before .before .before .before .before .before .before .before .before .before .before .holds-walk .ensures) (c .before .before .before .before .before .before .before .before .before .before .before .before .before .before .before .before .before .before .before .before .before .before .if1 .left) .1
+store-walk-requires : tie.Need-store-walk-requires
+store-walk-requires c κs = room-for-walk (length (c .before .before .before .before .before .before .before .before .before .before .before .before .before .before .before .before .before .before .before .before .before .before .before .before .before .before .before .before .before .before .before .before .before .before .before .before .args .counts .now)) (length (c .before .before .before .before .before .before .before .before .before .before .before .before .before .before .before .before .before .before .before .before .before .before .before .before .before .before .before .before .before .before .before .before .before .before .before .before .args .walk .now)) _ (c .before .before .before .before .before .before .before .before .before .before .before .before .before .before .before .before .before .before .before .before .before .before .before .holds-walk .ensures) (c .before .before .before .before .before .before .before .before .before .before .before .before .before .before .before .before .before .before .before .before .before .before .if1 .left) .1
 
 plan-number-requires : tie.Need-plan-number-requires
 plan-number-requires c κs = search needs
@@ -51,7 +51,7 @@ same-length-7 : tie.Need-same-length-7
 same-length-7 c = search needs
 
 returns-2 : tie.Need-returns-2
-returns-2 c = search-whole _ _ _ _ _ _ _ _ _ _ _ _ _ _ _ _ _ _ _ (c .before .before .before .before .before .before .before .before .before .before .before .before .before .before .before .before .before .before .before .before .before .before .before .before .before .before .before .holds-walk .ensures) (c .before .before .before .before .before .before .before .before .before .before .before .before .before .before .before .before .before .before .before .before .before .before .before .before .before .before .if1 .left) (c .before .before .before .before .before .before .before .before .before .before .before .before .before .before .before .before .before .before .before .before .search .ensures .0) (c .before .before .before .before .before .before .before .hand-counts .ensures) (c .before .before .before .hand-walk .ensures) (c .plan-number .ensures)
+returns-2 c = search-whole _ _ _ _ _ _ _ _ _ _ _ _ _ _ _ _ _ _ _ (c .before .before .before .before .before .before .before .before .before .before .before .before .before .before .before .before .before .before .before .before .before .before .before .before .before .before .before .holds-walk .ensures) (c .before .before .before .before .before .before .before .before .before .before .before .before .before .before .before .before .before .before .before .before .before .before .before .before .before .before .if1 .left) (c .before .before .before .before .before .before .before .before .before .before .before .before .before .before .before .before .before .before .before .before .search .ensures .0) (c .before .before .before .before .before .before .before .store-counts .ensures) (c .before .before .before .store-walk .ensures) (c .plan-number .ensures)
 
 pub film-search-spec : {M : Type 1} → statement M
 film-search-spec =
@@ -59,11 +59,11 @@ film-search-spec =
     (tie.spec
     holds-walk-requires
     refusal-requires
-    or-eleven-requires
+    refused-or-11-requires
     returns
     search-requires
-    hand-counts-requires
-    hand-walk-requires
+    store-counts-requires
+    store-walk-requires
     plan-number-requires
     same-length
     same-length-2

@@ -8,15 +8,15 @@ use Rattle.core_ffi.specs.lemmas.Numbers.{traceReadNumber, is-answered}
 read-trace-requires : tie.Need-read-trace-requires
 read-trace-requires c κs = search needs
 
-trace-read-requires : tie.Need-trace-read-requires
-trace-read-requires c κs = search needs
+trace-read-number-requires : tie.Need-trace-read-number-requires
+trace-read-number-requires c κs = search needs
 
 same-length : tie.Need-same-length
 same-length c = search needs
 
 returns : tie.Need-returns
-returns c = (is-answered traceReadNumber _ _ _ _ _ _ (c .trace-read .ensures) (c .before .before .before .read-trace .ensures .answer) refl refl, c .before .before .before .read-trace .ensures .buffer)
+returns c = (is-answered traceReadNumber _ _ _ _ _ _ (c .trace-read-number .ensures) (c .before .before .before .read-trace .ensures .answer) refl refl, c .before .before .before .read-trace .ensures .buffer)
 
 pub film-read-trace-spec : {M : Type 1} → statement M
 film-read-trace-spec =
-    tie.close (tie.spec read-trace-requires trace-read-requires same-length returns)
+    tie.close (tie.spec read-trace-requires trace-read-number-requires same-length returns)

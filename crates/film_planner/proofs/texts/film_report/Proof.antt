@@ -8,14 +8,14 @@ use Rattle.core_ffi.specs.lemmas.Numbers.{reportNumber, is-answered}
 report-requires : tie.Need-report-requires
 report-requires c κs = search needs
 
-reported-requires : tie.Need-reported-requires
-reported-requires c κs = search needs
+report-number-requires : tie.Need-report-number-requires
+report-number-requires c κs = search needs
 
 same-length : tie.Need-same-length
 same-length c = search needs
 
 returns : tie.Need-returns
-returns c = (is-answered reportNumber _ _ _ _ _ _ (c .reported .ensures) (c .before .before .before .report .ensures .result) refl refl, c .before .before .before .report .ensures .buffer)
+returns c = (is-answered reportNumber _ _ _ _ _ _ (c .report-number .ensures) (c .before .before .before .report .ensures .result) refl refl, c .before .before .before .report .ensures .buffer)
 
 pub film-report-spec : {M : Type 1} → statement M
-film-report-spec = tie.close (tie.spec report-requires reported-requires same-length returns)
+film-report-spec = tie.close (tie.spec report-requires report-number-requires same-length returns)

@@ -8,11 +8,11 @@ use Rattle.core_ffi.specs.lemmas.Numbers.{waitNumber, is-answered}
 wait-requires : tie.Need-wait-requires
 wait-requires c κs = search needs
 
-waited-requires : tie.Need-waited-requires
-waited-requires c κs = search needs
+wait-number-requires : tie.Need-wait-number-requires
+wait-number-requires c κs = search needs
 
 returns : tie.Need-returns
-returns c = is-answered waitNumber _ _ _ _ _ _ (c .waited .ensures) (c .before .wait .ensures .0) refl refl
+returns c = is-answered waitNumber _ _ _ _ _ _ (c .wait-number .ensures) (c .before .wait .ensures .0) refl refl
 
 pub film-wait-spec : {M : Type 1} → statement M
-film-wait-spec = tie.close (tie.spec wait-requires waited-requires returns)
+film-wait-spec = tie.close (tie.spec wait-requires wait-number-requires returns)

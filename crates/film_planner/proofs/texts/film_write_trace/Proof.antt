@@ -8,15 +8,15 @@ use Rattle.core_ffi.specs.lemmas.Numbers.{traceWrittenNumber, is-answered}
 write-trace-requires : tie.Need-write-trace-requires
 write-trace-requires c κs = search needs
 
-trace-written-requires : tie.Need-trace-written-requires
-trace-written-requires c κs = search needs
+trace-written-number-requires : tie.Need-trace-written-number-requires
+trace-written-number-requires c κs = search needs
 
 same-length : tie.Need-same-length
 same-length c = search needs
 
 returns : tie.Need-returns
-returns c = (is-answered traceWrittenNumber _ _ _ _ _ _ (c .trace-written .ensures) (c .before .before .before .write-trace .ensures .answer) refl refl, c .before .before .before .write-trace .ensures .buffer)
+returns c = (is-answered traceWrittenNumber _ _ _ _ _ _ (c .trace-written-number .ensures) (c .before .before .before .write-trace .ensures .answer) refl refl, c .before .before .before .write-trace .ensures .buffer)
 
 pub film-write-trace-spec : {M : Type 1} → statement M
 film-write-trace-spec =
-    tie.close (tie.spec write-trace-requires trace-written-requires same-length returns)
+    tie.close (tie.spec write-trace-requires trace-written-number-requires same-length returns)
