@@ -116,7 +116,7 @@ trials-carried j sized p dec = own-carries j sized p (dec .choice) (fits-can-car
 pub elsewhere-iff : (j : Job) → (ByMooreHodgson j → ⊥) → (p : ℕ → ℕ) → IsPlan j p ↔ SettledByTrials j p
 elsewhere-iff j other p = (
   λ d. record { choice = d .choice; decided = by-layer d },
-  λ d. record { choice = d .choice; walked = λ w. absurd (other w); elsewhere = λ n. d .decided 0; upper = λ n. d .decided (suc n) },
+  λ d. record { choice = d .choice; moore-hodgson = λ w. absurd (other w); elsewhere = λ n. d .decided 0; upper = λ n. d .decided (suc n) },
 ) where
   by-layer : IsPlan j p → (n : ℕ) → Settles j p n
   by-layer d zero = d .elsewhere other

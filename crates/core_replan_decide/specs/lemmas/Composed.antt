@@ -156,7 +156,7 @@ module _
   wholeMark b = levelMark (level j fetched b)
 
   abbrev done : ℕ → Tried
-  done lo = record { needOf = needOf settled (due j) A (picked member lo (chunks j - lo)); kept = map (keptRest j fetched b1) (picked member lo (chunks j - lo)) }
+  done lo = record { need = needOf settled (due j) A (picked member lo (chunks j - lo)); kept = map (keptRest j fetched b1) (picked member lo (chunks j - lo)) }
 
   abbrev scan : List ℕ → Tried
   scan l = scanFront (λ b. rest j fetched b 0) (due j) A wholeMark (A 0) (needOf one (due j) A news) (map (keptRest j fetched b1) news) l
@@ -165,7 +165,7 @@ module _
   chosen-is :
       (i : ℕ) → 1 ≤ i → i ≤ chunks j → T (isBegunHere i) →
       let want : ℕ = max (A (due j i)) (needOf settled (due j) A (picked member i (chunks j - i))) in
-      choose (wholeMark i) (rest j fetched i 0) want (A 0) ≡ record { needOf = settled i + want; bytes = settled i; mark = levelMark (b1 i) }
+      choose (wholeMark i) (rest j fetched i 0) want (A 0) ≡ record { need = settled i + want; bytes = settled i; mark = levelMark (b1 i) }
   chosen-is i u v t =
       let want : ℕ = max (A (due j i)) (needOf settled (due j) A (picked member i (chunks j - i))) in
       let x = and-T (carries fetched i) (leb p (due j i)) t in
@@ -177,37 +177,37 @@ module _
       let z : settled i ≡ 0 = ap (sum (rest j fetched i)) e ∙ whole-left j sized p fetched ok some plan fits accepts i u v in
       let o : want ≡ settled i + want = omega (arith, z) in
       rw (base-bit (level j fetched i) l)
-      (ap (λ (n : ℕ). record { needOf = n; bytes = 0; mark = levelMark (level j fetched i) }) o
-      ∙ ap (λ (n : ℕ). record { needOf = settled i + want; bytes = n; mark = levelMark (level j fetched i) }) (sym z)
-      ∙ ap (λ (n : ℕ). record { needOf = settled i + want; bytes = settled i; mark = levelMark n }) (sym e)))
+      (ap (λ (n : ℕ). record { need = n; bytes = 0; mark = levelMark (level j fetched i) }) o
+      ∙ ap (λ (n : ℕ). record { need = settled i + want; bytes = n; mark = levelMark (level j fetched i) }) (sym z)
+      ∙ ap (λ (n : ℕ). record { need = settled i + want; bytes = settled i; mark = levelMark n }) (sym e)))
       (λ w.
       let lacks : level j fetched i ≡ 0 = omega (arith, nleb→lt 1 (level j fetched i) w) in
       let r = base-begun j sized p fetched ok some plan fits accepts i (chunks j - i) (omega arith) u (leb→le p (due j i) (x .1)) lacks (x .0) in
       let same : leb (rest j fetched i 0 + want) (A 0) ≡ isKept i = same-test (leb (rest j fetched i 0 + want) (A 0)) (isKept i) (λ y. r .1 (leb→le (rest j fetched i 0 + want) (A 0) y)) (λ y. le→leb (rest j fetched i 0 + want) (A 0) (r .0 y)) in
       ap (λ (n : ℕ). choose (levelMark n) (rest j fetched i 0) want (A 0)) lacks
-      ∙ ap (λ (y : Bool). cond y (record { needOf = rest j fetched i 0 + want; bytes = rest j fetched i 0; mark = 1 }) (record { needOf = want; bytes = 0; mark = 0 })) same
+      ∙ ap (λ (y : Bool). cond y (record { need = rest j fetched i 0 + want; bytes = rest j fetched i 0; mark = 1 }) (record { need = want; bytes = 0; mark = 0 })) same
       ∙ by-kept (isKept i) want lacks (λ y. leb→le 1 (plan i) y) (λ y. nleb→lt 1 (plan i) y))
       (test (leb 1 (level j fetched i)))
     where
       by-kept :
           (y : Bool) (want : ℕ) → level j fetched i ≡ 0 → (T y → 1 ≤ plan i) → (T (not y) → plan i < 1) →
-          _≡_ {A = Chosen} (cond y (record { needOf = rest j fetched i 0 + want; bytes = rest j fetched i 0; mark = 1 }) (record { needOf = want; bytes = 0; mark = 0 })) (record { needOf = settled i + want; bytes = settled i; mark = levelMark (b1 i) })
+          _≡_ {A = Chosen} (cond y (record { need = rest j fetched i 0 + want; bytes = rest j fetched i 0; mark = 1 }) (record { need = want; bytes = 0; mark = 0 })) (record { need = settled i + want; bytes = settled i; mark = levelMark (b1 i) })
       by-kept true want lacks f edge =
           let h = f tt in
           let e : b1 i ≡ 1 = omega arith in
-          rw (bytes-one i lacks h) (ap (λ (n : ℕ). record { needOf = rest j fetched i 0 + want; bytes = rest j fetched i 0; mark = levelMark n }) (sym e))
+          rw (bytes-one i lacks h) (ap (λ (n : ℕ). record { need = rest j fetched i 0 + want; bytes = rest j fetched i 0; mark = levelMark n }) (sym e))
       by-kept false want lacks f edge =
           let h = edge tt in
           let e : b1 i ≡ 0 = omega arith in
           let z : want ≡ 0 + want = omega arith in
-          rw (bytes-zero i lacks h) (ap (λ (n : ℕ). record { needOf = n; bytes = 0; mark = 0 }) z ∙ ap (λ (n : ℕ). record { needOf = 0 + want; bytes = 0; mark = levelMark n }) (sym e))
+          rw (bytes-zero i lacks h) (ap (λ (n : ℕ). record { need = n; bytes = 0; mark = 0 }) z ∙ ap (λ (n : ℕ). record { need = 0 + want; bytes = 0; mark = levelMark n }) (sym e))
 
   scan-are : (n lo : ℕ) → lo + n ≡ last → scan (picked isBegunHere lo n) ≡ done lo
   scan-are zero lo e =
       let q : lo ≡ last = omega arith in
       let nn = new-need j sized p fetched ok some plan fits accepts last behind in-job top (chunks j - last) (omega arith) in
-      rw q (ap (λ (n : ℕ). record { needOf = n; kept = map (keptRest j fetched b1) news }) (sym nn)
-      ∙ ap (λ (l : List ℕ). record { needOf = needOf settled (due j) A (picked member last (chunks j - last)); kept = map (keptRest j fetched b1) l }) (sym new-members))
+      rw q (ap (λ (n : ℕ). record { need = n; kept = map (keptRest j fetched b1) news }) (sym nn)
+      ∙ ap (λ (l : List ℕ). record { need = needOf settled (due j) A (picked member last (chunks j - last)); kept = map (keptRest j fetched b1) l }) (sym new-members))
   scan-are (suc n) lo e =
       let i = suc lo in
       let next = scan-are n i (omega arith) in
@@ -217,7 +217,7 @@ module _
       (λ t.
       rw (c, m, T-true (isBegunHere i) t)
       (ap (frontOne (λ b. rest j fetched b 0) (due j) A wholeMark (A 0) i) next
-      ∙ ap (λ (x : Chosen). record { needOf = x .need; kept = record { chunk = i; due = due j i; bytes = x .bytes; mark = x .mark } ∷ map (keptRest j fetched b1) (picked member i (chunks j - i)) }) (chosen-is i (omega arith) (omega arith) t)))
+      ∙ ap (λ (x : Chosen). record { need = x .need; kept = record { chunk = i; due = due j i; bytes = x .bytes; mark = x .mark } ∷ map (keptRest j fetched b1) (picked member i (chunks j - i)) }) (chosen-is i (omega arith) (omega arith) t)))
       (λ t. rw (c, m, not-T-false (isBegunHere i) t) next)
       (test (isBegunHere i))
 

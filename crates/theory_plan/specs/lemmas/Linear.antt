@@ -206,7 +206,7 @@ module _ (j : Job) (n : ℕ) (up : 1 ≤ n) (few : n < 8) (p : ℕ → ℕ) (acc
   takes k = ltb n (p k)
 
   abbrev result : List ℕ → Tried
-  result ks = record { needOf = needOf upto (due j) (after j) ks; kept = map (keptAt j level) ks }
+  result ks = record { need = needOf upto (due j) (after j) ks; kept = map (keptAt j level) ks }
 
   abbrev run : ℕ → List ℕ → List ℕ → Tried
   run room ks rs = back (size j) (after j) n (rooms (after j) room (map (bytes j lower) ks) rs) (map (keptAt j lower) ks)

@@ -53,7 +53,7 @@ module _ (j : Job) (a : Accepted j) (p : ℕ) (fetched : List Row) (ok : Accepta
     -- From the need of the new chunks on; 1 layer for each base kept, and the layers whole before p.
     pub begun-bases :
         basesBegun (λ b. rest b 0) (due j) A (λ b. leb 1 (level j fetched b)) (A 0) (needOf one (due j) A (picked isKept last (chunks j - last))) (picked isBegun 0 last) ≡
-        record { needOf = needOf (bytesLeft j fetched (λ e. max (level j fetched e) (min (plan e) 1))) (due j) A (busyFrom j p fetched plan); kept = picked (λ i. isBegun i && isKept i) 0 last }
+        record { need = needOf (bytesLeft j fetched (λ e. max (level j fetched e) (min (plan e) 1))) (due j) A (busyFrom j p fetched plan); kept = picked (λ i. isBegun i && isKept i) 0 last }
     begun-bases =
         let sized = accepted-sized j a in
         let some = a .layers-in .low in
@@ -76,7 +76,7 @@ module _ (j : Job) (a : Accepted j) (p : ℕ) (fetched : List Row) (ok : Accepta
       (n : ℕ) → 1 ≤ n → n < layers j →
       let cs = busyFrom j p fetched plan in
       back rest A n (rooms A (A 0) (map (bytesLeft j fetched (below n)) cs) (releases (due j) (heldMost j) cs)) (map (keptRest (below n)) cs) ≡
-      record { needOf = needOf (bytesLeft j fetched (below (suc n))) (due j) A cs; kept = map (keptRest (below (suc n))) cs }
+      record { need = needOf (bytesLeft j fetched (below (suc n))) (due j) A cs; kept = map (keptRest (below (suc n))) cs }
   layer-pass n up h =
       let sized = accepted-sized j a in
       layer-from-is j p fetched ok n up (omega (arith, a .layers-in .high)) h plan (d .choice) (is-replan-fits j p fetched ok sized plan d) (λ i u v. is-replan-accepts j p fetched ok sized plan d i n (layer-of j i n u v h))

@@ -72,7 +72,7 @@ module _ (s d A : ℕ → ℕ) (p h : ℕ) (bs : List ℕ) where
 
 -- The begun chunks: what those settled so far use up, and which of them keep their base.
 pub record Begun : Type 0 where
-  pub needOf : ℕ
+  pub need : ℕ
   pub kept : List ℕ
 
 -- whole: the base is whole before p; s: what is left of it; cap: what is forecast from p on.
@@ -80,12 +80,12 @@ module _ (s d A : ℕ → ℕ) (whole : ℕ → Bool) (cap : ℕ) where
   abbrev pub tryBegun : ℕ → Begun → Begun
   tryBegun b o =
       let want : ℕ = max (A (d b)) (o .need) in
-      cond (whole b) (record { needOf = want; kept = b ∷ o .kept })
-      (cond (leb (s b + want) cap) (record { needOf = s b + want; kept = b ∷ o .kept }) (record { needOf = want; kept = o .kept }))
+      cond (whole b) (record { need = want; kept = b ∷ o .kept })
+      (cond (leb (s b + want) cap) (record { need = s b + want; kept = b ∷ o .kept }) (record { need = want; kept = o .kept }))
 
   -- From the last to the first, behind them a need of n.
   abbrev pub basesBegun : ℕ → List ℕ → Begun
-  basesBegun n [] = record { needOf = n; kept = [] }
+  basesBegun n [] = record { need = n; kept = [] }
   basesBegun n (b ∷ bs) = tryBegun b (basesBegun n bs)
 
 -- ---- what they keep
@@ -232,7 +232,7 @@ module _
 
     -- What is to be had of the chunks from lo + 1 on.
     abbrev done : ℕ → ℕ → Begun
-    done lo n = record { needOf = needOf settledBytes (due j) A (picked member lo (chunks j - lo)); kept = picked (λ i. isBegun i && keptChunk i) lo n }
+    done lo n = record { need = needOf settledBytes (due j) A (picked member lo (chunks j - lo)); kept = picked (λ i. isBegun i && keptChunk i) lo n }
 
     abbrev scanBegun : List ℕ → Begun
     scanBegun l = basesBegun rest (due j) A (λ b. leb 1 (base b)) (A 0) (needOf settledBytes (due j) A (picked member last (chunks j - last))) l
@@ -248,14 +248,14 @@ module _
 
     by-kept :
         (b : Bool) (r w s i : ℕ) (l : List ℕ) → (T b → s ≡ r) → (T (not b) → s ≡ 0) →
-        _≡_ {A = Begun} (cond b (record { needOf = r + w; kept = i ∷ l }) (record { needOf = w; kept = l })) (record { needOf = s + w; kept = cond b (i ∷ l) l })
-    by-kept true r w s i l f g = let e : r + w ≡ s + w = omega (arith, f tt) in ap (λ (c : ℕ). record { needOf = c; kept = i ∷ l }) e
-    by-kept false r w s i l f g = let e : w ≡ s + w = omega (arith, g tt) in ap (λ (c : ℕ). record { needOf = c; kept = l }) e
+        _≡_ {A = Begun} (cond b (record { need = r + w; kept = i ∷ l }) (record { need = w; kept = l })) (record { need = s + w; kept = cond b (i ∷ l) l })
+    by-kept true r w s i l f g = let e : r + w ≡ s + w = omega (arith, f tt) in ap (λ (c : ℕ). record { need = c; kept = i ∷ l }) e
+    by-kept false r w s i l f g = let e : w ≡ s + w = omega (arith, g tt) in ap (λ (c : ℕ). record { need = c; kept = l }) e
 
     one-begun :
         (i n : ℕ) → 1 ≤ i → i ≤ last → T (isBegun i) →
         tryBegun rest (due j) A (λ b. leb 1 (base b)) (A 0) i (done i n) ≡
-        record { needOf = needOf settledBytes (due j) A (i ∷ picked member i (chunks j - i)); kept = cond (keptChunk i) (i ∷ picked (λ i. isBegun i && keptChunk i) i n) (picked (λ i. isBegun i && keptChunk i) i n) }
+        record { need = needOf settledBytes (due j) A (i ∷ picked member i (chunks j - i)); kept = cond (keptChunk i) (i ∷ picked (λ i. isBegun i && keptChunk i) i n) (picked (λ i. isBegun i && keptChunk i) i n) }
     one-begun i n u v b =
         let hi : i ≤ chunks j = omega arith in
         let x = and-T (carries fetched i) (leb p (due j i)) b in
@@ -266,7 +266,7 @@ module _
         let e : max (base i) (min (q i) 1) ≡ base i = omega arith in
         let z : settledBytes i ≡ 0 = ap (sum (λ n. size j i n - bytesOfLayer fetched i n)) e ∙ whole-left j sized p fetched ok some q fq accepts i u hi in
         let o : (c : ℕ) → c ≡ settledBytes i + c = λ c. omega (arith, z) in
-        rw (T-true (leb 1 (base i)) t, le-leb 1 (q i) (omega arith)) (ap (λ (c : ℕ). record { needOf = c; kept = i ∷ picked (λ i. isBegun i && keptChunk i) i n }) (o (max (A (due j i)) (needOf settledBytes (due j) A (picked member i (chunks j - i)))))))
+        rw (T-true (leb 1 (base i)) t, le-leb 1 (q i) (omega arith)) (ap (λ (c : ℕ). record { need = c; kept = i ∷ picked (λ i. isBegun i && keptChunk i) i n }) (o (max (A (due j i)) (needOf settledBytes (due j) A (picked member i (chunks j - i)))))))
         (λ t.
         let lacks : base i ≡ 0 = omega (arith, nleb→lt 1 (base i) t) in
         let r = base-begun j sized p fetched ok some q fq accepts i (chunks j - i) (omega arith) u (leb→le p (due j i) (x .1)) lacks (x .0) in
@@ -277,7 +277,7 @@ module _
 
     -- The walk keeps the plan's begun chunks and hands on what all busy chunks use up.
     pub bases-begun-are : (n lo : ℕ) → lo + n ≡ last → scanBegun (picked isBegun lo n) ≡ done lo n
-    bases-begun-are zero lo e = let d : last ≡ lo = omega arith in ap (λ (x : ℕ). record { needOf = needOf settledBytes (due j) A (picked member x (chunks j - x)); kept = [] }) d
+    bases-begun-are zero lo e = let d : last ≡ lo = omega arith in ap (λ (x : ℕ). record { need = needOf settledBytes (due j) A (picked member x (chunks j - x)); kept = [] }) d
     bases-begun-are (suc n) lo e =
         let i = suc lo in
         let next = bases-begun-are n i (omega arith) in

@@ -88,7 +88,7 @@ module _
   keptRest lv k = record { chunk = k; due = due j k; bytes = left lv k; mark = levelMark (lv k) }
 
   abbrev result : List ℕ → Tried
-  result ks = record { needOf = needOf upto (due j) A ks; kept = map (keptRest upper) ks }
+  result ks = record { need = needOf upto (due j) A ks; kept = map (keptRest upper) ks }
 
   abbrev run : ℕ → List ℕ → List ℕ → Tried
   run room ks rs = back rest A n (rooms A room (map (left lower) ks) rs) (map (keptRest lower) ks)
