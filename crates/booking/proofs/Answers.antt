@@ -1,4 +1,5 @@
--- Laws on what the two calls answer: refusals in turn, and the forecast that is handed back. Assumes nothing.
+-- Laws on what the two calls answer: refusals in turn, and the forecast that is handed back.
+-- Assumes nothing.
 use Prim.Native.Nat.{ℕ, _+_, _≤_, _<_}
 use mathlib.Core.Path.{_≡_, refl, sym, ap, _∙_}
 use mathlib.Core.Bool.{Bool, true, false, cond, _&&_}

@@ -1,4 +1,5 @@
--- Laws on the passes over the rows: the forecast after one row more, and rows by slot and bytes alone. Assumes nothing.
+-- Laws on the passes over the rows: the forecast after one row more, and rows by slot and bytes
+-- alone. Assumes nothing.
 use Prim.Native.Nat.{ℕ, zero, suc, _+_, _-_, _≤_, _<_}
 use mathlib.Core.Path.{_≡_, refl, sym, ap, _∙_}
 use mathlib.Core.Bool.{Bool, true, false, cond}

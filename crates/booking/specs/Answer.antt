@@ -1,5 +1,6 @@
--- Meaning. What the two calls answer, and the lent forecast afterwards: document 02, request 11, "Both come after 8", and document 01,
--- "Each gives its number alone; buffers and meter keep their bytes."
+-- Meaning. What the two calls answer, and the lent forecast afterwards: document 02, request 11,
+-- "Both come after 8", and document 01, "Each gives its number alone; buffers and meter keep their
+-- bytes."
 use Prim.Native.Nat.{ℕ}
 use mathlib.Core.Path.{_≡_}
 use mathlib.Core.Bool.{cond}

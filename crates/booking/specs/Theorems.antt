@@ -40,7 +40,8 @@ nineteen-iff j marks rows =
     let e = eqb-iff (verdict j marks rows) 0 in
     unless-as 19 (eqb (verdict j marks rows) 0) (omega arith) (λ t. v .0 (e .0 t), λ k. e .1 (v .1 k))
 
--- "20, releasing a row for a slot that isn't there or beyond 16,777,216 bytes in a slot": none exactly for a list that can be released.
+-- "20, releasing a row for a slot that isn't there or beyond 16,777,216 bytes in a slot": none
+-- exactly for a list that can be released.
 pub twenty-iff : (f : List ℕ) (rows : List Row) → (roomRefusal f rows ≡ 0) ↔ Releasable f rows
 unfolding roomRefusal
 twenty-iff f rows =
@@ -64,7 +65,8 @@ release-restores f rows b =
 
 -- ---- two lists
 
--- "Two lists that both can be booked in either sequence leave equal forecasts." It is so of any two lists.
+-- "Two lists that both can be booked in either sequence leave equal forecasts." It is so of any two
+-- lists.
 pub either-sequence : (f : List ℕ) (a b : List Row) → takenOff (takenOff f a) b ≡ takenOff (takenOff f b) a
 either-sequence f a b =
     let la = length-taken f a in
@@ -82,8 +84,8 @@ either-sequence f a b =
 
 -- ---- runs
 
--- "After any run of bookings, and releases of lists still booked, the booked and unspent bytes sum to the forecast before the first
--- booking, slot by slot".
+-- "After any run of bookings, and releases of lists still booked, the booked and unspent bytes sum
+-- to the forecast before the first booking, slot by slot".
 pub balanced : {first f : List ℕ} {booked : List (List Row)} → Run first f booked → Balanced first f booked
 balanced run = kept run .balance
 
@@ -112,7 +114,8 @@ passing-bookable j ok marks rows keeps = record { job = j; accepted = ok; its-fo
 pub plan-bookable : (j : Job) → Accepted j → (p : ℕ → ℕ) → IsPlan j p → Bookable (j .forecast) (ownList j p)
 plan-bookable j ok p d = passing-bookable j ok (marksOf j p) (ownList j p) (plan-carried j (accepted-sized j ok) p d .0)
 
--- ---- "The second film has the same last due slot and is planned on what the first left, and being best means best on that remainder."
+-- ---- "The second film has the same last due slot and is planned on what the first left, and being
+-- best means best on that remainder."
 
 -- After any run: a film with the last due slot of the forecast is an accepted job on what is left,
 pub remainder-accepted :
@@ -181,7 +184,8 @@ module _ (h : JobInput) (marks slots chunks layers bytes : List ℕ) (fine : boo
   input : (jobRefusal h ≡ 0) × (listRefusal (h .programme .chunks) marks slots chunks layers bytes ≡ 0)
   input = orElse-iff (jobRefusal h) (listRefusal (h .programme .chunks) marks slots chunks layers bytes) .0 (parts .0)
 
-  -- A list that `book` does not refuse is handed whole, for an accepted job, and can be booked on its forecast,
+  -- A list that `book` does not refuse is handed whole, for an accepted job, and can be booked on
+  -- its forecast,
   pub booked-accepted : Accepted (jobIn h)
   booked-accepted = input-iff h .0 (input .0) .1
 

@@ -1,4 +1,5 @@
--- Laws on the verdict: what the tables say is what the rules of the second call say. Assumes nothing.
+-- Laws on the verdict: what the tables say is what the rules of the second call say. Assumes
+-- nothing.
 use Prim.Native.Nat.{ℕ, _+_, _*_, _-_, _/_, _≤_, _<_}
 use mathlib.Core.Path.{_≡_, sym, ap, ap₂, _∙_}
 use mathlib.Core.Bool.{Bool, true, false, _&&_, _||_}

@@ -1,4 +1,5 @@
--- Laws on rule 2 of the second call by tables: a flag for each layer with a row from the slot on. Assumes nothing.
+-- Laws on rule 2 of the second call by tables: a flag for each layer with a row from the slot on.
+-- Assumes nothing.
 use Prim.Native.Nat.{ℕ, zero, suc, _+_, _*_, _-_, _≤_, _<_}
 use mathlib.Core.Path.{_≡_, refl, sym, ap, _∙_}
 use mathlib.Core.Bool.{Bool, true, false, not, _&&_, _||_, and-false, and-true}

@@ -1,5 +1,6 @@
--- Meaning. What the checker's two calls answer: document 01, "Direct calls without files check 5, 6, 7, then 8", with 18 "after 6 and
--- before 7", and 21 of the second call after them; else the verdict.
+-- Meaning. What the checker's two calls answer: document 01, "Direct calls without files check 5,
+-- 6, 7, then 8", with 18 "after 6 and before 7", and 21 of the second call after them; else the
+-- verdict.
 use Prim.Native.Nat.{ℕ}
 use mathlib.Core.Bool.{cond}
 use mathlib.Core.List.{List}

@@ -1,9 +1,10 @@
-// The checker: document 01's verdict for any fetch list with its marks, and document 02's from a slot on, whose rule 2 allows a short sum
-// whose rows are all before that slot. At slot 1 the second is the first. The tables and what they say of the rules are those of rules.
+// The checker: document 01's verdict for any fetch list with its marks, and document 02's from a
+// slot on, whose rule 2 allows a short sum whose rows are all before that slot. At slot 1 the
+// second is the first. The tables and what they say of the rules are those of rules.
+use job::Programme;
 use job::SIZES;
 use job::SUMS;
 use job::SizeTable;
-use job::Programme;
 ghost use mathlib.Core.Path.{_≡_};
 ghost use mathlib.Core.Bool.{_||_};
 ghost use mathlib.Core.List.{[], _∷_};
@@ -52,7 +53,8 @@ fn lowest_broken(whole: bool, lower: bool, within: bool, timely: bool, few: bool
     0
 }
 
-// Rule 2 of the second call for one layer: its sum is 0 or its size, or less where its rows are all before the slot.
+// Rule 2 of the second call for one layer: its sum is 0 or its size, or less where its rows are all
+// before the slot.
 fn allowed(sum: u64, size: u32, flag: u8) -> bool
     ensures { λ r. ⌜ r ≡ allowedSum sum size (eqb flag 0) ⌝ }
 {
@@ -178,8 +180,8 @@ fn whole_from(
     allowed_all(table, depth, layersum, &late, count)
 }
 
-// The verdict from a slot on of an accepted job's list, its rows whole and its marks one byte a chunk. The job's sizes are seen by their
-// table alone; `depth` is the number of layers.
+// The verdict from a slot on of an accepted job's list, its rows whole and its marks one byte a
+// chunk. The job's sizes are seen by their table alone; `depth` is the number of layers.
 fn verdict_of(
     p: Programme,
     table: &SizeTable,
@@ -233,8 +235,8 @@ fn verdict_of(
     1
 }
 
-// The verdict for a job, marks and rows: any number of rows in any order, of equal rows each counts.
-// Refused: 5, 6, 18, 7 by the job, then 8 by the marks and rows.
+// The verdict for a job, marks and rows: any number of rows in any order, of equal rows each
+// counts. Refused: 5, 6, 18, 7 by the job, then 8 by the marks and rows.
 pub fn check(
     p: Programme,
     sizes: &[u32],
@@ -276,7 +278,8 @@ pub fn check(
     ))
 }
 
-// The same from a slot on: rule 2 allows a short sum whose rows are all before it. Refused: 5, 6, 18, 7, 8, then 21 by the slot.
+// The same from a slot on: rule 2 allows a short sum whose rows are all before it. Refused: 5, 6,
+// 18, 7, 8, then 21 by the slot.
 pub fn check_from(
     p: Programme,
     sizes: &[u32],

@@ -1,4 +1,5 @@
--- Laws on the pass over the bases: the kept chunks at the end of the tables, with the stack of needs. Assumes nothing.
+-- Laws on the pass over the bases: the kept chunks at the end of the tables, with the stack of
+-- needs. Assumes nothing.
 use mathlib.Core.Path.{_≡_, sym, _∙_, ap}
 use mathlib.Core.Bool.{Bool, true, false, cond, _&&_}
 use mathlib.Core.List.{List, [], _∷_, map}

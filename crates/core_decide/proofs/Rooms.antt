@@ -1,4 +1,5 @@
--- Laws on the releases and the rooms of the kept chunks, from the first to the last. Assumes nothing.
+-- Laws on the releases and the rooms of the kept chunks, from the first to the last. Assumes
+-- nothing.
 use mathlib.Core.Path.{_≡_, refl, sym, _∙_, ap}
 use mathlib.Core.List.{List, [], _∷_, _++_}
 use Prim.Native.Nat.{ℕ, zero, suc, _+_, _-_, _≤_, _<_, min}

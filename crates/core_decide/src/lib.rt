@@ -1,12 +1,14 @@
-// Internal. Which layers of which chunks are carried, in time linear in slots + chunks x layers. The kept chunks stand at the end of
-// tables of 500 places, in playing order, from a first place on. The passes serve any ascending set of kept chunks, over a part of the
-// forecast that starts at any slot: sum_after and keep_bases for the base, then, for kept chunks with their due slots and bytes
-// however they were found, set_releases and settle_layers. Sizes are those of the table that job's fill_sizes fills.
+// Internal. Which layers of which chunks are carried, in time linear in slots + chunks x layers.
+// The kept chunks stand at the end of tables of 500 places, in playing order, from a first place
+// on. The passes serve any ascending set of kept chunks, over a part of the forecast that starts at
+// any slot: sum_after and keep_bases for the base, then, for kept chunks with their due slots and
+// bytes however they were found, set_releases and settle_layers. Sizes are those of the table that
+// job's fill_sizes fills.
 use job::CHUNKS;
+use job::Programme;
 use job::SUMS;
 use job::SizeTable;
 use job::SlotSums;
-use job::Programme;
 ghost use mathlib.Core.Path.{_≡_};
 ghost use mathlib.Core.Bool.{cond, _&&_};
 ghost use Prim.Native.Nat.{ℕ, _+_, _*_, _-_, _/_, _<_, _≤_, max, min};
@@ -68,7 +70,8 @@ fn set_places(after: &mut SlotSums, from: usize, to: usize, v: u64)
     }
 }
 
-// The forecast left after each slot, for a part of the forecast that starts at slot start. Sums in 64 bits: 3,600 slots need 36.
+// The forecast left after each slot, for a part of the forecast that starts at slot start. Sums in
+// 64 bits: 3,600 slots need 36.
 pub fn sum_after(part: &[u32], start: usize, after: &mut SlotSums)
     requires { ⌜ ForecastPart start (now part) × (length (now after) ≡ 3601) ⌝ }
     ensures { λ _. ⌜ SumTable start (now (part .entry)) (now (after .exit)) ⌝ }
@@ -99,7 +102,8 @@ pub fn need_at(needs: &[u64; CHUNKS], k: usize, held: usize) -> u64
     0
 }
 
-// The base of each chunk from the last to the first. The kept chunks stand at the end of ids, in playing order.
+// The base of each chunk from the last to the first. The kept chunks stand at the end of ids, in
+// playing order.
 pub fn keep_bases(
     p: Programme,
     table: &SizeTable,
@@ -276,7 +280,8 @@ pub fn settle_layers(
     }
 }
 
-// The releases and the marks of kept chunks, from place first on, however they were found: the layers above their bases follow.
+// The releases and the marks of kept chunks, from place first on, however they were found: the
+// layers above their bases follow.
 pub fn settle_kept(
     p: Programme,
     layers: usize,
@@ -311,8 +316,8 @@ pub fn settle_kept(
     );
 }
 
-// The decision over a part of the forecast that starts at slot start: the kept chunks, their releases and their marks, from the
-// place handed back on.
+// The decision over a part of the forecast that starts at slot start: the kept chunks, their
+// releases and their marks, from the place handed back on.
 pub fn decide(
     p: Programme,
     layers: usize,
@@ -326,7 +331,8 @@ pub fn decide(
     requires { ⌜ DecidePre p layers (tableAt (now table)) start (now part) (now ids) (now ready) (now mark) ⌝ }
     ensures { λ r. ⌜ DecidePost p layers (tableAt (now (table .entry))) start (now (part .entry)) r (now (ids .exit)) (now (ready .exit)) (now (mark .exit)) ⌝ }
 {
-    // Both tables are written before they are read. A filling that is no constant is stored in wide words, faster than cleared.
+    // Both tables are written before they are read. A filling that is no constant is stored in wide
+    // words, faster than cleared.
     let unset = part.len() as u64;
     let mut after = [unset; SUMS];
     let mut room = [unset; CHUNKS];

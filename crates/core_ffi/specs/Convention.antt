@@ -1,6 +1,7 @@
--- Meaning, then its theorem. How every call answers a caller in C or Rust: one 64-bit number, the result, which is below 2^32, or 2^32 and
--- the refusal's number more. Whatever else a call hands over stands in lent slices, the result and then the old contents; on a refusal they
--- keep their bytes (basics, Lent).
+-- Meaning, then its theorem. How every call answers a caller in C or Rust: one 64-bit number, the
+-- result, which is below 2^32, or 2^32 and the refusal's number more. Whatever else a call hands
+-- over stands in lent slices, the result and then the old contents; on a refusal they keep their
+-- bytes (theory_basics, Lent).
 use Prim.Native.Nat.{ℕ, _+_, _-_, _≤_, _<_}
 use mathlib.Core.Path.{_≡_}
 use mathlib.Core.Bool.{cond}
@@ -22,8 +23,9 @@ abbrev pub film : (chunks span delay limit : ℕ) (sizes size-chunks size-layers
 film chunks span delay limit sizes cs ls bs forecast =
     jobInput (record { chunks = chunks; span = span; delay = delay; limit = limit }) sizes cs ls bs forecast
 
--- "no result can be mistaken for" a refusal: whatever a call answers, the refusal read off it is the call's, if what it answers where it
--- refuses nothing is below 2^32. That it is stands in Theorems, call by call.
+-- "no result can be mistaken for" a refusal: whatever a call answers, the refusal read off it is
+-- the call's, if what it answers where it refuses nothing is below 2^32. That it is stands in
+-- Theorems, call by call.
 pub never-mistaken : (refused result most : ℕ) → most < 4294967296 → (refused ≡ 0 → result ≤ most) → refusalIn (answered refused result) ≡ refused
 unfolding answered
 never-mistaken refused result most small h =

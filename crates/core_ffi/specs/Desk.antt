@@ -1,5 +1,6 @@
--- Theorems. Calls one after the other, as a desk makes them: what planning hands over, slice by slice, passes the checker. Demand 3, "The
--- plan's own list with its marks then passes the checker", and request 12, "together with the handed rows they pass that call".
+-- Theorems. Calls one after the other, as a desk makes them: what planning hands over, slice by
+-- slice, passes the checker. Demand 3, "The plan's own list with its marks then passes the
+-- checker", and request 12, "together with the handed rows they pass that call".
 use Prim.Native.Nat.{ℕ, _+_, _-_}
 use mathlib.Core.Path.{_≡_, refl, sym, ap, _∙_}
 use mathlib.Core.List.{List, [], _++_, map, map-append}
@@ -70,7 +71,8 @@ search-passes h budget e =
 
 -- ---- film_replan, then film_check_from
 
--- The job on the joined forecast, "earlier slots keep the job's forecast", as it is handed to the second call.
+-- The job on the joined forecast, "earlier slots keep the job's forecast", as it is handed to the
+-- second call.
 abbrev pub rejoined : JobInput → ReplanInput → JobInput
 rejoined h o = jobInput (h .programme) (h .sizes) (h .size-chunks) (h .size-layers) (h .size-bytes) (take (o .from - 1) (h .forecast) ++ o .onward)
 

@@ -1,6 +1,7 @@
--- Meaning. Job and plan files for callers in C or Rust. Beside the buffers of the library's own readers of job files (jobrecords, Reader) these
--- are lent four numbers for the programme and two for how many layers and SZs the job has; the answer is its number of slots. A reader of
--- plan files answers the number of rows, a writer that of bytes.
+-- Meaning. Job and plan files for callers in C or Rust. Beside the buffers of the library's own
+-- readers of job files (jobrecords, Reader) these are lent four numbers for the programme and two
+-- for how many layers and SZs the job has; the answer is its number of slots. A reader of plan
+-- files answers the number of rows, a writer that of bytes.
 use Prim.Native.Nat.{ℕ}
 use mathlib.Core.Path.{_≡_}
 use mathlib.Core.Bool.{Bool, _&&_}

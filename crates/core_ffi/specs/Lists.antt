@@ -1,5 +1,5 @@
--- Meaning. Fetch lists for callers in C or Rust: the checker's two calls, bookings and counts of marks. Refusals, verdicts and forecasts are
--- the library's own.
+-- Meaning. Fetch lists for callers in C or Rust: the checker's two calls, bookings and counts of
+-- marks. Refusals, verdicts and forecasts are the library's own.
 use Prim.Native.Nat.{ℕ}
 use mathlib.Core.List.{List, [], _∷_}
 use lib.ListN.{length}
@@ -41,7 +41,8 @@ abbrev pub forecastReleased : JobInput → (slots chunks layers bytes : List ℕ
 forecastReleased h slots chunks layers bytes =
     forecastAfter (releaseRefusal h slots chunks layers bytes) (addedBack (h .forecast) (rowsOf slots chunks layers bytes)) (h .forecast)
 
--- 11 without room for one number, else 0, and the count in it: that of marks of any length may be 2^32 or more.
+-- 11 without room for one number, else 0, and the count in it: that of marks of any length may be
+-- 2^32 or more.
 abbrev pub countRefusal : List ℕ → ℕ
 countRefusal count = unless 11 (leb 1 (length count))
 

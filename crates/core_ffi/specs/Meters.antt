@@ -1,5 +1,6 @@
--- Meaning. The meter as the caller's own storage: ten slots, ten bytes and how many are kept, in three lent slices. A shorter slice holds no
--- meter: 11, after the handed sample's own 10 and before what is kept is judged. In longer ones the cells past the meter stay as they are.
+-- Meaning. The meter as the caller's own storage: ten slots, ten bytes and how many are kept, in
+-- three lent slices. A shorter slice holds no meter: 11, after the handed sample's own 10 and
+-- before what is kept is judged. In longer ones the cells past the meter stay as they are.
 use Prim.Native.Nat.{ℕ}
 use mathlib.Core.Path.{_≡_}
 use mathlib.Core.Bool.{_&&_}

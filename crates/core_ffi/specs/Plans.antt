@@ -1,5 +1,6 @@
--- Meaning. The calls that hand over a plan to callers in C or Rust: beside the marks and rows of the library's own calls they are lent four
--- numbers for the counts; the answer is the number of rows.
+-- Meaning. The calls that hand over a plan to callers in C or Rust: beside the marks and rows of
+-- the library's own calls they are lent four numbers for the counts; the answer is the number of
+-- rows.
 use Prim.Native.Nat.{ℕ}
 use mathlib.Core.Path.{_≡_}
 use mathlib.Core.Bool.{cond, _&&_}
@@ -43,7 +44,8 @@ planSlices marks slots chunks layers bytes counts =
 abbrev pub roomOf : PlanSlices → Lent
 roomOf lent = lentOf (lent .marks) (lent .slots) (lent .chunks) (lent .layers) (lent .bytes)
 
--- A plan's marks, rows and counts at the start of the lent planSlices; on a refusal they are as they were.
+-- A plan's marks, rows and counts at the start of the lent planSlices; on a refusal they are as
+-- they were.
 abbrev pub slicesAfter : ℕ → (marks : List ℕ) (rows : List Row) (counts : List ℕ) → PlanSlices → PlanSlices
 slicesAfter refused marks rows counts lent =
     record {
@@ -109,11 +111,13 @@ pub record SearchReturned (h : JobInput) (budget : ℕ) (marks slots chunks laye
 
 -- ---- two plans' counts
 
--- Four counts out of a slice: "0 for absent layers", and what stands past the fourth is not looked at.
+-- Four counts out of a slice: "0 for absent layers", and what stands past the fourth is not looked
+-- at.
 abbrev pub fourCounts : List ℕ → List ℕ
 fourCounts counts = upTo (λ k. getD counts k 0) 4
 
--- 0 if they are the same; at the first entry where they differ 1 if the first has fewer, 2 if it has more.
+-- 0 if they are the same; at the first entry where they differ 1 if the first has fewer, 2 if it
+-- has more.
 abbrev pub orderNumber : Order → ℕ
 orderNumber Same = 0
 orderNumber Less = 1

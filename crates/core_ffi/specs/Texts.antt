@@ -1,5 +1,6 @@
--- Meaning. The report, the reasons, link traces and the shortest wait for callers in C or Rust: each answers how many bytes, slots or slots of
--- delay there are; texts and forecasts go to the start of the lent slice. Refusals and texts are the library's own.
+-- Meaning. The report, the reasons, link traces and the shortest wait for callers in C or Rust:
+-- each answers how many bytes, slots or slots of delay there are; texts and forecasts go to the
+-- start of the lent slice. Refusals and texts are the library's own.
 use Prim.Native.Nat.{ℕ}
 use mathlib.Core.List.{List}
 use lib.ListN.{length}

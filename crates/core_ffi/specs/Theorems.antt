@@ -1,6 +1,7 @@
--- Theorems. How large the largest results are: the constants of include/film_planner.h, by call. Each bound holds wherever the input is not
--- refused, whatever room is lent, so a caller who lends so much never meets 11; and each is below 2^32, so that "no result can be mistaken
--- for" a refusal (Convention, never-mistaken).
+-- Theorems. How large the largest results are: the constants of include/film_planner.h, by call.
+-- Each bound holds wherever the input is not refused, whatever room is lent, so a caller who lends
+-- so much never meets 11; and each is below 2^32, so that "no result can be mistaken for" a refusal
+-- (Convention, never-mistaken).
 use Prim.Native.Nat.{ℕ, _≤_}
 use mathlib.Core.Path.{_≡_}
 use mathlib.Core.Bool.{Bool}

@@ -1,4 +1,5 @@
-// Internal. What the calls for C and Rust share: each library's answer as one number, and what they hand over beside it in lent slices.
+// Internal. What the calls for C and Rust share: each library's answer as one number, and what they
+// hand over beside it in lent slices.
 use checker::Checked;
 use job::Programme;
 use jobrecords::JobRead;
@@ -76,7 +77,8 @@ pub fn store_job(read: JobRead, programme: &mut [u16], lengths: &mut [u64])
     }
 }
 
-// Where the programme or the lengths have no room, the file is read into none: it is refused by all that comes before 11, or by 11.
+// Where the programme or the lengths have no room, the file is read into none: it is refused by all
+// that comes before 11, or by 11.
 pub fn job_refused(file: &[u8]) -> u64
     ensures { λ r. ⌜ r ≡ refusedNumber (refusalOf oneSequence (now (file .entry)) orElse 11) ⌝ }
 {
@@ -253,7 +255,8 @@ pub fn store_counts(answer: Answer, four: [u16; 4], counts: &mut [u16])
     }
 }
 
-// Where the counts have no room, the plan is made into none: it is refused by all that comes before 11, or by 11.
+// Where the counts have no room, the plan is made into none: it is refused by all that comes before
+// 11, or by 11.
 pub fn replan_refused(
     p: Programme,
     sizes: &[u32],

@@ -1,6 +1,7 @@
-// Internal. The plan's own list, piece by piece: each piece, with so many bytes left, goes into slot after slot, from its release on,
-// until nothing is left of it. The part of the forecast may start at any slot, and the list may be under way already: the contracts
-// speak of every list that goes on with these pieces. Sizes are those of the table that job's fill_sizes fills.
+// Internal. The plan's own list, piece by piece: each piece, with so many bytes left, goes into
+// slot after slot, from its release on, until nothing is left of it. The part of the forecast may
+// start at any slot, and the list may be under way already: the contracts speak of every list that
+// goes on with these pieces. Sizes are those of the table that job's fill_sizes fills.
 use job::CHUNKS;
 use job::SizeTable;
 ghost use mathlib.Core.Path.{_≡_};

@@ -1,4 +1,5 @@
--- Laws on the walk: the table shows the kept chunks after n chunks, and their bytes stand beside it. Assumes nothing.
+-- Laws on the walk: the table shows the kept chunks after n chunks, and their bytes stand beside
+-- it. Assumes nothing.
 use mathlib.Core.Path.{_≡_, refl, sym, _∙_, ap}
 use mathlib.Core.Bool.{Bool, cond}
 use mathlib.Core.List.{List, []}

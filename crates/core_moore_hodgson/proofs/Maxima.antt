@@ -151,7 +151,8 @@ under-le t m (suc d) p q g h u v =
 pub leaf-le : (t : List ℕ) → Maxima t → (q : ℕ) → 512 ≤ q → q < 1024 → at t q ≤ at t 1
 leaf-le t m q u v = under-le t m 9 1 q (omega arith) (omega arith) (omega arith) (omega arith)
 
--- p has what place 1 has, the leaves before those under it have less, and those behind have no more. d: how far the leaves are.
+-- p has what place 1 has, the leaves before those under it have less, and those behind have no
+-- more. d: how far the leaves are.
 pub record Falls (t : List ℕ) (p d : ℕ) : Type 0 where
   pub some : 1 ≤ p
   pub low : 512 ≤ p * 2 ^ d

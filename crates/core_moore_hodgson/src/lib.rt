@@ -1,11 +1,12 @@
-// Internal. Request 9's walk over the bases, in C log C: a table of maxima of 1,024 places, place 512 + i the bytes of chunk i's base
-// if it is kept, else 0, and each place below 512 the larger of the two under it. A base added or dropped costs a way up, which ends
-// where nothing changes, and the largest kept one, the earliest among equals, a way down. The kept chunks end up where settle's pass
-// over the bases leaves them: at the end of tables of 500 places, in playing order.
+// Internal. Request 9's walk over the bases, in C log C: a table of maxima of 1,024 places, place
+// 512 + i the bytes of chunk i's base if it is kept, else 0, and each place below 512 the larger of
+// the two under it. A base added or dropped costs a way up, which ends where nothing changes, and
+// the largest kept one, the earliest among equals, a way down. The kept chunks end up where
+// core_decide's pass over the bases leaves them: at the end of tables of 500 places, in playing order.
 use job::CHUNKS;
+use job::Programme;
 use job::SizeTable;
 use job::SlotSums;
-use job::Programme;
 ghost use mathlib.Core.Path.{_≡_};
 ghost use mathlib.Core.Bool.{not};
 ghost use Prim.Native.Nat.{_≤_, max};
@@ -83,7 +84,8 @@ fn clear_leaf(tree: &mut [u32; 1024], leaf: usize)
     }
 }
 
-// The leaf of the largest, the first among equals: down from place 1, to the left where the largest is there.
+// The leaf of the largest, the first among equals: down from place 1, to the left where the largest
+// is there.
 fn find_largest(tree: &[u32; 1024]) -> usize
     requires { ⌜ Maxima (now tree) ⌝ }
     ensures { λ r. ⌜ FindLargestPost (now (tree .entry)) r ⌝ }
@@ -102,7 +104,8 @@ fn find_largest(tree: &[u32; 1024]) -> usize
     p
 }
 
-// Chunks 1 to C: each is added, and where the kept ones are then more than the forecast up to its due slot, the largest is dropped.
+// Chunks 1 to C: each is added, and where the kept ones are then more than the forecast up to its
+// due slot, the largest is dropped.
 fn keep_or_drop(p: Programme, table: &SizeTable, after: &SlotSums, tree: &mut [u32; 1024])
     requires { ⌜ KeepOrDropPre p (tableAt (now table)) (now after) (now tree) ⌝ }
     ensures { λ _. ⌜ KeepOrDropPost p (tableAt (now (table .entry))) (now (after .entry)) (now (tree .exit)) ⌝ }
@@ -136,7 +139,8 @@ fn keep_or_drop(p: Programme, table: &SizeTable, after: &SlotSums, tree: &mut [u
     }
 }
 
-// The chunks whose leaf is not 0, from the last to the first, with their due slots and their base's bytes.
+// The chunks whose leaf is not 0, from the last to the first, with their due slots and their base's
+// bytes.
 fn gather(
     p: Programme,
     tree: &[u32; 1024],

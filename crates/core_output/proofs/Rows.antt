@@ -1,4 +1,5 @@
--- Laws on a choice laid out: the queue that the tables hold is the choice's, and what the slices hold at the end. Assumes nothing.
+-- Laws on a choice laid out: the queue that the tables hold is the choice's, and what the slices
+-- hold at the end. Assumes nothing.
 use mathlib.Core.Path.{_≡_, refl, sym, _∙_, ap, subst}
 use mathlib.Core.Bool.{cond}
 use mathlib.Core.List.{List, [], _∷_, _++_, map, append-nil}

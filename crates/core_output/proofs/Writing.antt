@@ -1,4 +1,5 @@
--- Laws on a choice handed over: where there is room for any, where it is laid out aside, and where it does not fit. Assumes nothing.
+-- Laws on a choice handed over: where there is room for any, where it is laid out aside, and where
+-- it does not fit. Assumes nothing.
 use mathlib.Core.Path.{_≡_, sym, _∙_, ap, subst}
 use mathlib.Core.Bool.{Bool, true, false}
 use mathlib.Core.List.{List, map}

@@ -1,5 +1,6 @@
-// Internal. A decided choice handed over, whoever decided it: its own list, marks and counts into lent slices where these hold it whole. The
-// kept chunks, their releases and their marks stand at the end of tables of 500 places, from a first place on, as settle leaves them.
+// Internal. A decided choice handed over, whoever decided it: its own list, marks and counts into
+// lent slices where these hold it whole. The kept chunks, their releases and their marks stand at
+// the end of tables of 500 places, from a first place on, as core_decide leaves them.
 use job::CHUNKS;
 use job::ROWS;
 use job::SizeTable;
@@ -169,7 +170,8 @@ fn write_aside(
     }
 }
 
-// The rows, by slot, chunk, layer, and a mark for each of count chunks. Where a row slice is too short nothing is written.
+// The rows, by slot, chunk, layer, and a mark for each of count chunks. Where a row slice is too
+// short nothing is written.
 pub fn write_plan(
     count: usize,
     forecast: &[u32],

@@ -1,4 +1,5 @@
-// The first n elements of a slice, or all where there are fewer: what the programs hand on of their buffers.
+// The first n elements of a slice, or all where there are fewer: what the programs hand on of their
+// buffers.
 ghost use mathlib.Core.Path.{_≡_};
 ghost use lib.ListN.{take};
 

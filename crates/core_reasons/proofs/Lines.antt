@@ -1,4 +1,5 @@
--- Laws on the lines of a plan: one line, the lines of a chunk, the lines of all chunks. Assumes nothing.
+-- Laws on the lines of a plan: one line, the lines of a chunk, the lines of all chunks. Assumes
+-- nothing.
 use mathlib.Core.Path.{_≡_, refl, sym, _∙_, ap}
 use mathlib.Core.Bool.{Bool, cond, _&&_}
 use mathlib.Core.List.{List, [], _∷_, _++_, map, append-assoc, append-nil}
@@ -143,7 +144,8 @@ module _ (p : Programme) (layers : ℕ) (most : Bool) (sums after levels : List 
             room = put-room s (sentenceAt j plan most (record { chunk = i; layer = n })) (omega (arith, o .room, ap length e)) (l .put j plan (o .facts) (o .layers-is));
           }
 
-      -- The lines up to this one fit, whatever job and plan they are said of: the places are the same.
+      -- The lines up to this one fit, whatever job and plan they are said of: the places are the
+      -- same.
       fits : (j : Job) (plan : ℕ → ℕ) → Facts j plan p most sums after levels → layers ≡ Job.layers j → (out′ : List ℕ) (next′ : ℕ) → PutLinePost p most sums after levels i n out next out′ next′ → at + length (textAt j plan most (missingOf plan i n) ++ sentenceAt j plan most (record { chunk = i; layer = n })) ≤ length old
       fits j plan f e out′ next′ d =
           let x : Place = record { chunk = i; layer = n } in

@@ -1,20 +1,22 @@
-// Internal. Request 14: a line under each layer that the plan doesn't carry, by chunk and then layer, into a lent buffer that has room for
-// them. A line of the first kind takes two passes over the kept chunks, so all lines take time linear in lines x chunks.
+// Internal. Request 14: a line under each layer that the plan doesn't carry, by chunk and then
+// layer, into a lent buffer that has room for them. A line of the first kind takes two passes over
+// the kept chunks, so all lines take time linear in lines x chunks.
 use job::CHUNKS;
+use job::Programme;
 use job::SizeTable;
 use job::SlotSums;
-use job::Programme;
 
-mod stretch;
 mod passes;
 mod sentences;
+mod stretch;
 
 ghost use mathlib.Core.Path.{_≡_};
 ghost use Prim.Native.Nat.{_/_};
 ghost use Rattle.job.specs.declared.Programme.{Programme};
 ghost use Rattle.core_reasons.specs.lemmas.All.{capOf, PutLinePre, PutLinePost, PutChunkPre, PutChunkPost, PutReasonsPre, PutReasonsPost, Scratch};
 
-// How many layers the chunks before the missing one may have in its trial. most: bases were settled by request 9.
+// How many layers the chunks before the missing one may have in its trial. most: bases were settled
+// by request 9.
 fn cap_of(most: bool, n: u8) -> u8
     ensures { λ r. ⌜ r ≡ capOf most n ⌝ }
 {
@@ -105,8 +107,9 @@ fn put_chunk(
     next
 }
 
-// All lines of a plan. layers: how many the job has. levels: how many the plan carries of each chunk. sums: the bytes of the first
-// layers of each chunk, four places a chunk. after: what is forecast after each slot.
+// All lines of a plan. layers: how many the job has. levels: how many the plan carries of each
+// chunk. sums: the bytes of the first layers of each chunk, four places a chunk. after: what is
+// forecast after each slot.
 pub fn put_reasons(
     p: Programme,
     held: usize,

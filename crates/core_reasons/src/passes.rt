@@ -1,6 +1,6 @@
-// The two linear passes over the kept chunks, with the missing layer among their bytes. The kept chunks stand at the end of tables of 500
-// places, in playing order, from a first place on: bytes, due slots, and the slots from which they can begin. `after`: what is forecast
-// after each slot.
+// The two linear passes over the kept chunks, with the missing layer among their bytes. The kept
+// chunks stand at the end of tables of 500 places, in playing order, from a first place on: bytes,
+// due slots, and the slots from which they can begin. `after`: what is forecast after each slot.
 use job::CHUNKS;
 use job::SlotSums;
 ghost use mathlib.Core.Path.{_≡_};
@@ -31,7 +31,8 @@ fn wide(x: u32) -> u64
     x as u64
 }
 
-// Forward: the first kept chunk that has its last byte after its due slot, if each has its bytes as early as can be; else 500.
+// Forward: the first kept chunk that has its last byte after its due slot, if each has its bytes as
+// early as can be; else 500.
 fn find_late(
     after: &SlotSums,
     dues: &[u16; CHUNKS],
@@ -58,7 +59,8 @@ fn find_late(
     q
 }
 
-// The kept chunk at h can begin later than the one before it, and the bytes from there on exceed the forecast up to the last slot.
+// The kept chunk at h can begin later than the one before it, and the bytes from there on exceed
+// the forecast up to the last slot.
 fn starts(ready: &[u16; CHUNKS], first: usize, h: usize, most: u64, reach: u64) -> bool
     requires { ⌜ (first ≤ h) × (h < 500) × (length (now ready) ≡ 500) ⌝ }
     ensures { λ r. ⌜ r ≡ startsIn (now (ready .entry)) first (h - first) && ltb most reach ⌝ }
@@ -73,7 +75,8 @@ fn starts(ready: &[u16; CHUNKS], first: usize, h: usize, most: u64, reach: u64) 
     false
 }
 
-// Back from the late chunk m: where the stretch begins, what it carries and what it needs. most: the forecast up to m's due slot.
+// Back from the late chunk m: where the stretch begins, what it carries and what it needs. most:
+// the forecast up to m's due slot.
 fn find_begin(
     after: &SlotSums,
     ready: &[u16; CHUNKS],

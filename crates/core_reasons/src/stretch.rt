@@ -1,11 +1,11 @@
-// The tables of one trial: the kept chunks of the layers settled before, with layer n of chunk i added, at the end of tables of 500 places,
-// in playing order.
+// The tables of one trial: the kept chunks of the layers settled before, with layer n of chunk i
+// added, at the end of tables of 500 places, in playing order.
 use crate::passes;
 use crate::passes::Stretch;
 use job::CHUNKS;
+use job::Programme;
 use job::SizeTable;
 use job::SlotSums;
-use job::Programme;
 ghost use mathlib.Core.Path.{_≡_};
 ghost use Prim.Native.Nat.{_-_, _≤_, _<_, min};
 ghost use lib.ListN.{length, take, drop};
@@ -20,7 +20,8 @@ fn smaller(a: u8, b: u8) -> u8
     b
 }
 
-// How many layers chunk k has in the trial of layer n of chunk i. cap: how many the chunks before i may have.
+// How many layers chunk k has in the trial of layer n of chunk i. cap: how many the chunks before i
+// may have.
 fn level_of(levels: &[u8; CHUNKS], k: u16, i: u16, n: u8, cap: u8) -> u8
     requires { ⌜ (1 ≤ k) × (k ≤ 500) × (n ≤ 3) × (length (now levels) ≡ 500) ⌝ }
     ensures { λ r. ⌜ r ≡ levelIn (now (levels .entry)) i n cap k ⌝ }
@@ -37,8 +38,8 @@ fn level_of(levels: &[u8; CHUNKS], k: u16, i: u16, n: u8, cap: u8) -> u8
     smaller(have, cap)
 }
 
-// The due slots and the bytes of the kept chunks, from the last to the first. sums: the bytes of the first layers of each chunk, four
-// places a chunk.
+// The due slots and the bytes of the kept chunks, from the last to the first. sums: the bytes of
+// the first layers of each chunk, four places a chunk.
 fn set_tables(
     p: Programme,
     sums: &SizeTable,

@@ -1,4 +1,5 @@
--- Laws on the passes over the bases: the begun chunks that stand in front, and the new ones behind them. Assumes nothing.
+-- Laws on the passes over the bases: the begun chunks that stand in front, and the new ones behind
+-- them. Assumes nothing.
 use mathlib.Core.Path.{_≡_, refl, sym, _∙_, ap, subst}
 use mathlib.Core.Bool.{Bool, true, false, cond, _&&_}
 use mathlib.Core.List.{List, [], _∷_, map}

@@ -1,4 +1,5 @@
--- Laws on the whole decision: what the tables hold at its end is the plan made afresh. Assumes nothing.
+-- Laws on the whole decision: what the tables hold at its end is the plan made afresh. Assumes
+-- nothing.
 use mathlib.Core.Path.{_≡_, refl, sym, _∙_, ap, subst, fun-ext}
 use mathlib.Core.Bool.{Bool, true, false, cond, _&&_}
 use mathlib.Core.List.{List, [], _∷_, _++_, map}

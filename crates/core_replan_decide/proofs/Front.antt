@@ -1,5 +1,6 @@
--- Laws on what the begun chunks ask of the new ones, in constant time a push: a roof over the first need, a floor below which no place may
--- be taken, and a place in the caps that only falls. Assumes nothing.
+-- Laws on what the begun chunks ask of the new ones, in constant time a push: a roof over the first
+-- need, a floor below which no place may be taken, and a place in the caps that only falls. Assumes
+-- nothing.
 use mathlib.Core.Path.{_≡_, refl, sym, _∙_, ap}
 use mathlib.Core.Bool.{Bool, true, false, _&&_}
 use mathlib.Core.List.{List, [], _∷_}

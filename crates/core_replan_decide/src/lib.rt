@@ -1,11 +1,12 @@
-// Internal. The decision made afresh: which layers of which chunks are carried, over what the fetched rows have left to fetch. The chunks
-// begun or kept stand at the end of tables of 500 places, in playing order, from a first place on. The layers above the base, the sums and
-// the releases are settle's.
+// Internal. The decision made afresh: which layers of which chunks are carried, over what the
+// fetched rows have left to fetch. The chunks begun or kept stand at the end of tables of 500
+// places, in playing order, from a first place on. The layers above the base, the sums and the
+// releases are core_decide's.
 use job::CHUNKS;
+use job::Programme;
 use job::SUMS;
 use job::SizeTable;
 use job::SlotSums;
-use job::Programme;
 ghost use mathlib.Core.Path.{_≡_};
 ghost use mathlib.Core.Bool.{_&&_, cond};
 ghost use Prim.Native.Nat.{ℕ, _+_, _-_, _<_, _≤_, max};
@@ -56,7 +57,8 @@ fn asks(flag: u8, d: usize, start: usize) -> bool
     false
 }
 
-// The begun chunks that are due from slot start on, and what is forecast from the due slot of each on.
+// The begun chunks that are due from slot start on, and what is forecast from the due slot of each
+// on.
 fn find_front(
     p: Programme,
     start: usize,
@@ -88,7 +90,8 @@ fn find_front(
     head
 }
 
-// What the need in front is held to at once by the begun chunks: the cap of the one that stands H places before it.
+// What the need in front is held to at once by the begun chunks: the cap of the one that stands H
+// places before it.
 fn need_cap(caps: &[u64; CHUNKS], head: usize, held: usize) -> u64
     requires { ⌜ (head ≤ 500) × Falls (now caps) head × (length (now caps) ≡ 500) ⌝ }
     ensures { λ r. ⌜ NeedCapPost held (now (caps .entry)) head r ⌝ }
@@ -126,7 +129,8 @@ fn places_below(caps: &[u64; CHUNKS], head: usize, from: usize, need: u64) -> us
     edge
 }
 
-// The floor after the chunk at place k is kept: a need that some cap is below must never come to stand at that cap.
+// The floor after the chunk at place k is kept: a need that some cap is below must never come to
+// stand at that cap.
 fn raise_lowest(lowest: usize, k: usize, edge: usize, held: usize) -> usize
     requires { ⌜ (k ≤ 500) × (edge ≤ 500) × (held ≤ 65535) ⌝ }
     ensures { λ r. ⌜ r ≡ cond (ltb edge 500) (max lowest (k + 501 - (edge + held))) lowest ⌝ }
@@ -141,7 +145,8 @@ fn raise_lowest(lowest: usize, k: usize, edge: usize, held: usize) -> usize
     lowest
 }
 
-// Whether the base of chunk i, not begun, can be kept in front of the kept ones. Its need is written one place before theirs.
+// Whether the base of chunk i, not begun, can be kept in front of the kept ones. Its need is
+// written one place before theirs.
 fn can_keep(
     p: Programme,
     start: usize,
@@ -230,7 +235,8 @@ pub struct Chosen {
     pub mark: u8,
 }
 
-// A begun chunk keeps what is whole, or its base if the rest of it fits, or nothing; it is held to its due slot in each case.
+// A begun chunk keeps what is whole, or its base if the rest of it fits, or nothing; it is held to
+// its due slot in each case.
 fn try_begun(w: u8, z: u32, want: u64, all: u64) -> Chosen
     requires { ⌜ want ≤ 60397977600 ⌝ }
     ensures { λ r. ⌜ r ≡ choose w z want all ⌝ }
@@ -257,7 +263,8 @@ fn try_begun(w: u8, z: u32, want: u64, all: u64) -> Chosen
     }
 }
 
-// The bases of the begun chunks, from the last down, in front of the new ones; need is what those use up.
+// The bases of the begun chunks, from the last down, in front of the new ones; need is what those
+// use up.
 fn keep_begun(
     p: Programme,
     left: &SizeTable,
@@ -315,7 +322,8 @@ fn is_at(ids: &[u16; CHUNKS], q: usize, chunk: usize) -> bool
     false
 }
 
-// A mark for each chunk: the one at its place among the chunks begun or kept, or else what is whole.
+// A mark for each chunk: the one at its place among the chunks begun or kept, or else what is
+// whole.
 pub fn spread(
     ids: &[u16; CHUNKS],
     mark: &[u8; CHUNKS],
@@ -342,9 +350,10 @@ pub fn spread(
     }
 }
 
-// The decision made afresh at slot start, over the part of the forecast from there on: the chunks begun or kept that are due from start
-// on, their releases and their marks, from the place handed back on. left, begun and whole say what the fetched rows leave of each layer,
-// which chunks they begin, and the marks of the layers whole in them.
+// The decision made afresh at slot start, over the part of the forecast from there on: the chunks
+// begun or kept that are due from start on, their releases and their marks, from the place handed
+// back on. left, begun and whole say what the fetched rows leave of each layer, which chunks they
+// begin, and the marks of the layers whole in them.
 pub fn decide(
     p: Programme,
     layers: usize,
@@ -361,7 +370,8 @@ pub fn decide(
     ensures { λ r. ⌜ DecidePost p layers start (now (part .entry)) (tableAt (now (left .entry))) (now (begun .entry)) (now (whole .entry)) r (now (ids .exit)) (now (ready .exit)) (now (mark .exit)) ⌝ }
 {
     let held = job::held_most(p) as usize;
-    // These tables are written before they are read. A filling that is no constant is stored in wide words, faster than cleared.
+    // These tables are written before they are read. A filling that is no constant is stored in
+    // wide words, faster than cleared.
     let unset = part.len() as u64;
     let mut after = [unset; SUMS];
     let mut needs = [unset; CHUNKS];

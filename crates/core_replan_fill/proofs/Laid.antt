@@ -1,4 +1,5 @@
--- Laws on the whole: what `lay_rest` asks of the decision, the fill and the marks, and what it hands over. Assumes nothing.
+-- Laws on the whole: what `lay_rest` asks of the decision, the fill and the marks, and what it
+-- hands over. Assumes nothing.
 use mathlib.Core.Path.{_≡_}
 use mathlib.Core.List.{List, [], _∷_, _++_}
 use Prim.Native.Nat.{ℕ, zero, suc, _+_, _*_, _-_, _≤_}

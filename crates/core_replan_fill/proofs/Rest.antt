@@ -1,5 +1,5 @@
--- Laws on the rows laid out: the queue that the tables hold is what the fetched rows leave of the plan, and what the slices hold at the
--- end. Assumes nothing.
+-- Laws on the rows laid out: the queue that the tables hold is what the fetched rows leave of the
+-- plan, and what the slices hold at the end. Assumes nothing.
 use mathlib.Core.Path.{_≡_, refl, sym, _∙_, ap, subst}
 use mathlib.Core.Bool.{Bool, true, false, not, cond, _&&_}
 use mathlib.Core.List.{List, [], _∷_, _++_, map, append-assoc, append-nil}
@@ -55,7 +55,8 @@ use Rattle.theory_plan.specs.Own as own
 
 -- ---- the queue of the tables
 
--- The pieces of the chunks ks, of chunk k those of the first lv k layers; rs are the chunks' releases.
+-- The pieces of the chunks ks, of chunk k those of the first lv k layers; rs are the chunks'
+-- releases.
 queueLeft : (ℕ → ℕ → ℕ) → (ℕ → ℕ) → List ℕ → List ℕ → List QueuedPiece
 queueLeft size lv [] rs = []
 queueLeft size lv (k ∷ ks) [] = []

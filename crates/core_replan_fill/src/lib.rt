@@ -1,9 +1,10 @@
-// Internal. The rows made afresh: what is left of the plan's layers, piece by piece, from the slot of replanning on. A piece is placed as
-// listing places it; a layer with nothing left is passed over.
-use job::CHUNKS;
-use job::SizeTable;
-use job::Programme;
+// Internal. The rows made afresh: what is left of the plan's layers, piece by piece, from the slot
+// of replanning on. A piece is placed as listing places it; a layer with nothing left is passed
+// over.
 use core_fill::Position;
+use job::CHUNKS;
+use job::Programme;
+use job::SizeTable;
 ghost use mathlib.Core.List.{[], _∷_};
 ghost use Prim.Native.Nat.{ℕ, _*_, _-_};
 ghost use lib.ListN.{drop};
@@ -126,7 +127,8 @@ fn put_all(
     at
 }
 
-// The plan made afresh at slot start: the marks of all chunks, and the rows from start on; the number of rows is handed back.
+// The plan made afresh at slot start: the marks of all chunks, and the rows from start on; the
+// number of rows is handed back.
 pub fn write_rest(
     p: Programme,
     depth: usize,

@@ -1,4 +1,5 @@
--- Laws on the passes over the chunks: flags and marks, what is left, and first slots in turn. Assumes nothing.
+-- Laws on the passes over the chunks: flags and marks, what is left, and first slots in turn.
+-- Assumes nothing.
 use Prim.Native.Nat.{ℕ, suc, _+_, _-_, _≤_, _<_}
 use mathlib.Core.Path.{_≡_, refl, sym, _∙_}
 use mathlib.Core.Bool.{Bool, true, false, cond, _&&_}
@@ -83,7 +84,8 @@ module _ {size : ℕ → ℕ → ℕ} {sums first : List ℕ} {depth : ℕ} wher
 
 -- ---- first slots in turn
 
--- The chunks up to i are in turn, and latest is the slot in which the last of them that has a row begins, or 0.
+-- The chunks up to i are in turn, and latest is the slot in which the last of them that has a row
+-- begins, or 0.
 pub record Turning (first : List ℕ) (count i latest : ℕ) : Type 0 where
   pub within : i ≤ count
   pub turn : InTurnBy first i

@@ -1,4 +1,5 @@
--- Laws on the whole: what the passes find is what refusal 22 asks, and the tables are those of the rows. Assumes nothing.
+-- Laws on the whole: what the passes find is what refusal 22 asks, and the tables are those of the
+-- rows. Assumes nothing.
 use Prim.Native.Nat.{ℕ, _-_, _/_}
 use mathlib.Core.Path.{_≡_, sym, _∙_}
 use mathlib.Core.Bool.{Bool, true, false, _&&_}

@@ -1,10 +1,11 @@
-// Internal. The rows fetched, gathered into tables: what they leave of each layer, which chunks they begin, and the marks of the layers
-// whole in them. And whether they keep what refusal 22 asks, by the sums and first slots of rules.
+// Internal. The rows fetched, gathered into tables: what they leave of each layer, which chunks
+// they begin, and the marks of the layers whole in them. And whether they keep what refusal 22
+// asks, by the sums and first slots of rules.
 use job::CHUNKS;
+use job::Programme;
 use job::SIZES;
 use job::SUMS;
 use job::SizeTable;
-use job::Programme;
 ghost use mathlib.Core.Path.{_≡_};
 ghost use mathlib.Core.Bool.{_&&_, cond};
 ghost use Prim.Native.Nat.{ℕ, _-_, _<_, _≤_};
@@ -151,7 +152,8 @@ fn all_six(a: bool, b: bool, c: bool, d: bool, e: bool, f: bool) -> bool
     f
 }
 
-// The fetched rows, whole and all before the slot after those of `earlier`: their tables, and whether they keep what refusal 22 asks.
+// The fetched rows, whole and all before the slot after those of `earlier`: their tables, and
+// whether they keep what refusal 22 asks.
 pub fn gather(
     p: Programme,
     table: &SizeTable,

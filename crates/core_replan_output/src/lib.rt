@@ -1,9 +1,9 @@
-// Internal. The plan made afresh in lent slices: its marks, its rows from the slot on and its counts, or 11 and nothing where the rows
-// have no room.
+// Internal. The plan made afresh in lent slices: its marks, its rows from the slot on and its
+// counts, or 11 and nothing where the rows have no room.
 use job::CHUNKS;
+use job::Programme;
 use job::ROWS;
 use job::SizeTable;
-use job::Programme;
 use planner::Planned;
 ghost use Rattle.job.specs.Table.{tableAt};
 ghost use Rattle.core_replan_fill.specs.lemmas.Rows.{WriteRestPre};
@@ -52,7 +52,8 @@ fn fill(
     Filled { rows, counts }
 }
 
-// The plan made afresh into rows that may be too short: laid out aside, and copied if it fits whole.
+// The plan made afresh into rows that may be too short: laid out aside, and copied if it fits
+// whole.
 fn write_aside(
     p: Programme,
     depth: usize,

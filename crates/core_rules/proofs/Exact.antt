@@ -1,4 +1,5 @@
--- Lemmas. What the tables say is what the rules say: sums that stop at the cap lose nothing. Assumes nothing.
+-- Lemmas. What the tables say is what the rules say: sums that stop at the cap lose nothing.
+-- Assumes nothing.
 use Prim.Native.Nat.{ℕ, zero, suc, _+_, _*_, _-_, _/_, _≤_, _<_, min}
 use mathlib.Core.Path.{_≡_, refl, sym, ap, _∙_}
 use mathlib.Core.Bool.{Bool, true, false, cond, _&&_, _||_}
@@ -123,7 +124,8 @@ module _ (j : Job) (rows : List Row) (S L F : List ℕ) (ok : Accepted j) (t : T
           let back : i - 1 + 1 ≡ i = omega arith in
           rw back (mark-cong (carriedBy (size j) L i) (carried j rows i) (layers j) (λ n w. carried-is i n u v w))
 
--- Rule 1 by the pass over the rows, with the last slot and the number of layers as numbers of their own.
+-- Rule 1 by the pass over the rows, with the last slot and the number of layers as numbers of their
+-- own.
 pub rule1-is : (j : Job) {rows : List Row} {last depth : ℕ} {r : Pass} {S L F : List ℕ} → TallyPost (j .programme) last depth rows r S L F
     → last ≡ lastDue (j .programme) → depth ≡ layers j → r .ranged ≡ rule1 j rows
 rule1-is j a d k = rw (d, k) at (a .ranged)

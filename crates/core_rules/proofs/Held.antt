@@ -1,4 +1,5 @@
--- Lemmas. Rule 6 by two tables, the chunks that begin and that cease to be held in each slot. Assumes nothing.
+-- Lemmas. Rule 6 by two tables, the chunks that begin and that cease to be held in each slot.
+-- Assumes nothing.
 use Prim.Native.Nat.{ℕ, zero, suc, _+_, _-_, _/_, _≤_, _<_}
 use mathlib.Core.Path.{_≡_, refl, sym, ap, _∙_}
 use mathlib.Core.Bool.{Bool, true, false, cond, _&&_}
@@ -118,7 +119,8 @@ module _ (p : Programme) (first : List ℕ) where
 
 -- ---- the sweep
 
--- What the sums of slot t + 1 need: no more than 500 begin or are held, and no more cease than are held.
+-- What the sums of slot t + 1 need: no more than 500 begin or are held, and no more cease than are
+-- held.
 pub record Fine (begins ends : List ℕ) (t : ℕ) : Type 0 where
   pub held-few : heldAt begins ends t ≤ 500
   pub begin-few : getD begins (t + 1) 0 ≤ 500

@@ -1,4 +1,5 @@
--- Lemmas. The pass over the layers of a chunk, and over the chunks: one more of either. Assumes nothing.
+-- Lemmas. The pass over the layers of a chunk, and over the chunks: one more of either. Assumes
+-- nothing.
 use Prim.Native.Nat.{ℕ, suc, _+_, _*_, _-_, _≤_, _<_}
 use mathlib.Core.Path.{_≡_, refl, sym, ap, _∙_}
 use mathlib.Core.Bool.{Bool, true, false, not, cond, _&&_, _||_}

@@ -1,10 +1,11 @@
-// Internal. The rules of a fetch list by tables: one pass over the rows fills tables of sums and of first slots; one pass over the chunks and
-// two over the slots read them. The checker and the planner afresh stand on it.
+// Internal. The rules of a fetch list by tables: one pass over the rows fills tables of sums and of
+// first slots; one pass over the chunks and two over the slots read them. The checker and the
+// planner afresh stand on it.
+use job::Programme;
 use job::SIZES;
 use job::SUMS;
 use job::SizeTable;
 use job::SlotSums;
-use job::Programme;
 ghost use mathlib.Core.Path.{_≡_};
 ghost use mathlib.Core.Bool.{_&&_};
 ghost use Prim.Native.Nat.{ℕ, _+_, _*_, _-_, _/_, _<_, _≤_, min};
@@ -47,7 +48,8 @@ pub fn both(a: bool, b: bool) -> bool
     false
 }
 
-// Saturates: a direct call may hand more rows than 64 bits can sum, and any sum above CAP breaks rule 2 or 4 alike.
+// Saturates: a direct call may hand more rows than 64 bits can sum, and any sum above CAP breaks
+// rule 2 or 4 alike.
 fn add(sum: u64, more: u32) -> u64
     requires { ⌜ sum ≤ cap ⌝ }
     ensures { λ r. ⌜ r ≡ min cap (sum + more) ⌝ }
@@ -229,7 +231,8 @@ pub fn within(forecast: &[u32], slotsum: &SlotSums) -> bool
     true
 }
 
-// The slots in which chunks begin to be held, and in which they cease to be. A chunk begun in its due slot is never held.
+// The slots in which chunks begin to be held, and in which they cease to be. A chunk begun in its
+// due slot is never held.
 fn mark_times(p: Programme, first: &[u16; 501], begins: &mut [u16; SUMS], ends: &mut [u16; SUMS])
     requires { ⌜ (p .chunks ≤ 500) × ((i : ℕ) → i ≤ p .chunks → dueSlot p i ≤ 3600) × (now begins ≡ replicate 3601 0) × (now ends ≡ replicate 3601 0) ⌝ }
     ensures { λ _. ⌜ MarkTimesPost p (now (first .entry)) (p .chunks) (now (begins .exit)) (now (ends .exit)) ⌝ }

@@ -1,5 +1,5 @@
--- Laws on the whole search: the tables that it is asked with, the set found at the end of its tables, and where it stands at the end.
--- Assumes nothing.
+-- Laws on the whole search: the tables that it is asked with, the set found at the end of its
+-- tables, and where it stands at the end. Assumes nothing.
 use Prim.Native.Nat.{ℕ, zero, suc, _+_, _-_, _/_, _≤_, _<_}
 use mathlib.Core.Path.{_≡_, refl, sym, ap, _∙_, subst, fun-ext}
 use mathlib.Core.Bool.{Bool, true, false, cond}

@@ -1,4 +1,5 @@
--- Laws on the search over tables: the kept chunks and the best set at the ends of tables, and a turn of the recursion. Assumes nothing.
+-- Laws on the search over tables: the kept chunks and the best set at the ends of tables, and a
+-- turn of the recursion. Assumes nothing.
 use Prim.Native.Nat.{ℕ, zero, suc, _+_, _-_, _≤_, _<_, max}
 use mathlib.Core.Path.{_≡_, refl, sym, ap, _∙_, subst}
 use mathlib.Core.Bool.{Bool, true, false, cond, not, _&&_}

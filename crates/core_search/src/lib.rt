@@ -1,9 +1,10 @@
-// Internal. The search of request 13 over tables of 500 places, the same time at each step: the kept chunks and their needs stand at the end
-// of ids and needs, from a first place on, and the best set met so far at the end of best.
+// Internal. The search of request 13 over tables of 500 places, the same time at each step: the
+// kept chunks and their needs stand at the end of ids and needs, from a first place on, and the
+// best set met so far at the end of best.
 use job::CHUNKS;
+use job::Programme;
 use job::SizeTable;
 use job::SlotSums;
-use job::Programme;
 ghost use mathlib.Core.Path.{_≡_};
 ghost use Prim.Native.Nat.{ℕ, _≤_};
 ghost use lib.ListN.{length, drop};
@@ -46,7 +47,8 @@ fn keep_best(k: usize, ids: &[u16; CHUNKS], best: &mut [u16; CHUNKS], count: &mu
     *count = size;
 }
 
-// Whether chunk i can be kept in front of the kept ones. Its need is written one place before theirs.
+// Whether chunk i can be kept in front of the kept ones. Its need is written one place before
+// theirs.
 fn can_keep(
     i: u16,
     first: usize,
@@ -63,7 +65,8 @@ fn can_keep(
     let k = first - 1;
     let d = dues[c] as usize;
     let z = core_sizes::size_in(table, i, 0);
-    let cand = core_decide::wide(z) + core_decide::larger(after[d], core_decide::need_at(needs, first, 0));
+    let cand = core_decide::wide(z)
+        + core_decide::larger(after[d], core_decide::need_at(needs, first, 0));
     let e = d - 1;
     needs[k] = cand;
     if after[0] < cand {
@@ -72,8 +75,9 @@ fn can_keep(
     core_decide::need_at(needs, k, held) <= after[e]
 }
 
-// The chunks i down to 1, beside the kept ones: chunk i is tried kept and then skipped, each try a step. left is one more than the steps
-// of the budget not yet taken, and 0 once a step was wanted that the budget does not have; so is the result.
+// The chunks i down to 1, beside the kept ones: chunk i is tried kept and then skipped, each try a
+// step. left is one more than the steps of the budget not yet taken, and 0 once a step was wanted
+// that the budget does not have; so is the result.
 fn search(
     i: u16,
     first: usize,
@@ -174,7 +178,8 @@ fn set_bases(
     }
 }
 
-// The best set met within the budget, at the end of ids, with its due slots and bases. The kept set is empty at the start.
+// The best set met within the budget, at the end of ids, with its due slots and bases. The kept set
+// is empty at the start.
 pub fn best_within(
     p: Programme,
     table: &SizeTable,

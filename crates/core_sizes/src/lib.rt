@@ -1,5 +1,6 @@
-// Internal. A size out of the table of all sizes (job, fill_sizes), for a chunk and a layer that have a place in it: one read without a
-// test, where job's size_at tests for every chunk and layer there is.
+// Internal. A size out of the table of all sizes (job, fill_sizes), for a chunk and a layer that
+// have a place in it: one read without a test, where job's size_at tests for every chunk and layer
+// there is.
 use job::SizeTable;
 ghost use mathlib.Core.Path.{_≡_};
 ghost use Prim.Native.Nat.{_<_};

@@ -1,4 +1,5 @@
-// Internal. What the calls that hand over a plan share: the counts of marks, copies of what was laid out aside, and whether it fits.
+// Internal. What the calls that hand over a plan share: the counts of marks, copies of what was
+// laid out aside, and whether it fits.
 ghost use mathlib.Core.Path.{_≡_};
 ghost use mathlib.Core.Bool.{_&&_};
 ghost use Prim.Native.Nat.{ℕ, _≤_};

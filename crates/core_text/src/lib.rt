@@ -1,4 +1,5 @@
-// Words and numbers as text at a place of a lent buffer, for the crates that write text. Internal: what is written has to fit.
+// Words and numbers as text at a place of a lent buffer, for the crates that write text. Internal:
+// what is written has to fit.
 ghost use mathlib.Core.List.{_++_};
 ghost use Prim.Native.Nat.{_+_, _≤_};
 ghost use lib.ListN.{length};

@@ -1,4 +1,5 @@
--- Lemmas. The bits of a byte after a shift, an or, an and, for every layer number at once. Assumes nothing.
+-- Lemmas. The bits of a byte after a shift, an or, an and, for every layer number at once. Assumes
+-- nothing.
 use Prim.Native.Nat.{ℕ, zero, suc, _*_, _-_, _/_, _%_, _^_, _<_}
 use mathlib.Core.Path.{_≡_, refl, sym, ap, _∙_}
 use mathlib.Core.Bool.{Bool, true, false, not, cond, _&&_, _||_}

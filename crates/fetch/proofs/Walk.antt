@@ -1,4 +1,5 @@
--- Lemmas. The walk by words and the walk by bytes: eight marks as a word, and what is counted so far. Assumes nothing.
+-- Lemmas. The walk by words and the walk by bytes: eight marks as a word, and what is counted so
+-- far. Assumes nothing.
 use Prim.Native.Nat.{ℕ, suc, _+_, _*_, _/_, _≤_, _<_}
 use mathlib.Core.Path.{_≡_, refl, sym, ap, _∙_}
 use mathlib.Core.Bool.{cond}

@@ -1,5 +1,5 @@
--- Meaning, then its theorem. Refusal 8 of a direct call: "8 for marks that aren't one byte a chunk or a row not handed whole".
--- A row is handed whole if the four slices of the list have one length.
+-- Meaning, then its theorem. Refusal 8 of a direct call: "8 for marks that aren't one byte a chunk
+-- or a row not handed whole". A row is handed whole if the four slices of the list have one length.
 use Prim.Native.Nat.{ℕ}
 use mathlib.Core.Path.{_≡_}
 use mathlib.Core.Bool.{_&&_}

@@ -1,5 +1,6 @@
--- Meaning. What a list keeps that passes the second checker call: document 02, request 12: "A second checker call takes p, and its rule 2
--- allows a short sum whose rows are all before p". The other rules are document 01's (Rules).
+-- Meaning. What a list keeps that passes the second checker call: document 02, request 12: "A
+-- second checker call takes p, and its rule 2 allows a short sum whose rows are all before p". The
+-- other rules are document 01's (Rules).
 use Prim.Native.Nat.{ℕ, _<_}
 use mathlib.Core.Path.{_≡_}
 use mathlib.Core.List.{List}
@@ -14,7 +15,8 @@ pub record ShortBefore (j : Job) (p : ℕ) (rows : List Row) (i n : ℕ) : Type 
   pub short : bytesOfLayer rows i n < size j i n
   pub before : (x : Row) → In x rows → x .chunk ≡ i → x .layer ≡ n → x .slot < p
 
--- Rule 2 of the second call: each layer of each chunk sums to 0 or its full size, or to less, in rows that are all before p.
+-- Rule 2 of the second call: each layer of each chunk sums to 0 or its full size, or to less, in
+-- rows that are all before p.
 abbrev pub WholeFrom : Job → ℕ → List Row → Type 0
 WholeFrom j p rows = (i n : ℕ) → Layer j i n → (bytesOfLayer rows i n ≡ 0) ⊎ (Carried j rows i n ⊎ ShortBefore j p rows i n)
 

@@ -1,5 +1,6 @@
--- Meaning, then its theorems. The verdict of the second checker call (RulesFrom): document 01's, with that call's rule 2; and 21, "p not from
--- 1 to d(C)". Where no row stands before p it is the first call.
+-- Meaning, then its theorems. The verdict of the second checker call (RulesFrom): document 01's,
+-- with that call's rule 2; and 21, "p not from 1 to d(C)". Where no row stands before p it is the
+-- first call.
 use Prim.Native.Nat.{ℕ, _≤_, _<_}
 use mathlib.Core.Path.{_≡_, refl, ap}
 use mathlib.Core.Bool.{Bool, true, false, not, _&&_, _||_}

@@ -1,4 +1,5 @@
--- Theorems. A word is its eight bytes, and for marks of any length every count is the sum over words and rest: document 02, request 7.
+-- Theorems. A word is its eight bytes, and for marks of any length every count is the sum over
+-- words and rest: document 02, request 7.
 use Prim.Native.Nat.{ℕ, zero, suc, _+_, _*_, _/_, _^_, _≤_, _<_}
 use mathlib.Core.Path.{_≡_, refl, sym, ap, _∙_}
 use mathlib.Core.List.{List}

@@ -1,4 +1,5 @@
-// A fetch list as it is handed: four slices of one length and a mark byte a chunk; and a slot that is handed.
+// A fetch list as it is handed: four slices of one length and a mark byte a chunk; and a slot that
+// is handed.
 use job::Programme;
 ghost use mathlib.Core.Path.{_≡_};
 ghost use mathlib.Core.Bool.{cond};
@@ -47,8 +48,9 @@ fn set_bits(x: u64) -> u8
     u64::count_ones(x) as u8
 }
 
-// How many of a word's eight bytes have bit n set, for n from 0 to 7, and 0 above. Shifted and masked, each byte is 0 or 1, so that no
-// count runs into the next byte; the compiler sums them by one multiplication.
+// How many of a word's eight bytes have bit n set, for n from 0 to 7, and 0 above. Shifted and
+// masked, each byte is 0 or 1, so that no count runs into the next byte; the compiler sums them by
+// one multiplication.
 pub fn count_word(word: u64, n: u8) -> u8
     ensures { λ r. ⌜ r ≡ wordCount word n ⌝ }
 {

@@ -1,6 +1,7 @@
--- Theorems. What the program writes: document 02, "The mixed files of document 01 can be turned into the new form by a small program that
--- still reads both." `refusalOf mixed` and `jobOfFile mixed` are what the contract of `jobfile::read_mixed_job` cites, by which the program reads,
--- and `jobFile` what that of `jobfile::write_job` does.
+-- Theorems. What the program writes: document 02, "The mixed files of document 01 can be turned
+-- into the new form by a small program that still reads both." `refusalOf mixed` and `jobOfFile
+-- mixed` are what the contract of `jobfile::read_mixed_job` cites, by which the program reads, and
+-- `jobFile` what that of `jobfile::write_job` does.
 use Prim.Native.Nat.{ℕ}
 use mathlib.Core.Path.{_≡_, ap, _∙_}
 use mathlib.Core.List.{List, []}
@@ -24,8 +25,9 @@ converts s e =
     let a = file-accepted mixed s e in
     record { taken = never-refused (jobOfFile mixed s) a; same = reads-back (jobOfFile mixed s) a }
 
--- The program reads both: a file in one sequence without SZ is not refused, and stays as it is, byte for byte. "The program of request 6
--- stays as it is": to it an SZ is an unknown mark (jobrecords, `unknown-mark`).
+-- The program reads both: a file in one sequence without SZ is not refused, and stays as it is,
+-- byte for byte. "The program of request 6 stays as it is": to it an SZ is an unknown mark
+-- (jobrecords, `unknown-mark`).
 pub record Stays (s : List ℕ) : Type 0 where
   pub read : refusalOf mixed s ≡ 0
   pub unchanged : converted s ≡ s

@@ -1,7 +1,8 @@
-// Reads a job file of either form on standard input and writes it in one sequence to standard output; on a refusal, `refused n`. It reads by
-// document 01's reader alone: a file in one sequence is a mixed file too, if it has no SZ. One with an SZ has an unknown mark, 2.
-use job::SLOTS;
+// Reads a job file of either form on standard input and writes it in one sequence to standard
+// output; on a refusal, `refused n`. It reads by document 01's reader alone: a file in one sequence
+// is a mixed file too, if it has no SZ. One with an SZ has an unknown mark, 2.
 use job::Programme;
+use job::SLOTS;
 use jobfile::Written;
 use jobrecords::JobRead;
 use libc::STDIN_FILENO;

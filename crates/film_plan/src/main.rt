@@ -1,9 +1,10 @@
-// Reads a job on standard input and writes its plan file to standard output; on a refusal, `refused n`.
+// Reads a job on standard input and writes its plan file to standard output; on a refusal, `refused
+// n`.
 use job::CHUNKS;
 use job::OVERRIDES;
+use job::Programme;
 use job::ROWS;
 use job::SLOTS;
-use job::Programme;
 use jobrecords::JobRead;
 use libc::STDIN_FILENO;
 use libc::STDOUT_FILENO;

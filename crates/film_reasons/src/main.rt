@@ -1,7 +1,8 @@
-// Reads a job on standard input and prints the reason under each layer that its plan lacks (request 14); on a refusal, `refused n`.
+// Reads a job on standard input and prints the reason under each layer that its plan lacks (request
+// 14); on a refusal, `refused n`.
 use job::OVERRIDES;
-use job::SLOTS;
 use job::Programme;
+use job::SLOTS;
 use jobrecords::JobRead;
 use libc::STDIN_FILENO;
 use libc::STDOUT_FILENO;

@@ -1,7 +1,7 @@
 // Reads a job on standard input and prints its report; on a refusal, `refused n`.
 use job::OVERRIDES;
-use job::SLOTS;
 use job::Programme;
+use job::SLOTS;
 use jobrecords::JobRead;
 use libc::STDIN_FILENO;
 use libc::STDOUT_FILENO;

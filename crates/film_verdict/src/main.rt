@@ -1,9 +1,10 @@
-// Reads the files `job`, then `plan`, and prints `verdict n`; on a refusal, `refused n`. A file that can't be opened is read as empty.
+// Reads the files `job`, then `plan`, and prints `verdict n`; on a refusal, `refused n`. A file
+// that can't be opened is read as empty.
 use checker::Checked;
 use job::CHUNKS;
 use job::OVERRIDES;
-use job::SLOTS;
 use job::Programme;
+use job::SLOTS;
 use jobrecords::JobRead;
 use libc::STDOUT_FILENO;
 use planfile::PlanRead;

@@ -1,4 +1,5 @@
--- Refusal 18 one SZ at a time, and the table of sizes one write at a time, over plain lists. Assumes nothing.
+-- Refusal 18 one SZ at a time, and the table of sizes one write at a time, over plain lists.
+-- Assumes nothing.
 use Prim.Native.Nat.{ℕ, suc, _+_, _-_, _*_, _%_, _≤_, _<_, min}
 use mathlib.Core.Path.{_≡_, refl, sym, ap, _∙_}
 use mathlib.Core.Bool.{Bool, true, false, _&&_}

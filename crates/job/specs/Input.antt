@@ -1,5 +1,5 @@
--- Meaning, then its theorems. A job as a direct call hands it over, its SZs in three slices of one length: refusal 18 for an SZ not handed
--- whole, then for its numbers, "after 6 and before 7".
+-- Meaning, then its theorems. A job as a direct call hands it over, its SZs in three slices of one
+-- length: refusal 18 for an SZ not handed whole, then for its numbers, "after 6 and before 7".
 use Prim.Native.Nat.{ℕ}
 use mathlib.Core.Path.{_≡_, refl, sym, ap, _∙_}
 use mathlib.Core.Bool.{Bool, _&&_}

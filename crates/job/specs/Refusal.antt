@@ -1,6 +1,7 @@
--- Meaning, then its theorem. The refusals of a job that come from its own numbers: document 01, refusals 5, 6 and 7 of a direct call,
--- and document 02's 18, "after 6 and before 7".
--- A definition a number, 5 apart for the fields and for d(C); the whole composes them, and is 0 exactly for accepted jobs.
+-- Meaning, then its theorem. The refusals of a job that come from its own numbers: document 01,
+-- refusals 5, 6 and 7 of a direct call, and document 02's 18, "after 6 and before 7".
+-- A definition a number, 5 apart for the fields and for d(C); the whole composes them, and is 0
+-- exactly for accepted jobs.
 use Prim.Native.Nat.{ℕ, _-_, _≤_}
 use mathlib.Core.Path.{_≡_}
 use mathlib.Core.Bool.{Bool, true, not, _&&_, _||_}
@@ -46,7 +47,8 @@ lastDueRefusal p = unless 5 (leb (lastDue p) 3600)
 abbrev pub sizesRefusal : List ℕ → ℕ
 sizesRefusal sizes = unless 6 (within 1 4 (length sizes) && all (within 1 16777216) sizes)
 
--- An SZ names a chunk after the first and a layer, both in the job, and a size that is not the layer's own.
+-- An SZ names a chunk after the first and a layer, both in the job, and a size that is not the
+-- layer's own.
 abbrev pub named : Programme → List ℕ → Override → Bool
 named p sizes o = within 2 (p .chunks) (o .chunk) && (ltb (o .layer) (length sizes) && not (eqb (o .bytes) (getD sizes (o .layer) 0)))
 
@@ -65,7 +67,8 @@ rising (o ∷ (q ∷ os)) = before o q && rising (q ∷ os)
 abbrev pub sized : Override → Bool
 sized o = within 1 16777216 (o .bytes)
 
--- 18: "an SZ naming chunk 1, or a chunk or layer that isn't in the job, not rising, or of size out of range or equal to the layer's own".
+-- 18: "an SZ naming chunk 1, or a chunk or layer that isn't in the job, not rising, or of size out
+-- of range or equal to the layer's own".
 abbrev pub overridesRefusal : Programme → List ℕ → List Override → ℕ
 overridesRefusal p sizes os = unless 18 (all (named p sizes) os && (rising os && all sized os))
 

@@ -1,5 +1,5 @@
--- Meaning. The table of all sizes that a call fills once: four places a chunk, for 500 chunks. That it says an accepted job's sizes is a
--- theorem (Uneven, `table-is`).
+-- Meaning. The table of all sizes that a call fills once: four places a chunk, for 500 chunks. That
+-- it says an accepted job's sizes is a theorem (Uneven, `table-is`).
 use Prim.Native.Nat.{ℕ, _+_, _*_, _-_, _%_}
 use mathlib.Core.Bool.{cond}
 use mathlib.Core.List.{List, [], _∷_}
@@ -28,6 +28,7 @@ ownSizes sizes = ownTable sizes 500
 abbrev pub sizesTable : List ℕ → List Override → List ℕ
 sizesTable sizes os = overriddenBy os (ownSizes sizes)
 
--- What a table says of layer n of chunk i; past its end every chunk is as chunk 1, and there is no fifth layer.
+-- What a table says of layer n of chunk i; past its end every chunk is as chunk 1, and there is no
+-- fifth layer.
 abbrev pub tableAt : List ℕ → ℕ → ℕ → ℕ
 tableAt t i n = cond (ltb n 4) (cond (ltb (spot i n) 2000) (getD t (spot i n) 0) (getD t n 0)) 0

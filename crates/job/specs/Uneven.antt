@@ -1,5 +1,6 @@
--- Theorems. Film with uneven chunks: how many SZs a job can have, chunk 1's own sizes, that chunks are equal exactly if there is no SZ,
--- that then their bases are, and that a call's table of sizes says the job's.
+-- Theorems. Film with uneven chunks: how many SZs a job can have, chunk 1's own sizes, that chunks
+-- are equal exactly if there is no SZ, that then their bases are, and that a call's table of sizes
+-- says the job's.
 use Prim.Native.Nat.{ℕ, _+_, _*_, _≤_}
 use mathlib.Core.Path.{_≡_, refl, sym, subst, fun-ext, _∙_}
 use mathlib.Core.List.{List, [], _∷_}

@@ -1,5 +1,6 @@
-// What a job is, and the checks of a job handed in a direct call: refusals 5, 6, 18 and 7, a function a number. The table of its sizes.
-// A refusal is its number, and 0 is none. An SZ is an element of each of three slices: its chunk, its layer, its size.
+// What a job is, and the checks of a job handed in a direct call: refusals 5, 6, 18 and 7, a
+// function a number. The table of its sizes. A refusal is its number, and 0 is none. An SZ is an
+// element of each of three slices: its chunk, its layer, its size.
 ghost use mathlib.Core.Path.{_≡_};
 ghost use mathlib.Core.Bool.{_&&_};
 ghost use Prim.Native.Nat.{_/_, _≤_, max, min};
@@ -15,12 +16,16 @@ ghost use Rattle.job.specs.Table.{spot, ownSizes, overriddenBy, sizesTab
 // The limits of a job, as document 01 and request 8 have them: at most 500 chunks, 4 layers, 3,600
 // slots, 16,777,216 bytes in a slot or a layer.
 pub const CHUNKS: usize = 500;
+
 pub const LAYERS: usize = 4;
+
 pub const SLOTS: usize = 3600;
+
 pub const MOST_BYTES: u32 = 16777216;
 
 // A size for each layer of each chunk; an SZ for each of them but chunk 1's.
 pub const SIZES: usize = 2000;
+
 pub const OVERRIDES: usize = 1996;
 
 // A sum for each slot and one before the first.
@@ -31,6 +36,7 @@ pub const ROWS: usize = 5599;
 
 // Sizes by chunk and layer, and sums by slot.
 pub type SizeTable = [u32; SIZES];
+
 pub type SlotSums = [u64; SUMS];
 
 // Document 01's C, L, s and buffer limit.
@@ -252,8 +258,8 @@ fn comes_before(c: u16, l: u8, chunk: u16, layer: u8) -> bool
     false
 }
 
-// An SZ that is in order: its chunk after the first and its layer, both in the job, its size in range and not the layer's own, and it
-// comes after layer l of chunk c, the one before it.
+// An SZ that is in order: its chunk after the first and its layer, both in the job, its size in
+// range and not the layer's own, and it comes after layer l of chunk c, the one before it.
 fn in_order(p: Programme, sizes: &[u32], c: u16, l: u8, chunk: u16, layer: u8, size: u32) -> bool
     ensures { λ r. ⌜ r ≡ (named p (now (sizes .entry)) (record { chunk = chunk; layer = layer; bytes = size }) && sized (record { chunk = chunk; layer = layer; bytes = size })) && comes c l chunk layer ⌝ }
 {
@@ -289,7 +295,8 @@ pub fn overrides_refusal(p: Programme, sizes: &[u32], cs: &[u16], ls: &[u8], bs:
     0
 }
 
-// Refusals 5, 6, 18 and 7 of a direct call, in that order; 0 exactly for an accepted job whose SZs are handed whole.
+// Refusals 5, 6, 18 and 7 of a direct call, in that order; 0 exactly for an accepted job whose SZs
+// are handed whole.
 pub fn refusal(
     p: Programme,
     sizes: &[u32],
@@ -368,7 +375,8 @@ pub fn fill_sizes(sizes: &[u32], cs: &[u16], ls: &[u8], bs: &[u32], table: &mut 
     write_over(cs, ls, bs, table);
 }
 
-// The bytes of layer n of chunk i, out of the table of all sizes. For an accepted job this is its size, for every chunk and layer.
+// The bytes of layer n of chunk i, out of the table of all sizes. For an accepted job this is its
+// size, for every chunk and layer.
 pub fn size_at(table: &SizeTable, i: u16, n: usize) -> u32
     ensures { λ r. ⌜ r ≡ tableAt (now (table .entry)) i n ⌝ }
 {

@@ -1,5 +1,6 @@
--- Theorems. Job files in one sequence: demand 2, "Job and plan files read back as the job and plan written", and document 02, request 6,
--- "Each job then has a single file". `fileRefusal` and `jobOfFile` are what the reader's contract cites, `jobFile` what the writer's does.
+-- Theorems. Job files in one sequence: demand 2, "Job and plan files read back as the job and plan
+-- written", and document 02, request 6, "Each job then has a single file". `fileRefusal` and
+-- `jobOfFile` are what the reader's contract cites, `jobFile` what the writer's does.
 use Prim.Native.Nat.{ℕ, _+_, _≤_}
 use mathlib.Core.Path.{_≡_, refl, sym, ap, subst, _∙_}
 use mathlib.Core.List.{List, _++_}
@@ -41,7 +42,8 @@ pub reads-back : (j : Job) → Accepted j → jobOfFile oneSequence (jobFile j) 
 unfolding jobFile
 reads-back j a = rw (split-written (format oneSequence) encode En end-back refl (recordsOf j) (records-back j a)) (job-back j)
 
--- So the reader, lent enough room, answers with the job that was written, and its sizes, SZs and forecast stand in the buffers.
+-- So the reader, lent enough room, answers with the job that was written, and its sizes, SZs and
+-- forecast stand in the buffers.
 pub record ReadAgain (j : Job) (lent : Buffers) : Type 0 where
   pub answer : readAnswer oneSequence (jobFile j) lent ≡ jobAnswer j
   pub buffers-are : lentRead oneSequence (jobFile j) lent ≡ lentBy 0 j lent

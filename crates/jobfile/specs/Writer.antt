@@ -1,6 +1,7 @@
--- Meaning. The job file that the writer puts, its answer and the lent buffer afterwards: document 01, "The job writer puts PG, the LYs,
--- then one BW per longest run", document 02, "`SZ` records stand between the `LY` and the `BW` ones", and the refusals of direct calls,
--- "5, 6, 7, .. and a writer then 9", with 18 after 6, then 11.
+-- Meaning. The job file that the writer puts, its answer and the lent buffer afterwards: document
+-- 01, "The job writer puts PG, the LYs, then one BW per longest run", document 02, "`SZ` records
+-- stand between the `LY` and the `BW` ones", and the refusals of direct calls, "5, 6, 7, .. and a
+-- writer then 9", with 18 after 6, then 11.
 use Prim.Native.Nat.{ℕ, suc, _≤_}
 use mathlib.Core.Path.{_≡_}
 use mathlib.Core.Bool.{cond}

@@ -1,5 +1,6 @@
-// Job files, document 02's request 6: a reader of files in one sequence and a writer of any job, into lent buffers that a refusal leaves
-// as they are. What the reader takes is what the writer puts, byte for byte. The reading is crate jobrecords'.
+// Job files, document 02's request 6: a reader of files in one sequence and a writer of any job,
+// into lent buffers that a refusal leaves as they are. What the reader takes is what the writer
+// puts, byte for byte. The reading is crate jobrecords'.
 ghost use mathlib.Core.Path.{_≡_};
 ghost use Prim.Native.Nat.{_+_, _≤_, _<_};
 ghost use mathlib.Core.List.{[], map};
@@ -22,8 +23,9 @@ pub enum Written {
     Refused(u8),
 }
 
-// Reads a job file in one sequence into the lent sizes, SZs and forecast. Refusals: 9, then record by record, 17 between 4 and the ranges, at
-// EN 3, 4, 6, 18, 7; then 11 where a buffer is shorter than the job's sizes, SZs or slots. On a refusal every buffer stays as it is.
+// Reads a job file in one sequence into the lent sizes, SZs and forecast. Refusals: 9, then record
+// by record, 17 between 4 and the ranges, at EN 3, 4, 6, 18, 7; then 11 where a buffer is shorter
+// than the job's sizes, SZs or slots. On a refusal every buffer stays as it is.
 pub fn read_job(
     file: &[u8],
     sizes: &mut [u32],
@@ -50,8 +52,9 @@ pub fn read_job(
     )
 }
 
-// Reads a mixed job file, which has no SZ, into the lent sizes and forecast. Refusals: 9, then record by record, at EN 3, 4, 6, 7; then 11
-// where a buffer is shorter than the job's sizes or slots. On a refusal both buffers stay as they are.
+// Reads a mixed job file, which has no SZ, into the lent sizes and forecast. Refusals: 9, then
+// record by record, at EN 3, 4, 6, 7; then 11 where a buffer is shorter than the job's sizes or
+// slots. On a refusal both buffers stay as they are.
 pub fn read_mixed_job(file: &[u8], sizes: &mut [u32], forecast: &mut [u32]) -> JobRead
     ensures answer { λ r. ⌜ r ≡ readAnswer mixed (now (file .entry)) (buffers (now (sizes .entry)) [] [] [] (now (forecast .entry))) ⌝ }
     ensures sizes { λ r. ⌜ now (sizes .exit) ≡ lentRead mixed (now (file .entry)) (buffers (now (sizes .entry)) [] [] [] (now (forecast .entry))) .sizes ⌝ }
@@ -240,8 +243,9 @@ fn put_job(
     put_bytes(out, end, b"EN")
 }
 
-// Writes the file of a job into a lent buffer. Refusals: 5, 6, 18, 7, then 11 where the buffer is shorter than the file; 9 can't happen to
-// an accepted job, whose file has at most 46,800 bytes. On a refusal the buffer stays as it is.
+// Writes the file of a job into a lent buffer. Refusals: 5, 6, 18, 7, then 11 where the buffer is
+// shorter than the file; 9 can't happen to an accepted job, whose file has at most 46,800 bytes. On
+// a refusal the buffer stays as it is.
 pub fn write_job(
     p: Programme,
     sizes: &[u32],

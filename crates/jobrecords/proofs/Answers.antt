@@ -1,4 +1,5 @@
--- Lemmas. The answer of the reader and the lent buffers afterwards, by what the loop found. Assumes nothing.
+-- Lemmas. The answer of the reader and the lent buffers afterwards, by what the loop found. Assumes
+-- nothing.
 use Prim.Native.Nat.{ℕ, _+_, _*_, _-_, _≤_, _<_}
 use mathlib.Core.Path.{_≡_, sym, ap, _∙_}
 use mathlib.Core.Bool.{Bool, _&&_}

@@ -1,4 +1,5 @@
--- Lemmas. The SZs that the loop counts, a record more: they stand in the file one after the other. Assumes nothing.
+-- Lemmas. The SZs that the loop counts, a record more: they stand in the file one after the other.
+-- Assumes nothing.
 use Prim.Native.Nat.{ℕ, _+_, _*_, _-_, _≤_, _<_}
 use mathlib.Core.Path.{_≡_, refl, sym, ap, _∙_}
 use mathlib.Core.Bool.{Bool, true, false, not, _&&_, _||_}

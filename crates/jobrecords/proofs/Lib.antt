@@ -1,7 +1,7 @@
 mod Fronts
-mod Progress
+mod Records
 mod Counting
-mod Step
+mod Steps
 mod Copies
 mod Uneven
 mod Answers

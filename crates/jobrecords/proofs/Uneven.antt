@@ -1,4 +1,5 @@
--- Lemmas. Refusal 18 of SZs that stand in a file, by how many there are and by what was copied of them. Assumes nothing.
+-- Lemmas. Refusal 18 of SZs that stand in a file, by how many there are and by what was copied of
+-- them. Assumes nothing.
 use Prim.Native.Nat.{ℕ, _+_, _*_, _≤_, _<_}
 use mathlib.Core.Path.{_≡_, refl, sym, ap, _∙_}
 use mathlib.Core.List.{List, map}

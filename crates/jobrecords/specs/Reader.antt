@@ -1,6 +1,7 @@
--- Meaning. What the record reader and the reader of a job file of either form answer, and the lent buffers afterwards: document 01, "reader
--- answers an enum, record with next cursor or refusal" and "11. A lent buffer is shorter than the whole result, after all input refusals. In
--- a longer one the bytes past the result stay unchanged".
+-- Meaning. What the record reader and the reader of a job file of either form answer, and the lent
+-- buffers afterwards: document 01, "reader answers an enum, record with next cursor or refusal" and
+-- "11. A lent buffer is shorter than the whole result, after all input refusals. In a longer one
+-- the bytes past the result stay unchanged".
 use Prim.Native.Nat.{ℕ, _+_}
 use mathlib.Core.Bool.{Bool, cond, _&&_}
 use mathlib.Core.List.{List}
@@ -27,7 +28,8 @@ readFront at (none n) = Refused n
 abbrev pub readAt : Bool → List ℕ → ℕ → Read
 readAt sequenced s at = readFront at (front sequenced (drop at s))
 
--- The lent buffers: for the sizes, for the chunks, layers and sizes of the SZs, and for the forecast.
+-- The lent buffers: for the sizes, for the chunks, layers and sizes of the SZs, and for the
+-- forecast.
 pub record Buffers : Type 0 where
   pub sizes : List ℕ
   pub size-chunks : List ℕ

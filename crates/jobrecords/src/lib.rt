@@ -1,6 +1,8 @@
-// Records of job files, and the reading of a file of either form into lent buffers that a refusal leaves as they are: document 02's files,
-// in one sequence, and document 01's mixed ones. A record is read, judged and taken a turn; sizes and slots stand in tables until every
-// refusal has been ruled out. The SZs stand in the file one after the other, so only their number and the place after them are kept.
+// Records of job files, and the reading of a file of either form into lent buffers that a refusal
+// leaves as they are: document 02's files, in one sequence, and document 01's mixed ones. A record
+// is read, judged and taken a turn; sizes and slots stand in tables until every refusal has been
+// ruled out. The SZs stand in the file one after the other, so only their number and the place
+// after them are kept.
 ghost use mathlib.Core.Path.{_≡_};
 ghost use Prim.Native.Nat.{_+_, _*_, _≤_, _<_};
 ghost use lib.ListN.{length, replicate, take};
@@ -15,8 +17,8 @@ ghost use Rattle.jobrecords.specs.Refusal.{layerFault, runFault};
 ghost use Rattle.jobrecords.specs.lemmas.Reading.{noRecords, readWhole, lastMark, runFollows, faultAfter, overridesOn, endRefusal, endedBy, readRefusalOf, endRefusalOf, Inside, Sized, Room, Fine, TakeRecordPost, OneStepPre, OneStepPost, ReadAllPost, roomBy};
 ghost use Rattle.jobrecords.specs.Reader.{readFront, readAt, buffers, readAnswer, lentRead};
 use job::OVERRIDES;
-use job::SLOTS;
 use job::Programme;
+use job::SLOTS;
 
 // A record of a job file, without its mark.
 pub enum Record {
@@ -33,7 +35,8 @@ enum Read {
     Refused(u8),
 }
 
-// What reading a job file gives: the job, whose sizes, SZs and forecast are in the lent buffers, or a refusal.
+// What reading a job file gives: the job, whose sizes, SZs and forecast are in the lent buffers, or
+// a refusal.
 pub enum JobRead {
     Job {
         programme: Programme,
@@ -44,8 +47,9 @@ pub enum JobRead {
     Refused(u8),
 }
 
-// What the records so far say beside the sizes and the forecast, which stand in tables; of the last record its place in the sequence, 0 if
-// there is none, and its bytes, if it is a run; of the SZs how many there are and the place in the file after the last.
+// What the records so far say beside the sizes and the forecast, which stand in tables; of the last
+// record its place in the sequence, 0 if there is none, and its bytes, if it is a run; of the SZs
+// how many there are and the place in the file after the last.
 struct Progress {
     place: u8,
     bytes: u32,
@@ -145,8 +149,8 @@ fn record_at(sequenced: bool, file: &[u8], at: usize) -> Read
     record_in(sequenced, &file[at..], at)
 }
 
-// Whether an LY, an SZ, and a run of some bytes may stand after a record of that place in the sequence and, if it is a run, of those last
-// bytes.
+// Whether an LY, an SZ, and a run of some bytes may stand after a record of that place in the
+// sequence and, if it is a run, of those last bytes.
 fn layer_follows(place: u8) -> bool
     ensures { λ r. ⌜ r ≡ within 1 2 place ⌝ }
 {
@@ -243,7 +247,8 @@ fn gather(file: &[u8], from: usize, n: usize, cs: &mut [u16], ls: &mut [u8], bs:
     }
 }
 
-// 18 of so many SZs that stand in a file from a place on. A file can hold more of them than a job can have, which is 1,996.
+// 18 of so many SZs that stand in a file from a place on. A file can hold more of them than a job
+// can have, which is 1,996.
 fn uneven_refusal(file: &[u8], p: Programme, sizes: &[u32], from: usize, n: usize) -> u8
     requires { ⌜ from + 9 * n ≤ length (now file) ⌝ }
     requires { ⌜ (p .chunks ≤ 500) × (length (now sizes) ≤ 4) ⌝ }
@@ -305,7 +310,8 @@ fn override_refusal(sequenced: bool, j: Progress) -> u8
     out_of_sequence(sequenced, override_follows(j.place))
 }
 
-// 17, 7 of a BW. By branches and not by `or_else`, which costs 20 instructions more for each of up to 3,600 runs.
+// 17, 7 of a BW. By branches and not by `or_else`, which costs 20 instructions more for each of up
+// to 3,600 runs.
 fn run_refusal(sequenced: bool, j: Progress, count: u16, bytes: u32) -> u8
     ensures { λ r. ⌜ r ≡ faultAfter sequenced j (Record.Bw count bytes) ⌝ }
 {
@@ -375,7 +381,13 @@ fn fill(slots: &mut [u32], from: usize, count: usize, v: u32)
 }
 
 // A record without a fault that ends at a place goes into the state and the tables.
-fn take_record(j: Progress, record: Record, next: usize, sizes: &mut [u32], slots: &mut [u32]) -> Progress
+fn take_record(
+    j: Progress,
+    record: Record,
+    next: usize,
+    sizes: &mut [u32],
+    slots: &mut [u32],
+) -> Progress
     requires { ⌜ Room j (now sizes) (now slots) ⌝ }
     requires { ⌜ 9 * j .overrides ≤ j .ends ⌝ }
     requires { ⌜ Fine j «record» ⌝ }
@@ -586,9 +598,9 @@ fn room_refusal(
     0
 }
 
-// Reads a job file, in one sequence or mixed, into the lent sizes, SZs and forecast. Refusals: 9, then record by record, 17 where one
-// sequence is asked, at EN 3, 4, 6, 18, 7; then 11 where a buffer is shorter than the job's sizes, SZs or slots. On a refusal every buffer
-// stays as it is.
+// Reads a job file, in one sequence or mixed, into the lent sizes, SZs and forecast. Refusals: 9,
+// then record by record, 17 where one sequence is asked, at EN 3, 4, 6, 18, 7; then 11 where a
+// buffer is shorter than the job's sizes, SZs or slots. On a refusal every buffer stays as it is.
 pub fn read_job(
     sequenced: bool,
     file: &[u8],

@@ -1,4 +1,5 @@
--- Laws that the functions' proofs cite: samples looked at one by one, and the cells of a meter after a sample. Assumes nothing.
+-- Laws that the functions' proofs cite: samples looked at one by one, and the cells of a meter
+-- after a sample. Assumes nothing.
 use Prim.Native.Nat.{ℕ, zero, suc, _+_, _-_, min, _≤_, _<_}
 use mathlib.Core.Path.{_≡_, refl, sym, _∙_}
 use mathlib.Core.Bool.{Bool, true, false, not}
@@ -115,7 +116,8 @@ module _ (g : Sample → ℕ) (f : ℕ → Sample) (cells : List ℕ) (held : (k
       map-append g (upTo f n) (f n ∷ [])
       ∙ rw (kept-cells n (omega arith), held n) (sym (take-suc cells n 0 (omega arith)))
 
-  -- Fewer than ten are kept: the next cell takes the sample, and the others stay. Ten: all move by one, and it comes last.
+  -- Fewer than ten are kept: the next cell takes the sample, and the others stay. Ten: all move by
+  -- one, and it comes last.
   pub next-cells : (x : Sample) (n : ℕ) → length cells ≡ 10 → n ≤ 10
       → nextCells cells n (g x) ≡ map g (with-sample (upTo f n) x) ++ drop (length (with-sample (upTo f n) x)) cells
   next-cells x n full h =

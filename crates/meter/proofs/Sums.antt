@@ -1,4 +1,5 @@
--- Laws of the forecast's loop: the shares of the first samples summed, none of which is 0. Assumes nothing.
+-- Laws of the forecast's loop: the shares of the first samples summed, none of which is 0. Assumes
+-- nothing.
 use Prim.Native.Nat.{ℕ, zero, suc, _+_, _*_, _/_, _^_, _≤_, _<_}
 use mathlib.Core.Path.{_≡_, refl, _∙_}
 use mathlib.Core.Bool.{Bool, true, false, _||_}

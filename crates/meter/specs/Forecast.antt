@@ -1,4 +1,5 @@
--- Meaning. The forecast of a meter: document 01, "Link meter", as request 3 of document 02 rounds it; refusals 10 and 12.
+-- Meaning. The forecast of a meter: document 01, "Link meter", as request 3 of document 02 rounds
+-- it; refusals 10 and 12.
 use Prim.Native.Nat.{ℕ, _+_, _*_, _/_, _^_}
 use mathlib.Core.Bool.{Bool, cond}
 use mathlib.Core.List.{List, [], _∷_, map}

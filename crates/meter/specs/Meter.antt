@@ -1,5 +1,6 @@
--- Meaning. What a meter is and what a sample does to it: document 01, "Link meter", refusals 10 and 13.
--- A meter means a list of samples, the newest last. The struct stores that list in its first cells.
+-- Meaning. What a meter is and what a sample does to it: document 01, "Link meter", refusals 10 and
+-- 13. A meter means a list of samples, the newest last. The struct stores that list in its first
+-- cells.
 use Prim.Native.Nat.{ℕ, _-_, _≤_, _<_}
 use mathlib.Core.Bool.{Bool, true, _&&_, cond}
 use mathlib.Core.List.{List, [], _∷_, _++_, map}
@@ -25,7 +26,8 @@ sample slot bytes = record { slot = slot; bytes = bytes }
 abbrev pub samplesOf : Meter → List Sample
 samplesOf m = upTo (λ k. sample (getD (m .slots) k 0) (getD (m .bytes) k 0)) (m .kept)
 
--- The samples l stored over m: they stand in the first cells, the cells past them are those of m, and as many are kept.
+-- The samples l stored over m: they stand in the first cells, the cells past them are those of m,
+-- and as many are kept.
 abbrev pub storing : List Sample → Meter → Meter
 storing l m = record {
   slots = map (λ x. x .slot) l ++ drop (length l) (m .slots);
@@ -61,7 +63,8 @@ abbrev pub lastSampleSlot : ℕ → List Sample → ℕ
 lastSampleSlot s [] = s
 lastSampleSlot s (x ∷ l) = lastSampleSlot (x .slot) l
 
--- What refusal 10 asks of the kept samples. Slots are counted from 1, so that the first one is above 0.
+-- What refusal 10 asks of the kept samples. Slots are counted from 1, so that the first one is
+-- above 0.
 pub record InOrder (l : List Sample) : Type 0 where
   pub few : length l ≤ 10
   pub each : All SampleInRange l
@@ -96,7 +99,8 @@ takeRefusal l x = sampleRefusal x orElse meterRefusal l orElse lateRefusal l x
 abbrev pub with-sample : List Sample → Sample → List Sample
 with-sample l x = lastTen (l ++ (x ∷ []))
 
--- A sample handed to m: 0 and m with the samples after it; or the refusal, and m as it was handed, every cell.
+-- A sample handed to m: 0 and m with the samples after it; or the refusal, and m as it was handed,
+-- every cell.
 unfoldable pub taken : Meter → ℕ → ℕ → Taken
 taken m slot bytes =
     let l = samplesOf m in

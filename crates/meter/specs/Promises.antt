@@ -1,4 +1,5 @@
--- Theorems. What the definitions of the meter promise: document 01, "Link meter", refusals 10, 12 and 13.
+-- Theorems. What the definitions of the meter promise: document 01, "Link meter", refusals 10, 12
+-- and 13.
 use Prim.Native.Nat.{ℕ, _+_, _*_, _-_, _/_, _^_, _≤_, _<_}
 use mathlib.Core.Path.{_≡_, refl, sym, ap, subst}
 use mathlib.Core.Bool.{true}
@@ -23,7 +24,8 @@ use Rattle.meter.specs.lemmas.Order.{in-range-iff, in-order-iff, ten-fir
 
 -- ---- "gets a result or, exactly in the cases that document 01 lists, a refusal number"
 
--- "10. A sample's slot or bytes out of range, handed or kept; a meter with more than ten samples or slots not rising."
+-- "10. A sample's slot or bytes out of range, handed or kept; a meter with more than ten samples or
+-- slots not rising."
 pub ten-iff : (l : List Sample) (x : Sample) → (takeRefusal l x ≡ 10) ↔ ((SampleInRange x × InOrder l) → ⊥)
 ten-iff l x = ten-first 13 (inRange x) (inOrder l) (ltb (lastSampleSlot 0 l) (x .slot)) (omega arith) (in-range-iff x) (in-order-iff l)
 
@@ -32,7 +34,8 @@ pub thirteen-iff : (l : List Sample) (x : Sample) → (takeRefusal l x ≡ 13) �
 thirteen-iff l x =
     then-after 13 (inRange x) (inOrder l) (ltb (lastSampleSlot 0 l) (x .slot)) (omega arith) (in-range-iff x) (in-order-iff l) (ltb-iff (lastSampleSlot 0 l) (x .slot))
 
--- A sample is taken exactly if it is in range, the meter is in order and the slot is above the last one's.
+-- A sample is taken exactly if it is in range, the meter is in order and the slot is above the last
+-- one's.
 pub taken-iff : (l : List Sample) (x : Sample) → (takeRefusal l x ≡ 0) ↔ (SampleInRange x × (InOrder l × (lastSampleSlot 0 l < x .slot)))
 taken-iff l x =
     orElse-as (sampleRefusal x) (meterRefusal l orElse lateRefusal l x)
@@ -117,8 +120,8 @@ module _ (m : Meter) (slot bytes : ℕ) where
 
 -- ---- "the meter's forecast" is that of document 01, rounded as request 3 of document 02 says
 
--- "Its forecast is 0 if one of them is 0." "The meter's promise becomes the whole part of the exact harmonic mean or one less, and never
--- more." A forecast is itself within the range of a job's.
+-- "Its forecast is 0 if one of them is 0." "The meter's promise becomes the whole part of the exact
+-- harmonic mean or one less, and never more." A forecast is itself within the range of a job's.
 pub record Forecasts (bs : List ℕ) (f : ℕ) : Type 0 where
   pub zero-if : In 0 bs → f ≡ 0
   pub mean-or-one-less : (In 0 bs → ⊥) → (h : ℕ) → WholePart bs h → (f ≡ h) ⊎ (f + 1 ≡ h)

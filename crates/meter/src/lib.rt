@@ -1,5 +1,6 @@
-// The link meter of document 01: the last ten samples of the link by value, a forecast from them, and one thin function
-// that brings a lent meter up to date in its own storage. Refusals 10, 12 and 13.
+// The link meter of document 01: the last ten samples of the link by value, a forecast from them,
+// and one thin function that brings a lent meter up to date in its own storage. Refusals 10, 12 and
+// 13.
 ghost use mathlib.Core.Path.{_≡_};
 ghost use Prim.Native.Nat.{_≤_, _<_};
 ghost use lib.ListN.{length};
@@ -74,7 +75,8 @@ fn last_slot(m: Meter) -> u16
     m.slots[at]
 }
 
-// The ten slots with one more: it goes into the cell `at`; where all ten are kept, each moves by one and it comes last.
+// The ten slots with one more: it goes into the cell `at`; where all ten are kept, each moves by
+// one and it comes last.
 fn next_slots(a: [u16; 10], at: usize, v: u16) -> [u16; 10]
     requires { ⌜ at ≤ 10 ⌝ }
     ensures { λ r. ⌜ (r ≡ nextCells a at v) × (length a ≡ 10) ⌝ }
@@ -193,8 +195,8 @@ pub fn forecast(m: Meter) -> Answer
     Answer::Bytes(mean(m))
 }
 
-// "The meter lent by the link reader is brought up to date in its own storage." The lent meter is then the one that `take`
-// answers: on a refusal the meter as it was.
+// "The meter lent by the link reader is brought up to date in its own storage." The lent meter is
+// then the one that `take` answers: on a refusal the meter as it was.
 pub fn update(m: &mut Meter, slot: u16, bytes: u32) -> u8
     ensures { λ r. ⌜ (r ≡ taken (now (m .entry)) slot bytes .code) × (now (m .exit) ≡ taken (now (m .entry)) slot bytes .meter) ⌝ }
 {

@@ -1,4 +1,4 @@
 mod Front
-mod Step
+mod Steps
 mod Reader
 mod Writer

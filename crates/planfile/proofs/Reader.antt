@@ -1,4 +1,5 @@
--- What the plan reader hands over, by where it stops: the job's refusal, the file's, 11, or the plan. Assumes nothing.
+-- What the plan reader hands over, by where it stops: the job's refusal, the file's, 11, or the
+-- plan. Assumes nothing.
 use Prim.Native.Nat.{ℕ, _+_, _*_, _≤_}
 use mathlib.Core.Path.{_≡_, sym, ap, _∙_}
 use mathlib.Core.Bool.{Bool, true, false}

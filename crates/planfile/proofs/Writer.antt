@@ -1,4 +1,5 @@
--- What the plan writer hands over, by where it stops: an input's refusal, 11, or the file. Assumes nothing.
+-- What the plan writer hands over, by where it stops: an input's refusal, 11, or the file. Assumes
+-- nothing.
 use Prim.Native.Nat.{ℕ, _+_, _*_, _≤_, _<_}
 use mathlib.Core.Path.{_≡_, sym, ap, _∙_}
 use mathlib.Core.List.{List, _++_, map}

@@ -1,6 +1,7 @@
--- Meaning. The two calls: the refusal of each in document 01's order, its answer, and the lent slices afterwards.
--- "A plan reader checks the job it is handed by 5, 6, 7 before its file"; "Direct calls without files check 5, 6, 7, then 8 .. and a
--- writer then 9"; 18 "after 6 and before 7"; "11. A lent buffer is shorter than the whole result, after all input refusals".
+-- Meaning. The two calls: the refusal of each in document 01's order, its answer, and the lent
+-- slices afterwards. "A plan reader checks the job it is handed by 5, 6, 7 before its file";
+-- "Direct calls without files check 5, 6, 7, then 8 .. and a writer then 9"; 18 "after 6 and before
+-- 7"; "11. A lent buffer is shorter than the whole result, after all input refusals".
 use Prim.Native.Nat.{ℕ}
 use mathlib.Core.Bool.{Bool, cond, _&&_}
 use mathlib.Core.List.{List, map}

@@ -1,5 +1,6 @@
--- Theorems. Demand 2: "Job and plan files read back as the job and plan written", for plan files. Then refusals 8 and 9 exactly where
--- document 01 lists them, and that a plan of at most 5,599 rows always fits a file. Assumes nothing.
+-- Theorems. Demand 2: "Job and plan files read back as the job and plan written", for plan files.
+-- Then refusals 8 and 9 exactly where document 01 lists them, and that a plan of at most 5,599 rows
+-- always fits a file. Assumes nothing.
 use Prim.Native.Nat.{ℕ, _+_, _*_, _≤_, _<_}
 use mathlib.Core.Path.{_≡_, refl}
 use mathlib.Core.List.{List, _++_}
@@ -25,8 +26,8 @@ use Rattle.planfile.specs.declared.PlanRead.the-variants.{Rows}
 
 -- ---- what is written reads back
 
--- "Job and plan files read back as the job and plan written": for every job, and every plan of one mark a chunk whose file has at
--- most 65,536 bytes, the file is not refused and says that plan.
+-- "Job and plan files read back as the job and plan written": for every job, and every plan of one
+-- mark a chunk whose file has at most 65,536 bytes, the file is not refused and says that plan.
 pub record ReadsBackAs (j : Job) (plan : Plan) : Type 0 where
   pub not-refused : fileRefusal (format (chunks j)) (fileOf plan) ≡ 0
   pub says : planIn (chunks j) (fileOf plan) ≡ plan
@@ -34,7 +35,8 @@ pub record ReadsBackAs (j : Job) (plan : Plan) : Type 0 where
 pub plan-reads-back : (j : Job) (plan : Plan) → InWidth plan → length (plan .marks) ≡ chunks j → length (fileOf plan) ≤ 65536 → ReadsBackAs j plan
 plan-reads-back j plan i e l = record { not-refused = file-accepted (chunks j) plan i e l; says = file-says (chunks j) plan i e l }
 
--- The same for the calls: what the writer doesn't refuse, the reader, lent enough room, hands back slice by slice.
+-- The same for the calls: what the writer doesn't refuse, the reader, lent enough room, hands back
+-- slice by slice.
 abbrev pub slicesBack : ListSlices → ListSlices → ListSlices
 slicesBack s lent =
     slicesOf
@@ -61,8 +63,9 @@ reads-what-was-written h s out lent i e t =
 
 -- ---- 8 of the reader
 
--- "KP records not for 1 to C in turn, before every FT, and complete by EN": a file of at most 65,536 bytes whose records end at EN, with
--- nothing behind it, is refused by 8 exactly if its records aren't so, and is accepted if they are.
+-- "KP records not for 1 to C in turn, before every FT, and complete by EN": a file of at most
+-- 65,536 bytes whose records end at EN, with nothing behind it, is refused by 8 exactly if its
+-- records aren't so, and is accepted if they are.
 pub eight-iff : (count : ℕ) (file : List ℕ) → length file ≤ 65536 → split (format count) file .stop ≡ ended 0 → (fileRefusal (format count) file ≡ 8) ↔ (InOrder count (split (format count) file .records) → ⊥)
 eight-iff count file l e = (
   λ r o. omega (arith, accepted-in-order count file l e o),

@@ -336,8 +336,8 @@ fn put_fts(out: &mut [u8], from: usize, slots: &[u16], chunks: &[u16], layers: &
     }
 }
 
-// The file of a plan for a job with count chunks, into the lent buffer: 8, 9, then 11. So many rows are too many for any file, so that
-// its size doesn't wrap.
+// The file of a plan for a job with count chunks, into the lent buffer: 8, 9, then 11. So many rows
+// are too many for any file, so that its size doesn't wrap.
 fn write_file(
     count: u16,
     marks: &[u8],

@@ -1,5 +1,6 @@
--- Meaning. What the planner's public calls hand over: the plan of a job as document 01 decides and lists it, or a refusal's number.
--- The plan itself, its marks, counts and own list, and demand 3, are stated in schedule: Statement, Own.
+-- Meaning. What the planner's public calls hand over: the plan of a job as document 01 decides and
+-- lists it, or a refusal's number. The plan itself, its marks, counts and own list, and demand 3,
+-- are stated in theory_plan: Statement, Own.
 use Prim.Native.Nat.{ℕ}
 use mathlib.Core.Path.{_≡_}
 use mathlib.Core.Bool.{Bool, cond, _&&_}
@@ -33,7 +34,8 @@ pub record Lent : Type 0 where
   pub layers : ℕ
   pub bytes : ℕ
 
--- 11: "A lent buffer is shorter than the whole result": the marks have one byte a chunk, the rows are the plan's own.
+-- 11: "A lent buffer is shorter than the whole result": the marks have one byte a chunk, the rows
+-- are the plan's own.
 abbrev pub holds : Job → Lent → Bool
 holds j l =
     let n = length (planRows j) in
@@ -73,13 +75,14 @@ pub record PlanOutput (h : JobInput) (marks slots chunks layers bytes : List ℕ
   pub layers-are : layers' ≡ sliceAfter h (lentOf marks slots chunks layers bytes) (map rowLayer (planRows (jobIn h))) layers
   pub bytes-are : bytes' ≡ sliceAfter h (lentOf marks slots chunks layers bytes) (map rowBytes (planRows (jobIn h))) bytes
 
--- "The plan carries a layer of a chunk if and only if, beside the layers already settled, some fetch list in playing order still
--- keeps them all"; for bases that request 9 settles, `IsPlan` has its walk instead.
+-- "The plan carries a layer of a chunk if and only if, beside the layers already settled, some
+-- fetch list in playing order still keeps them all"; for bases that request 9 settles, `IsPlan` has
+-- its walk instead.
 abbrev pub DecidedByLists : JobInput → Type 0
 DecidedByLists h = jobRefusal h ≡ 0 → IsPlan (jobIn h) (plan (jobIn h))
 
--- Request 9: where H is at least C "no passing list, in any order, then carries more bases. For equal sizes the marks are those of
--- document 01": the plan is settled in its way.
+-- Request 9: where H is at least C "no passing list, in any order, then carries more bases. For
+-- equal sizes the marks are those of document 01": the plan is settled in its way.
 pub record Pictures (j : Job) (choice : ℕ → ℕ) : Type 0 where
   pub most : MostPictures j choice
   pub equal-bases : EqualBases j → SettledByTrials j choice
@@ -87,7 +90,8 @@ pub record Pictures (j : Job) (choice : ℕ → ℕ) : Type 0 where
 abbrev pub PicturesOfLists : JobInput → Type 0
 PicturesOfLists h = jobRefusal h ≡ 0 → Pictures (jobIn h) (plan (jobIn h))
 
--- Demand 3: "Take any accepted job of equal chunks, whatever its layer sizes, forecast, deadlines and buffer limit."
+-- Demand 3: "Take any accepted job of equal chunks, whatever its layer sizes, forecast, deadlines
+-- and buffer limit."
 abbrev pub BestOfLists : JobInput → Type 0
 BestOfLists h = jobRefusal h ≡ 0 → EqualChunks (jobIn h) → Best (jobIn h) (plan (jobIn h)) (planRows (jobIn h))
 

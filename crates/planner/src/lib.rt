@@ -1,8 +1,8 @@
 // The planner: marks, rows and counts of a job's plan, as document 01 decides and lists them.
-use job::CHUNKS;
-use job::SIZES;
-use job::Programme;
 use core_output::Output;
+use job::CHUNKS;
+use job::Programme;
+use job::SIZES;
 ghost use mathlib.Core.Path.{_≡_};
 ghost use mathlib.Core.List.{[], _∷_};
 ghost use Prim.Native.Nat.{_≤_};
@@ -122,8 +122,8 @@ fn write_decided(
     answered(made)
 }
 
-// The plan of a job into lent marks, one a chunk, and rows: by slot, chunk, layer. Refusals 5, 6, 18, 7, then 11 where a slice is shorter than
-// the plan; a refusal writes nothing.
+// The plan of a job into lent marks, one a chunk, and rows: by slot, chunk, layer. Refusals 5, 6,
+// 18, 7, then 11 where a slice is shorter than the plan; a refusal writes nothing.
 pub fn plan(
     p: Programme,
     sizes: &[u32],

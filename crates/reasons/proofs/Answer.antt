@@ -1,4 +1,5 @@
--- Laws on what the call hands over: a refusal by the job, 11, or the text in front of the old bytes. Assumes nothing.
+-- Laws on what the call hands over: a refusal by the job, 11, or the text in front of the old
+-- bytes. Assumes nothing.
 use Prim.Native.Nat.{ℕ, _+_, _≤_, _<_}
 use mathlib.Core.Path.{_≡_, refl, sym, ap, _∙_}
 use mathlib.Core.List.{List, _++_}

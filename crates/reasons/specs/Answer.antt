@@ -1,6 +1,7 @@
--- Meaning. What the call of request 14 answers, and the lent buffer afterwards: document 01, "Direct calls without files check 5, 6, 7",
--- with document 02's 18 before 7, then 11 where "a lent buffer is shorter than the whole result. In a longer one the bytes past the result
--- stay unchanged." The lines are printed text and no file, so 9 does not apply.
+-- Meaning. What the call of request 14 answers, and the lent buffer afterwards: document 01,
+-- "Direct calls without files check 5, 6, 7", with document 02's 18 before 7, then 11 where "a lent
+-- buffer is shorter than the whole result. In a longer one the bytes past the result stay
+-- unchanged." The lines are printed text and no file, so 9 does not apply.
 use Prim.Native.Nat.{ℕ}
 use mathlib.Core.Path.{_≡_}
 use mathlib.Core.Bool.{cond}
@@ -22,7 +23,8 @@ use Rattle.reasons.specs.declared.Written.the-variants.{Bytes, Refused}
 abbrev pub answer : ℕ → ℕ → Written
 answer refused n = cond (eqb refused 0) (Bytes n) (Refused refused)
 
--- The refusal of the call: 5, 6, 18, 7 by the job, then 11 exactly if the buffer is shorter than the text.
+-- The refusal of the call: 5, 6, 18, 7 by the job, then 11 exactly if the buffer is shorter than
+-- the text.
 abbrev pub refusal : JobInput → List ℕ → ℕ
 refusal h out = jobRefusal h orElse unless 11 (leb (length (planText (jobIn h))) (length out))
 

@@ -1,9 +1,10 @@
-// The reason under each missing layer (request 14): the lines of a job's plan as text in a lent buffer. No text is longer than 94,000
-// bytes, so a buffer of that length takes it at once; for a shorter one it is laid out aside and copied if it fits.
+// The reason under each missing layer (request 14): the lines of a job's plan as text in a lent
+// buffer. No text is longer than 94,000 bytes, so a buffer of that length takes it at once; for a
+// shorter one it is laid out aside and copied if it fits.
 use job::CHUNKS;
+use job::Programme;
 use job::SIZES;
 use job::SUMS;
-use job::Programme;
 
 mod tables;
 
@@ -94,8 +95,8 @@ fn put_tight(
     Written::Bytes(n)
 }
 
-// The lines of a job's plan, one under each layer of the job that the plan doesn't carry. Refused: 5, 6, 18, 7 by the job, then 11 exactly
-// if out is shorter than the text.
+// The lines of a job's plan, one under each layer of the job that the plan doesn't carry. Refused:
+// 5, 6, 18, 7 by the job, then 11 exactly if out is shorter than the text.
 pub fn reasons(
     p: Programme,
     sizes: &[u32],

@@ -1,4 +1,5 @@
-// The tables that the lines are told from: how many layers the plan carries of each chunk, and the bytes of the first layers of each chunk.
+// The tables that the lines are told from: how many layers the plan carries of each chunk, and the
+// bytes of the first layers of each chunk.
 use job::CHUNKS;
 use job::SIZES;
 use job::SizeTable;
@@ -26,7 +27,12 @@ fn layers_in(mark: u8) -> u8
 }
 
 // How many layers the kept chunks carry, by their marks; chunk k at k - 1.
-pub(crate) fn set_levels(ids: &[u16; CHUNKS], mark: &[u8; CHUNKS], first: usize, levels: &mut [u8; CHUNKS])
+pub(crate) fn set_levels(
+    ids: &[u16; CHUNKS],
+    mark: &[u8; CHUNKS],
+    first: usize,
+    levels: &mut [u8; CHUNKS],
+)
     requires { ⌜ (first ≤ 500) × All (Within 1 500) (drop first (now ids)) × (length (now ids) ≡ 500) × (length (now mark) ≡ 500) × (length (now levels) ≡ 500) ⌝ }
     ensures { λ _. ⌜ (length (now (levels .exit)) ≡ 500) × (now (levels .exit) ≡ spread (drop first (now (ids .entry))) (drop first (now (mark .entry))) (now (levels .entry))) ⌝ }
 {

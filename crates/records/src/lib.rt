@@ -1,5 +1,5 @@
-// Marks, little-endian fields and bytes at a place of a file, for any kind of record. Each call is total: past the end a byte reads
-// as 0, and what doesn't fit isn't written.
+// Marks, little-endian fields and bytes at a place of a file, for any kind of record. Each call is
+// total: past the end a byte reads as 0, and what doesn't fit isn't written.
 ghost use mathlib.Core.Path.{_≡_};
 ghost use Prim.Native.Nat.{_+_, _≤_, _<_};
 ghost use lib.ListN.{length, getD, drop};

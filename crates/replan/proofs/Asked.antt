@@ -1,4 +1,5 @@
--- Laws on the refusals: asked one after the other, and what they say if there is none. Assumes nothing.
+-- Laws on the refusals: asked one after the other, and what they say if there is none. Assumes
+-- nothing.
 use Prim.Native.Nat.{ℕ, zero, suc, _-_, _≤_, _<_}
 use mathlib.Core.Path.{_≡_, refl, sym, _∙_, ap}
 use mathlib.Core.Bool.{Bool, _&&_}

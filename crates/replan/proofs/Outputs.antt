@@ -1,4 +1,5 @@
--- Laws on what the public call hands over: its refusals in their order, then the plan made afresh. Assumes nothing.
+-- Laws on what the public call hands over: its refusals in their order, then the plan made afresh.
+-- Assumes nothing.
 use Prim.Native.Nat.{ℕ, suc, _-_, _≤_, _<_}
 use mathlib.Core.Path.{_≡_, refl, sym, _∙_, ap, subst}
 use mathlib.Core.Bool.{Bool, true, false, not}

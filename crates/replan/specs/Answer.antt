@@ -1,5 +1,6 @@
--- Meaning. What planning afresh hands over: document 02, request 12, "The result is the marks, the counts and only the rows from p on", or a
--- refusal's number. The plan made afresh, its rows and its refusals are stated in afresh: Statement, Own, Refusal.
+-- Meaning. What planning afresh hands over: document 02, request 12, "The result is the marks, the
+-- counts and only the rows from p on", or a refusal's number. The plan made afresh, its rows and
+-- its refusals are stated in theory_replan: Statement, Own, Refusal.
 use Prim.Native.Nat.{ℕ, _-_, _≤_}
 use mathlib.Core.Path.{_≡_}
 use mathlib.Core.Bool.{Bool, cond, _&&_}
@@ -56,7 +57,8 @@ rowsOn h o = ownRest (jobOn h o) (o .from) (fetched o) (planAfresh h o)
 
 -- ---- the refusals
 
--- 5, 6, 18, 7 by the job; 8 for a row not handed whole, of rows alone: no marks are handed; then 21, 7 and 22.
+-- 5, 6, 18, 7 by the job; 8 for a row not handed whole, of rows alone: no marks are handed; then
+-- 21, 7 and 22.
 abbrev pub inputRefusal : JobInput → ReplanInput → ℕ
 inputRefusal h o =
     jobRefusal h
@@ -82,7 +84,8 @@ answerOn h o l = cond (eqb (refusalOn h o l) 0) (Rows (length (rowsOn h o))) (Re
 abbrev pub countsOn : JobInput → ReplanInput → Lent → List ℕ
 countsOn h o l = cond (eqb (refusalOn h o l) 0) (countsOf (jobOn h o) (planAfresh h o)) (0 ∷ 0 ∷ 0 ∷ 0 ∷ [])
 
--- And what stands in the lent slices: the result, then the old contents; on a refusal the old contents alone.
+-- And what stands in the lent slices: the result, then the old contents; on a refusal the old
+-- contents alone.
 pub record ReplanOutput (h : JobInput) (o : ReplanInput) (marks slots chunks layers bytes : List ℕ) (r : Planned) (marks' slots' chunks' layers' bytes' : List ℕ) : Type 0 where
   pub answer : r .answer ≡ answerOn h o (lentOf marks slots chunks layers bytes)
   pub counts : r .counts ≡ countsOn h o (lentOf marks slots chunks layers bytes)
@@ -94,8 +97,8 @@ pub record ReplanOutput (h : JobInput) (o : ReplanInput) (marks slots chunks lay
 
 -- ---- what holds of it
 
--- The plan made afresh is settled by lists that begin with the rows fetched, and there is no other (afresh, Desk); "together with the handed
--- rows they pass that call".
+-- The plan made afresh is settled by lists that begin with the rows fetched, and there is no other
+-- (theory_replan, Desk); "together with the handed rows they pass that call".
 pub record Settled (h : JobInput) (o : ReplanInput) : Type 0 where
   pub replans : Replans (jobOn h o) (o .from) (fetched o) (planAfresh h o)
   pub passes : verdictFrom (jobOn h o) (o .from) (marksOf (jobOn h o) (planAfresh h o)) (fetched o ++ rowsOn h o) ≡ 0
@@ -103,8 +106,9 @@ pub record Settled (h : JobInput) (o : ReplanInput) : Type 0 where
 abbrev pub SettledAfresh : JobInput → ReplanInput → Type 0
 SettledAfresh h o = inputRefusal h o ≡ 0 → Settled h o
 
--- "If the standing plan was settled for the whole job in document 01's way, bases too, the rows are all its own before p and the forecast
--- hasn't changed, the new rows are exactly the rest of that plan": whoever it is settled by, in whatever order its rows are handed.
+-- "If the standing plan was settled for the whole job in document 01's way, bases too, the rows are
+-- all its own before p and the forecast hasn't changed, the new rows are exactly the rest of that
+-- plan": whoever it is settled by, in whatever order its rows are handed.
 pub record GoesOn (h : JobInput) (o : ReplanInput) (q : ℕ → ℕ) : Type 0 where
   pub accepted : replanRefusal (jobIn h) (o .from) (fetched o) (o .onward) ≡ 0
   pub same : Same (jobIn h) (planAfresh h o) q

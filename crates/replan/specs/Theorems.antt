@@ -1,5 +1,5 @@
--- Theorems. What holds of planning afresh as the desk calls it: the clauses `settled` and `standing` of the call, and that the handed rows may
--- come in any order.
+-- Theorems. What holds of planning afresh as the desk calls it: the clauses `settled` and
+-- `standing` of the call, and that the handed rows may come in any order.
 use Prim.Native.Nat.{ℕ}
 use mathlib.Core.Path.{_≡_, sym, _∙_, ap, subst}
 use mathlib.Core.Bool.{cond, _&&_}
@@ -54,7 +54,8 @@ standing-goes-on h o z q is lo hi same unchanged =
 
 -- ---- the handed rows in any order
 
--- The same answer to every call: the refusal, 11 too, the plan, the rows, and so whatever is handed over.
+-- The same answer to every call: the refusal, 11 too, the plan, the rows, and so whatever is handed
+-- over.
 pub record SameAnswer (h : JobInput) (a b : ReplanInput) : Type 0 where
   pub refused : (l : Lent) → refusalOn h a l ≡ refusalOn h b l
   pub plan : inputRefusal h a ≡ 0 → Same (jobOn h b) (planAfresh h a) (planAfresh h b)

@@ -1,8 +1,9 @@
-// Planning afresh during the act: from the slot of replanning on, over the rows fetched before it and the forecast from it on. Marks, counts
-// and only the rows from that slot on, as document 02 settles and document 01 lists them.
+// Planning afresh during the act: from the slot of replanning on, over the rows fetched before it
+// and the forecast from it on. Marks, counts and only the rows from that slot on, as document 02
+// settles and document 01 lists them.
 use job::CHUNKS;
-use job::SIZES;
 use job::Programme;
+use job::SIZES;
 use planner::Planned;
 ghost use mathlib.Core.Path.{_≡_};
 ghost use Prim.Native.Nat.{_≤_};
@@ -83,9 +84,10 @@ fn asked_refusal(
     part_refusal(p, from, onward)
 }
 
-// The plan made afresh at a slot, from the rows fetched before it and the forecast from it on, into lent marks, one a chunk, and rows: only
-// those from the slot on, by slot, chunk, layer. Refusals 5, 6, 18, 7, 8, 21, 7 of the handed forecast, 22, then 11 where a slice is shorter
-// than the result; a refusal writes nothing.
+// The plan made afresh at a slot, from the rows fetched before it and the forecast from it on, into
+// lent marks, one a chunk, and rows: only those from the slot on, by slot, chunk, layer. Refusals
+// 5, 6, 18, 7, 8, 21, 7 of the handed forecast, 22, then 11 where a slice is shorter than the
+// result; a refusal writes nothing.
 pub fn replan(
     p: Programme,
     sizes: &[u32],

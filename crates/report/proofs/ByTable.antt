@@ -1,5 +1,5 @@
--- The lines by the table are the report's: each number that is read from the table is the sum over rows that the report's meaning
--- names. Assumes nothing.
+-- The lines by the table are the report's: each number that is read from the table is the sum over
+-- rows that the report's meaning names. Assumes nothing.
 use Prim.Native.Nat.{ℕ, zero, suc, _+_, _-_, _≤_, _<_}
 use mathlib.Core.Path.{_≡_, refl, sym, ap, ap₂, _∙_}
 use mathlib.Core.Bool.{Bool, true, cond}

@@ -1,4 +1,5 @@
--- What a call of the planner with room for any plan leaves in the slices: the plan's own list, in front. Assumes nothing.
+-- What a call of the planner with room for any plan leaves in the slices: the plan's own list, in
+-- front. Assumes nothing.
 use Prim.Native.Nat.{ℕ, _≤_}
 use mathlib.Core.Path.{_≡_, sym, ap, subst, _∙_}
 use mathlib.Core.Bool.{Bool, true, false, cond}

@@ -1,4 +1,5 @@
--- The plan's own list as four slices: its rows again, their bytes, and that each row has a place in the table. Assumes nothing.
+-- The plan's own list as four slices: its rows again, their bytes, and that each row has a place in
+-- the table. Assumes nothing.
 use Prim.Native.Nat.{ℕ, zero, suc, _≤_, _<_}
 use mathlib.Core.Path.{_≡_, sym, ap, _∙_}
 use mathlib.Core.List.{List, [], _∷_, map}

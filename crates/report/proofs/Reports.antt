@@ -1,4 +1,5 @@
--- From the plan's table and the bytes spent to the report that is handed over, or the job's refusal. Assumes nothing.
+-- From the plan's table and the bytes spent to the report that is handed over, or the job's
+-- refusal. Assumes nothing.
 use Prim.Native.Nat.{ℕ, _-_, _≤_}
 use mathlib.Core.Path.{_≡_, sym, subst, _∙_}
 use mathlib.Core.Bool.{Bool, true, false, cond}

@@ -1,6 +1,7 @@
--- Meaning. The report of a job and a fetch list: document 01, "The report program reads a job on standard input. For A it prints ..",
--- with the last line of document 02's request 1 and the switch sum of its request 2.
--- A report is lines; a line is words and numbers; a number of the list is a sum over its rows.
+-- Meaning. The report of a job and a fetch list: document 01, "The report program reads a job on
+-- standard input. For A it prints ..", with the last line of document 02's request 1 and the switch
+-- sum of its request 2. A report is lines; a line is words and numbers; a number of the list is a
+-- sum over its rows.
 use Prim.Native.Nat.{ℕ, zero, suc, _+_, _*_, _-_, _/_, _%_}
 use mathlib.Core.Bool.{Bool, cond, true}
 use mathlib.Core.List.{List, [], _∷_, _++_}
@@ -28,7 +29,8 @@ chunkLines j rows = text (upTo (λ k. chunkLine j rows (k + 1)) (chunks j))
 abbrev pub layersLine : Job → List Row → List ℕ
 layersLine j rows = line (ascii "layers") (upTo (λ n. digits (layerCount j rows n)) (layers j))
 
--- "bytes in rows and forecast bytes unspent": the sum over all rows, and the forecast's sum less it.
+-- "bytes in rows and forecast bytes unspent": the sum over all rows, and the forecast's sum less
+-- it.
 abbrev pub bytesInRows : List Row → ℕ
 bytesInRows rows = bytesIf (λ x. true) rows
 
@@ -59,7 +61,8 @@ those p f (suc n) = those p f n ++ cond (p (suc n)) (f (suc n) ∷ []) []
 abbrev pub carriedBytes : Job → List Row → List ℕ
 carriedBytes j rows = those (λ i. carried j rows i 0) (bytesCarried j rows) (chunks j)
 
--- "The switch sum now compares each carried chunk with the next carried one, however many skipped ones are between".
+-- "The switch sum now compares each carried chunk with the next carried one, however many skipped
+-- ones are between".
 abbrev pub switchSum : Job → List Row → ℕ
 switchSum j rows = differences (carriedBytes j rows)
 
@@ -70,7 +73,8 @@ switchLine j rows = line (ascii "switch") (digits (switchSum j rows) ∷ [])
 abbrev pub filmSlots : Job → ℕ
 filmSlots j = chunks j * j .programme .span
 
--- "a last line, `rate q r`, with the whole quotient and the exact remainder" of the switch sum by C × L.
+-- "a last line, `rate q r`, with the whole quotient and the exact remainder" of the switch sum by C
+-- × L.
 abbrev pub rateLine : Job → List Row → List ℕ
 rateLine j rows = line (ascii "rate") (digits (switchSum j rows / filmSlots j) ∷ digits (switchSum j rows % filmSlots j) ∷ [])
 

@@ -82,8 +82,9 @@ rate-only j rows q r k =
 
 -- ---- how long the text is
 
--- The report of an accepted job and a list that keeps rules 1 and 4 has at most 7,633 bytes, so a local buffer holds it: 33 in line 1,
--- 15 for each of 500 chunks, 23 for the counts, 35 for bytes and left, 19 for the switch sum, 23 for the rate.
+-- The report of an accepted job and a list that keeps rules 1 and 4 has at most 7,633 bytes, so a
+-- local buffer holds it: 33 in line 1, 15 for each of 500 chunks, 23 for the counts, 35 for bytes
+-- and left, 19 for the switch sum, 23 for the rate.
 pub report-fits : (j : Job) (rows : List Row) → Accepted j → All (RowInRange j) rows → WithinForecast j rows → length (reportOf j rows) ≤ 7633
 unfolding reportOf
 report-fits j rows ok a w =

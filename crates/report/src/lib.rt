@@ -1,10 +1,11 @@
-// The report: document 01's lines for a job and its plan, as text in a lent buffer. One pass over the rows fills a table of the bytes
-// of each layer of each chunk; every number of the lines is read from it or is a sum over rows.
+// The report: document 01's lines for a job and its plan, as text in a lent buffer. One pass over
+// the rows fills a table of the bytes of each layer of each chunk; every number of the lines is
+// read from it or is a sum over rows.
 use job::CHUNKS;
+use job::Programme;
 use job::ROWS;
 use job::SIZES;
 use job::SizeTable;
-use job::Programme;
 use planner::Answer;
 
 mod lines;
@@ -143,7 +144,8 @@ fn copy_out(text: &[u8], out: &mut [u8]) -> Written
     Written::Bytes(text.len())
 }
 
-// The lines, made in a local buffer that holds any report, over the front of the lent one, if they fit.
+// The lines, made in a local buffer that holds any report, over the front of the lent one, if they
+// fit.
 fn write_lines(
     p: Programme,
     sizes: &SizeTable,
@@ -161,8 +163,8 @@ fn write_lines(
     copy_out(&text[..n], out)
 }
 
-// The plan's rows, made into local slices with room for any plan, so that the planner refuses by the job alone. Their bytes go into the
-// table; the answer is the sum of them, or that refusal.
+// The plan's rows, made into local slices with room for any plan, so that the planner refuses by
+// the job alone. Their bytes go into the table; the answer is the sum of them, or that refusal.
 fn plan_table(
     p: Programme,
     sizes: &[u32],
@@ -204,7 +206,8 @@ fn plan_table(
     }
 }
 
-// The report of a job's plan. Refused: 5, 6, 18, 7 by the job, then 11 exactly if out is shorter than the text.
+// The report of a job's plan. Refused: 5, 6, 18, 7 by the job, then 11 exactly if out is shorter
+// than the text.
 pub fn report(
     p: Programme,
     sizes: &[u32],

@@ -92,7 +92,8 @@ fn same(sum: u64, size: u32) -> bool
     sum == (size as u64)
 }
 
-// Whether layer n of chunk i is carried: its rows sum to its size, which the table of all sizes has.
+// Whether layer n of chunk i is carried: its rows sum to its size, which the table of all sizes
+// has.
 fn is_carried(sizes: &SizeTable, table: &[u64; SIZES], i: u16, n: usize) -> bool
     requires { ⌜ (1 ≤ i) × (i ≤ 500) × (n < 4) ⌝ }
     ensures { λ r. ⌜ r ≡ carriedBy (now (sizes .entry)) (now (table .entry)) i n ⌝ }

@@ -1,5 +1,5 @@
--- Laws on the set found and the plan over it, in tables: what the walk, the passes over its set and request 9's walk hand over is what is
--- found of a job. Assumes nothing.
+-- Laws on the set found and the plan over it, in tables: what the walk, the passes over its set and
+-- request 9's walk hand over is what is found of a job. Assumes nothing.
 use mathlib.Core.Path.{_≡_, sym, ap, _∙_, subst}
 use mathlib.Core.Bool.{Bool, cond}
 use mathlib.Core.List.{List, []}

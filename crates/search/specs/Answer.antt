@@ -1,6 +1,7 @@
--- Meaning. What the search within a budget hands over: document 02, request 13, "The result is the best set met .., the steps .. actually taken,
--- whether the walk ended .., and a shortfall", with the plan over that set, or a refusal's number. The walk, the plan over a set and what is
--- claimed of both are stated in budget: Statement; they are computed in budget: Search.
+-- Meaning. What the search within a budget hands over: document 02, request 13, "The result is the
+-- best set met .., the steps .. actually taken, whether the walk ended .., and a shortfall", with
+-- the plan over that set, or a refusal's number. The walk, the plan over a set and what is claimed
+-- of both are stated in theory_search: Statement; they are computed in theory_search: Search.
 use Prim.Native.Nat.{ℕ, suc, _+_, _*_, _-_, _≤_}
 use mathlib.Core.Path.{_≡_}
 use mathlib.Core.Bool.{Bool, false, cond, _&&_}
@@ -25,7 +26,8 @@ use Rattle.search.specs.declared.Searched.{Searched}
 
 -- ---- the plan that is handed over
 
--- "The upper layers, rows and counts then follow document 01's way, and that plan is handed over too."
+-- "The upper layers, rows and counts then follow document 01's way, and that plan is handed over
+-- too."
 abbrev pub planFound : Job → ℕ → ℕ → ℕ
 planFound j budget = planOver j (found j budget .kept)
 
@@ -46,7 +48,8 @@ searchRefusal h budget l = jobRefusal h orElse unless 11 (holdsFound (jobIn h) b
 
 -- ---- what is handed over
 
--- Where nothing is refused; a refusal carries only its number: beside it counts, steps and shortfall are 0, and the walk has not ended.
+-- Where nothing is refused; a refusal carries only its number: beside it counts, steps and
+-- shortfall are 0, and the walk has not ended.
 abbrev pub given : JobInput → ℕ → Lent → Bool
 given h budget l = eqb (searchRefusal h budget l) 0
 
@@ -75,8 +78,8 @@ pub record SearchOutput (h : JobInput) (budget : ℕ) (marks slots chunks layers
 
 -- ---- what holds of it
 
--- What is found is what the walk cut at the budget says, and nothing else is; the plan is the one over that set, and there is no other; and
--- the set stands in bit 0 of the marks.
+-- What is found is what the walk cut at the budget says, and nothing else is; the plan is the one
+-- over that set, and there is no other; and the set stands in bit 0 of the marks.
 pub record Walks (j : Job) (budget : ℕ) : Type 0 where
   pub is-found : IsFound j budget (found j budget)
   pub only-found : (other : Found) → IsFound j budget other → other ≡ found j budget
@@ -92,8 +95,8 @@ abbrev pub GoodEnoughFound : JobInput → ℕ → Type 0
 GoodEnoughFound h budget =
     jobRefusal h ≡ 0 → GoodEnough (jobIn h) budget (found (jobIn h) budget) (planFound (jobIn h) budget) (rowsFound (jobIn h) budget)
 
--- "A larger budget never finds fewer." With two steps a chunk as many bases are found as document 01's way carries, and for equal chunks its
--- own plan is handed over.
+-- "A larger budget never finds fewer." With two steps a chunk as many bases are found as document
+-- 01's way carries, and for equal chunks its own plan is handed over.
 pub record Steps (j : Job) (budget : ℕ) : Type 0 where
   pub larger : (more : ℕ) → budget ≤ more → length (found j budget .kept) ≤ length (found j more .kept)
   pub two-a-chunk : 2 * chunks j ≤ budget → (p : ℕ → ℕ) → SettledByTrials j p → countOf j p 0 ≤ length (found j budget .kept)

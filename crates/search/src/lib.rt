@@ -1,12 +1,13 @@
-// Request 13, "Good enough before the curtain": the best set of bases met within a budget of steps, and the plan over it. The search itself is
-// walk's; this crate adds the shortfall, the layers above the bases, and the hand-over.
+// Request 13, "Good enough before the curtain": the best set of bases met within a budget of steps,
+// and the plan over it. The search itself is core_search's; this crate adds the shortfall, the layers
+// above the bases, and the hand-over.
+use core_output::Output;
 use job::CHUNKS;
+use job::Programme;
 use job::SIZES;
 use job::SUMS;
 use job::SizeTable;
 use job::SlotSums;
-use job::Programme;
-use core_output::Output;
 use planner::Answer;
 ghost use mathlib.Core.Path.{_≡_};
 ghost use mathlib.Core.Bool.{cond};
@@ -20,8 +21,8 @@ ghost use Rattle.core_decide.specs.lemmas.Decision.{DecidePre};
 ghost use Rattle.search.specs.Answer.{SearchOutput, FoundByWalk, GoodEnoughFound, MoreSteps};
 ghost use Rattle.search.specs.lemmas.Deciding.{AnsweredPost, DecidePost, OnlyNumber, ShortfallPre};
 
-// The number of rows or the refusal's number, how many chunks carry each layer, the steps taken, whether the walk ended, and by how many
-// bases at most another list in playing order is better.
+// The number of rows or the refusal's number, how many chunks carry each layer, the steps taken,
+// whether the walk ended, and by how many bases at most another list in playing order is better.
 pub struct Searched {
     pub answer: Answer,
     pub counts: [u16; 4],
@@ -52,13 +53,7 @@ fn refused(n: u8) -> Searched
 }
 
 // The count of request 9 without the limit, less the count found; 0 if the walk ended.
-fn shortfall(
-    p: Programme,
-    table: &SizeTable,
-    after: &SlotSums,
-    first: usize,
-    ended: bool,
-) -> u16
+fn shortfall(p: Programme, table: &SizeTable, after: &SlotSums, first: usize, ended: bool) -> u16
     requires { ⌜ ShortfallPre p (tableAt (now table)) (now after) first ⌝ }
     ensures { λ r. ⌜ r ≡ cond ended 0 (length (mooreHodgsonIn p (tableAt (now (table .entry))) (at (now (after .entry)))) - (500 - first)) ⌝ }
 {
@@ -69,7 +64,8 @@ fn shortfall(
     let mut dues = [0u16; CHUNKS];
     let mut bytes = [0u32; CHUNKS];
     let most = core_moore_hodgson::keep_most(p, table, after, &mut ids, &mut dues, &mut bytes);
-    // Both sets stand at the end of 500 places. The first is never the smaller one; the proof needs no such thing here.
+    // Both sets stand at the end of 500 places. The first is never the smaller one; the proof needs
+    // no such thing here.
     if first < most {
         return 0;
     }
@@ -191,8 +187,9 @@ fn write_found(
     answered(made, out.steps, out.ended, out.shortfall)
 }
 
-// The best set of bases met within the budget and the plan over it, into lent marks, one a chunk, and rows: by slot, chunk, layer; the set is
-// bit 0 of the marks. Refusals 5, 6, 18, 7, then 11 where a slice is shorter than the plan; a refusal writes nothing.
+// The best set of bases met within the budget and the plan over it, into lent marks, one a chunk,
+// and rows: by slot, chunk, layer; the set is bit 0 of the marks. Refusals 5, 6, 18, 7, then 11
+// where a slice is shorter than the plan; a refusal writes nothing.
 pub fn search(
     p: Programme,
     sizes: &[u32],

@@ -1,5 +1,5 @@
-// Two films of the same last due slot on one link: each step plans the film anew on the forecast that it was planned on, and checks, books
-// or releases its list on the link's.
+// Two films of the same last due slot on one link: each step plans the film anew on the forecast
+// that it was planned on, and checks, books or releases its list on the link's.
 use crate::print::pair;
 use crate::print::said;
 use crate::print::shown;

@@ -1,5 +1,5 @@
-// Job files: refusals 1, 5, 6, 7 and 11, and the order of those that compete. Each trial says how much of its slices and buffers it hands
-// over.
+// Job files: refusals 1, 5, 6, 7 and 11, and the order of those that compete. Each trial says how
+// much of its slices and buffers it hands over.
 use crate::print::line;
 use crate::print::pair;
 use crate::print::refused;
@@ -65,7 +65,8 @@ fn read_said(read: JobRead) {
     }
 }
 
-// The first n bytes of job A's file are read into room for so many layers and slots, after which the bytes before and past the job show.
+// The first n bytes of job A's file are read into room for so many layers and slots, after which
+// the bytes before and past the job show.
 fn read_job(text: &[u8], file: &[u8], n: usize, layers: usize, slots: usize) {
     let mut sizes = [9u32; 3];
     let mut forecast = [9u32; 7];

@@ -25,7 +25,8 @@ pub(crate) fn room32(s: &mut [u32], n: usize) -> &mut [u32] {
     &mut s[..n]
 }
 
-// Job A, but of so many chunks: of 3 it is job A, of 2 the forecast has slots past the last due one, of 501 it is refused by 5.
+// Job A, but of so many chunks: of 3 it is job A, of 2 the forecast has slots past the last due
+// one, of 501 it is refused by 5.
 pub(crate) fn job_of(chunks: u16) -> Programme {
     Programme {
         chunks,

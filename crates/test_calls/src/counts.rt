@@ -1,5 +1,5 @@
-// Marks counted, for n from 0 to 8 and 255: words by themselves, and marks of every length to 17 and of 500, each count compared with
-// one by bytes.
+// Marks counted, for n from 0 to 8 and 255: words by themselves, and marks of every length to 17
+// and of 500, each count compared with one by bytes.
 use crate::print::next;
 use crate::print::pair;
 use crate::print::word;
@@ -96,7 +96,8 @@ fn short(file: &[u8; 65537]) {
     }
 }
 
-// The bytes of data/q00 go to the start of file, at most as many as that has. If it can't be opened it is read as empty.
+// The bytes of data/q00 go to the start of file, at most as many as that has. If it can't be opened
+// it is read as empty.
 fn read_file(file: &mut [u8; 65537]) -> usize {
     let fd = os::open_read(b"q00");
     if fd < 0 {

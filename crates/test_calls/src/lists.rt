@@ -1,4 +1,5 @@
-// The checker's lengths: marks too few or too many and fields cut short are refused by 8, and 5 and 6 come before it.
+// The checker's lengths: marks too few or too many and fields cut short are refused by 8, and 5 and
+// 6 come before it.
 use crate::print::line;
 use crate::print::refused;
 use crate::print::word;

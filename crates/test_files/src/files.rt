@@ -1,16 +1,18 @@
-// The case files: j.. are job files, read in one sequence and then as mixed files, p.. plan files for job A.
+// The case files: j.. are job files, read in one sequence and then as mixed files, p.. plan files
+// for job A.
 use crate::print::line;
 use crate::print::pair;
 use crate::print::refused;
 use crate::print::word;
 use checker::Checked;
 use job::OVERRIDES;
-use job::SLOTS;
 use job::Programme;
+use job::SLOTS;
 use jobrecords::JobRead;
 use planfile::PlanRead;
 
-// The bytes of a case file go to the start of file, at most as many as that has. A file that can't be opened is read as empty.
+// The bytes of a case file go to the start of file, at most as many as that has. A file that can't
+// be opened is read as empty.
 pub(crate) fn read_case(kind: u8, i: u8, file: &mut [u8; 65537]) -> usize {
     let path = [kind, 48 + i / 10 % 10, 48 + i % 10];
     word(&path);

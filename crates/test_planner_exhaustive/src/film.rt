@@ -1,5 +1,6 @@
-// A job of the family, by value: at most 3 chunks, 4 layers and 4 slots. Chunks and slots are counted from 0 here: slot t is the paper's
-// slot t + 1, chunk i its chunk i + 1. What document 01 says of a job is written anew, so that a fault in `job` would show too.
+// A job of the family, by value: at most 3 chunks, 4 layers and 4 slots. Chunks and slots are
+// counted from 0 here: slot t is the paper's slot t + 1, chunk i its chunk i + 1. What document 01
+// says of a job is written anew, so that a fault in `job` would show too.
 use job::Programme;
 ghost use Prim.Native.Nat.{_≤_};
 

@@ -1,6 +1,7 @@
-// A fetch list as its bytes, at most two a slot, in one word: its numbers 2t and 2t + 1 of four bits stand for slot t, and each is 0 or 1 +
-// the part that the byte is of. Lists that only split or repeat rows otherwise are one: rules 1 to 6 and playing order speak of sums and
-// of first slots.
+// A fetch list as its bytes, at most two a slot, in one word: its numbers 2t and 2t + 1 of four
+// bits stand for slot t, and each is 0 or 1 + the part that the byte is of. Lists that only split
+// or repeat rows otherwise are one: rules 1 to 6 and playing order speak of sums and of first
+// slots.
 use crate::bits;
 use crate::film;
 use crate::film::Film;
@@ -40,7 +41,8 @@ pub(crate) fn is_whole(f: Film, list: u32, part: u16) -> bool {
     film::size(f, part) <= in_all(list, part)
 }
 
-// How many rows the list has, one for each slot, chunk and layer: byte 2t counts for none if byte 2t + 1 is of the same part.
+// How many rows the list has, one for each slot, chunk and layer: byte 2t counts for none if byte
+// 2t + 1 is of the same part.
 pub(crate) fn rows(list: u32) -> u32 {
     let same = bits::zeros(list ^ (list >> 4)) & 0x01010101;
     bits::ones(0x11111111 & !bits::zeros(list) & !same)

@@ -1,7 +1,9 @@
-// The planner against another one, which decides each layer by an exhaustive search over fetch lists, its rows against the own list listed
-// anew, and demand 3's bounds against every passing list, on all jobs of a small family: C 1 to 3, L and s 1 or 2, last due slot at most 4,
-// limit 0 to 3, one to four layers of 1 byte each, or the base or the layer above it of 2, and each forecast of 0, 1 or 2 bytes a slot. Of
-// uneven film all bases of 1 and 2 bytes, and some of two and three layers.
+// The planner against another one, which decides each layer by an exhaustive search over fetch
+// lists, its rows against the own list listed anew, and demand 3's bounds against every passing
+// list, on all jobs of a small family: C 1 to 3, L and s 1 or 2, last due slot at most 4, limit 0
+// to 3, one to four layers of 1 byte each, or the base or the layer above it of 2, and each
+// forecast of 0, 1 or 2 bytes a slot. Of uneven film all bases of 1 and 2 bytes, and some of two
+// and three layers.
 mod bits;
 mod bounds;
 mod film;
@@ -73,7 +75,8 @@ fn film_of(k: u16, kind: u16) -> Film {
     }
 }
 
-// Whether the last due slot is at most 4, with nothing in the forecast after it, and no SZ for a chunk past the last. The remainder tells the prover that the shift is small.
+// Whether the last due slot is at most 4, with nothing in the forecast after it, and no SZ for a
+// chunk past the last. The remainder tells the prover that the shift is small.
 fn is_job(f: Film) -> bool {
     let slots = film::last_due(f);
     slots <= 4 && f.forecast >> (4 * (slots % 5)) == 0 && film::ends_equal(f)
@@ -84,7 +87,8 @@ fn leaves_rest(f: Film) -> bool {
     0 < span && 0 < f.limit % span
 }
 
-// The plan of the same film with a limit that holds the whole programme, of at most 3 chunks of 2 slots.
+// The plan of the same film with a limit that holds the whole programme, of at most 3 chunks of 2
+// slots.
 fn unlimited_plan(f: Film) -> u32 {
     let mut wide = f;
     wide.limit = 6;

@@ -1,4 +1,5 @@
-// Marks in one word: bit 4i + n is set exactly if layer n of chunk i is carried. Layer n of chunk i is called part 4i + n.
+// Marks in one word: bit 4i + n is set exactly if layer n of chunk i is carried. Layer n of chunk i
+// is called part 4i + n.
 use crate::bits;
 ghost use Prim.Native.Nat.{_≤_};
 

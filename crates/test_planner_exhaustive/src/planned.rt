@@ -1,5 +1,6 @@
-// The planner's own answer for a job, against the marks found by search: the same marks, the counts that are theirs, the rows of their own
-// list, a list that the checker passes and that is in playing order.
+// The planner's own answer for a job, against the marks found by search: the same marks, the counts
+// that are theirs, the rows of their own list, a list that the checker passes and that is in
+// playing order.
 use crate::bits;
 use crate::film;
 use crate::film::Film;
@@ -58,8 +59,8 @@ fn uneven_sizes(
     n
 }
 
-// What of the planner's answer is as it should be, as flags of the tally. Playing order is asked of the own list, whose rows the planner's
-// are to be.
+// What of the planner's answer is as it should be, as flags of the tally. Playing order is asked of
+// the own list, whose rows the planner's are to be.
 pub(crate) fn compare(f: Film, found: u32, own: u32) -> u32 {
     let mut chunks = [0u16; 8];
     let mut layers = [0u8; 8];
@@ -258,8 +259,9 @@ fn is_row(list: u32, cell: u16, slot: u16, chunk: u16, layer: u8, bytes: u32) ->
     wide(layer) == (cell % 4) as u32 && bytes == lists::in_slot(list, cell / 12, cell % 12)
 }
 
-// "One row per slot, chunk and layer", handed by slot, chunk, layer: whether the first n rows are those of the list, one for each cell 12t +
-// 4i + n with bytes of layer n of chunk i in slot t, and no others.
+// "One row per slot, chunk and layer", handed by slot, chunk, layer: whether the first n rows are
+// those of the list, one for each cell 12t + 4i + n with bytes of layer n of chunk i in slot t, and
+// no others.
 fn are_rows(
     list: u32,
     slots: [u16; 15],

@@ -1,5 +1,5 @@
-// Every fetch list of a job, and another planner that decides each layer by looking at all of them. Nothing here knows of need, room or
-// release: a list is judged whole, at its end.
+// Every fetch list of a job, and another planner that decides each layer by looking at all of them.
+// Nothing here knows of need, room or release: a list is judged whole, at its end.
 use crate::bits;
 use crate::bounds;
 use crate::film;
@@ -10,8 +10,8 @@ use crate::tally;
 use crate::walk;
 ghost use Prim.Native.Nat.{_≤_, _-_};
 
-// Whether byte k may be of a part: the forecast has it (rule 4), the chunk is due in its slot or later (rule 5), the layer lacks bytes and is
-// asked for.
+// Whether byte k may be of a part: the forecast has it (rule 4), the chunk is due in its slot or
+// later (rule 5), the layer lacks bytes and is asked for.
 fn may(f: Film, every: bool, marks: u32, k: u16, part: u16, list: u32) -> bool {
     let i = part / 4;
     if f.chunks <= i {
@@ -43,8 +43,8 @@ fn lower(f: Film, every: bool, marks: u32, k: u16, list: u32, v: u16) -> u16
     0
 }
 
-// Byte k has values below this: of the two bytes in a slot the one set later, which has the even number, is of no later part, so that each
-// list comes once.
+// Byte k has values below this: of the two bytes in a slot the one set later, which has the even
+// number, is of no later part, so that each list comes once.
 fn above(list: u32, k: u16) -> u16 {
     if k % 2 == 1 {
         return 1 + marks::PARTS;
@@ -52,8 +52,8 @@ fn above(list: u32, k: u16) -> u16 {
     1 + (bits::digit(list >> 4, k) as u16)
 }
 
-// Gives each of the first bytes of the list each value that it may have, and judges each list once it is whole. True as soon as one is
-// accepted.
+// Gives each of the first bytes of the list each value that it may have, and judges each list once
+// it is whole. True as soon as one is accepted.
 pub(crate) fn search(
     f: Film,
     every: bool,
@@ -78,8 +78,9 @@ pub(crate) fn search(
     }
 }
 
-// A whole list that passes. Where every list is asked for, it is weighed against the plan's marks and not accepted; else it is accepted if
-// it carries the marked layers and no others, and is in playing order.
+// A whole list that passes. Where every list is asked for, it is weighed against the plan's marks
+// and not accepted; else it is accepted if it carries the marked layers and no others, and is in
+// playing order.
 fn judge(f: Film, every: bool, marks: u32, list: u32, tally: &mut [u64]) -> bool {
     let given = lists::marks_given(f, list);
     if !lists::passes(f, list, given) {
@@ -98,8 +99,9 @@ fn some_list(f: Film, marks: u32) -> bool {
     search(f, false, marks, lists::BYTES, 0, &mut none)
 }
 
-// "A chunk that lacks the layer below is passed over. Otherwise the layer is carried exactly if some list in playing order passes that
-// carries the layers settled as carried so far, this one and no others."
+// "A chunk that lacks the layer below is passed over. Otherwise the layer is carried exactly if
+// some list in playing order passes that carries the layers settled as carried so far, this one and
+// no others."
 fn settle(f: Film, marks: u32, part: u16) -> u32 {
     let tried = marks::with(marks, part);
     if marks::keep_rule_3(tried) && some_list(f, tried) {
@@ -108,8 +110,9 @@ fn settle(f: Film, marks: u32, part: u16) -> u32 {
     marks
 }
 
-// "Layers are settled from 0 upward, and within a layer chunks from C down to 1": from a turn on, in turn k layer k / 3 of chunk 2 - k % 3. A
-// layer or a chunk that the job does not have is not carried by any list.
+// "Layers are settled from 0 upward, and within a layer chunks from C down to 1": from a turn on,
+// in turn k layer k / 3 of chunk 2 - k % 3. A layer or a chunk that the job does not have is not
+// carried by any list.
 fn settle_from(f: Film, from: u16, settled: u32) -> u32 {
     let mut marks = settled;
     let mut k = from;

@@ -1,5 +1,6 @@
-// Request 10: "if one slot's forecast grows by b bytes and nothing else changes, the number of bases carried never falls, and it rises by at
-// most b divided by the base size, rounded up". Both jobs of a pair are planned. A pair of jobs of equal chunks is met once, as growing.
+// Request 10: "if one slot's forecast grows by b bytes and nothing else changes, the number of
+// bases carried never falls, and it rises by at most b divided by the base size, rounded up". Both
+// jobs of a pair are planned. A pair of jobs of equal chunks is met once, as growing.
 use crate::bits;
 use crate::film;
 use crate::film::Film;

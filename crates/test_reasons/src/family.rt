@@ -1,5 +1,5 @@
-// A family of small jobs: C 1 to 3, L 1 or 2, s 1 or 2, limit 0 to 3, bases of 1 or 2 bytes and a layer of 1 byte, with SZs or none, and
-// slots of 0 to 2 bytes.
+// A family of small jobs: C 1 to 3, L 1 or 2, s 1 or 2, limit 0 to 3, bases of 1 or 2 bytes and a
+// layer of 1 byte, with SZs or none, and slots of 0 to 2 bytes.
 use crate::cases::line;
 use crate::cases::pair;
 use job::Programme;

@@ -1,4 +1,5 @@
-// The numbers of a case in three tables, with 32, 16 and 8 bits. A list is its length and then its numbers.
+// The numbers of a case in three tables, with 32, 16 and 8 bits. A list is its length and then its
+// numbers.
 ghost use Prim.Native.Nat.{_≤_};
 
 pub(crate) fn narrow(numbers: &[u32; 512], halves: &mut [u16; 512], bytes: &mut [u8; 512]) {
@@ -42,8 +43,8 @@ fn after(numbers: &[u32; 512], at: usize) -> usize
     next
 }
 
-// Where the lists of a case stand: its sizes, its SZs' chunks, layers and bytes, its forecast, the slot p, the rows' slots, chunks, layers and
-// bytes, and the forecast from p on or the marks.
+// Where the lists of a case stand: its sizes, its SZs' chunks, layers and bytes, its forecast, the
+// slot p, the rows' slots, chunks, layers and bytes, and the forecast from p on or the marks.
 pub(crate) struct Places {
     pub sizes: usize,
     pub size_chunks: usize,

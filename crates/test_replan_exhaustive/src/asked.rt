@@ -1,4 +1,5 @@
-// The desk's call for a case of the family, and the second checker call on what it hands over with the handed rows.
+// The desk's call for a case of the family, and the second checker call on what it hands over with
+// the handed rows.
 use crate::film;
 use crate::film::Film;
 use crate::link;
@@ -16,7 +17,8 @@ pub(crate) struct Case {
     pub w: u16,
 }
 
-// What came of it: rows, or 99; a checksum over the answer and all that was lent; the marks, four bits a chunk; whether the list passes.
+// What came of it: rows, or 99; a checksum over the answer and all that was lent; the marks, four
+// bits a chunk; whether the list passes.
 pub(crate) struct Got {
     pub rows: usize,
     pub sum: u64,

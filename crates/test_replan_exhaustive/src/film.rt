@@ -1,5 +1,6 @@
-// A film of the family, by value: 2 or 3 chunks, one or two layers, at most 4 slots. Chunks, slots and cells are counted from 0 here; layer n
-// of chunk i is part 2i + n. What document 01 says of a job is written anew.
+// A film of the family, by value: 2 or 3 chunks, one or two layers, at most 4 slots. Chunks, slots
+// and cells are counted from 0 here; layer n of chunk i is part 2i + n. What document 01 says of a
+// job is written anew.
 use job::Programme;
 ghost use Prim.Native.Nat.{_≤_};
 

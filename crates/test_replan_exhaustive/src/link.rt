@@ -1,5 +1,5 @@
-// What the link carries: 2 bytes in each slot before p; from p on a number's digits below 3 in the forecast handed on, and 7 bytes in the
-// job's own, which nothing looks at.
+// What the link carries: 2 bytes in each slot before p; from p on a number's digits below 3 in the
+// forecast handed on, and 7 bytes in the job's own, which nothing looks at.
 ghost use Prim.Native.Nat.{_≤_};
 
 fn digit(w: u16) -> u32 {

@@ -1,5 +1,6 @@
-// The bytes fetched before p as one word: cells 2t and 2t + 1 of three bits stand for slot t, and each is 0 or 1 + the part that the byte is
-// of. Where a slot has one byte it is the second cell's, of two the first is of no later part, so that each list comes once.
+// The bytes fetched before p as one word: cells 2t and 2t + 1 of three bits stand for slot t, and
+// each is 0 or 1 + the part that the byte is of. Where a slot has one byte it is the second cell's,
+// of two the first is of no later part, so that each list comes once.
 use crate::film;
 use crate::film::Film;
 ghost use Prim.Native.Nat.{_≤_};
@@ -47,7 +48,8 @@ pub(crate) fn count(list: u32, v: u16) -> u32
         + one_if(cell(list, 5) == v)
 }
 
-// Whether a byte of the part may stand in cell k: the layer has not more than its bytes, and the byte is not late.
+// Whether a byte of the part may stand in cell k: the layer has not more than its bytes, and the
+// byte is not late.
 fn may(f: Film, list: u32, k: u16, part: u16) -> bool {
     count(list, 1 + part % 8) <= film::size(f, part) && k / 2 < film::due(f, part / 2)
 }

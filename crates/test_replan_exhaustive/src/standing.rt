@@ -1,5 +1,5 @@
-// Standing plans settled in document 01's way: at each p, with the plan's own rows before it and the forecast as it was, the new marks are
-// the plan's and the new rows the rest of it.
+// Standing plans settled in document 01's way: at each p, with the plan's own rows before it and
+// the forecast as it was, the new marks are the plan's and the new rows the rest of it.
 use crate::asked;
 use crate::film;
 use crate::film::Film;

@@ -1,4 +1,5 @@
-// A checksum over a case and its answer: each number in turn, beside 31 times what came before, below 2^31 - 1.
+// A checksum over a case and its answer: each number in turn, beside 31 times what came before,
+// below 2^31 - 1.
 use crate::asked::Case;
 use planner::Answer;
 ghost use Prim.Native.Nat.{_≤_};
@@ -30,7 +31,8 @@ fn number(answer: Answer) -> u32 {
     }
 }
 
-// Which case it is: film, slot, rows fetched and forecast, and not in which order the rows are handed.
+// Which case it is: film, slot, rows fetched and forecast, and not in which order the rows are
+// handed.
 pub(crate) fn of_case(c: Case) -> u64 {
     let f = c.film;
     with(

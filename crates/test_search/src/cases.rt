@@ -55,7 +55,8 @@ pub(crate) fn within(budget: u32, length: u32) -> bool {
     budget - 1 <= length
 }
 
-// The whole walk, within the largest budget, then every budget up to its length and one more; no walk here has more than 30 steps.
+// The whole walk, within the largest budget, then every budget up to its length and one more; no
+// walk here has more than 30 steps.
 fn every_budget(
     p: Programme,
     sizes: &[u32],

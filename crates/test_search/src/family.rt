@@ -1,5 +1,6 @@
-// All jobs of a family: C 1 to 3, L and s 1 or 2, limit 0 to 3, last due slot at most 4, each forecast of 0, 1 or 2 bytes a slot, and four
-// kinds of uneven sizes; each for every budget up to the walk's length and one more.
+// All jobs of a family: C 1 to 3, L and s 1 or 2, limit 0 to 3, last due slot at most 4, each
+// forecast of 0, 1 or 2 bytes a slot, and four kinds of uneven sizes; each for every budget up to
+// the walk's length and one more.
 use crate::cases::within;
 use crate::print::byte_at;
 use crate::print::half_at;
@@ -10,7 +11,8 @@ use crate::print::word_at;
 use job::Programme;
 use search::Searched;
 
-// Jobs, searches, those that ended, those cut with no shortfall, steps, bases, shortfalls, and a number that every value handed over changes.
+// Jobs, searches, those that ended, those cut with no shortfall, steps, bases, shortfalls, and a
+// number that every value handed over changes.
 struct Tally {
     jobs: u64,
     searches: u64,

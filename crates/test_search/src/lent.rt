@@ -5,7 +5,8 @@ use crate::print::said;
 use crate::print::word;
 use job::Programme;
 
-// How much is handed: chunks, layers and slots of job A, SZs of chunk 1, which it has none of, and how much of each slice is lent.
+// How much is handed: chunks, layers and slots of job A, SZs of chunk 1, which it has none of, and
+// how much of each slice is lent.
 struct Part {
     chunks: u16,
     layers: usize,

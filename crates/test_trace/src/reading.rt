@@ -5,7 +5,8 @@ use crate::print::word;
 use crate::writing::written;
 use trace::TraceRead;
 
-// The bytes of a case file go to the start of file, at most as many as that has. A file that can't be opened is read as empty.
+// The bytes of a case file go to the start of file, at most as many as that has. A file that can't
+// be opened is read as empty.
 fn read_case(i: u8, file: &mut [u8; 65537]) -> usize {
     let path = [b't', 48 + i / 10 % 10, 48 + i % 10];
     word(&path);

@@ -1,4 +1,5 @@
-// Job A with some SZs, handed to the writer of job files, the planner, the checker and the report: what each answers.
+// Job A with some SZs, handed to the writer of job files, the planner, the checker and the report:
+// what each answers.
 use crate::print::pair;
 use crate::print::word;
 use checker::Checked;

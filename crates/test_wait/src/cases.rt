@@ -1,4 +1,5 @@
-// Single cases: each line says what it is, where it is small the bases that the plan with each s carries, and the answer.
+// Single cases: each line says what it is, where it is small the bases that the plan with each s
+// carries, and the answer.
 use crate::plans;
 use crate::plans::Film;
 use libc::STDOUT_FILENO;
@@ -113,7 +114,8 @@ pub fn ranges() {
     of_bytes(b"7 before 16", 60, 1, 16777217);
 }
 
-// A film of one layer of 2 bytes and an SZ, of two chunks and four slots: so much of the SZ is handed.
+// A film of one layer of 2 bytes and an SZ, of two chunks and four slots: so much of the SZ is
+// handed.
 fn uneven(text: &[u8], chunk: u16, layer: u8, size: u32, whole: usize, slots: usize) {
     word(text);
     tell(wait::wait(

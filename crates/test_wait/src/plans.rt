@@ -8,7 +8,8 @@ pub struct Film {
     pub limit: u16,
 }
 
-// What trying every s says: the first that works or 0, how many were tried, and whether one after the first doesn't work.
+// What trying every s says: the first that works or 0, how many were tried, and whether one after
+// the first doesn't work.
 pub struct Found {
     pub first: u16,
     pub tried: u16,

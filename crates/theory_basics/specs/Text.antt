@@ -1,4 +1,5 @@
--- Meaning. Text as bytes: words, decimal numbers and lines: document 01, "it prints, each line ended by a line feed".
+-- Meaning. Text as bytes: words, decimal numbers and lines: document 01, "it prints, each line
+-- ended by a line feed".
 use Prim.Native.Nat.{ℕ, zero, suc, _+_, _*_, _-_, _/_, _%_}
 use Prim.Native.Char.{code}
 use Prim.Native.String.{String, [] as none, _∷_ as _then_}

@@ -1,5 +1,6 @@
--- Theorems. Document 01, "Jobs worked through": the rows marked † on the meter, by computation on the definitions that the
--- public contracts cite. The samples are handed to an empty meter in slots 1, 2 and 3.
+-- Theorems. Document 01, "Jobs worked through": the rows marked † on the meter, by computation on
+-- the definitions that the public contracts cite. The samples are handed to an empty meter in slots
+-- 1, 2 and 3.
 use mathlib.Core.Path.{_≡_, refl}
 use Rattle.meter.specs.declared.Meter.{Meter}
 use Rattle.meter.specs.declared.Answer.the-variants.{Bytes}

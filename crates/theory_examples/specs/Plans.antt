@@ -1,6 +1,6 @@
--- Theorems. Document 01, "Jobs worked through": the rows marked † about plans, by computation. Each is stated of every plan of the job
--- in the sense of Statement; that there is one, and one only, is proved for every accepted job (Theorems of crate schedule). Then plans of
--- uneven chunks.
+-- Theorems. Document 01, "Jobs worked through": the rows marked † about plans, by computation. Each
+-- is stated of every plan of the job in the sense of Statement; that there is one, and one only, is
+-- proved for every accepted job (Theorems of crate theory_plan). Then plans of uneven chunks.
 use Prim.Native.Nat.{ℕ, _<_}
 use mathlib.Core.List.{List, [], _∷_}
 use mathlib.Core.Path.{_≡_, refl, sym, ap, _∙_}
@@ -94,8 +94,8 @@ one-chunk-held = planned _ _ _ _ refl refl refl refl
 
 -- ---- "so the last clause of demand 3 needs a limit that holds the programme"
 
--- On A the list `better` passes. Its counts 2, 2 beat the plan's 2, 1: equal at layer 0, higher at layer 1. A's limit does not hold the
--- programme.
+-- On A the list `better` passes. Its counts 2, 2 beat the plan's 2, 1: equal at layer 0, higher at
+-- layer 1. A's limit does not hold the programme.
 pub record Beats (j : Job) (other : List Row) : Type 0 where
   pub passes : Passes j other
   pub same-bases : (p : ℕ → ℕ) → IsPlan j p → layerCount j other 0 ≡ countOf j p 0
@@ -124,8 +124,9 @@ pub uneven-marks : PlanIs (uneven 3) (3 ∷ 0 ∷ 1 ∷ []) (2 ∷ 1 ∷ 0 ∷ 0
 unfolding refusal plan ownList sizeIn
 uneven-marks = planned _ _ _ _ refl refl refl refl
 
--- "That no list carries more is claimed only for jobs whose sizes don't vary by chunk": C 3, L 1, s 1, limit 2, bases 1, 1 and 2,
--- B = 1, 1, 0. The plan carries the base of chunk 3 alone, and a passing list those of chunks 1 and 2.
+-- "That no list carries more is claimed only for jobs whose sizes don't vary by chunk": C 3, L 1, s
+-- 1, limit 2, bases 1, 1 and 2, B = 1, 1, 0. The plan carries the base of chunk 3 alone, and a
+-- passing list those of chunks 1 and 2.
 abbrev smoke : Job
 smoke = jobOf (record { chunks = 3; span = 1; delay = 1; limit = 2 }) (1 ∷ []) (record { chunk = 3; layer = 0; bytes = 2 } ∷ []) (1 ∷ 1 ∷ 0 ∷ [])
 

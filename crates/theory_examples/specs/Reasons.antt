@@ -1,5 +1,5 @@
--- Theorems. Document 02, request 14, on document 01's job A, by computation: the lines that the program prints, byte by byte, and which
--- plan they are of.
+-- Theorems. Document 02, request 14, on document 01's job A, by computation: the lines that the
+-- program prints, byte by byte, and which plan they are of.
 use Prim.Native.Nat.{ℕ}
 use mathlib.Core.Path.{_≡_, refl, sym, _∙_}
 use mathlib.Core.List.{List}

@@ -1,5 +1,5 @@
--- Theorems. Document 01, after "Jobs worked through", as document 02's requests 1 and 2 amend it: what the report program prints
--- for job A, byte by byte, by computation; and for A with an SZ.
+-- Theorems. Document 01, after "Jobs worked through", as document 02's requests 1 and 2 amend it:
+-- what the report program prints for job A, byte by byte, by computation; and for A with an SZ.
 use mathlib.Core.List.{List}
 use mathlib.Core.Path.{_≡_, refl}
 use Prim.Native.Nat.{ℕ}

@@ -1,5 +1,5 @@
--- Theorems. Document 01, "Jobs worked through": the rows marked †, by computation on the definitions that the public contracts cite; and
--- job A with an SZ.
+-- Theorems. Document 01, "Jobs worked through": the rows marked †, by computation on the
+-- definitions that the public contracts cite; and job A with an SZ.
 use Prim.Native.Nat.{ℕ}
 use mathlib.Core.List.{List, [], _∷_}
 use mathlib.Core.Path.{_≡_, refl}
@@ -19,7 +19,8 @@ pub A-accepted : refusal A ≡ 0
 unfolding refusal
 A-accepted = refl
 
--- On A, rows (1,1,0,2) (1,1,1,1) (3,3,0,1) (5,3,0,1) (5,3,1,1) with marks 3, 0, 3: verdict 0. Its counts are 2, 2.
+-- On A, rows (1,1,0,2) (1,1,1,1) (3,3,0,1) (5,3,0,1) (5,3,1,1) with marks 3, 0, 3: verdict 0. Its
+-- counts are 2, 2.
 abbrev pub better : List Row
 better = row 1 1 0 2 ∷ row 1 1 1 1 ∷ row 3 3 0 1 ∷ row 5 3 0 1 ∷ row 5 3 1 1 ∷ []
 
@@ -49,7 +50,8 @@ pub uneven-refusals : (refusal (uneven 1) ≡ 18) × (refusal (uneven 2) ≡ 0) 
 unfolding refusal
 uneven-refusals = (refl, refl, refl, refl)
 
--- With chunk 2's base of 3 bytes these rows pass, and those of A's plan, which carry 2, break rule 2. On A it is the other way about.
+-- With chunk 2's base of 3 bytes these rows pass, and those of A's plan, which carry 2, break rule
+-- 2. On A it is the other way about.
 abbrev pub uneven-rows : List Row
 uneven-rows = row 1 2 0 3 ∷ row 3 2 1 1 ∷ row 5 3 0 2 ∷ []
 

@@ -1,6 +1,7 @@
--- Meaning. The bases of uneven film: document 02, request 9. "Go through chunks from 1 to C, add each, and whenever the kept bases due by
--- then exceed the forecast up to that due slot, drop the largest kept one, the earliest among equals."
--- Where a plan's bases are settled so says Statement (`IsPlan`).
+-- Meaning. The bases of uneven film: document 02, request 9. "Go through chunks from 1 to C, add
+-- each, and whenever the kept bases due by then exceed the forecast up to that due slot, drop the
+-- largest kept one, the earliest among equals." Where a plan's bases are settled so says Statement
+-- (`IsPlan`).
 use Prim.Native.Nat.{ℕ, zero, suc, _+_, _≤_}
 use mathlib.Core.Bool.{Bool, cond}
 use mathlib.Core.List.{List, [], _∷_, _++_}
@@ -23,7 +24,8 @@ abbrev pub keptBytes : (ℕ → ℕ) → List ℕ → ℕ
 keptBytes s [] = 0
 keptBytes s (k ∷ ks) = s k + keptBytes s ks
 
--- "the largest kept one, the earliest among equals", of k and the later ones ks: a later one only if it is larger.
+-- "the largest kept one, the earliest among equals", of k and the later ones ks: a later one only
+-- if it is larger.
 abbrev pub largest : (ℕ → ℕ) → ℕ → List ℕ → ℕ
 largest s k [] = k
 largest s k (l ∷ ls) = largest s (cond (ltb (s k) (s l)) l k) ls
@@ -38,12 +40,14 @@ abbrev pub dropLargest : (ℕ → ℕ) → List ℕ → List ℕ
 dropLargest s [] = []
 dropLargest s (k ∷ ks) = allBut (largest s k ks) (k ∷ ks)
 
--- "whenever the kept bases .. exceed the forecast .., drop": one drop; that it is always enough is a theorem (`one-drop-enough`).
+-- "whenever the kept bases .. exceed the forecast .., drop": one drop; that it is always enough is
+-- a theorem (`one-drop-enough`).
 abbrev pub keepOrDrop : (ℕ → ℕ) → ℕ → List ℕ → List ℕ
 keepOrDrop s most ks = cond (leb (keptBytes s ks) most) ks (dropLargest s ks)
 
--- "go through chunks from 1 to C, add each": what is kept after chunks 1 to i. room i: what the bases due by d(i) may sum to. The kept
--- ones are then of chunks 1 to i, so all of them are due by d(i).
+-- "go through chunks from 1 to C, add each": what is kept after chunks 1 to i. room i: what the
+-- bases due by d(i) may sum to. The kept ones are then of chunks 1 to i, so all of them are due by
+-- d(i).
 abbrev pub keptAfter : (s room : ℕ → ℕ) → ℕ → List ℕ
 keptAfter s room zero = []
 keptAfter s room (suc i) = keepOrDrop s (room (suc i)) (keptAfter s room i ++ (suc i ∷ []))

@@ -1,4 +1,5 @@
--- Theorems. Request 9 by computation: where document 01's way is poor, which of equals is dropped, and which base is the largest.
+-- Theorems. Request 9 by computation: where document 01's way is poor, which of equals is dropped,
+-- and which base is the largest.
 use Prim.Native.Nat.{ℕ}
 use mathlib.Core.Path.{_≡_, refl, _∙_}
 use mathlib.Core.List.{[], _∷_}

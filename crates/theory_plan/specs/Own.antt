@@ -1,6 +1,7 @@
--- Meaning. The plan's own list: document 01, "How the plan decides": "The plan's own list takes the carried bytes by chunk, then
--- layer. Each slot takes as many next bytes as B(slot) and rule 6 allow. One row per slot, chunk and layer."
--- A choice (Statement) says of each chunk how many layers it carries, from the base up.
+-- Meaning. The plan's own list: document 01, "How the plan decides": "The plan's own list takes the
+-- carried bytes by chunk, then layer. Each slot takes as many next bytes as B(slot) and rule 6
+-- allow. One row per slot, chunk and layer." A choice (Statement) says of each chunk how many
+-- layers it carries, from the base up.
 use Prim.Native.Nat.{ℕ, zero, suc, _-_, _<_}
 use mathlib.Core.Path.{_≡_}
 use mathlib.Core.Bool.{Bool, cond, _&&_}
@@ -38,7 +39,8 @@ rowOf t p b = record { slot = t; chunk = p .chunk; layer = p .layer; bytes = b }
 abbrev pub without : Piece → ℕ → Piece
 without p b = record { chunk = p .chunk; layer = p .layer; bytes = p .bytes - b }
 
--- Rule 6 allows a byte of p in slot t: with it beside the rows made so far, at most H chunks are held at the slot's end.
+-- Rule 6 allows a byte of p in slot t: with it beside the rows made so far, at most H chunks are
+-- held at the slot's end.
 abbrev pub allowed : Job → List Row → ℕ → Piece → Bool
 allowed j rows t p = leb (heldCount j (rows ++ (rowOf t p 1 ∷ [])) t) (heldMost j)
 
@@ -47,8 +49,8 @@ pub record Fetched : Type 0 where
   pub rows : List Row
   pub left : List Piece
 
--- Slot t, with c bytes of its forecast unspent: it takes the next bytes, in one row for each part, and ends if its forecast is
--- spent, nothing is left, or rule 6 does not allow the next byte.
+-- Slot t, with c bytes of its forecast unspent: it takes the next bytes, in one row for each part,
+-- and ends if its forecast is spent, nothing is left, or rule 6 does not allow the next byte.
 abbrev pub slotTakes : Job → ℕ → ℕ → List Row → List Piece → Fetched
 slotTakes j t c rows [] = record { rows = rows; left = [] }
 slotTakes j t c rows (p ∷ ps) =

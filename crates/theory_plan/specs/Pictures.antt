@@ -1,5 +1,6 @@
--- Theorems. Document 02, request 9, "Most pictures from uneven film": one drop is enough, no passing list carries more bases, for equal
--- bases the marks are document 01's, and whether a base is skipped at all does not depend on the way.
+-- Theorems. Document 02, request 9, "Most pictures from uneven film": one drop is enough, no
+-- passing list carries more bases, for equal bases the marks are document 01's, and whether a base
+-- is skipped at all does not depend on the way.
 use Prim.Native.Nat.{ℕ, suc, _≤_}
 use mathlib.Core.Path.{_≡_}
 use mathlib.Core.List.{List}
@@ -25,7 +26,8 @@ use Rattle.theory_plan.specs.lemmas.Words.{accepted-sized}
 
 -- ---- the walk
 
--- "whenever the kept bases due by then exceed the forecast up to that due slot, drop": after one drop they fit again,
+-- "whenever the kept bases due by then exceed the forecast up to that due slot, drop": after one
+-- drop they fit again,
 pub one-drop-enough : (j : Job) (i : ℕ) → keptBytes (baseSize j) (keptAfter (baseSize j) (forecastBy j) i) ≤ forecastBy j i
 one-drop-enough = after-drop
 
@@ -41,7 +43,8 @@ none-carries-more j ok list o = omega (arith, list-bases j (ok .layers-in .low) 
 -- ---- the plan, where H is at least C
 
 module _ (j : Job) (ok : Accepted j) (wide : HoldsAll j) where
-  -- "For equal sizes the marks are those of document 01": its way carries exactly the bases that the walk keeps,
+  -- "For equal sizes the marks are those of document 01": its way carries exactly the bases that
+  -- the walk keeps,
   pub equal-moore-hodgson : EqualBases j → (p : ℕ → ℕ) → SettledByTrials j p → BasesMooreHodgson j p
   equal-moore-hodgson equal p d = trials-moore-hodgson j (accepted-sized j ok) (ok .layers-in .low) wide equal p d
 

@@ -1,7 +1,8 @@
--- Meaning. The plan computed, so that a contract can name it: the bases of request 9 or of document 01's trials, then the trials of the
--- upper layers in document 01's order, each decided by a test that takes no list. What a plan is says Statement (`IsPlan`); that this is
--- it, and the only one, say `plan-exists` and `plan-unique` of Theorems, and that the test says whether some list can carry the choice,
--- `decision`. So nobody has to believe the test.
+-- Meaning. The plan computed, so that a contract can name it: the bases of request 9 or of document
+-- 01's trials, then the trials of the upper layers in document 01's order, each decided by a test
+-- that takes no list. What a plan is says Statement (`IsPlan`); that this is it, and the only one,
+-- say `plan-exists` and `plan-unique` of Theorems, and that the test says whether some list can
+-- carry the choice, `decision`. So nobody has to believe the test.
 use Prim.Native.Nat.{ℕ, zero, suc, _+_, _-_, max}
 use mathlib.Core.Bool.{Bool, true, not, cond, _&&_}
 use mathlib.Core.List.{List, [], _∷_}
@@ -33,7 +34,8 @@ after j t = pre (forecast j) (lastSlot j) - pre (forecast j) t
 
 -- ---- whether they fit
 
--- Throughout, w k are the bytes of chunk k, d k its due slot, A t what is forecast after slot t, and h how many chunks may be held.
+-- Throughout, w k are the bytes of chunk k, d k its due slot, A t what is forecast after slot t,
+-- and h how many chunks may be held.
 
 -- How much of the forecast, counted from its end, the chunks use up.
 abbrev pub needOf : (w d A : ℕ → ℕ) → List ℕ → ℕ
@@ -45,7 +47,8 @@ abbrev pub tails : (w d A : ℕ → ℕ) (h : ℕ) → List ℕ → Bool
 tails w d A h [] = true
 tails w d A h (k ∷ ks) = leb (needOf w d A (drop h (k ∷ ks))) (A (d k - 1)) && tails w d A h ks
 
--- The chunks fit: all of them into the whole forecast, and each behind the chunk that must be gone when it begins.
+-- The chunks fit: all of them into the whole forecast, and each behind the chunk that must be gone
+-- when it begins.
 unfoldable pub feas : (w d A : ℕ → ℕ) (h : ℕ) → List ℕ → Bool
 feas w d A h ks = leb (needOf w d A ks) (A 0) && tails w d A h ks
 

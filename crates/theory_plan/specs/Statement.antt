@@ -1,13 +1,20 @@
--- Meaning. What a plan is, and what it is the best of: document 01, "How the plan decides", document 02, request 9, and demand 3. The
--- statements and nothing else, to be read from top to bottom. What they are made of stands once, elsewhere:
---   a job, its sizes, due slots, H, `Accepted`, `EqualChunks`, `EqualBases`, `HoldsAll` crate job, Job
---   a row, a layer carried, a chunk begun and held, the count and the marks of a list   crate fetch, Rows
---   rules 1 to 7, `Keeps` (a list with marks), `Passes` (a list alone), `PlayingOrder`  crate fetch, Rules
---   the verdict, 0 exactly if rules 1 to 7 are kept                                     crate fetch, Verdict
---   the bases that request 9's walk keeps                                               Bases, in this crate
---   the own list of a choice                                                            Own, in this crate
---   the plan computed, so that a contract can name it                                   Plan, in this crate
--- Theorems proves what this file states.
+-- Meaning. What a plan is, and what it is the best of: document 01, "How the plan decides",
+-- document 02, request 9, and demand 3. The statements and nothing else, to be read from top to
+-- bottom. What they are made of stands once, elsewhere:
+--   a job, its sizes, due slots, H, `Accepted`, `EqualChunks`, `EqualBases`, `HoldsAll` crate job,
+--   Job
+--   a row, a layer carried, a chunk begun and held, the count and the marks of a list   crate
+--   fetch, Rows
+--   rules 1 to 7, `Keeps` (a list with marks), `Passes` (a list alone), `PlayingOrder`  crate
+--   fetch, Rules
+--   the verdict, 0 exactly if rules 1 to 7 are kept                                     crate
+--   fetch, Verdict
+--   the bases that request 9's walk keeps                                               Bases, in
+--   this crate
+--   the own list of a choice                                                            Own, in
+--   this crate
+--   the plan computed, so that a contract can name it                                   Plan, in
+--   this crate Theorems proves what this file states.
 use Prim.Native.Nat.{ℕ, suc, _+_, _≤_, _<_, min}
 use mathlib.Core.Path.{_≡_}
 use mathlib.Core.Bool.{cond}
@@ -23,8 +30,8 @@ use Rattle.theory_plan.specs.Bases.{isKept}
 
 -- ---- a choice of layers
 
--- A choice says of each chunk how many layers it carries, from the base up: layer n of chunk i is carried if n < choice i, and a
--- chunk with 0 is skipped. No chunk has more layers than the job.
+-- A choice says of each chunk how many layers it carries, from the base up: layer n of chunk i is
+-- carried if n < choice i, and a chunk with 0 is skipped. No chunk has more layers than the job.
 abbrev pub Choice : Job → (ℕ → ℕ) → Type 0
 Choice j choice = (i : ℕ) → 1 ≤ i → i ≤ chunks j → choice i ≤ layers j
 
@@ -55,8 +62,9 @@ pub record CanCarry (j : Job) (choice : ℕ → ℕ) : Type 0 where
 
 -- ---- the plan
 
--- "Layers are settled from 0 upward, and within a layer chunks from C down to 1": when layer n of chunk i is tried, the plan has
--- settled layers 0 to n of the chunks after i, and the layers below n of the others. This is what chunk k carries of them.
+-- "Layers are settled from 0 upward, and within a layer chunks from C down to 1": when layer n of
+-- chunk i is tried, the plan has settled layers 0 to n of the chunks after i, and the layers below
+-- n of the others. This is what chunk k carries of them.
 abbrev pub settled : (ℕ → ℕ) → ℕ → ℕ → ℕ → ℕ
 settled plan n i k = min (plan k) (cond (ltb i k) (suc n) n)
 
@@ -64,9 +72,9 @@ settled plan n i k = min (plan k) (cond (ltb i k) (suc n) n)
 abbrev pub tried : (ℕ → ℕ) → ℕ → ℕ → ℕ → ℕ
 tried plan n i k = cond (eqb k i) (suc n) (settled plan n i k)
 
--- Document 01's decision of layer n. "A chunk that lacks the layer below is passed over. Otherwise the layer is carried exactly if some
--- list in playing order passes that carries the layers settled as carried so far, this one and no others." (n ≤ plan i: the layers
--- below n are carried.)
+-- Document 01's decision of layer n. "A chunk that lacks the layer below is passed over. Otherwise
+-- the layer is carried exactly if some list in playing order passes that carries the layers settled
+-- as carried so far, this one and no others." (n ≤ plan i: the layers below n are carried.)
 abbrev pub Settles : Job → (ℕ → ℕ) → ℕ → Type 0
 Settles j plan n = (i : ℕ) → Layer j i n → (n < plan i) ↔ ((n ≤ plan i) × CanCarry j (tried plan n i))
 
@@ -83,7 +91,8 @@ BasesMooreHodgson j plan = (i : ℕ) → 1 ≤ i → i ≤ chunks j → (0 < pla
 abbrev pub ByMooreHodgson : Job → Type 0
 ByMooreHodgson j = HoldsAll j × (EqualBases j → ⊥)
 
--- The plan. There "base layers are then settled so", elsewhere in document 01's way; "upper layers follow as before".
+-- The plan. There "base layers are then settled so", elsewhere in document 01's way; "upper layers
+-- follow as before".
 pub record IsPlan (j : Job) (plan : ℕ → ℕ) : Type 0 where
   pub choice : Choice j plan
   pub moore-hodgson : ByMooreHodgson j → BasesMooreHodgson j plan
@@ -106,12 +115,13 @@ MostPictures j plan = HoldsAll j → (list : List Row) → Passes j list → lay
 
 -- ---- demand 3
 
--- A list "carries the plan's own layers below n if, for every chunk, it carries each layer below n that the plan carries; it may
--- carry others."
+-- A list "carries the plan's own layers below n if, for every chunk, it carries each layer below n
+-- that the plan carries; it may carry others."
 abbrev pub CarriesBelow : Job → (ℕ → ℕ) → ℕ → List Row → Type 0
 CarriesBelow j plan n other = (i m : ℕ) → Layer j i m → m < n → m < plan i → Carried j other i m
 
--- What demand 3 says of a plan and its own list, among all fetch lists, of any number of rows. The layers n are those of the job.
+-- What demand 3 says of a plan and its own list, among all fetch lists, of any number of rows. The
+-- layers n are those of the job.
 pub record Best (j : Job) (plan : ℕ → ℕ) (rows : List Row) : Type 0 where
   -- "The plan's own list with its marks then passes the checker,
   pub passes : Keeps j (marksOf j plan) rows
@@ -119,15 +129,17 @@ pub record Best (j : Job) (plan : ℕ → ℕ) (rows : List Row) : Type 0 where
   pub in-order : PlayingOrder j rows
   -- and carries each layer for exactly as many chunks as the plan's count for it says."
   pub counted : (n : ℕ) → n < layers j → layerCount j rows n ≡ countOf j plan n
-  -- "Every fetch list that passes, in whatever order it fetches, carries the base layer of at most as many chunks as the plan."
+  -- "Every fetch list that passes, in whatever order it fetches, carries the base layer of at most
+  -- as many chunks as the plan."
   pub mostBases : (other : List Row) → Passes j other → layerCount j other 0 ≤ countOf j plan 0
-  -- "For every layer n, every passing list in playing order that carries all the plan's own layers below n carries layer n for at
-  -- most as many chunks as the plan."
+  -- "For every layer n, every passing list in playing order that carries all the plan's own layers
+  -- below n carries layer n for at most as many chunks as the plan."
   pub mostOfLayer :
       (n : ℕ) → n < layers j → (other : List Row) → Passes j other → PlayingOrder j other → CarriesBelow j plan n other →
       layerCount j other n ≤ countOf j plan n
-  -- "Where the buffer limit holds the whole programme, take any passing list whose counts are not the plan's: at the first layer,
-  -- from the base up, where they differ, the plan's count is the higher."
+  -- "Where the buffer limit holds the whole programme, take any passing list whose counts are not
+  -- the plan's: at the first layer, from the base up, where they differ, the plan's count is the
+  -- higher."
   pub firstDifference :
       HoldsAll j → (other : List Row) → Passes j other → (n : ℕ) → n < layers j →
       ((m : ℕ) → m < n → layerCount j other m ≡ countOf j plan m) →

@@ -1,5 +1,6 @@
--- Theorems. What Statement states, proved: the decision, that there is exactly one plan, the shape of its own list, document 01's way by
--- itself, and demand 3. What request 9 says of bases stands in Pictures.
+-- Theorems. What Statement states, proved: the decision, that there is exactly one plan, the shape
+-- of its own list, document 01's way by itself, and demand 3. What request 9 says of bases stands
+-- in Pictures.
 use Prim.Native.Nat.{ℕ, zero, suc, _+_, _≤_}
 use mathlib.Core.Path.{_≡_, ap, subst, sym}
 use mathlib.Core.List.{List}
@@ -33,14 +34,16 @@ passes-iff j rows = verdict-iff j (marksGiven j rows) rows
 
 -- ---- the decision
 
--- "some list in playing order passes that carries" exactly the choice, if and only if the computed test holds.
+-- "some list in playing order passes that carries" exactly the choice, if and only if the computed
+-- test holds.
 pub decision : (j : Job) → Sized j → (choice : ℕ → ℕ) → Choice j choice → CanCarry j choice ↔ T (fits j choice)
 decision j sized lv c =
     let a = can-carry-iff-fits j sized lv c in
     let b = fits-iff j lv in
     (λ s. b .1 (a .0 s), λ t. a .1 (b .0 t))
 
--- The list with the choice's marks passes, is in playing order and carries the choice and no other layers.
+-- The list with the choice's marks passes, is in playing order and carries the choice and no other
+-- layers.
 abbrev pub CarriesWith : Job → (ℕ → ℕ) → List Row → Type 0
 CarriesWith j choice rows = Keeps j (marksOf j choice) rows × PlayingOrder j rows × CarriesExactly j rows choice
 
@@ -54,8 +57,9 @@ own-carries j sized lv c s =
 
 -- ---- exactly one plan
 
--- Demand 2: "The plan carries a layer of a chunk if and only if, beside the layers already settled, some fetch list in playing order
--- still keeps them all"; of bases, where request 9 does not settle them. The computed plan is such a plan.
+-- Demand 2: "The plan carries a layer of a chunk if and only if, beside the layers already settled,
+-- some fetch list in playing order still keeps them all"; of bases, where request 9 does not settle
+-- them. The computed plan is such a plan.
 pub plan-exists : (j : Job) → Accepted j → IsPlan j (plan j)
 plan-exists j a = plan-is-plan j (accepted-sized j a) (a .layers-in .low)
 
@@ -128,7 +132,8 @@ equal-plan-iff j equal p = elsewhere-iff j (λ w. w .1 equal) p
 
 -- ---- demand 3
 
--- "Take any accepted job of equal chunks, whatever its layer sizes, forecast, deadlines and buffer limit." Best has its sentences.
+-- "Take any accepted job of equal chunks, whatever its layer sizes, forecast, deadlines and buffer
+-- limit." Best has its sentences.
 pub best : (j : Job) → Accepted j → EqualChunks j → (p : ℕ → ℕ) → IsPlan j p → Best j p (ownList j p)
 best j a equal p is =
     let sized = accepted-sized j a in

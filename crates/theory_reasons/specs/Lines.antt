@@ -1,6 +1,7 @@
--- Meaning. The lines computed, so that a contract can name their text: the stretch by a search over all stretches of slots, and a line
--- under each missing layer. What the lines are says Statement (`Reasons`); that these are they, and no others, says Theorems
--- (`plan-reasons`), so nobody has to believe the search.
+-- Meaning. The lines computed, so that a contract can name their text: the stretch by a search over
+-- all stretches of slots, and a line under each missing layer. What the lines are says Statement
+-- (`Reasons`); that these are they, and no others, says Theorems (`plan-reasons`), so nobody has to
+-- believe the search.
 use Prim.Native.Nat.{ℕ, zero, suc, _-_}
 use mathlib.Core.Bool.{Bool, cond}
 use mathlib.Core.List.{List, map}

@@ -1,6 +1,8 @@
--- Meaning. "The sentence can be read back into its numbers in one way only": a reader that gives the lines back from the text. It knows
--- nothing but digits and line feeds: a text is cut after each line feed, and the numbers of a line are its runs of digits, six in a line
--- of the first kind and three in one of the second. That it gives back what was written says Theorems (`sentence-read`, `text-read`).
+-- Meaning. "The sentence can be read back into its numbers in one way only": a reader that gives
+-- the lines back from the text. It knows nothing but digits and line feeds: a text is cut after
+-- each line feed, and the numbers of a line are its runs of digits, six in a line of the first kind
+-- and three in one of the second. That it gives back what was written says Theorems
+-- (`sentence-read`, `text-read`).
 use Prim.Native.Nat.{ℕ, _+_, _*_, _-_}
 use mathlib.Core.Bool.{Bool, cond, _&&_}
 use mathlib.Core.List.{List, [], _∷_, map}

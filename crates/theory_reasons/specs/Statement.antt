@@ -1,5 +1,6 @@
--- Meaning. The reason under each missing layer: document 02, request 14. A choice says of each chunk how many layers it carries, from
--- the base up (Statement of crate schedule); its kept chunks are those with at least one.
+-- Meaning. The reason under each missing layer: document 02, request 14. A choice says of each
+-- chunk how many layers it carries, from the base up (Statement of crate theory_plan); its kept chunks
+-- are those with at least one.
 use Prim.Native.Nat.{ℕ, zero, suc, _-_, _≤_, _<_, min}
 use mathlib.Core.Path.{_≡_}
 use mathlib.Core.Bool.{Bool, cond, _&&_}
@@ -27,7 +28,8 @@ keptCount j choice = length (kept j choice)
 abbrev pub keptChunk : Job → (ℕ → ℕ) → ℕ → ℕ
 keptChunk j choice m = getD (kept j choice) m 0
 
--- "In playing order the first H kept chunks can begin in slot 1, each later one from the due slot of the kept chunk H places before it."
+-- "In playing order the first H kept chunks can begin in slot 1, each later one from the due slot
+-- of the kept chunk H places before it."
 abbrev pub canBegin : Job → (ℕ → ℕ) → ℕ → ℕ
 canBegin j choice m = cond (ltb m (heldMost j)) 1 (due j (keptChunk j choice (m - heldMost j)))
 
@@ -35,8 +37,8 @@ canBegin j choice m = cond (ltb m (heldMost j)) 1 (due j (keptChunk j choice (m 
 abbrev pub between : Job → (ℕ → ℕ) → ℕ → ℕ → ℕ → Bool
 between j choice a b m = leb a (canBegin j choice m) && leb (due j (keptChunk j choice m)) b
 
--- "Need is the bytes .. of chunks that can't begin before the first slot named and are due by the last one." All of them count, also
--- where several can begin from the same slot.
+-- "Need is the bytes .. of chunks that can't begin before the first slot named and are due by the
+-- last one." All of them count, also where several can begin from the same slot.
 unfoldable pub need : Job → (ℕ → ℕ) → ℕ → ℕ → ℕ
 need j choice a b = sum (λ m. cond (between j choice a b m) (bytes j choice (keptChunk j choice m)) 0) (keptCount j choice)
 
@@ -61,7 +63,8 @@ pub record Named (j : Job) (choice : ℕ → ℕ) (a b : ℕ) : Type 0 where
 abbrev pub settledBefore : (ℕ → ℕ) → ℕ → ℕ → ℕ → ℕ
 settledBefore plan i n = tried plan n i
 
--- "for bases settled by request 9, against all bases kept": the bases that the plan carries, and this one; upper layers as before.
+-- "for bases settled by request 9, against all bases kept": the bases that the plan carries, and
+-- this one; upper layers as before.
 abbrev pub allBases : (ℕ → ℕ) → ℕ → ℕ → ℕ
 allBases plan i k = cond (eqb k i) 1 (min (plan k) 1)
 
@@ -69,14 +72,15 @@ abbrev pub allBasesKept : (ℕ → ℕ) → ℕ → ℕ → ℕ → ℕ
 allBasesKept plan i zero = allBases plan i
 allBasesKept plan i (suc n) = tried plan (suc n) i
 
--- What a missing layer of the plan is held against: "for bases settled by request 9, against all bases kept", else against what was
--- settled before. Upper layers are the same in both.
+-- What a missing layer of the plan is held against: "for bases settled by request 9, against all
+-- bases kept", else against what was settled before. Upper layers are the same in both.
 abbrev pub against : Job → (ℕ → ℕ) → ℕ → ℕ → ℕ → ℕ
 against j plan = cond (byMooreHodgson j) (allBasesKept plan) (settledBefore plan)
 
 -- ---- the lines
 
--- A line of either kind: chunk, layer, first and last slot, carry and need; or chunk, layer and the lower layer that is missing.
+-- A line of either kind: chunk, layer, first and last slot, carry and need; or chunk, layer and the
+-- lower layer that is missing.
 pub data Line : Type 0 where
   short : (chunk layer first last carry need : ℕ) → Line
   lower : (chunk layer below : ℕ) → Line
@@ -86,14 +90,16 @@ pub record LowerMissing (plan : ℕ → ℕ) (i n below : ℕ) : Type 0 where
   pub next-lower : n ≡ suc below
   pub missing : plan i ≤ below
 
--- The first is for the others: the layers below n are carried. Against a choice it names the stretch, its carry and its need.
+-- The first is for the others: the layers below n are carried. Against a choice it names the
+-- stretch, its carry and its need.
 pub record TooLittle (j : Job) (plan choice : ℕ → ℕ) (i n first last carried needed : ℕ) : Type 0 where
   pub lower-carried : n ≤ plan i
   pub stretch : Named j choice first last
   pub carry-is : carried ≡ carry j first last
   pub need-is : needed ≡ need j choice first last
 
--- The line is the reason under layer n of chunk i. `against i n` is the choice with this layer added.
+-- The line is the reason under layer n of chunk i. `against i n` is the choice with this layer
+-- added.
 abbrev pub Reason : Job → (ℕ → ℕ) → (ℕ → ℕ → ℕ → ℕ) → ℕ → ℕ → Line → Type 0
 Reason j plan against i n (short i′ n′ a b carried needed) = (i′ ≡ i) × (n′ ≡ n) × TooLittle j plan (against i n) i n a b carried needed
 Reason j plan against i n (lower i′ n′ below) = (i′ ≡ i) × (n′ ≡ n) × LowerMissing plan i n below
@@ -118,7 +124,8 @@ missingTo plan n (suc i) = missingTo plan n i ++ missingOf plan (suc i) n
 abbrev pub missing : Job → (ℕ → ℕ) → List Place
 missing j plan = missingTo plan (layers j) (chunks j)
 
--- What this list has is a theorem (`missing-iff`, `missing-in-turn`): each missing layer of the job,
+-- What this list has is a theorem (`missing-iff`, `missing-in-turn`): each missing layer of the
+-- job,
 pub record IsMissing (j : Job) (plan : ℕ → ℕ) (x : Place) : Type 0 where
   pub layer : Layer j (x .chunk) (x .layer)
   pub not-carried : plan (x .chunk) ≤ x .layer
@@ -144,7 +151,8 @@ Reasons j plan against = Under (Reason j plan against) (missing j plan)
 
 -- ---- the text
 
--- The words after `chunk`: `chunk 1 layer 0: slots 2 to 4 carry 1, need 2` or `chunk 1 layer 1: layer 0 is missing`.
+-- The words after `chunk`: `chunk 1 layer 0: slots 2 to 4 carry 1, need 2` or `chunk 1 layer 1:
+-- layer 0 is missing`.
 abbrev pub words : Line → List (List ℕ)
 words (short i n a b c m) =
     digits i

@@ -1,5 +1,6 @@
--- Theorems. What Statement states, proved: such a stretch always exists and is a true reason, one is named and no other; the list of
--- missing layers; a plan's lines are those of Lines and no others; they read back in one way only; how long their text is.
+-- Theorems. What Statement states, proved: such a stretch always exists and is a true reason, one
+-- is named and no other; the list of missing layers; a plan's lines are those of Lines and no
+-- others; they read back in one way only; how long their text is.
 use Prim.Native.Nat.{ℕ, zero, suc, _≤_, _<_}
 use mathlib.Core.Path.{_≡_, refl, sym, ap, subst, _∙_}
 use mathlib.Core.List.{List}
@@ -30,17 +31,20 @@ use Rattle.theory_reasons.specs.lemmas.Widths.{lines-fit}
 
 -- ---- the stretch of one choice
 
--- "Such a stretch always exists": a choice that no passing list in playing order carries has one, and the search gives the one named.
+-- "Such a stretch always exists": a choice that no passing list in playing order carries has one,
+-- and the search gives the one named.
 pub stretch-exists :
     (j : Job) → Accepted j → (choice : ℕ → ℕ) → Choice j choice → (CanCarry j choice → ⊥) →
     Named j choice (stretchOf j choice .first) (stretchOf j choice .last)
 stretch-exists j a choice c never = refused-stretch j a choice c never .named
 
--- The sentence is a true reason: a choice with a stretch that needs more than it carries is carried by no passing list in playing order.
+-- The sentence is a true reason: a choice with a stretch that needs more than it carries is carried
+-- by no passing list in playing order.
 pub stretch-forbids : (j : Job) → Accepted j → (choice : ℕ → ℕ) → Choice j choice → (a b : ℕ) → Short j choice a b → CanCarry j choice → ⊥
 stretch-forbids j acc choice c a b s can = fits-none-short j acc choice (can-carry-fits j choice c can) a b s
 
--- "Of several, the smallest last slot is named, then the greatest first slot": one and no other, which the search gives.
+-- "Of several, the smallest last slot is named, then the greatest first slot": one and no other,
+-- which the search gives.
 pub stretch-unique : (j : Job) (choice : ℕ → ℕ) (a b a′ b′ : ℕ) → Named j choice a b → Named j choice a′ b′ → (a ≡ a′) × (b ≡ b′)
 stretch-unique = named-unique
 
@@ -92,7 +96,8 @@ pub line-exceeds :
     carried < needed
 line-exceeds j p held i n i′ n′ a b carried needed r = omega (arith, r .2 .carry-is, r .2 .need-is, r .2 .stretch .short .exceeds)
 
--- Each layer with a line of the first kind was refused: what the line is held against can't be carried.
+-- Each layer with a line of the first kind was refused: what the line is held against can't be
+-- carried.
 pub line-refused :
     (j : Job) → Accepted j → (p : ℕ → ℕ) → IsPlan j p → (i n : ℕ) → Layer j i n → p i ≡ n →
     Choice j (against j p i n) × (CanCarry j (against j p i n) → ⊥)
@@ -139,8 +144,8 @@ text-one-way ls ms e = sym (text-read ls) ∙ ap readReasons e ∙ text-read ms
 
 -- ---- how long the text is
 
--- At most 94,000 bytes, so a local buffer holds it: for each of 500 chunks 74 in the line of its first missing layer, and 38 in each of 3
--- more.
+-- At most 94,000 bytes, so a local buffer holds it: for each of 500 chunks 74 in the line of its
+-- first missing layer, and 38 in each of 3 more.
 pub text-fits : (j : Job) → Accepted j → length (planText j) ≤ 94000
 unfolding planText
 text-fits j a =
@@ -150,8 +155,9 @@ text-fits j a =
 
 -- ---- "for bases settled by request 9, against all bases kept"
 
--- Where the limit holds the programme and all bases have one size, document 01's way settles them, and both readings give the same lines:
--- the bases carried are the last ones. So nothing hangs on whether request 9 is said to settle such bases.
+-- Where the limit holds the programme and all bases have one size, document 01's way settles them,
+-- and both readings give the same lines: the bases carried are the last ones. So nothing hangs on
+-- whether request 9 is said to settle such bases.
 module _ (j : Job) (a : Accepted j) (wide : HoldsAll j) (equal : EqualBases j) (p : ℕ → ℕ) (d : SettledByTrials j p) where
   skipped-before : (i : ℕ) → i ≤ chunks j → p i ≡ 0 → (k : ℕ) → 1 ≤ k → k ≤ i → p k ≡ 0
   skipped-before i h e k u v =

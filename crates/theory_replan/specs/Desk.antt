@@ -1,4 +1,5 @@
--- Theorems. Planning afresh as the desk calls it: a job with its own forecast, the slot p, the rows fetched and the forecast from p on.
+-- Theorems. Planning afresh as the desk calls it: a job with its own forecast, the slot p, the rows
+-- fetched and the forecast from p on.
 use Prim.Native.Nat.{ℕ, zero, suc, _+_, _-_, _≤_, _<_}
 use mathlib.Core.Path.{_≡_, sym, subst}
 use mathlib.Core.Bool.{_&&_}
@@ -29,13 +30,15 @@ use Rattle.theory_replan.specs.lemmas.Plan.{is-replan-fits}
 use Rattle.theory_replan.specs.lemmas.Shape.{own-rest-ascending, own-rest-rows}
 use Rattle.theory_replan.specs.lemmas.Standing.{standing-plan}
 
--- "A begun layer that is given up stays spent, isn't carried, and its chunk is held to its due slot."
+-- "A begun layer that is given up stays spent, isn't carried, and its chunk is held to its due
+-- slot."
 pub record GivenUp (j : Job) (p : ℕ) (fetched rest : List Row) (i n : ℕ) : Type 0 where
   pub spent : bytesOfLayer (fetched ++ rest) i n ≡ bytesOfLayer fetched i n
   pub not-carried : Carried j (fetched ++ rest) i n → ⊥
   pub held-on : (t : ℕ) → p ≤ t → t < due j i → T (held j (fetched ++ rest) t i)
 
--- What a call that is not refused hands over: there is one plan made afresh, and of it and its own rows:
+-- What a call that is not refused hands over: there is one plan made afresh, and of it and its own
+-- rows:
 pub record Replans (j : Job) (p : ℕ) (fetched : List Row) (plan : ℕ → ℕ) : Type 0 where
   pub settled : IsReplan j p fetched plan
   pub only : (other : ℕ → ℕ) → IsReplan j p fetched other → Same j other plan
@@ -81,8 +84,9 @@ replans j a p fetched onward e =
 
 -- ---- the standing plan
 
--- "If the standing plan was settled for the whole job in document 01's way, bases too, the rows are all its own before p and the forecast
--- hasn't changed, the new rows are exactly the rest of that plan."
+-- "If the standing plan was settled for the whole job in document 01's way, bases too, the rows are
+-- all its own before p and the forecast hasn't changed, the new rows are exactly the rest of that
+-- plan."
 pub record Continues (j : Job) (q : ℕ → ℕ) (p : ℕ) (fetched : List Row) (onward : List ℕ) : Type 0 where
   pub accepted : replanRefusal j p fetched onward ≡ 0
   pub same : (plan : ℕ → ℕ) → IsReplan (joined j p onward) p fetched plan → Same j plan q

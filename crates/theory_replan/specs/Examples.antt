@@ -1,5 +1,6 @@
--- Theorems. Job A of document 01 planned afresh, by computation: the standing plan goes on; a weaker forecast gives up the last chunk; a
--- begun base that is given up stays spent, and its chunk is held to its due slot; each refusal.
+-- Theorems. Job A of document 01 planned afresh, by computation: the standing plan goes on; a
+-- weaker forecast gives up the last chunk; a begun base that is given up stays spent, and its chunk
+-- is held to its due slot; each refusal.
 use Prim.Native.Nat.{ℕ}
 use mathlib.Core.Path.{_≡_, refl}
 use mathlib.Core.List.{List, [], _∷_, _++_}
@@ -82,8 +83,8 @@ late-and-wrong : replanRefusal A 3 (row 3 2 0 9 ∷ []) [] ≡ 21
 unfolding replanRefusal sizeIn
 late-and-wrong = refl
 
--- C 2, L 1, s 2, limit 2, size 1, B = 1, 1, 1, replanned at 2 with chunk 2 fetched in slot 1: chunk 1 plays before it and was not begun, so
--- no list in playing order carries it any more.
+-- C 2, L 1, s 2, limit 2, size 1, B = 1, 1, 1, replanned at 2 with chunk 2 fetched in slot 1: chunk
+-- 1 plays before it and was not begun, so no list in playing order carries it any more.
 abbrev Two : Job
 Two = record { programme = record { chunks = 2; span = 1; delay = 2; limit = 2 }; sizes = 1 ∷ []; overrides = []; forecast = 1 ∷ 1 ∷ 1 ∷ [] }
 
@@ -91,7 +92,8 @@ passed-by : let k = joined Two 2 (1 ∷ 1 ∷ []) in marksOf k (replan k 2 (row 
 unfolding replan fitsFrom feas sizeIn
 passed-by = refl
 
--- Where request 9 settled the bases, planning afresh on an unchanged forecast can drop a picture that it saved: schedule's example, at p = 1.
+-- Where request 9 settled the bases, planning afresh on an unchanged forecast can drop a picture
+-- that it saved: theory_plan's example, at p = 1.
 afresh-is-poor : let k = joined poor 1 (1 ∷ 1 ∷ 0 ∷ []) in (marksOf poor (plan poor) ≡ 1 ∷ 1 ∷ 0 ∷ []) × (marksOf k (replan k 1 []) ≡ 0 ∷ 0 ∷ 1 ∷ [])
 unfolding plan replan fitsFrom feas sizeIn
 afresh-is-poor = (refl, refl)

@@ -1,5 +1,6 @@
--- Meaning. The rows from p on: document 02, request 12: "only the rows from p on, listed in document 01's way". The own list of
--- document 01 (schedule's Own), begun with the fetched rows and what they leave; rule 6 is asked of all rows together.
+-- Meaning. The rows from p on: document 02, request 12: "only the rows from p on, listed in
+-- document 01's way". The own list of document 01 (theory_plan's Own), begun with the fetched rows and
+-- what they leave; rule 6 is asked of all rows together.
 use Prim.Native.Nat.{ℕ, zero, suc, _+_, _-_}
 use mathlib.Core.Bool.{cond}
 use mathlib.Core.List.{List, [], _∷_}
@@ -18,7 +19,8 @@ unfetched fetched (p ∷ ps) =
     (without p (bytesOfLayer fetched (p .chunk) (p .layer)) ∷ unfetched fetched ps)
     (unfetched fetched ps)
 
--- m slots from p on, one after the other: "each slot takes as many next bytes as B(slot) and rule 6 allow".
+-- m slots from p on, one after the other: "each slot takes as many next bytes as B(slot) and rule 6
+-- allow".
 abbrev pub fetchedFrom : Job → ℕ → List Row → (ℕ → ℕ) → ℕ → Fetched
 fetchedFrom j p fetched choice zero = record { rows = fetched; left = unfetched fetched (carriedTo j choice (chunks j)) }
 fetchedFrom j p fetched choice (suc m) =

@@ -1,7 +1,8 @@
--- Meaning. The plan made afresh, computed, so that a contract can name it: the trials in document 01's order, from the layers whole before p
--- on, each decided by a test that takes no list. What such a plan is says Statement (`IsReplan`); that this is it, and the only one, say
--- `replan-exists` and `replan-unique` of Theorems, and that the test says whether some list can carry the choice, `decision-from`. So
--- nobody has to believe the test.
+-- Meaning. The plan made afresh, computed, so that a contract can name it: the trials in document
+-- 01's order, from the layers whole before p on, each decided by a test that takes no list. What
+-- such a plan is says Statement (`IsReplan`); that this is it, and the only one, say
+-- `replan-exists` and `replan-unique` of Theorems, and that the test says whether some list can
+-- carry the choice, `decision-from`. So nobody has to believe the test.
 use Prim.Native.Nat.{ℕ, zero, suc, _-_, max}
 use mathlib.Core.Bool.{Bool, not, cond, _&&_, _||_}
 use mathlib.Core.List.{List}
@@ -29,8 +30,8 @@ busy fetched choice i = hasRow fetched i || leb 1 (choice i)
 abbrev pub busyChunks : Job → List Row → (ℕ → ℕ) → List ℕ
 busyChunks j fetched choice = picked (busy fetched choice) 0 (chunks j)
 
--- Layers whole before p are in the choice, a chunk that is kept has begun or plays after all that have, and the busy chunks fit, each
--- with the bytes not yet fetched, into the slots from p on.
+-- Layers whole before p are in the choice, a chunk that is kept has begun or plays after all that
+-- have, and the busy chunks fit, each with the bytes not yet fetched, into the slots from p on.
 unfoldable pub fitsFrom : Job → ℕ → List Row → (ℕ → ℕ) → Bool
 unfolding feas
 fitsFrom j p fetched choice =
@@ -44,7 +45,8 @@ fitsFrom j p fetched choice =
 abbrev pub openTo : Job → ℕ → List Row → ℕ → (ℕ → ℕ) → Bool
 openTo j p fetched i choice = leb p (due j i) && fitsFrom j p fetched choice
 
--- The trials in general, where ok i says of the choice that is tried whether chunk i may have one layer more.
+-- The trials in general, where ok i says of the choice that is tried whether chunk i may have one
+-- layer more.
 
 -- Layer n of chunk i is taken: the layers below are carried, and the choice with it passes.
 abbrev pub takes : (ℕ → (ℕ → ℕ) → Bool) → ℕ → (ℕ → ℕ) → ℕ → Bool
@@ -59,7 +61,8 @@ abbrev pub sweep : (ℕ → (ℕ → ℕ) → Bool) → ℕ → ℕ → ℕ → 
 sweep ok n lo zero p = p
 sweep ok n lo (suc m) p = try ok n (sweep ok n (suc lo) m p) (suc lo)
 
--- Layers 0 .. n - 1 are tried for all of c chunks, of which those of base are carried from the start.
+-- Layers 0 .. n - 1 are tried for all of c chunks, of which those of base are carried from the
+-- start.
 abbrev pub planTo : ℕ → (ℕ → ℕ) → (ℕ → (ℕ → ℕ) → Bool) → ℕ → ℕ → ℕ
 planTo c base ok zero = base
 planTo c base ok (suc n) = sweep ok n 0 c (planTo c base ok n)

@@ -1,5 +1,6 @@
--- Meaning, then its theorems. The refusals of planning afresh that come after the job's own and 8: 21, 7 and 22, a definition a number and
--- 21 apart for p and for the rows. And the joined job: accepted if none applies, and the job itself if the forecast has not changed.
+-- Meaning, then its theorems. The refusals of planning afresh that come after the job's own and 8:
+-- 21, 7 and 22, a definition a number and 21 apart for p and for the rows. And the joined job:
+-- accepted if none applies, and the job itself if the forecast has not changed.
 use Prim.Native.Nat.{ℕ, suc, _-_, _≤_, _<_}
 use mathlib.Core.Path.{_≡_, ap}
 use mathlib.Core.Bool.{Bool, not, _&&_, _||_}
@@ -37,8 +38,8 @@ noMore j rows = allLayers j (λ i n. leb (bytesOfLayer rows i n) (size j i n))
 abbrev pub inTurn : List Row → Bool
 inTurn rows = all (λ x. all (λ y. not (ltb (y .chunk) (x .chunk)) || begun rows (x .slot) (y .chunk)) rows) rows
 
--- 22: "handed rows that break rule 1, 3, 4, 5 or 6, with rule 2 only where a sum exceeds its size, or that begin a chunk in an earlier slot
--- than a handed one that plays before it".
+-- 22: "handed rows that break rule 1, 3, 4, 5 or 6, with rule 2 only where a sum exceeds its size,
+-- or that begin a chunk in an earlier slot than a handed one that plays before it".
 abbrev pub fetchedKept : Job → List Row → Bool
 fetchedKept j rows = rule1 j rows && (noMore j rows && (rule3 j rows && (rule4 j rows && (rule5 j rows && (rule6 j rows && inTurn rows)))))
 

@@ -1,6 +1,7 @@
--- Theorems. What Statement states of planning afresh, proved: the decision, that there is exactly one plan made afresh, that the fetched
--- rows with the own rows from p on pass the second call with its marks, in playing order, and carry exactly it, that the fetched rows may
--- come in any order, and that a standing plan goes on, from slot 1 too. Desk says the same as the desk calls it.
+-- Theorems. What Statement states of planning afresh, proved: the decision, that there is exactly
+-- one plan made afresh, that the fetched rows with the own rows from p on pass the second call with
+-- its marks, in playing order, and carry exactly it, that the fetched rows may come in any order,
+-- and that a standing plan goes on, from slot 1 too. Desk says the same as the desk calls it.
 use Prim.Native.Nat.{ℕ, _≤_, _<_}
 use mathlib.Core.Path.{_≡_, _∙_, subst}
 use mathlib.Core.List.{List, [], _++_}
@@ -29,7 +30,8 @@ use Rattle.theory_replan.specs.lemmas.Standing.{before-all, from-all, st
 
 -- ---- the decision
 
--- Some list that begins with the rows fetched carries exactly the choice, if and only if the computed test holds.
+-- Some list that begins with the rows fetched carries exactly the choice, if and only if the
+-- computed test holds.
 pub decision-from :
     (j : Job) → Accepted j → (p : ℕ) (fetched : List Row) → Acceptable j p fetched → (choice : ℕ → ℕ) → Choice j choice →
     CanCarryFrom j p fetched choice ↔ T (fitsFrom j p fetched choice)
@@ -61,7 +63,8 @@ due-before-by-what-they-have j p fetched plan d i n r h =
 
 -- ---- the rows
 
--- "only the rows from p on"; "together with the handed rows they pass that call", in playing order, and carry exactly the plan.
+-- "only the rows from p on"; "together with the handed rows they pass that call", in playing order,
+-- and carry exactly the plan.
 pub record CarriesAfresh (j : Job) (p : ℕ) (fetched : List Row) (plan : ℕ → ℕ) (rest : List Row) : Type 0 where
   pub later : All (λ x. p ≤ x .slot) rest
   pub keeps : KeepsFrom j p (marksOf j plan) (fetched ++ rest)
@@ -100,7 +103,8 @@ order-free j p a b h =
 pub goes-on : (j : Job) → Accepted j → (q : ℕ → ℕ) → SettledByTrials j q → (p : ℕ) → 1 ≤ p → p ≤ lastSlot j → GoesOn j q p
 goes-on = standing-plan
 
--- At slot 1, with no rows, planning afresh is document 01's way by itself: the same choice and the same list.
+-- At slot 1, with no rows, planning afresh is document 01's way by itself: the same choice and the
+-- same list.
 pub record FromTheStart (j : Job) (q : ℕ → ℕ) : Type 0 where
   pub acceptable : Acceptable j 1 []
   pub again : IsReplan j 1 [] q

@@ -1,5 +1,6 @@
--- Meaning, tried. Job A of document 01, and an uneven job under a binding limit (C 3, L 1, s 2, limit 1, bases 2, 1, 3, forecast
--- 4, 1, 1, 0) in which the first 2C steps find one base, document 01's, and the whole walk two.
+-- Meaning, tried. Job A of document 01, and an uneven job under a binding limit (C 3, L 1, s 2,
+-- limit 1, bases 2, 1, 3, forecast 4, 1, 1, 0) in which the first 2C steps find one base, document
+-- 01's, and the whole walk two.
 use Prim.Native.Nat.{ℕ}
 use mathlib.Core.Path.{_≡_, refl}
 use mathlib.Core.Bool.{Bool, true, false}

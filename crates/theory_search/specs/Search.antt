@@ -1,7 +1,8 @@
--- Meaning. What the search hands over, computed, so that a contract can name it: by recursion over the chunk number, which falls at each
--- call, carrying the best set so far (document 01, "Forms we want to see"), with the budget left threaded through. What is to be found says
--- Statement (`IsFound`); that this is it, and nothing else is, say `found-is-found` and `found-unique` of Theorems. So nobody has to believe
--- this recursion, nor the test of schedule that decides a keep.
+-- Meaning. What the search hands over, computed, so that a contract can name it: by recursion over
+-- the chunk number, which falls at each call, carrying the best set so far (document 01, "Forms we
+-- want to see"), with the budget left threaded through. What is to be found says Statement
+-- (`IsFound`); that this is it, and nothing else is, say `found-is-found` and `found-unique` of
+-- Theorems. So nobody has to believe this recursion, nor the test of theory_plan that decides a keep.
 use Prim.Native.Nat.{ℕ, zero, suc, _-_}
 use mathlib.Core.Bool.{Bool, true, false, cond, _&&_}
 use mathlib.Core.List.{List, [], _∷_}
@@ -13,7 +14,8 @@ use Rattle.theory_search.specs.Statement.{Found, basesOf, shortfallOf}
 
 -- ---- where the walk stands
 
--- The steps of the budget not yet taken, the best set so far, and that no step was wanted that the budget does not have.
+-- The steps of the budget not yet taken, the best set so far, and that no step was wanted that the
+-- budget does not have.
 pub record Walked : Type 0 where
   pub left : ℕ
   pub best : List ℕ
@@ -41,7 +43,8 @@ step on s = let next = on (spend s) in cond (goesOn s) next (cut s)
 
 -- ---- the recursion
 
--- The chunks i down to 1, beside the kept ones: each is tried kept and then skipped. What is kept after a skip was met before.
+-- The chunks i down to 1, beside the kept ones: each is tried kept and then skipped. What is kept
+-- after a skip was met before.
 abbrev pub search : (List ℕ → Bool) → ℕ → List ℕ → Walked → Walked
 search allowed zero ks s = s
 search allowed (suc i) ks s =
@@ -57,7 +60,7 @@ abbrev pub foundBy : Job → ℕ → Walked → Found
 foundBy j budget s =
     record { kept = s .best; steps = budget - s .left; ended = s .ended; shortfall = shortfallOf j (s .ended) (s .best) }
 
--- A keep is decided by the test whether the bases fit (schedule, Plan).
+-- A keep is decided by the test whether the bases fit (theory_plan, Plan).
 abbrev pub fitting : Job → List ℕ → Bool
 fitting j ks = fits j (basesOf ks)
 

@@ -1,6 +1,7 @@
--- Theorems. What Statement says of request 13, proved for any accepted job: sizes may vary by chunk, and the limit may bind. The computed
--- search finds what the walk cut at the budget says, and nothing else is found; there is exactly one plan over the set found; both are good
--- enough; a larger budget never finds fewer, and two steps a chunk find as many as document 01's way.
+-- Theorems. What Statement says of request 13, proved for any accepted job: sizes may vary by
+-- chunk, and the limit may bind. The computed search finds what the walk cut at the budget says,
+-- and nothing else is found; there is exactly one plan over the set found; both are good enough; a
+-- larger budget never finds fewer, and two steps a chunk find as many as document 01's way.
 use Prim.Native.Nat.{ℕ, suc, _+_, _*_, _-_, _≤_, min}
 use mathlib.Core.Path.{_≡_, refl, sym, ap, _∙_, subst}
 use mathlib.Core.Bool.{Bool, not}
@@ -221,7 +222,8 @@ good-enough j ok budget f is p dp =
       cut-short = cut-short j ok budget f is;
     }
 
--- For equal chunks and two steps a chunk, document 01's plan is the plan over the set found, and so the one handed over.
+-- For equal chunks and two steps a chunk, document 01's plan is the plan over the set found, and so
+-- the one handed over.
 pub equal-plan :
     (j : Job) → Accepted j → EqualChunks j → (budget : ℕ) (f : Found) → IsFound j budget f → 2 * chunks j ≤ budget → (p : ℕ → ℕ) →
     SettledByTrials j p → IsPlanOver j (f .kept) p

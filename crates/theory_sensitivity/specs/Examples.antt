@@ -1,4 +1,5 @@
--- Theorems. Small jobs by computation: the rise of request 10 is reached; rounding up is needed, and so are equal chunks.
+-- Theorems. Small jobs by computation: the rise of request 10 is reached; rounding up is needed,
+-- and so are equal chunks.
 use Prim.Native.Nat.{ℕ, _+_, _/_}
 use mathlib.Core.Bool.{_||_}
 use mathlib.Core.List.{[], _∷_}

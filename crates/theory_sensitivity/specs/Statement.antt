@@ -1,5 +1,6 @@
--- Meaning. What a wrong second can cost: document 02, request 10, "One slot of the forecast is off". "Nothing is said of upper layers."
--- A job, `Accepted` and `EqualChunks` stand in crate job, Job; division rounded up in crate basics, Division.
+-- Meaning. What a wrong second can cost: document 02, request 10, "One slot of the forecast is
+-- off". "Nothing is said of upper layers." A job, `Accepted` and `EqualChunks` stand in crate job,
+-- Job; division rounded up in crate theory_basics, Division.
 use Prim.Native.Nat.{ℕ, _+_, _≤_}
 use mathlib.Core.Path.{_≡_}
 use mathlib.Core.List.{List}
@@ -7,7 +8,8 @@ use lib.ListN.{getD}
 use Rattle.theory_basics.specs.Division.{dividedUp}
 use Rattle.job.specs.Job.{Accepted, Job, Within, forecast, lastSlot, size, withForecast}
 
--- "one slot's forecast grows by b bytes and nothing else changes": k is the job j with b bytes more in slot t.
+-- "one slot's forecast grows by b bytes and nothing else changes": k is the job j with b bytes more
+-- in slot t.
 pub record OneSlotMore (j k : Job) (t b : ℕ) : Type 0 where
   pub same-else : k ≡ withForecast j (k .forecast)
   pub slot-in : Within 1 (lastSlot j) t
@@ -29,8 +31,9 @@ pub record RisesLittle (z b without with-more : ℕ) : Type 0 where
   -- and it rises by at most b divided by the base size, rounded up."
   pub rises-at-most : with-more ≤ without + dividedUp b z
 
--- The job j against every other accepted job that differs in one slot, where counts k are the counts of job k's plan. For j of equal
--- chunks the other's are equal too, since nothing but the forecast changes.
+-- The job j against every other accepted job that differs in one slot, where counts k are the
+-- counts of job k's plan. For j of equal chunks the other's are equal too, since nothing but the
+-- forecast changes.
 pub record Steady (j : Job) (counts : Job → List ℕ) : Type 0 where
   -- One slot's forecast grows by b bytes from j to k.
   pub growing :

@@ -1,5 +1,6 @@
--- Theorems. What Statement states, of the plans of two accepted jobs of equal chunks, whatever the buffer limit and the layers. It
--- follows from demand 3 alone: that no passing list carries more bases than the plan.
+-- Theorems. What Statement states, of the plans of two accepted jobs of equal chunks, whatever the
+-- buffer limit and the layers. It follows from demand 3 alone: that no passing list carries more
+-- bases than the plan.
 use Prim.Native.Nat.{ℕ, _≤_, _<_}
 use mathlib.Core.Path.{_≡_, sym, ap, subst, _∙_}
 use mathlib.Core.List.{List}
@@ -32,7 +33,8 @@ module _ (j : Job) (a : Accepted j) (equal : EqualChunks j) (f : List ℕ) (t b 
   base-is : (i : ℕ) → 1 ≤ i → i ≤ chunks j → size j i 0 ≡ equalBaseSize j
   base-is i u v = equal i 1 0 (layer-of j i 0 u v some) (layer-of j 1 0 (omega arith) (a .chunks-in .low) some)
 
-  -- What passes for j passes for k, and for what passes for k some list passes for j with at most so many bases fewer.
+  -- What passes for j passes for k, and for what passes for k some list passes for j with at most
+  -- so many bases fewer.
   best-rises :
       (p q : ℕ → ℕ) (l m : List Row) → Best j p l → Best k q m → RisesLittle (equalBaseSize j) b (countOf j p 0) (countOf k q 0)
   best-rises p q l m best-p best-q =
@@ -55,9 +57,9 @@ same-overrides j k t b more = ap (λ (x : Job). x .overrides) (more .same-else)
 equal-too : (j k : Job) → Accepted j → Accepted k → k .overrides ≡ j .overrides → EqualChunks j → EqualChunks k
 equal-too j k a a′ same equal = equal-iff k a′ .1 (same ∙ equal-iff j a .0 equal)
 
--- "For two accepted jobs of equal chunks: if one slot's forecast grows by b bytes and nothing else changes, the number of bases
--- carried never falls, and it rises by at most b divided by the base size, rounded up. This holds for any buffer limit". Of any plans
--- of the two jobs.
+-- "For two accepted jobs of equal chunks: if one slot's forecast grows by b bytes and nothing else
+-- changes, the number of bases carried never falls, and it rises by at most b divided by the base
+-- size, rounded up. This holds for any buffer limit". Of any plans of the two jobs.
 pub plans-rise-little :
     (j k : Job) → Accepted j → Accepted k → EqualChunks j → (t b : ℕ) → OneSlotMore j k t b → (p q : ℕ → ℕ) → IsPlan j p → IsPlan k q →
     RisesLittle (equalBaseSize j) b (countOf j p 0) (countOf k q 0)

@@ -1,4 +1,5 @@
--- Laws on what the reader answers: tests and forecast by the counts are those of the meaning. Assumes nothing.
+-- Laws on what the reader answers: tests and forecast by the counts are those of the meaning.
+-- Assumes nothing.
 use Prim.Native.Nat.{ℕ, _+_, _*_, _≤_, _<_, min}
 use mathlib.Core.Path.{_≡_, refl, sym, ap, _∙_}
 use mathlib.Core.Bool.{Bool, true, false, and-false}
@@ -70,7 +71,8 @@ module _ (trace : List ℕ) (slots : ℕ) (old : List ℕ) where
         ∙ all-upTo (λ n. leb n 11184) (within 0 16777216) count (λ k. 1500 * howMany (inSlot (k + 1)) (times trace)) slots
         (λ k. few-same (howMany (inSlot (k + 1)) (times trace)))
 
-    -- 14 and 15 by what the passes say. What the counts are worth where 14 is found does not matter.
+    -- 14 and 15 by what the passes say. What the counts are worth where 14 is found does not
+    -- matter.
     input : traceRefusal slots trace ≡ unless 14 r orElse unless 15 (fewLines (take slots counts))
     unfolding traceRefusal
     input = rw (le-leb 1 slots low, le-leb slots 3600 high) (rw (sym (scan-fine trace), sym (c .fine)) (past r few-is))

@@ -1,4 +1,5 @@
--- Laws on the table of counts: a line in no slot, the test of its first places, the forecast made of them. Assumes nothing.
+-- Laws on the table of counts: a line in no slot, the test of its first places, the forecast made
+-- of them. Assumes nothing.
 use Prim.Native.Nat.{ℕ, suc, _+_, _*_, _-_, _/_, _≤_, _<_, min}
 use mathlib.Core.Path.{_≡_, refl, sym, ap, _∙_}
 use mathlib.Core.Bool.{true, false}

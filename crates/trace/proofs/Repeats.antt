@@ -1,4 +1,5 @@
--- Laws on lines in a buffer: a copy behind itself, and lines of one time that double. Assumes nothing.
+-- Laws on lines in a buffer: a copy behind itself, and lines of one time that double. Assumes
+-- nothing.
 use Prim.Native.Nat.{ℕ, zero, suc, _+_, _*_, _-_, _≤_, _<_, min}
 use mathlib.Core.Path.{_≡_, refl, sym, ap, _∙_}
 use mathlib.Core.List.{List, [], _∷_, _++_, append-assoc}

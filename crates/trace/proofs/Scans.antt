@@ -1,4 +1,5 @@
--- Laws on the pass over the trace: what is read and counted so far, and the rest of the bytes, give the whole. Assumes nothing.
+-- Laws on the pass over the trace: what is read and counted so far, and the rest of the bytes, give
+-- the whole. Assumes nothing.
 use Prim.Native.Nat.{ℕ, _+_, _*_, _-_, _/_, _^_, _≤_, _<_, min}
 use mathlib.Core.Path.{_≡_, refl, sym, ap, _∙_}
 use mathlib.Core.Bool.{Bool, true, false, not, _&&_, and-false}

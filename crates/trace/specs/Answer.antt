@@ -1,5 +1,6 @@
--- Meaning. What the two calls answer, and the lent slice afterwards: the refusals of Trace, then document 01's 11, "A lent buffer is
--- shorter than the whole result, after all input refusals. In a longer one the bytes past the result stay unchanged."
+-- Meaning. What the two calls answer, and the lent slice afterwards: the refusals of Trace, then
+-- document 01's 11, "A lent buffer is shorter than the whole result, after all input refusals. In a
+-- longer one the bytes past the result stay unchanged."
 use Prim.Native.Nat.{ℕ}
 use mathlib.Core.Path.{_≡_}
 use mathlib.Core.Bool.{cond}

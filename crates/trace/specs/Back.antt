@@ -1,4 +1,5 @@
--- Theorems. The two calls one after the other: what write_trace wrote, read_trace reads back, whatever buffers are lent.
+-- Theorems. The two calls one after the other: what write_trace wrote, read_trace reads back,
+-- whatever buffers are lent.
 use Prim.Native.Nat.{ℕ, _≤_}
 use mathlib.Core.Path.{_≡_, sym, ap, _∙_, subst}
 use mathlib.Core.Bool.{Bool, true, false, cond}

@@ -9,12 +9,14 @@ use Rattle.trace.specs.Trace.{aboveRefusal, forecastOf, unwritableRefusa
 abbrev pub small : List ℕ
 small = ascii "0\n0999\n1000\n5000\n"
 
--- Leading zeros are read; 999 is in slot 1 and 1,000 in slot 2; the line of slot 6 is read and not counted.
+-- Leading zeros are read; 999 is in slot 1 and 1,000 in slot 2; the line of slot 6 is read and not
+-- counted.
 pub small-read : (traceRefusal 3 small ≡ 0) × (forecastOf 3 small ≡ 3000 ∷ 1500 ∷ 0 ∷ [])
 unfolding traceRefusal forecastOf times
 small-read = (refl, refl)
 
--- 14: no line feed at the end, no digit, eight digits, another byte, a time below in a line that is not counted. 7 comes first.
+-- 14: no line feed at the end, no digit, eight digits, another byte, a time below in a line that is
+-- not counted. 7 comes first.
 pub refused :
     (traceRefusal 1 (ascii "0") ≡ 14)
     × ((traceRefusal 1 (ascii "\n") ≡ 14)

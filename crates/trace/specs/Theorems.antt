@@ -1,4 +1,5 @@
--- Theorems. Document 02, request 4: what is refused, what a trace gives, and that what is written reads back.
+-- Theorems. Document 02, request 4: what is refused, what a trace gives, and that what is written
+-- reads back.
 use Prim.Native.Nat.{ℕ, zero, suc, _+_, _*_, _-_, _/_, _%_, _≤_, _<_}
 use mathlib.Core.Path.{_≡_, refl, sym, ap, _∙_, subst}
 use mathlib.Core.List.{List, [], _∷_, map}

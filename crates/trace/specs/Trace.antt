@@ -1,5 +1,6 @@
--- Meaning. Link traces from the test van: document 02, request 4. "one line per 1,500 bytes that got through, holding the time in
--- milliseconds as digits, ended by a line feed". A trace is a list of lines and a line is its digits; bytes are ASCII.
+-- Meaning. Link traces from the test van: document 02, request 4. "one line per 1,500 bytes that
+-- got through, holding the time in milliseconds as digits, ended by a line feed". A trace is a list
+-- of lines and a line is its digits; bytes are ASCII.
 use Prim.Native.Nat.{ℕ, suc, _+_, _*_, _-_, _/_, _%_, _≤_}
 use mathlib.Core.Path.{_≡_}
 use mathlib.Core.Bool.{Bool, true, cond, _&&_}
@@ -83,7 +84,8 @@ forecastOf slots trace = upTo (λ k. slotBytes (times trace) (k + 1)) slots
 
 -- ---- the trace of a forecast
 
--- "each slot's lines at its first millisecond, without leading zeros". The first slot handed is slot t + 1.
+-- "each slot's lines at its first millisecond, without leading zeros". The first slot handed is
+-- slot t + 1.
 abbrev pub linesFrom : ℕ → List ℕ → List (List ℕ)
 linesFrom t [] = []
 linesFrom t (b ∷ bs) = replicate (b / 1500) (digits (t * 1000)) ++ linesFrom (suc t) bs
@@ -91,7 +93,8 @@ linesFrom t (b ∷ bs) = replicate (b / 1500) (digits (t * 1000)) ++ linesFrom (
 unfoldable pub traceOf : List ℕ → List ℕ
 traceOf forecast = linesBytes (linesFrom 0 forecast)
 
--- ---- refusals that come from the input: "A slot count out of range is 7 and comes first, then 14, then 15."
+-- ---- refusals that come from the input: "A slot count out of range is 7 and comes first, then 14,
+-- then 15."
 
 abbrev pub slotsRefusal : ℕ → ℕ
 slotsRefusal slots = unless 7 (within 1 3600 slots)

@@ -1,6 +1,8 @@
-// Link traces from the test van, read and written: document 02, request 4. The reader goes once over the trace, with a local table of
-// counts that stop at 11,185, one above what a slot may have; nothing is written before the last refusal.
+// Link traces from the test van, read and written: document 02, request 4. The reader goes once
+// over the trace, with a local table of counts that stop at 11,185, one above what a slot may have;
+// nothing is written before the last refusal.
 use job::SLOTS;
+
 mod repeated;
 
 ghost use mathlib.Core.Path.{_≡_};
@@ -94,8 +96,8 @@ fn number_end(i: usize, len: usize) -> usize
     i + 7
 }
 
-// The whole trace, line by line, each in its slot; whether no line is refused. t is the time before. No more than seven digits are read,
-// so that an eighth stands where the line feed should.
+// The whole trace, line by line, each in its slot; whether no line is refused. t is the time
+// before. No more than seven digits are read, so that an eighth stands where the line feed should.
 fn count_lines(trace: &[u8], counts: &mut [u32; SLOTS]) -> bool
     requires { ⌜ length (now counts) ≡ 3600 ⌝ }
     ensures { λ r. ⌜ Counted (now (trace .entry)) (now (counts .entry)) (now (counts .exit)) r ⌝ }
@@ -153,7 +155,8 @@ fn put_forecast(counts: &[u32; SLOTS], slots: usize, out: &mut [u32])
     }
 }
 
-// The forecast of so many slots that a trace gives. Refused: 7, 14, 15, then 11 exactly if out has fewer places than slots.
+// The forecast of so many slots that a trace gives. Refused: 7, 14, 15, then 11 exactly if out has
+// fewer places than slots.
 pub fn read_trace(trace: &[u8], slots: usize, out: &mut [u32]) -> TraceRead
     ensures { λ r. ⌜ Read (now (trace .entry)) slots (now (out .entry)) (now (out .exit)) r ⌝ }
 {
@@ -252,7 +255,8 @@ fn put_trace(forecast: &[u32], out: &mut [u8]) -> usize
     next
 }
 
-// The trace of a forecast, each slot's lines at its first millisecond. Refused: 7, 15, then 11 exactly if out is shorter than the trace.
+// The trace of a forecast, each slot's lines at its first millisecond. Refused: 7, 15, then 11
+// exactly if out is shorter than the trace.
 pub fn write_trace(forecast: &[u32], out: &mut [u8]) -> Written
     ensures { λ r. ⌜ Wrote (now (forecast .entry)) (now (out .entry)) (now (out .exit)) r ⌝ }
 {

@@ -1,4 +1,5 @@
-// Lines of one time into a buffer: one is written, then all that stand are copied behind themselves, so that they double.
+// Lines of one time into a buffer: one is written, then all that stand are copied behind
+// themselves, so that they double.
 ghost use mathlib.Core.List.{[], _∷_, _++_};
 ghost use Prim.Native.Nat.{_+_, _≤_, min};
 ghost use mathlib.Core.Path.{_≡_};

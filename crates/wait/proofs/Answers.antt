@@ -1,4 +1,5 @@
--- Laws on the public call: what it answers after its input is judged, and that the answer means what its contract says. Assumes nothing.
+-- Laws on the public call: what it answers after its input is judged, and that the answer means
+-- what its contract says. Assumes nothing.
 use Prim.Native.Nat.{ℕ, _≤_, _<_}
 use mathlib.Core.Path.{_≡_, sym, _∙_, ap, subst}
 use native.Mathlib.Omega.{arith}

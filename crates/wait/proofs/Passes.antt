@@ -1,5 +1,5 @@
--- Laws on the pass over the chunks for one s: what stands in the table is the forecast's sum less the need of the theory's pass.
--- Assumes nothing.
+-- Laws on the pass over the chunks for one s: what stands in the table is the forecast's sum less
+-- the need of the theory's pass. Assumes nothing.
 use Prim.Native.Nat.{ℕ, zero, suc, _+_, _*_, _-_, _≤_, _<_, max, min}
 use mathlib.Core.Path.{_≡_, sym, _∙_}
 use mathlib.Core.Bool.{Bool, true, false, _&&_}
@@ -16,7 +16,8 @@ use Rattle.wait.specs.lemmas.Scan.{keepsAll, needsFrom}
 use Rattle.wait.specs.lemmas.Table.{Free, KeepsAllPost, KeepsAllPre, dueAt, keptBy, leftAt, never, sizeAt}
 use Rattle.theory_basics.specs.lemmas.Tables.{at-set}
 
--- To begin when the forecast has brought x at most is the same as to need n of what it brings after that, up to total.
+-- To begin when the forecast has brought x at most is the same as to need n of what it brings after
+-- that, up to total.
 abbrev pub Same : ℕ → ℕ → ℕ → Type 0
 Same total x n = (b : ℕ) → b ≤ total → leb b x ≡ leb n (total - b)
 

@@ -1,4 +1,5 @@
--- Laws on the search: one s after the other; and by the tables it is the answer's definition. Assumes nothing.
+-- Laws on the search: one s after the other; and by the tables it is the answer's definition.
+-- Assumes nothing.
 use Prim.Native.Nat.{ℕ, zero, suc, _+_, _*_, _-_, _/_, _≤_, _<_, min}
 use mathlib.Core.Path.{_≡_, refl, sym, ap, _∙_}
 use mathlib.Core.Bool.{Bool, true, false, cond, _&&_}

@@ -1,4 +1,5 @@
--- Laws on the tables that every s shares: what the forecast brings up to each slot, and the base of each chunk. Assumes nothing.
+-- Laws on the tables that every s shares: what the forecast brings up to each slot, and the base of
+-- each chunk. Assumes nothing.
 use Prim.Native.Nat.{ℕ, suc, _+_, _*_, _-_, _≤_, _<_}
 use mathlib.Core.Path.{_≡_, refl, _∙_, subst}
 use mathlib.Core.List.{List}

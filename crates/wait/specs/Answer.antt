@@ -1,5 +1,6 @@
--- Meaning. What the call answers: the smallest s by trying one after the other, each with the plan of its job, or a refusal's number.
--- The call's contract says beside it, in the words of Wait, what a delay and what 16 mean.
+-- Meaning. What the call answers: the smallest s by trying one after the other, each with the plan
+-- of its job, or a refusal's number. The call's contract says beside it, in the words of Wait, what
+-- a delay and what 16 mean.
 use Prim.Native.Nat.{ℕ, zero, suc, _*_, _-_}
 use mathlib.Core.Path.{_≡_}
 use mathlib.Core.Bool.{Bool, cond}
@@ -106,8 +107,8 @@ answerOf h = cond (eqb (waitRefusal h) 0) (Delay (shortest (filmIn h))) (Refused
 
 -- ---- what the answer means
 
--- s is the answer: every SZ is handed whole, the input is in range, the job with s is accepted, its plan skips no base, and with no smaller
--- s does it.
+-- s is the answer: every SZ is handed whole, the input is in range, the job with s is accepted, its
+-- plan skips no base, and with no smaller s does it.
 pub record Answered (h : WaitInput) (s : ℕ) : Type 0 where
   pub whole : WholeSizesIn h
   pub in-range : FilmInRange (filmIn h)
@@ -118,6 +119,7 @@ pub record Answered (h : WaitInput) (s : ℕ) : Type 0 where
 abbrev pub DelayMeans : WaitInput → Answer → Type 0
 DelayMeans h r = (s : ℕ) → (r ≡ Delay s) ↔ Answered h s
 
--- and 16 exactly if every SZ is handed whole, the input is in range and no s within the forecast works.
+-- and 16 exactly if every SZ is handed whole, the input is in range and no s within the forecast
+-- works.
 abbrev pub SixteenMeans : WaitInput → Answer → Type 0
 SixteenMeans h r = (r ≡ Refused 16) ↔ ((WholeSizesIn h × FilmInRange (filmIn h)) × NoneWorks (filmIn h))

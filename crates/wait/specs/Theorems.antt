@@ -1,5 +1,6 @@
--- Theorems. Document 02, request 5: the answer is the shortest wait, there is one at most, 16 says that there is none; and "the plan skips
--- no base" is the same as "some passing list carries every base", for lists in playing order, and for equal chunks in any order.
+-- Theorems. Document 02, request 5: the answer is the shortest wait, there is one at most, 16 says
+-- that there is none; and "the plan skips no base" is the same as "some passing list carries every
+-- base", for lists in playing order, and for equal chunks in any order.
 use Prim.Native.Nat.{ℕ, _+_, _≤_, _<_}
 use mathlib.Core.Path.{_≡_, refl, sym, _∙_, subst}
 use mathlib.Core.Bool.{Bool, true, false, cond, _&&_}

@@ -1,12 +1,13 @@
-// How long must the film wait: document 02, request 5. The smallest s whose bases are all kept, by one table of forecast sums and a
-// pass over the chunks for each s; no plan is laid out. Nothing is monotone in s, so each is tried.
+// How long must the film wait: document 02, request 5. The smallest s whose bases are all kept, by
+// one table of forecast sums and a pass over the chunks for each s; no plan is laid out. Nothing is
+// monotone in s, so each is tried.
 use job::CHUNKS;
+use job::Programme;
 use job::SIZES;
 use job::SLOTS;
 use job::SUMS;
 use job::SizeTable;
 use job::SlotSums;
-use job::Programme;
 ghost use mathlib.Core.Path.{_≡_};
 ghost use Prim.Native.Nat.{_*_, _-_, _/_, _≤_, min};
 ghost use lib.ListN.{length};
@@ -86,9 +87,10 @@ fn set_bases(
     read_bases(chunks, &table, bases);
 }
 
-// Whether the job with s keeps every base. From the last chunk down, begins holds what the forecast may have brought at most when the
-// chunk begins: no more than at its due slot or when the next one begins, less its own bytes. It fails if that is below nothing, or if
-// the chunk that the buffer holds back until this one is due would have to begin before.
+// Whether the job with s keeps every base. From the last chunk down, begins holds what the forecast
+// may have brought at most when the chunk begins: no more than at its due slot or when the next one
+// begins, less its own bytes. It fails if that is below nothing, or if the chunk that the buffer
+// holds back until this one is due would have to begin before.
 fn keeps_all(
     chunks: usize,
     span: usize,
@@ -124,7 +126,8 @@ fn keeps_all(
     true
 }
 
-// The first s that keeps every base, or 0. A pass writes only places below C, so one table serves every s.
+// The first s that keeps every base, or 0. A pass writes only places below C, so one table serves
+// every s.
 fn find_delay(
     chunks: usize,
     span: usize,
@@ -170,7 +173,8 @@ fn count_tries(p: Programme, slots: usize) -> usize
     slots - last + 1
 }
 
-// The shortest wait of a film in range, p being its programme with s = 1; 0 if no s within the forecast works.
+// The shortest wait of a film in range, p being its programme with s = 1; 0 if no s within the
+// forecast works.
 fn shortest_delay(
     p: Programme,
     sizes: &[u32],
@@ -238,8 +242,8 @@ fn input_refusal(
     job::or_else(five, job::or_else(six, job::or_else(eighteen, seven)))
 }
 
-// How long the film must wait: the smallest s for which the plan skips no base. Refused: 5 for C, L and the limit, 6, 18, 7, then 16
-// exactly if no s within the forecast works.
+// How long the film must wait: the smallest s for which the plan skips no base. Refused: 5 for C, L
+// and the limit, 6, 18, 7, then 16 exactly if no s within the forecast works.
 pub fn wait(
     chunks: u16,
     span: u16,

@@ -1,4 +1,5 @@
--- Lemmas. What the code's parts hand on. Its passes over the rows see of a row only its slot and its bytes.
+-- Lemmas. What the code's parts hand on. Its passes over the rows see of a row only its slot and
+-- its bytes.
 use Prim.Native.Nat.{ℕ, _≤_, _<_}
 use mathlib.Core.Path.{_≡_}
 use mathlib.Core.List.{List, []}

@@ -1,4 +1,5 @@
--- Lemmas. A forecast changed slot by slot, and what a list that can be booked has in each slot. Assumes nothing.
+-- Lemmas. A forecast changed slot by slot, and what a list that can be booked has in each slot.
+-- Assumes nothing.
 use Prim.Native.Nat.{ℕ, suc, _+_, _-_, _≤_}
 use mathlib.Core.Path.{_≡_, subst}
 use mathlib.Core.Bool.{Bool}

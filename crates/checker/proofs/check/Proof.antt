@@ -1,4 +1,5 @@
--- Refusals 5, 6, 18, 7, then 8, else the verdict of the job whose sizes fill the table: that of the second call at slot 1.
+-- Refusals 5, 6, 18, 7, then 8, else the verdict of the job whose sizes fill the table: that of the
+-- second call at slot 1.
 use borrow.Author.Needs.{needs}
 use Rattle.checker.proofs.check.Statement.{statement}
 use Rattle.checker.proofs.check.Tie as tie

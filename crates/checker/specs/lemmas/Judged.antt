@@ -1,4 +1,5 @@
--- Lemmas. What the checker's private functions say: rule 2 of the second call by tables, and the verdict of every job that the tables show.
+-- Lemmas. What the checker's private functions say: rule 2 of the second call by tables, and the
+-- verdict of every job that the tables show.
 use Prim.Native.Nat.{ℕ, _+_, _*_, _-_, _≤_, _<_}
 use mathlib.Core.Path.{_≡_}
 use mathlib.Core.Bool.{Bool, true, _&&_, _||_}

@@ -1,4 +1,5 @@
--- `keep_bases` meets its contract: from the last chunk down, the tables hold what is kept of the chunks behind i.
+-- `keep_bases` meets its contract: from the last chunk down, the tables hold what is kept of the
+-- chunks behind i.
 use mathlib.Core.Path.{_≡_, _∙_}
 use Prim.Native.Nat.{_+_, _/_, _≤_, _<_, max}
 use native.Mathlib.Omega.{arith}

@@ -1,4 +1,5 @@
--- `set_places` meets its contract: the places from the first up to k hold the value, the others what they had.
+-- `set_places` meets its contract: the places from the first up to k hold the value, the others
+-- what they had.
 use mathlib.Core.Path.{_≡_}
 use Prim.Native.Nat.{_-_, _≤_}
 use native.Mathlib.Omega.{arith}

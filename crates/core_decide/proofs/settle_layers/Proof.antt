@@ -1,4 +1,5 @@
--- `settle_layers` meets its contract: before layer n the tables hold what the layers below have settled.
+-- `settle_layers` meets its contract: before layer n the tables hold what the layers below have
+-- settled.
 use Prim.Native.Nat.{_-_}
 use native.Mathlib.Omega.{arith}
 use denote.Ref.{now}

@@ -1,4 +1,5 @@
--- `try_layer` meets its contract: from q on the tables hold what the trials have settled, and need is what they use up.
+-- `try_layer` meets its contract: from q on the tables hold what the trials have settled, and need
+-- is what they use up.
 use mathlib.Core.Path.{_≡_, sym, _∙_}
 use Prim.Native.Nat.{_+_, _-_, max}
 use native.Mathlib.Omega.{arith}

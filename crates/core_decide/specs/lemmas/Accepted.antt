@@ -1,5 +1,5 @@
--- Lemmas. What the decision asks for is there for an accepted job: the table of its sizes, and its whole forecast from slot 1. Assumes
--- nothing.
+-- Lemmas. What the decision asks for is there for an accepted job: the table of its sizes, and its
+-- whole forecast from slot 1. Assumes nothing.
 use Prim.Native.Nat.{ℕ, _-_, _≤_}
 use mathlib.Core.Path.{_≡_, refl, sym, ap, subst, fun-ext, _∙_}
 use mathlib.Core.List.{List}

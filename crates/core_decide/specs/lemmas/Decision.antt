@@ -1,5 +1,6 @@
--- Lemmas. What the functions of decide.rt hand each other: tables of 500 places whose end, from a first place on, holds the kept
--- chunks in playing order. The definitions behind them are those of schedule, Trials.
+-- Lemmas. What the functions of decide.rt hand each other: tables of 500 places whose end, from a
+-- first place on, holds the kept chunks in playing order. The definitions behind them are those of
+-- theory_plan, Trials.
 use Prim.Native.Nat.{ℕ, suc, _+_, _*_, _-_, _/_, _≤_}
 use mathlib.Core.Path.{_≡_}
 use mathlib.Core.Bool.{cond, _&&_}
@@ -128,7 +129,8 @@ pub record Decides (j : Job) (x : ℕ → ℕ) (first : ℕ) (ids ready mark : L
   pub marks : drop first mark ≡ map (λ k. levelMark (x k)) (kept j x)
   pub long : (length ids ≡ 500) × (length ready ≡ 500) × (length mark ≡ 500)
 
--- So for every job that the handed numbers say, however its sizes are stored, and the choice that the passes over these chunks decide.
+-- So for every job that the handed numbers say, however its sizes are stored, and the choice that
+-- the passes over these chunks decide.
 abbrev pub SettleKeptPost : Programme → ℕ → (ℕ → ℕ → ℕ) → List ℕ → ℕ → List ℕ → List ℕ → List ℕ → Type 0
 SettleKeptPost p layers size left first ids ready mark =
     (sizes : List ℕ) (overrides : List Override) (forecast : List ℕ) → layers ≡ length sizes → size ≡ sizeIn sizes overrides →

@@ -1,5 +1,6 @@
--- Lemmas. A mark for each chunk out of the tables of a decision: the one that stands with it, or another. The plan's own marks have 0 for a
--- chunk that is not kept, those of a plan made afresh what is whole of it. Assumes nothing.
+-- Lemmas. A mark for each chunk out of the tables of a decision: the one that stands with it, or
+-- another. The plan's own marks have 0 for a chunk that is not kept, those of a plan made afresh
+-- what is whole of it. Assumes nothing.
 use mathlib.Core.Path.{_≡_, refl, sym, _∙_, ap}
 use mathlib.Core.Bool.{Bool, true, false, cond}
 use mathlib.Core.List.{List, [], _∷_, map}

@@ -1,4 +1,5 @@
--- Lemmas. Verdicts are at most 7, a word has at most eight bytes with a bit, and a choice a mark for each chunk. Assumes nothing.
+-- Lemmas. Verdicts are at most 7, a word has at most eight bytes with a bit, and a choice a mark
+-- for each chunk. Assumes nothing.
 use Prim.Native.Nat.{ℕ, suc, _+_, _≤_, _<_}
 use mathlib.Core.Path.{_≡_}
 use mathlib.Core.Bool.{Bool, true, false}

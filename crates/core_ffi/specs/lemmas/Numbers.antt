@@ -1,4 +1,5 @@
--- Lemmas. Each library's answer as one number, and that it is `answered` of what the answer is defined by. Assumes nothing.
+-- Lemmas. Each library's answer as one number, and that it is `answered` of what the answer is
+-- defined by. Assumes nothing.
 use Prim.Native.Nat.{ℕ, _+_}
 use mathlib.Core.Path.{_≡_, refl, ap, ap₂, _∙_}
 use mathlib.Core.Bool.{Bool, true, false, cond}
@@ -115,7 +116,8 @@ pub through : {A B : Type 0} (f : A → B) (b : Bool) (x y : A) → f (cond b x 
 through f true x y = refl
 through f false x y = refl
 
--- `number` is one of the functions above, `result` what a library answers with n, `refusal` what it answers with its refusal.
+-- `number` is one of the functions above, `result` what a library answers with n, `refusal` what it
+-- answers with its refusal.
 pub is-answered : {A : Type 0} (number : A → ℕ) (result refusal a : A) (r refused n : ℕ)
     → r ≡ number a
     → a ≡ cond (eqb refused 0) result refusal

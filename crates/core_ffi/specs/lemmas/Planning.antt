@@ -1,5 +1,5 @@
--- Lemmas. The calls that hand over a plan: with room for the counts they hand over what the library's call does, without it they answer 11
--- after all that comes before 11. Assumes nothing.
+-- Lemmas. The calls that hand over a plan: with room for the counts they hand over what the
+-- library's call does, without it they answer 11 after all that comes before 11. Assumes nothing.
 use Prim.Native.Nat.{ℕ, _≤_, _<_}
 use mathlib.Core.Path.{_≡_, refl, sym, ap, ap₂, _∙_}
 use mathlib.Core.Bool.{Bool, true, false, cond, _&&_}

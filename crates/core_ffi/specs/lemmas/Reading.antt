@@ -1,5 +1,5 @@
--- Lemmas. The job readers: with room for the programme and the lengths they hand over what the library's reader does, without it they answer
--- 11 after all that comes before 11. Assumes nothing.
+-- Lemmas. The job readers: with room for the programme and the lengths they hand over what the
+-- library's reader does, without it they answer 11 after all that comes before 11. Assumes nothing.
 use Prim.Native.Nat.{ℕ, _≤_, _<_}
 use mathlib.Core.Path.{_≡_, refl, sym, ap, _∙_}
 use mathlib.Core.Bool.{Bool, true, false, cond, not, _&&_}

@@ -1,5 +1,5 @@
--- Lemmas. Results at the start of lent slices, and what a call answers where a slice lent beside the library's own is too short. Assumes
--- nothing.
+-- Lemmas. Results at the start of lent slices, and what a call answers where a slice lent beside
+-- the library's own is too short. Assumes nothing.
 use Prim.Native.Nat.{ℕ, _≤_}
 use mathlib.Core.Path.{_≡_, refl, sym, ap, _∙_}
 use mathlib.Core.Bool.{Bool, true, false, cond, not, _&&_}

@@ -1,5 +1,5 @@
--- Lemmas. What the functions of fill.rt hand each other: pieces placed one after the other, over any list under way. The
--- definitions behind them are those of schedule, Fill and Queue.
+-- Lemmas. What the functions of fill.rt hand each other: pieces placed one after the other, over
+-- any list under way. The definitions behind them are those of theory_plan, Fill and Queue.
 use Prim.Native.Nat.{ℕ, _+_, _*_, _-_, _≤_}
 use mathlib.Core.Path.{_≡_}
 use mathlib.Core.Bool.{cond}
@@ -118,7 +118,8 @@ pub record Levels (mark : ℕ) : Type 0 where
 abbrev pub layersOf : (ℕ → ℕ → ℕ) → ℕ → ℕ → ℕ → List QueuedPiece
 layersOf size chunk ready mark = pieces size chunk ready 0 (levelOf mark)
 
--- The pieces of the chunks of three tables, where f gives those of a chunk, from its release and its mark.
+-- The pieces of the chunks of three tables, where f gives those of a chunk, from its release and
+-- its mark.
 abbrev pub queueBy : (ℕ → ℕ → ℕ → List QueuedPiece) → List ℕ → List ℕ → List ℕ → List QueuedPiece
 queueBy f [] rs ms = []
 queueBy f (k ∷ ks) [] ms = []

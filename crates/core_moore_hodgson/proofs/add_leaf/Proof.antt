@@ -1,4 +1,5 @@
--- `add_leaf` meets its contract: on the way up only the place p may be wrong, and it wants the larger of its own and v. Assumes nothing.
+-- `add_leaf` meets its contract: on the way up only the place p may be wrong, and it wants the
+-- larger of its own and v. Assumes nothing.
 use native.Mathlib.Omega.{arith}
 use denote.Ref.{now}
 use Rattle.core_moore_hodgson.proofs.Maxima.{Adding, adding-start, adding-more, adding-stops, climbing-ends, stored}

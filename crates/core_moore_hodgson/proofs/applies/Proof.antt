@@ -1,4 +1,4 @@
--- `by_walk` meets its contract. Assumes nothing.
+-- `applies` meets its contract. Assumes nothing.
 use Prim.Native.Nat.{_/_, _≤_, _<_}
 use native.Mathlib.Omega.{arith}
 use borrow.Author.Needs.{needs}

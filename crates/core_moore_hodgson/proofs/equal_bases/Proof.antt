@@ -1,4 +1,5 @@
--- `equal_bases` meets its contract: what is left of the test from chunk i down gives the whole. Assumes nothing.
+-- `equal_bases` meets its contract: what is left of the test from chunk i down gives the whole.
+-- Assumes nothing.
 use Prim.Native.Nat.{ℕ, zero, suc, _-_, _<_}
 use mathlib.Core.Path.{_≡_, refl, ap, sym, _∙_}
 use mathlib.Core.Bool.{Bool, _&&_}

@@ -1,4 +1,5 @@
--- `find_largest` meets its contract: the way down stays at the largest, and no leaf before it has as much. Assumes nothing.
+-- `find_largest` meets its contract: the way down stays at the largest, and no leaf before it has
+-- as much. Assumes nothing.
 use Prim.Native.Nat.{_-_}
 use native.Mathlib.Omega.{arith}
 use denote.Ref.{now}

@@ -1,4 +1,5 @@
--- `gather` meets its contract: the tables hold the chunks behind i whose leaf is not 0. Assumes nothing.
+-- `gather` meets its contract: the tables hold the chunks behind i whose leaf is not 0. Assumes
+-- nothing.
 use native.Mathlib.Omega.{arith}
 use borrow.Author.Needs.{needs}
 use denote.Ref.{now}

@@ -1,4 +1,5 @@
--- `walk` meets its contract: the table shows what is kept after n chunks, and the sum has their bytes. Assumes nothing.
+-- `keep_or_drop` meets its contract: the table shows what is kept after n chunks, and the sum has their
+-- bytes. Assumes nothing.
 use Prim.Native.Nat.{_+_, _-_}
 use native.Mathlib.Omega.{arith}
 use borrow.Author.Needs.{needs}

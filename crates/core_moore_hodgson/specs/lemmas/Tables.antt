@@ -1,5 +1,6 @@
--- Lemmas. What the functions of request 9's walk hand each other: a table of maxima, and tables of 500 places whose end, from a first
--- place on, holds the kept chunks in playing order. The definition behind them is schedule's `keptAfter`.
+-- Lemmas. What the functions of request 9's walk hand each other: a table of maxima, and tables of
+-- 500 places whose end, from a first place on, holds the kept chunks in playing order. The
+-- definition behind them is theory_plan's `keptAfter`.
 use Prim.Native.Nat.{ℕ, _+_, _*_, _-_, _/_, _≤_, _<_, max}
 use mathlib.Core.Path.{_≡_}
 use mathlib.Core.Bool.{Bool, cond, not, _&&_}
@@ -64,7 +65,8 @@ pub record Shows (s : ℕ → ℕ) (t ks : List ℕ) : Type 0 where
 abbrev pub roomIn : Programme → (ℕ → ℕ) → ℕ → ℕ
 roomIn p A i = A 0 - A (dueSlot p i)
 
--- The chunks that the walk keeps: `mooreHodgson` of a job, over its programme, sizes and sums (schedule, Walked, `kept-by-after`).
+-- The chunks that the walk keeps: `mooreHodgson` of a job, over its programme, sizes and sums
+-- (theory_plan, MooreHodgson, `kept-by-after`).
 abbrev pub mooreHodgsonIn : Programme → (ℕ → ℕ → ℕ) → (ℕ → ℕ) → List ℕ
 mooreHodgsonIn p size A = keptAfter (λ k. size k 0) (roomIn p A) (p .chunks)
 
@@ -111,7 +113,8 @@ pub record KeepMostPre (p : Programme) (size : ℕ → ℕ → ℕ) (after ids d
   pub fit : Fit p size after
   pub long : Long ids dues bytes
 
--- The kept chunks ks stand at the end of the tables, in playing order, each with its due slot and its base's bytes.
+-- The kept chunks ks stand at the end of the tables, in playing order, each with its due slot and
+-- its base's bytes.
 pub record KeptIn (p : Programme) (size : ℕ → ℕ → ℕ) (ks : List ℕ) (first : ℕ) (ids dues bytes : List ℕ) : Type 0 where
   pub within : first ≤ 500
   pub kept : drop first ids ≡ ks

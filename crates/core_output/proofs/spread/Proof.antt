@@ -1,4 +1,5 @@
--- `spread` meets its contract: the marks of the chunks up to i are stored, and the chunks kept behind i stand from place q on.
+-- `spread` meets its contract: the marks of the chunks up to i are stored, and the chunks kept
+-- behind i stand from place q on.
 use mathlib.Core.Path.{sym, _∙_}
 use mathlib.Core.List.{[]}
 use Prim.Native.Nat.{_-_}

@@ -1,4 +1,4 @@
--- `lay_aside` meets its contract: what was laid out aside is copied whole, or nothing is written.
+-- `write_aside` meets its contract: what was laid out aside is copied whole, or nothing is written.
 use borrow.Author.Needs.{needs}
 use Rattle.core_output.proofs.write_aside.Statement.{statement}
 use Rattle.core_output.proofs.write_aside.Tie as tie

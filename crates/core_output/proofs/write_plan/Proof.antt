@@ -1,4 +1,4 @@
--- `lay` meets its contract.
+-- `write_plan` meets its contract.
 use borrow.Author.Needs.{needs}
 use Rattle.core_output.proofs.write_plan.Statement.{statement}
 use Rattle.core_output.proofs.write_plan.Tie as tie

@@ -1,4 +1,5 @@
--- `put_chunk` meets its contract: the lines of the layers below n stand in the buffer. Assumes nothing.
+-- `put_chunk` meets its contract: the lines of the layers below n stand in the buffer. Assumes
+-- nothing.
 use Rattle.core_reasons.proofs.put_chunk.Statement.{statement}
 use Rattle.core_reasons.proofs.put_chunk.Tie as tie
 use Prim.Native.Nat.{_-_}

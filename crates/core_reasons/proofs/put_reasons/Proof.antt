@@ -1,4 +1,5 @@
--- `put_reasons` meets its contract: the lines of the chunks up to k stand in the buffer. Assumes nothing.
+-- `put_reasons` meets its contract: the lines of the chunks up to k stand in the buffer. Assumes
+-- nothing.
 use Rattle.core_reasons.proofs.put_reasons.Statement.{statement}
 use Rattle.core_reasons.proofs.put_reasons.Tie as tie
 use Prim.Native.Nat.{ℕ, _-_}

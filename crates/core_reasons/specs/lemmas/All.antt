@@ -1,4 +1,5 @@
--- Lemmas. What the functions of lib.rt hand each other: the lines of a plan, one under each missing layer.
+-- Lemmas. What the functions of lib.rt hand each other: the lines of a plan, one under each missing
+-- layer.
 use Prim.Native.Nat.{ℕ, suc, _+_, _-_, _/_, _≤_, _<_}
 use mathlib.Core.Path.{_≡_}
 use mathlib.Core.Bool.{Bool, cond, _&&_}
@@ -17,7 +18,8 @@ use Rattle.core_text.specs.lemmas.Places.{Put}
 
 -- ---- the choice that a line is against
 
--- The chunks before the missing one have its lower layers, or their bases where request 9 settled them.
+-- The chunks before the missing one have its lower layers, or their bases where request 9 settled
+-- them.
 abbrev pub capOf : Bool → ℕ → ℕ
 capOf most n = cond (most && eqb n 0) 1 n
 
@@ -55,7 +57,8 @@ pub record TablesPre (p : Programme) (held : ℕ) (sums after levels : List ℕ)
   pub forecasts : (t : ℕ) → getD after t 0 ≤ 60397977600
   pub long : (length sums ≡ 2000) × (length after ≡ 3601) × (length levels ≡ 500)
 
--- A job and a plan of which these are the tables are part of what is asked: the room asked for is that of their lines.
+-- A job and a plan of which these are the tables are part of what is asked: the room asked for is
+-- that of their lines.
 pub record PutLinePre (p : Programme) (held : ℕ) (most : Bool) (sums after levels : List ℕ) (i n have : ℕ) (dues ready bytes out : List ℕ) (at : ℕ) : Type 0 where
   pub tables : TablesPre p held sums after levels
   pub scratch : Scratch dues ready bytes

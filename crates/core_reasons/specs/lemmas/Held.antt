@@ -1,5 +1,5 @@
--- Lemmas. For tables that hold the kept chunks of a choice that can't be carried, a chunk is late, and the two passes over the tables give
--- the stretch that is named.
+-- Lemmas. For tables that hold the kept chunks of a choice that can't be carried, a chunk is late,
+-- and the two passes over the tables give the stretch that is named.
 use Prim.Native.Nat.{ℕ, zero, suc, _+_, _-_, _≤_, _<_}
 use mathlib.Core.Path.{_≡_, refl, sym, ap, _∙_}
 use mathlib.Core.Bool.{cond}

@@ -1,4 +1,5 @@
--- Lemmas. What the two passes hand each other. The kept chunks stand in tables from a first place on; place q of the theory is place first + q.
+-- Lemmas. What the two passes hand each other. The kept chunks stand in tables from a first place
+-- on; place q of the theory is place first + q.
 use Prim.Native.Nat.{ℕ, zero, suc, _+_, _*_, _-_, _≤_, _<_}
 use mathlib.Core.Path.{_≡_}
 use mathlib.Core.Bool.{Bool, true}
@@ -69,6 +70,7 @@ pub record Holds (j : Job) (choice : ℕ → ℕ) (after dues ready bytes : List
   pub release-slots : drop first ready ≡ take (500 - first) (releases (due j) (heldMost j) (kept j choice))
   pub carried : drop first bytes ≡ map (Plan.bytes j choice) (kept j choice)
 
--- The stretch: of every choice that the tables hold and that can't be carried, the one that is named.
+-- The stretch: of every choice that the tables hold and that can't be carried, the one that is
+-- named.
 pub record FindStretchPost (after dues ready bytes : List ℕ) (first : ℕ) (s : Stretch) : Type 0 where
   pub found : (j : Job) → Accepted j → (choice : ℕ → ℕ) → Choice j choice → (CanCarry j choice → ⊥) → Holds j choice after dues ready bytes first → spelled s ≡ stretchOf j choice

@@ -1,4 +1,4 @@
--- Lemmas. What the functions of laying.rt hand each other, and the choice that a trial is.
+-- Lemmas. What the functions of stretch.rt hand each other, and the choice that a trial is.
 use Prim.Native.Nat.{ℕ, suc, _+_, _*_, _-_, _/_, _≤_, _<_, min}
 use mathlib.Core.Path.{_≡_}
 use mathlib.Core.Bool.{Bool, cond}
@@ -17,8 +17,9 @@ use Rattle.core_reasons.specs.lemmas.Passes.{spelled}
 
 -- ---- the trial
 
--- Layer n of chunk i added to what is settled before it: the layers up to n of the chunks after i, and at most `cap` of those before it.
--- With cap n it is document 01's trial; with n 0 and cap 1 it is all bases kept, and this one.
+-- Layer n of chunk i added to what is settled before it: the layers up to n of the chunks after i,
+-- and at most `cap` of those before it. With cap n it is document 01's trial; with n 0 and cap 1 it
+-- is all bases kept, and this one.
 abbrev pub trial : (ℕ → ℕ) → ℕ → ℕ → ℕ → ℕ → ℕ
 trial plan i n cap k = cond (eqb k i) (suc n) (min (plan k) (cond (ltb i k) (suc n) cap))
 

@@ -1,4 +1,4 @@
--- `roof_of` meets its contract.
+-- `need_cap` meets its contract.
 use borrow.Author.Needs.{needs}
 use Rattle.core_replan_decide.proofs.need_cap.Statement.{statement}
 use Rattle.core_replan_decide.proofs.Front.{roof-at}

@@ -1,4 +1,5 @@
--- `new_bases` meets its contract: from the last chunk down, the tables hold what is kept of the chunks behind i, and roof and floor say what the begun ones ask.
+-- `new_bases` meets its contract: from the last chunk down, the tables hold what is kept of the
+-- chunks behind i, and roof and floor say what the begun ones ask.
 use Rattle.core_replan_decide.proofs.new_bases.Statement.{statement}
 use Rattle.core_replan_decide.proofs.Bases.{Basing, basing-end, basing-keep, basing-pass, basing-start, due-in, needs-long, place}
 use Rattle.core_replan_decide.proofs.new_bases.Tie as tie

@@ -1,4 +1,4 @@
--- `fall` meets its contract: from g on the caps are below the need.
+-- `places_below` meets its contract: from g on the caps are below the need.
 use Rattle.core_replan_decide.proofs.places_below.Statement.{statement}
 use Rattle.core_replan_decide.proofs.Front.{fallen, Falling, falling-more}
 use Rattle.core_replan_decide.proofs.places_below.Tie as tie

@@ -1,4 +1,4 @@
--- `raised` meets its contract.
+-- `raise_lowest` meets its contract.
 use borrow.Author.Needs.{needs}
 use Rattle.core_replan_decide.proofs.raise_lowest.Statement.{statement}
 use Rattle.core_replan_decide.proofs.raise_lowest.Tie as tie

@@ -1,4 +1,5 @@
--- Lemmas. The pass over the begun chunks, from the last to the first: what each keeps of its base, and its bytes and mark with it.
+-- Lemmas. The pass over the begun chunks, from the last to the first: what each keeps of its base,
+-- and its bytes and mark with it.
 use Prim.Native.Nat.{ℕ, suc, _+_, _*_, _-_, _≤_, _<_, max}
 use mathlib.Core.Path.{_≡_, refl, ap}
 use mathlib.Core.Bool.{Bool, true, false, cond}
@@ -16,14 +17,16 @@ use Rattle.core_decide.specs.lemmas.Decision.{keptOf, Slot, Sums}
 use Rattle.core_replan_decide.specs.declared.Chosen.{Chosen}
 use Rattle.core_replan_decide.specs.lemmas.Tables.{baseOf, Fine, of, Small}
 
--- A begun chunk with whole layers w, z left of its base, that behind it wants so much, where all is forecast from p on: its whole layers
--- at no cost, or its base if what is left of it fits, or nothing.
+-- A begun chunk with whole layers w, z left of its base, that behind it wants so much, where all is
+-- forecast from p on: its whole layers at no cost, or its base if what is left of it fits, or
+-- nothing.
 abbrev pub choose : ℕ → ℕ → ℕ → ℕ → Chosen
 choose w z want all =
     cond (bit w 0) (record { need = want; bytes = 0; mark = w })
     (cond (leb (z + want) all) (record { need = z + want; bytes = z; mark = 1 }) (record { need = want; bytes = 0; mark = 0 }))
 
--- s: what is left of the base; d: due slot; A: what is forecast after a slot; w: the mark of the whole layers; cap: what is forecast from p on.
+-- s: what is left of the base; d: due slot; A: what is forecast after a slot; w: the mark of the
+-- whole layers; cap: what is forecast from p on.
 module _ (s d A w : ℕ → ℕ) (cap : ℕ) where
   abbrev pub frontOne : ℕ → Tried → Tried
   frontOne b o =
@@ -40,7 +43,7 @@ abbrev pub based : List Kept → List ℕ
 based [] = []
 based (k ∷ ks) = cond (bit (k .mark) 0) (k .chunk ∷ based ks) (based ks)
 
--- The walk is the pass of afresh, Passes: the same need, and the same begun chunks keep their base.
+-- The walk is the pass of theory_replan, Passes: the same need, and the same begun chunks keep their base.
 pub scan-is-begun :
     (s d A w : ℕ → ℕ) (cap n : ℕ) (bs : List ℕ) →
     basesBegun s d A (λ b. bit (w b) 0) cap n bs ≡ record { need = scanFront s d A w cap n [] bs .need; kept = based (scanFront s d A w cap n [] bs .kept) }

@@ -1,5 +1,6 @@
--- Lemmas. The decision made afresh at slot start, over tables by chunk: what the fetched rows leave of each layer, which chunks they begin,
--- and the marks of the layers whole in them. For every job with these tables: the plan of afresh, Statement.
+-- Lemmas. The decision made afresh at slot start, over tables by chunk: what the fetched rows leave
+-- of each layer, which chunks they begin, and the marks of the layers whole in them. For every job
+-- with these tables: the plan of theory_replan, Statement.
 use Prim.Native.Nat.{ℕ, suc, _+_, _-_, _≤_}
 use mathlib.Core.Path.{_≡_}
 use mathlib.Core.List.{List, _++_, map}

@@ -1,5 +1,6 @@
--- Lemmas. What the functions hand each other: tables of 500 places whose end, from a first place on, holds chunks in playing order, and
--- tables by chunk. The definitions behind them are those of schedule, Trials, and afresh, Passes.
+-- Lemmas. What the functions hand each other: tables of 500 places whose end, from a first place
+-- on, holds chunks in playing order, and tables by chunk. The definitions behind them are those of
+-- theory_plan, Trials, and theory_replan, Passes.
 use Prim.Native.Nat.{ℕ, zero, suc, _+_, _*_, _-_, _≤_, _<_, max}
 use mathlib.Core.Path.{_≡_}
 use mathlib.Core.Bool.{Bool, true, false, cond, _&&_}
@@ -74,7 +75,7 @@ abbrev pub capsOk : ℕ → List ℕ → List ℕ → Bool
 capsOk h [] ns = true
 capsOk h (c ∷ cs) ns = leb (getD ns (h - length (c ∷ cs)) 0) c && capsOk h cs ns
 
--- As basesNew of afresh, Passes, with the caps for the begun chunks.
+-- As basesNew of theory_replan, Passes, with the caps for the begun chunks.
 module _ (s d A : ℕ → ℕ) (p h : ℕ) (cs : List ℕ) where
   abbrev pub keepsCaps : List ℕ → ℕ → Bool
   keepsCaps ns i = leb p (d i) && (keeps s d A h ns i && capsOk h cs (candidate s d A ns i ∷ ns))
@@ -90,7 +91,8 @@ module _ (s d A : ℕ → ℕ) (p h : ℕ) (cs : List ℕ) where
 abbrev pub Falls : List ℕ → ℕ → Type 0
 Falls caps head = (x y : ℕ) → head ≤ x → x ≤ y → y < 500 → getD caps y 0 ≤ getD caps x 0
 
--- What the need in front is held to at once: the caps of the begun chunks that stand h places before it or more.
+-- What the need in front is held to at once: the caps of the begun chunks that stand h places
+-- before it or more.
 pub record NeedCapPost (h : ℕ) (caps : List ℕ) (head cap : ℕ) : Type 0 where
   pub is : (x : ℕ) → head ≤ x → x < 500 → h ≤ 500 - x → (c : ℕ) → c ≤ cap → c ≤ 60414754816 → c ≤ getD caps x 0
   pub only : (c : ℕ) → c ≤ 60414754816 → cap < c → ((x : ℕ) → head ≤ x → x < 500 → h ≤ 500 - x → c ≤ getD caps x 0) → ⊥
@@ -134,7 +136,7 @@ pub record NewBasesPre (p : Programme) (held last : ℕ) (left : ℕ → ℕ →
 -- The new chunks that are kept, with their due slots, bytes and marks, and what they use up.
 pub record NewBasesPost (p : Programme) (start held last : ℕ) (left : ℕ → ℕ → ℕ) (after caps : List ℕ) (head first : ℕ) (ids dues bytes mark needs : List ℕ) : Type 0 where
   pub within : first ≤ 500
-  -- Whatever begun chunks have these caps: the pass of afresh, Passes.
+  -- Whatever begun chunks have these caps: the pass of theory_replan, Passes.
   pub kept :
       (bs : List ℕ) → drop head caps ≡ map (capOf p after) bs →
       record { needs = drop first needs; chunks = drop first ids } ≡ basesNew (baseOf left) (dueSlot p) (at after) start held bs last (p .chunks - last)

@@ -1,4 +1,5 @@
--- `lay_rest` meets its contract: the decision, the fill and the marks are those of the plan made afresh.
+-- `write_rest` meets its contract: the decision, the fill and the marks are those of the plan made
+-- afresh.
 use borrow.Author.Needs.{needs}
 use Rattle.core_replan_fill.proofs.write_rest.Statement.{statement}
 use Rattle.core_replan_fill.proofs.Laid.{decide-from, few-chunks, fill-from, laid, some-slot}

@@ -1,4 +1,5 @@
--- Lemmas. The rows from slot start on, laid out: "the marks, the counts and only the rows from p on, listed in document 01's way".
+-- Lemmas. The rows from slot start on, laid out: "the marks, the counts and only the rows from p
+-- on, listed in document 01's way".
 use Prim.Native.Nat.{ℕ, suc, _≤_}
 use mathlib.Core.Path.{_≡_}
 use mathlib.Core.List.{List, map}

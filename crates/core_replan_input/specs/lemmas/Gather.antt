@@ -1,4 +1,5 @@
--- Lemmas. The tables that the fetched rows make, and whether the rows keep what refusal 22 asks: by the sums and first slots of rules, Tables.
+-- Lemmas. The tables that the fetched rows make, and whether the rows keep what refusal 22 asks: by
+-- the sums and first slots of core_rules, Tables.
 use Prim.Native.Nat.{ℕ, suc, _+_, _*_, _-_, _≤_, _<_}
 use mathlib.Core.Path.{_≡_}
 use mathlib.Core.Bool.{Bool, true, false, _&&_}
@@ -61,8 +62,9 @@ pub record GatherPre (p : Programme) (depth : ℕ) (earlier ss cs ls bs left beg
   pub bytes-each : length ss ≡ length bs
   pub long : (length left ≡ 2000) × (length begun ≡ 500) × (length whole ≡ 500)
 
--- For every accepted job whose sizes the table has and whose forecast begins with earlier: the rows, all in its slots, keep what 22 asks
--- exactly if the answer is yes, and then the tables are those that the decision made afresh asks for.
+-- For every accepted job whose sizes the table has and whose forecast begins with earlier: the
+-- rows, all in its slots, keep what 22 asks exactly if the answer is yes, and then the tables are
+-- those that the decision made afresh asks for.
 pub record GatherPost (p : Programme) (table : List ℕ) (depth : ℕ) (earlier : List ℕ) (rows : List Row) (r : Bool) (left begun whole : List ℕ) : Type 0 where
   pub kept :
       (sizes : List ℕ) (os : List Override) (part : List ℕ) → Shown table depth (jobFrom p sizes os earlier part) →

@@ -1,4 +1,5 @@
--- `lay_out` meets its contract: the rows and marks are those of the plan made afresh, and the counts are of its marks.
+-- `fill` meets its contract: the rows and marks are those of the plan made afresh, and the
+-- counts are of its marks.
 use mathlib.Core.Path.{sym}
 use native.Mathlib.Omega.{arith}
 use Rattle.core_replan_output.proofs.Writing.{filling, front-long}

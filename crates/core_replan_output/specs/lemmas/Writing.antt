@@ -1,5 +1,5 @@
--- Lemmas. What the functions hand each other: the plan made afresh laid out where there is room, or aside and copied. For every job and rows
--- with these tables (relist, Handing).
+-- Lemmas. What the functions hand each other: the plan made afresh laid out where there is room, or
+-- aside and copied. For every job and rows with these tables (core_replan_fill, Rows).
 use Prim.Native.Nat.{ℕ, suc, _≤_}
 use mathlib.Core.Path.{_≡_}
 use mathlib.Core.List.{List}

@@ -1,4 +1,5 @@
--- The pass over the rows: after i rows the tables hold the first i, and rules 1 and 5 are known of them.
+-- The pass over the rows: after i rows the tables hold the first i, and rules 1 and 5 are known of
+-- them.
 use Rattle.core_rules.proofs.tally.Statement.{statement}
 use Rattle.core_rules.proofs.tally.Tie as tie
 use Prim.Native.Nat.{ℕ, _-_}

@@ -1,4 +1,5 @@
--- Lemmas. What the tables hold of a list of rows: the contracts of the functions speak of these, those of no public call do.
+-- Lemmas. What the tables hold of a list of rows: the contracts of the functions speak of these,
+-- those of no public call do.
 use Prim.Native.Nat.{ℕ, zero, suc, _+_, _*_, _-_, _≤_, _<_, min}
 use mathlib.Core.Path.{_≡_}
 use mathlib.Core.Bool.{Bool, true, not, cond, _&&_, _||_}

@@ -1,4 +1,5 @@
--- The proof of the cycle of calls {search}. The measure is the chunk number i. The laws of Laws say what each way of a turn leads to.
+-- The proof of the cycle of calls {search}. The measure is the chunk number i. The laws of Laws say
+-- what each way of a turn leads to.
 use Prim.Native.Nat.{ℕ, _<_}
 use mathlib.Core.Logic.{⊎-elim}
 use native.Mathlib.Nat.{pos-of-ne-zero}

@@ -1,4 +1,4 @@
--- `find` meets its contract: the search from the empty set, over all chunks.
+-- `best_within` meets its contract: the search from the empty set, over all chunks.
 use borrow.Author.Needs.{needs}
 use Rattle.core_search.proofs.best_within.Statement.{statement}
 use Rattle.core_search.proofs.best_within.Tie as tie

@@ -1,4 +1,4 @@
--- `note` meets its contract.
+-- `keep_best` meets its contract.
 use native.Mathlib.Omega.{arith}
 use borrow.Author.Needs.{needs}
 use denote.Ref.{now}

@@ -1,4 +1,4 @@
--- `place` meets its contract: from place q on, due slots and bytes stand beside their chunks.
+-- `set_bases` meets its contract: from place q on, due slots and bytes stand beside their chunks.
 use borrow.Author.Needs.{needs}
 use Rattle.core_search.proofs.set_bases.Statement.{statement}
 use Rattle.core_search.proofs.set_bases.Tie as tie

@@ -1,4 +1,5 @@
--- Lemmas. What the functions of walk hand each other: tables of 500 places, and the search of crate budget over what they hold.
+-- Lemmas. What the functions of this crate hand each other: tables of 500 places, and the search of crate
+-- budget over what they hold.
 use Prim.Native.Nat.{ℕ, _+_, _-_, _/_, _≤_, _<_}
 use mathlib.Core.Path.{_≡_}
 use mathlib.Core.Bool.{Bool}
@@ -34,7 +35,8 @@ stackAt first ids needs = record { needs = drop first needs; chunks = drop first
 abbrev pub bestAt : ℕ → List ℕ → List ℕ
 bestAt count best = drop (500 - count) best
 
--- Where the walk stands. left is one more than the steps of the budget not yet taken, and 0 once a step was wanted beyond them.
+-- Where the walk stands. left is one more than the steps of the budget not yet taken, and 0 once a
+-- step was wanted beyond them.
 abbrev pub walked : ℕ → ℕ → List ℕ → Walked
 walked left count best = record { left = left - 1; best = bestAt count best; ended = ltb 0 left }
 
@@ -86,7 +88,7 @@ pub record SearchPre (i first held : ℕ) (size : ℕ → ℕ → ℕ) (dues aft
   pub long : (length ids ≡ 500) × (length needs ≡ 500) × (length best ≡ 500)
 
 pub record SearchPost (i first held : ℕ) (size : ℕ → ℕ → ℕ) (dues after ids needs best : List ℕ) (count left : ℕ) (ids′ needs′ best′ : List ℕ) (count′ left′ : ℕ) : Type 0 where
-  -- Where the walk stands is where the search of crate budget leads.
+  -- Where the walk stands is where the search of crate theory_search leads.
   pub is : walked left′ count′ best′ ≡ searchStack (baseOf size) (of dues) (at after) held i (stackAt first ids needs) (walked left count best)
   -- The kept chunks and their needs are as they were.
   pub same-ids : drop first ids′ ≡ drop first ids
@@ -121,7 +123,8 @@ pub record FindBestPre (p : Programme) (size : ℕ → ℕ → ℕ) (after ids d
   pub slots : length after ≡ 3601
   pub long : Long ids dues bytes
 
--- Where the walk over the programme's chunks stands when it ends or is cut; A t: what is forecast after slot t.
+-- Where the walk over the programme's chunks stands when it ends or is cut; A t: what is forecast
+-- after slot t.
 abbrev pub walkIn : Programme → (ℕ → ℕ → ℕ) → (ℕ → ℕ) → ℕ → Walked
 walkIn p size A budget = searchStack (baseOf size) (dueSlot p) A (p .limit / p .span) (p .chunks) empty (start budget)
 

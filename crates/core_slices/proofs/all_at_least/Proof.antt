@@ -1,4 +1,4 @@
--- `all_hold` meets its contract.
+-- `all_at_least` meets its contract.
 use borrow.Author.Tests.{le-leb, lt-leb}
 use Rattle.core_slices.proofs.all_at_least.Statement.{statement}
 use Rattle.core_slices.proofs.all_at_least.Tie as tie

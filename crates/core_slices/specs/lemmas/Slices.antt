@@ -1,4 +1,5 @@
--- Lemmas. What a call that plans hands over: marks, counts and rows, and the slices at whose start they stand, the rows by column.
+-- Lemmas. What a call that plans hands over: marks, counts and rows, and the slices at whose start
+-- they stand, the rows by column.
 use Prim.Native.Nat.{ℕ}
 use mathlib.Core.Path.{_≡_}
 use mathlib.Core.Bool.{Bool, _&&_}

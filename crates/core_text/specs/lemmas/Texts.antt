@@ -1,4 +1,5 @@
--- Lemmas. Texts one after the other: the words of a line, and what a loop puts into a lent buffer. Assumes nothing.
+-- Lemmas. Texts one after the other: the words of a line, and what a loop puts into a lent buffer.
+-- Assumes nothing.
 use Prim.Native.Nat.{ℕ, zero, suc, _+_, _*_, _≤_, _<_}
 use mathlib.Core.Path.{_≡_, refl, sym, ap, _∙_}
 use mathlib.Core.List.{List, [], _∷_, _++_, append-assoc, append-nil}

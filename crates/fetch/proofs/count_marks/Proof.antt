@@ -1,4 +1,5 @@
--- `count_marks` is the sum over words and rest, which is the count: at most the number of marks, so it fits.
+-- `count_marks` is the sum over words and rest, which is the count: at most the number of marks, so
+-- it fits.
 use Prim.Native.Nat.{_+_}
 use mathlib.Core.Path.{_≡_, sym, _∙_, ap₂}
 use native.Mathlib.Omega.{arith}

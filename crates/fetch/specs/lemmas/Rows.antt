@@ -1,4 +1,5 @@
--- Lemmas. Sums and tests over rows: in another order, with one row more, of a row that stands in the list, of a base. Assumes nothing.
+-- Lemmas. Sums and tests over rows: in another order, with one row more, of a row that stands in
+-- the list, of a base. Assumes nothing.
 use Prim.Native.Nat.{ℕ, zero, suc, _+_, _≤_}
 use mathlib.Core.Path.{_≡_, refl, ap, _∙_}
 use mathlib.Core.Bool.{Bool, true, false, not, cond, _&&_, _||_}

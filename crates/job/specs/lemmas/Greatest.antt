@@ -1,4 +1,5 @@
--- Lemmas. The greatest of some numbers: each is at most a bound exactly if the greatest is. Assumes nothing.
+-- Lemmas. The greatest of some numbers: each is at most a bound exactly if the greatest is. Assumes
+-- nothing.
 use Prim.Native.Nat.{ℕ, _≤_, max}
 use mathlib.Core.Path.{_≡_, refl}
 use mathlib.Core.List.{List, [], _∷_}

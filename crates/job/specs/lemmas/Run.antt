@@ -1,4 +1,5 @@
--- Lemmas. Refusal 18 in one pass: each SZ is named and sized, and stands after the one before it. Assumes nothing.
+-- Lemmas. Refusal 18 in one pass: each SZ is named and sized, and stands after the one before it.
+-- Assumes nothing.
 use Prim.Native.Nat.{ℕ, _+_, _≤_, _<_, min}
 use mathlib.Core.Path.{_≡_, refl, sym, _∙_}
 use mathlib.Core.Bool.{Bool, true, _&&_}

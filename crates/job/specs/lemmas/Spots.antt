@@ -1,4 +1,5 @@
--- Lemmas. The SZs of an accepted job: of chunks after the first, rising, and few; the size where none names it. Assumes nothing.
+-- Lemmas. The SZs of an accepted job: of chunks after the first, rising, and few; the size where
+-- none names it. Assumes nothing.
 use Prim.Native.Nat.{ℕ, _+_, _*_, _≤_, _<_}
 use mathlib.Core.Path.{_≡_, refl}
 use mathlib.Core.Bool.{Bool, true, false, _&&_}

@@ -1,4 +1,5 @@
--- Lemmas. The table of all sizes at each place, what an accepted job's table says, and the table filled place by place. Assumes nothing.
+-- Lemmas. The table of all sizes at each place, what an accepted job's table says, and the table
+-- filled place by place. Assumes nothing.
 use Prim.Native.Nat.{ℕ, zero, suc, _+_, _*_, _-_, _/_, _%_, _≤_, _<_}
 use mathlib.Core.Path.{_≡_, refl, sym, ap, _∙_}
 use mathlib.Core.Bool.{Bool, cond, _&&_}

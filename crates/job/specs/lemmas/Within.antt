@@ -1,5 +1,5 @@
--- Lemmas. Numbers within a range: what a table of them has at each place, and the least and the most size of an accepted job. Assumes
--- nothing.
+-- Lemmas. Numbers within a range: what a table of them has at each place, and the least and the
+-- most size of an accepted job. Assumes nothing.
 use Prim.Native.Nat.{ℕ, zero, suc, _≤_, _<_}
 use mathlib.Core.Bool.{_&&_}
 use mathlib.Core.List.{List, [], _∷_}

@@ -1,5 +1,5 @@
--- Lemmas. Records written one after the other into a lent buffer, which the contracts of the writer's private functions cite.
--- Assumes nothing.
+-- Lemmas. Records written one after the other into a lent buffer, which the contracts of the
+-- writer's private functions cite. Assumes nothing.
 use Prim.Native.Nat.{ℕ, _+_, _≤_}
 use mathlib.Core.Path.{_≡_, refl, sym, ap, _∙_}
 use mathlib.Core.List.{List, [], _∷_, _++_, append-assoc, append-nil}

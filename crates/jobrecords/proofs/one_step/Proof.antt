@@ -8,7 +8,7 @@ use denote.Ref.{now}
 use Rattle.jobrecords.specs.declared.Read.the-variants.{Refused}
 use Rattle.jobrecords.specs.lemmas.Reading.{readRefusalOf}
 use Rattle.jobrecords.proofs.Fronts.{known}
-use Rattle.jobrecords.proofs.Step.{turn-none, turn-counted, turn-inside, turn-end, turn-fault, turn-fine, turn-more}
+use Rattle.jobrecords.proofs.Steps.{turn-none, turn-counted, turn-inside, turn-end, turn-fault, turn-fine, turn-more}
 
 record-at-requires : tie.Need-record-at-requires
 record-at-requires c κs = search needs

@@ -8,7 +8,7 @@ use lib.ListN.{length}
 use denote.Ref.{now}
 use borrow.Author.Needs.{needs}
 use Rattle.jobrecords.specs.lemmas.Reading.{OneStepPre}
-use Rattle.jobrecords.proofs.Step.{going-start, turned-on, turned-done, turned-stop}
+use Rattle.jobrecords.proofs.Steps.{going-start, turned-on, turned-done, turned-stop}
 
 abbrev Inv-loop : tie.InvT-loop
 Inv-loop sequenced file sizes₀ slots₀ j₀ at₀ sizes slots j at = OneStepPre sequenced file at j sizes slots

@@ -1,4 +1,5 @@
--- Lemmas. Records without a fault, to which nothing is lacking at EN, say an accepted job. Assumes nothing.
+-- Lemmas. Records without a fault, to which nothing is lacking at EN, say an accepted job. Assumes
+-- nothing.
 use Prim.Native.Nat.{ℕ, zero, suc, _+_, _≤_, _<_}
 use mathlib.Core.Path.{_≡_, refl, sym, ap, _∙_}
 use mathlib.Core.Bool.{Bool, true, false, not, _&&_}

@@ -1,4 +1,5 @@
--- Lemmas. A record of a job file that stands in front of a string of bytes has just its own bytes there. Assumes nothing.
+-- Lemmas. A record of a job file that stands in front of a string of bytes has just its own bytes
+-- there. Assumes nothing.
 use Prim.Native.Nat.{ℕ, zero, suc, _%_, _≤_, _<_}
 use mathlib.Core.Path.{_≡_, refl, ap, _∙_}
 use mathlib.Core.Bool.{Bool, true, _&&_}

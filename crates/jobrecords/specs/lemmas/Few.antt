@@ -1,4 +1,5 @@
--- Lemmas. SZs past the 1,996 that a job can have are refused by 18, whatever they say. Assumes nothing.
+-- Lemmas. SZs past the 1,996 that a job can have are refused by 18, whatever they say. Assumes
+-- nothing.
 use Prim.Native.Nat.{ℕ, _*_, _≤_, _<_}
 use mathlib.Core.Path.{_≡_}
 use mathlib.Core.Bool.{Bool, _&&_}

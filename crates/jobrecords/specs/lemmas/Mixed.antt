@@ -1,5 +1,5 @@
--- Lemmas. A file in one sequence, read as a mixed one: the same records up to the first SZ, whose mark a mixed file does not know. Assumes
--- nothing.
+-- Lemmas. A file in one sequence, read as a mixed one: the same records up to the first SZ, whose
+-- mark a mixed file does not know. Assumes nothing.
 use Prim.Native.Nat.{ℕ, zero, suc, _+_}
 use mathlib.Core.Path.{_≡_, refl, ap, _∙_}
 use mathlib.Core.Bool.{Bool, true, false, not, cond, _&&_}

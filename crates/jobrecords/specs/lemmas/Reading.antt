@@ -1,5 +1,5 @@
--- Lemmas. The state of the loop that reads a job file, which the contracts of its private functions cite: it stands for the records
--- read so far. Assumes nothing.
+-- Lemmas. The state of the loop that reads a job file, which the contracts of its private functions
+-- cite: it stands for the records read so far. Assumes nothing.
 use Prim.Native.Nat.{ℕ, _+_, _*_, _-_, _≤_, _<_}
 use mathlib.Core.Path.{_≡_, refl, sym, ap}
 use mathlib.Core.Bool.{Bool, true, false, not, _&&_, _||_, cond}
@@ -168,8 +168,8 @@ pub record StandsFor (j : Progress) (z f : List ℕ) (rs : List Record) : Type 0
   pub sizes-are : take (j .layers) z ≡ sizesIn rs
   pub forecast-is : take (j .slots) f ≡ forecastIn rs
 
--- The SZs among some records of the file s, read up to a place, are those that the state counts: none before the first SZ, and after an SZ
--- the next would stand behind it.
+-- The SZs among some records of the file s, read up to a place, are those that the state counts:
+-- none before the first SZ, and after an SZ the next would stand behind it.
 pub record Counts (s : List ℕ) (at : ℕ) (j : Progress) (rs : List Record) : Type 0 where
   pub are : overridesIn rs ≡ counted s j
   pub room : 9 * j .overrides ≤ j .ends
@@ -221,7 +221,8 @@ endsAfter ends next (Sz chunk layer bytes) = next
 endsAfter ends next (Bw count bytes) = ends
 endsAfter ends next En = ends
 
--- A record without a fault that ends at a place goes into the tables: whatever the state stood for, it then stands for that record too.
+-- A record without a fault that ends at a place goes into the tables: whatever the state stood for,
+-- it then stands for that record too.
 pub record TakeRecordPost (j : Progress) (z f : List ℕ) (r : Record) (next : ℕ) (j′ : Progress) (z′ f′ : List ℕ) : Type 0 where
   pub stands : (rs : List Record) → StandsFor j z f rs → StandsFor j′ z′ f′ (rs ++ (r ∷ []))
   pub overrides-are : j′ .overrides ≡ moreOverrides (j .overrides) r

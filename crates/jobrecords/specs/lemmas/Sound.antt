@@ -1,4 +1,5 @@
--- Lemmas. A record lies within the bytes that it stands in front of, and where records break off the refusal is not 0. Assumes nothing.
+-- Lemmas. A record lies within the bytes that it stands in front of, and where records break off
+-- the refusal is not 0. Assumes nothing.
 use Prim.Native.Nat.{ℕ, zero, suc, _+_, _≤_, _<_}
 use mathlib.Core.Path.{_≡_}
 use mathlib.Core.Bool.{Bool, _&&_}

@@ -1,4 +1,5 @@
--- Lemmas. The forecast's quotient against the exact harmonic mean. Only `share-is` looks at how a share is rounded.
+-- Lemmas. The forecast's quotient against the exact harmonic mean. Only `share-is` looks at how a
+-- share is rounded.
 use Prim.Native.Nat.{ℕ, _+_, _*_, _-_, _/_, _^_, _≤_, _<_}
 use mathlib.Core.Path.{_≡_}
 use mathlib.Core.Bool.{Bool, true, false, not, _||_}
@@ -89,7 +90,8 @@ whole-part-greatest bs h x w n =
     let l : x < h + 1 = lt-of-mul-lt-mul-right (others bs) (omega (arith, n, w .next-above)) in
     omega arith
 
--- A number that is not above the exact mean, while what is one less than such a number is not above it, is the whole part or one less.
+-- A number that is not above the exact mean, while what is one less than such a number is not above
+-- it, is the whole part or one less.
 pub one-less-at-most :
     (bs : List ℕ) (h f : ℕ) → WholePart bs h → NotAbove f bs → ((g : ℕ) → NotAbove (g + 1) bs → g ≤ f) → (f ≡ h) ⊎ (f + 1 ≡ h)
 one-less-at-most bs h f w n near =

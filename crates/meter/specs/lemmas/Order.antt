@@ -1,4 +1,5 @@
--- Lemmas. The tests of the meter and what they say; samples added one by one; what is stored reads back.
+-- Lemmas. The tests of the meter and what they say; samples added one by one; what is stored reads
+-- back.
 use Prim.Native.Nat.{ℕ, zero, suc, _+_, _-_, _≤_, _<_}
 use mathlib.Core.Path.{_≡_, refl, _∙_}
 use mathlib.Core.Bool.{Bool, true, false, not, _&&_}

@@ -1,4 +1,5 @@
--- Lemmas. The records of a plan, written and read back, have no fault and say the plan. Assumes nothing.
+-- Lemmas. The records of a plan, written and read back, have no fault and say the plan. Assumes
+-- nothing.
 use Prim.Native.Nat.{ℕ, zero, suc, _+_, _≤_, _<_}
 use mathlib.Core.Path.{_≡_, refl, sym, ap, _∙_}
 use mathlib.Core.Bool.{Bool, true, false}

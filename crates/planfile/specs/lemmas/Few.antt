@@ -1,4 +1,5 @@
--- Lemmas. A file has at most as many rows as its bytes have room for: 11 bytes an FT. Assumes nothing.
+-- Lemmas. A file has at most as many rows as its bytes have room for: 11 bytes an FT. Assumes
+-- nothing.
 use Prim.Native.Nat.{ℕ, zero, suc, _+_, _*_, _≤_}
 use mathlib.Core.Path.{_≡_, refl}
 use mathlib.Core.List.{List}

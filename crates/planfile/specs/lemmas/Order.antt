@@ -1,4 +1,5 @@
--- Lemmas. A file whose records end at EN is accepted exactly if its KPs are in turn, before every FT, and complete. Assumes nothing.
+-- Lemmas. A file whose records end at EN is accepted exactly if its KPs are in turn, before every
+-- FT, and complete. Assumes nothing.
 use Prim.Native.Nat.{ℕ, zero, suc, _+_, _≤_}
 use mathlib.Core.Path.{_≡_, refl, sym, ap, _∙_}
 use mathlib.Core.Bool.{Bool, true, false, _&&_}

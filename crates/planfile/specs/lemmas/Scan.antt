@@ -1,5 +1,5 @@
--- Lemmas. Going through a plan file a record a turn: how many KPs and FTs are taken, and where each stands in an accepted file.
--- Assumes nothing.
+-- Lemmas. Going through a plan file a record a turn: how many KPs and FTs are taken, and where each
+-- stands in an accepted file. Assumes nothing.
 use Prim.Native.Nat.{ℕ, suc, _+_, _*_, _-_, _≤_, _<_}
 use mathlib.Core.Path.{_≡_, refl, sym, ap, subst, _∙_}
 use mathlib.Core.Bool.{Bool, not, cond, _&&_}
@@ -43,7 +43,8 @@ module _ (s : List ℕ) (at : ℕ) where
 
 -- ---- what stands in front
 
--- What is known of a record in front: it is as long as its kind, its bytes are there, and its fields are theirs.
+-- What is known of a record in front: it is as long as its kind, its bytes are there, and its
+-- fields are theirs.
 abbrev Stands : List ℕ → Front Record → Type 0
 Stands s (none n) = 0 < n
 Stands s (got (Kp chunk marks) n) = (n ≡ 5) × (n ≤ length s) × (marks ≡ getD s 4 0)

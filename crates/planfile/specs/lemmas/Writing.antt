@@ -1,4 +1,5 @@
--- Lemmas. Records written one after the other: how long they are, and what a lent buffer holds after each. Assumes nothing.
+-- Lemmas. Records written one after the other: how long they are, and what a lent buffer holds
+-- after each. Assumes nothing.
 use Prim.Native.Nat.{ℕ, zero, suc, _+_, _*_, _≤_, _<_}
 use mathlib.Core.Path.{_≡_, refl, sym, ap, _∙_}
 use mathlib.Core.List.{List, [], _∷_, _++_, map, map-append, flatMap, append-assoc, append-nil}

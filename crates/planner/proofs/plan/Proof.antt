@@ -1,4 +1,5 @@
--- `plan` meets its contract: the refusals in their order, then the plan, with what document 01 says of it.
+-- `plan` meets its contract: the refusals in their order, then the plan, with what document 01 says
+-- of it.
 use borrow.Author.Needs.{needs}
 use Rattle.planner.proofs.plan.Statement.{statement}
 use Rattle.planner.proofs.plan.Tie as tie

@@ -1,4 +1,4 @@
--- `lay_plan` meets its contract: what is decided and laid is the plan.
+-- `write_decided` meets its contract: what is decided and laid is the plan.
 use borrow.Author.Needs.{needs}
 use Rattle.planner.proofs.write_decided.Statement.{statement}
 use Rattle.planner.proofs.write_decided.Tie as tie

@@ -12,7 +12,8 @@ use Rattle.core_slices.specs.lemmas.Slices.{Result, rowsHold}
 use Rattle.planner.specs.declared.Answer.the-variants.{Rows, Refused}
 use Rattle.planner.specs.declared.Planned.{Planned}
 
--- What a call that plans hands over by its refusal, 0 for none, and what it leaves in the lent slices.
+-- What a call that plans hands over by its refusal, 0 for none, and what it leaves in the lent
+-- slices.
 pub record Outputs (refused : ℕ) (x : Result) (marks slots cs layers bytes : List ℕ) (r : Planned) (marks' slots' cs' layers' bytes' : List ℕ) : Type 0 where
   pub answer : r .answer ≡ cond (eqb refused 0) (Rows (length (x .rows))) (Refused refused)
   pub counts : r .counts ≡ cond (eqb refused 0) (x .counts) (0 ∷ 0 ∷ 0 ∷ 0 ∷ [])

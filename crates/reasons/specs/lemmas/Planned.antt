@@ -1,5 +1,5 @@
--- Lemmas. The lines of a job's plan: what the functions of lib.rt ask for is there for an accepted job, and what they put is its text. The
--- flag is whether request 9 settled the bases.
+-- Lemmas. The lines of a job's plan: what the functions of lib.rt ask for is there for an accepted
+-- job, and what they put is its text. The flag is whether request 9 settled the bases.
 use Prim.Native.Nat.{ℕ, zero, suc, _≤_, min}
 use mathlib.Core.Path.{_≡_, refl, sym, ap, subst, fun-ext, _∙_}
 use mathlib.Core.Bool.{Bool, true, false, cond}

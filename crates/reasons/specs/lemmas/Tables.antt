@@ -1,5 +1,6 @@
--- Lemmas. What the tables hold that the lines are told from: the layers that a plan carries of each chunk, from the marks of its kept
--- chunks, and the bytes of the first layers of each chunk, from the table of its sizes.
+-- Lemmas. What the tables hold that the lines are told from: the layers that a plan carries of each
+-- chunk, from the marks of its kept chunks, and the bytes of the first layers of each chunk, from
+-- the table of its sizes.
 use Prim.Native.Nat.{ℕ, zero, suc, _+_, _*_, _-_, _/_, _%_, _≤_, _<_}
 use mathlib.Core.Path.{_≡_, refl, sym, ap, _∙_}
 use mathlib.Core.Bool.{Bool, true, false, cond, _||_}

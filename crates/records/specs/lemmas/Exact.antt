@@ -1,5 +1,5 @@
--- Lemmas. A file that splits into records, nothing after EN, is the bytes of those records: the other way round from `Written`. Assumes
--- nothing.
+-- Lemmas. A file that splits into records, nothing after EN, is the bytes of those records: the
+-- other way round from `Written`. Assumes nothing.
 use Prim.Native.Nat.{ℕ, zero, suc, _+_, _*_, _-_, _/_, _%_, _≤_, _<_}
 use mathlib.Core.Path.{_≡_, refl, sym, ap, _∙_}
 use mathlib.Core.Bool.{true, false}

@@ -1,4 +1,5 @@
--- Lemmas. Reading a file from its front, a record a turn: what is left from here gives the whole file. Assumes nothing.
+-- Lemmas. Reading a file from its front, a record a turn: what is left from here gives the whole
+-- file. Assumes nothing.
 use Prim.Native.Nat.{ℕ, zero, suc, _+_, _-_, _≤_, _<_}
 use mathlib.Core.Path.{_≡_, refl, sym, ap, _∙_}
 use mathlib.Core.Bool.{Bool, true, false, cond}

@@ -1,4 +1,5 @@
--- `replan` meets its contract: the refusals in their order, then the plan made afresh, with what document 02 says of it.
+-- `replan` meets its contract: the refusals in their order, then the plan made afresh, with what
+-- document 02 says of it.
 use Prim.Native.Nat.{ℕ}
 use lib.ListN.{length-replicate}
 use denote.Ref.{now}

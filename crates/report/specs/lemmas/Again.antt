@@ -1,4 +1,5 @@
--- Lemmas. The plan's own list is handed over in four slices: its rows again out of them. Assumes nothing.
+-- Lemmas. The plan's own list is handed over in four slices: its rows again out of them. Assumes
+-- nothing.
 use Prim.Native.Nat.{ℕ}
 use mathlib.Core.Path.{_≡_, _∙_}
 use mathlib.Core.List.{List, map}

@@ -1,4 +1,5 @@
--- Lemmas. How large a sum can be, and all rows of a list as those of its slots and of its chunks. Assumes nothing.
+-- Lemmas. How large a sum can be, and all rows of a list as those of its slots and of its chunks.
+-- Assumes nothing.
 use Prim.Native.Nat.{ℕ, _≤_}
 use mathlib.Core.Path.{_≡_, sym, _∙_}
 use mathlib.Core.Bool.{true, cond}

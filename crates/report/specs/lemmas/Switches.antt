@@ -1,5 +1,6 @@
--- Lemmas. The differences between neighbours in a list of pictures, as a pass over the chunks meets them: one picture more, how large
--- they can be, and where there are few pictures or no skipped chunk. Assumes nothing.
+-- Lemmas. The differences between neighbours in a list of pictures, as a pass over the chunks meets
+-- them: one picture more, how large they can be, and where there are few pictures or no skipped
+-- chunk. Assumes nothing.
 use Prim.Native.Nat.{ℕ, zero, suc, _+_, _*_, _-_, _≤_}
 use mathlib.Core.Path.{_≡_, refl, ap, _∙_}
 use mathlib.Core.Bool.{Bool, true, false, cond}

@@ -1,5 +1,5 @@
--- Lemmas. What the report's table holds of a list of rows, and the numbers that are read from it: the contracts of private functions
--- speak of these, no public one does.
+-- Lemmas. What the report's table holds of a list of rows, and the numbers that are read from it:
+-- the contracts of private functions speak of these, no public one does.
 use Prim.Native.Nat.{ℕ, _+_, _*_, _-_, _/_, _%_, _≤_, _<_}
 use mathlib.Core.Path.{_≡_}
 use mathlib.Core.Bool.{Bool, cond}

@@ -1,4 +1,5 @@
--- `search` meets its contract: the refusals in their order, then what is found, with what document 02 says of it.
+-- `search` meets its contract: the refusals in their order, then what is found, with what document
+-- 02 says of it.
 use borrow.Author.Needs.{needs}
 use Rattle.search.proofs.search.Statement.{statement}
 use Rattle.search.proofs.search.Tie as tie

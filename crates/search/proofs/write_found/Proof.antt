@@ -1,4 +1,4 @@
--- `lay_found` meets its contract.
+-- `write_found` meets its contract.
 use borrow.Author.Needs.{needs}
 use Rattle.search.proofs.write_found.Statement.{statement}
 use Rattle.search.proofs.write_found.Tie as tie

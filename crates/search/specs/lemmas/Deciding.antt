@@ -1,4 +1,5 @@
--- Lemmas. What the functions of search hand each other: the shortfall of a set, and the set found with its releases and marks, in tables.
+-- Lemmas. What the functions of search hand each other: the shortfall of a set, and the set found
+-- with its releases and marks, in tables.
 use Prim.Native.Nat.{ℕ, _-_, _≤_}
 use mathlib.Core.Path.{_≡_}
 use mathlib.Core.Bool.{Bool, true, false}

@@ -1,4 +1,5 @@
--- Lemmas. Decimal digits: one more, how many there are, that they read back, have no leading zero and are digits. Assumes nothing.
+-- Lemmas. Decimal digits: one more, how many there are, that they read back, have no leading zero
+-- and are digits. Assumes nothing.
 use Prim.Native.Nat.{ℕ, zero, suc, _+_, _*_, _-_, _/_, _%_, _^_, _≤_, _<_}
 use mathlib.Core.Path.{_≡_, refl, sym, ap, _∙_}
 use mathlib.Core.List.{List, [], _∷_, _++_}

@@ -1,4 +1,5 @@
--- Lemmas. What refusals as numbers say, and what composed ones say from their parts. Assumes nothing.
+-- Lemmas. What refusals as numbers say, and what composed ones say from their parts. Assumes
+-- nothing.
 use Prim.Native.Nat.{ℕ, _≤_, _<_}
 use mathlib.Core.Path.{_≡_, refl}
 use mathlib.Core.Bool.{Bool, true, false, _&&_}

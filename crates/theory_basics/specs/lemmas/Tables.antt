@@ -1,4 +1,5 @@
--- Lemmas. Tables: lists that stand at the end of a table, stores, what holds of each place. Assumes nothing.
+-- Lemmas. Tables: lists that stand at the end of a table, stores, what holds of each place. Assumes
+-- nothing.
 use mathlib.Core.Path.{_≡_, _∙_}
 use mathlib.Core.List.{List, [], _∷_}
 use mathlib.Core.Logic.{⊎-elim}

@@ -1,4 +1,5 @@
--- Lemmas. A plan skips no base exactly if all chunks fit with their bases alone, whichever way its bases are settled.
+-- Lemmas. A plan skips no base exactly if all chunks fit with their bases alone, whichever way its
+-- bases are settled.
 use Prim.Native.Nat.{ℕ, zero, suc, _+_, _≤_, _<_}
 use mathlib.Core.Path.{_≡_, sym, subst}
 use mathlib.Core.Bool.{true}

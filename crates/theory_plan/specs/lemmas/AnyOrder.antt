@@ -1,5 +1,5 @@
--- Lemmas. Whatever order a passing list fetches in: chunks of which it has z bytes each fit, taken with z bytes each.
--- Section 5 (b) of the argument, the counting.
+-- Lemmas. Whatever order a passing list fetches in: chunks of which it has z bytes each fit, taken
+-- with z bytes each. Section 5 (b) of the argument, the counting.
 use Prim.Native.Nat.{ℕ, zero, suc, _+_, _*_, _-_, _≤_, _<_, pred}
 use mathlib.Core.Path.{_≡_}
 use mathlib.Core.Bool.{Bool, not, _&&_}
@@ -48,7 +48,8 @@ fresh-grows l q lo g h v =
     l
 
 module _ (j : Job) (l : List Row) (ok : Passes j l) (z : ℕ) where
-  -- A slot q, a first chunk, and how many of the chunks from it on may be begun by q: those are held at its end.
+  -- A slot q, a first chunk, and how many of the chunks from it on may be begun by q: those are
+  -- held at its end.
   module _
       (q base most : ℕ) (q-in : q ≤ due j base) (begun-held : (g : ℕ) → base ≤ g → T (begun l q g) → T (held j l q g))
       (few : count (held j l q) (chunks j) ≤ most) where

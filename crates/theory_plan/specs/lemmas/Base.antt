@@ -1,5 +1,5 @@
--- Lemmas. The base, in any order: the plan keeps as many chunks as any passing list, where the chunks have one base size.
--- Section 5 (b) of the argument: the plan stays ahead.
+-- Lemmas. The base, in any order: the plan keeps as many chunks as any passing list, where the
+-- chunks have one base size. Section 5 (b) of the argument: the plan stays ahead.
 use Prim.Native.Nat.{ℕ, zero, suc, _+_, _-_, _≤_, _<_, min}
 use mathlib.Core.Path.{_≡_, refl, sym, ap, _∙_, subst}
 use mathlib.Core.Bool.{Bool}
@@ -55,7 +55,8 @@ below-cons i g hi h a (more {g = g′} r) = more (below-cons i g′ hi (omega ar
 
 -- ---- picking from the last down what keeps the picked ones good
 
--- F says that a list is good; where one list is good with x in front, so is a good list of later elements.
+-- F says that a list is good; where one list is good with x in front, so is a good list of later
+-- elements.
 module _
     (F : List ℕ → Type 0) (c : ℕ) (p : ℕ → Bool) (nil : F []) (tail : (k : ℕ) (ks : List ℕ) → F (k ∷ ks) → F ks)
     (swap : (x : ℕ) (ks gs : List ℕ) → AtMost ks gs → F (x ∷ ks) → F gs → F (x ∷ gs))

@@ -1,5 +1,5 @@
--- Lemmas. From the parts to demand 3: what a plan and a passing list say of each other's layers and counts, where each layer has one
--- size z n. Section 5 of the argument, put together.
+-- Lemmas. From the parts to demand 3: what a plan and a passing list say of each other's layers and
+-- counts, where each layer has one size z n. Section 5 of the argument, put together.
 use Prim.Native.Nat.{ℕ, zero, suc, _≤_, _<_, min}
 use mathlib.Core.Path.{_≡_}
 use mathlib.Core.List.{List}

@@ -1,5 +1,6 @@
--- Lemmas. The decision: some passing list in playing order carries exactly a choice if and only if the choice fits, and then its own
--- list is one. Sizes may differ by chunk and layer, and there may be any number of layers. Sections 2 and 3 of the argument.
+-- Lemmas. The decision: some passing list in playing order carries exactly a choice if and only if
+-- the choice fits, and then its own list is one. Sizes may differ by chunk and layer, and there may
+-- be any number of layers. Sections 2 and 3 of the argument.
 use Prim.Native.Nat.{ℕ, zero, suc, _+_, _≤_, _<_}
 use mathlib.Core.Path.{_≡_, refl, sym, _∙_, subst}
 use mathlib.Core.Bool.{Bool, true, false, cond, _&&_}

@@ -1,5 +1,5 @@
--- Lemmas. Sums over the rows of a list: rows that pass a test, rows between two slots (double counting), the rows of a chunk by layer.
--- Section 2 of the argument.
+-- Lemmas. Sums over the rows of a list: rows that pass a test, rows between two slots (double
+-- counting), the rows of a chunk by layer. Section 2 of the argument.
 use Prim.Native.Nat.{ℕ, _+_, _≤_, _<_}
 use mathlib.Core.Path.{_≡_, sym}
 use mathlib.Core.Bool.{Bool, true, false, cond, _&&_}
@@ -60,7 +60,8 @@ between-row : (c : Bool) (s b q d : ℕ) → q ≤ d → (T c → (q < s) × (s 
 between-row true s b q d l h = let i = h tt in omega (arith, point-out s b q (i .0), point-in s b d (omega arith) (i .1))
 between-row false s b q d l h = omega (arith, pre-mono (point s b) q d l)
 
--- Double counting: rows that pass P and lie in the slots q + 1 .. d sum to at most what those slots hold.
+-- Double counting: rows that pass P and lie in the slots q + 1 .. d sum to at most what those slots
+-- hold.
 pub bytes-between :
     (P : Row → Bool) (q d : ℕ) (l : List Row) → q ≤ d → All (λ x. T (P x) → (q < x .slot) × (x .slot ≤ d)) l →
     bytesIf P l + pre (bytesInSlot l) q ≤ pre (bytesInSlot l) d

@@ -1,5 +1,6 @@
--- Lemmas. Why no set has more: after chunk i, every set of chunks 1 to i that fits at every place is matched by some of the kept ones, as
--- many and of no more bytes. (Moore and Hodgson's exchange, over any sizes.)
+-- Lemmas. Why no set has more: after chunk i, every set of chunks 1 to i that fits at every place
+-- is matched by some of the kept ones, as many and of no more bytes. (Moore and Hodgson's exchange,
+-- over any sizes.)
 use Prim.Native.Nat.{ℕ, zero, suc, _≤_, _<_}
 use mathlib.Core.Path.{_≡_, refl, sym}
 use mathlib.Core.Bool.{Bool, true, false, not, cond, _||_}

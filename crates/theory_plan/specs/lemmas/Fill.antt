@@ -1,6 +1,6 @@
--- Lemmas. The fill: a queue of pieces and what each slot takes of it, from any slot on. What holds of a slot by cases; nothing is
--- lost, no slot is above its forecast, no row comes before its piece's release; the invariant on need, and that rows are on time.
--- Section 3 of the argument.
+-- Lemmas. The fill: a queue of pieces and what each slot takes of it, from any slot on. What holds
+-- of a slot by cases; nothing is lost, no slot is above its forecast, no row comes before its
+-- piece's release; the invariant on need, and that rows are on time. Section 3 of the argument.
 use Prim.Native.Nat.{ℕ, zero, suc, _+_, _-_, _≤_, _<_, max}
 use mathlib.Core.Path.{_≡_, refl, ap}
 use mathlib.Core.Bool.{Bool, true, false, cond, _&&_}
@@ -27,7 +27,8 @@ pub record Out : Type 0 where
   pub rows : List Row
   pub rest : List QueuedPiece
 
--- b bytes of piece p in slot t; what they leave of p; all that is left of p, before what the slot takes next.
+-- b bytes of piece p in slot t; what they leave of p; all that is left of p, before what the slot
+-- takes next.
 abbrev pub row : ℕ → QueuedPiece → ℕ → Row
 row t p b = record { slot = t; chunk = p .chunk; layer = p .layer; bytes = b }
 
@@ -58,8 +59,8 @@ abbrev pub rest-after : (ℕ → ℕ) → ℕ → ℕ → List QueuedPiece → L
 rest-after B zero t q = q
 rest-after B (suc n) t q = rest-after B n (suc t) (take-slot (suc t) (B (suc t)) q .rest)
 
--- What holds of a slot, by cases: the queue is empty; the slot is shut to the first piece; it takes that piece whole and goes on;
--- it takes a part of it and is spent.
+-- What holds of a slot, by cases: the queue is empty; the slot is shut to the first piece; it takes
+-- that piece whole and goes on; it takes a part of it and is spent.
 pub by-slot :
     (t : ℕ) (P : ℕ → List QueuedPiece → Out → Type 0) →
     ((c : ℕ) → P c [] (record { rows = []; rest = [] })) →
@@ -212,7 +213,8 @@ Ready d A [] = Unit {0}
 Ready d A (p ∷ ps) = (needs d A (p ∷ ps) ≤ A (p .ready - 1)) × (1 ≤ p .left) × Ready d A ps
 
 module _ (d A : ℕ → ℕ) (A-anti : (x y : ℕ) → x ≤ y → A y ≤ A x) where
-  -- The invariant: the slot used up, the need fell by its bytes; blocked at a piece not released, that piece's own bound holds.
+  -- The invariant: the slot used up, the need fell by its bytes; blocked at a piece not released,
+  -- that piece's own bound holds.
   pub slot-keeps-need :
       (t c : ℕ) (q : List QueuedPiece) → Ready d A q → needs d A q ≤ c + A t →
       (needs d A (take-slot t c q .rest) ≤ A t) × Ready d A (take-slot t c q .rest)

@@ -1,4 +1,5 @@
--- Lemmas. The choice that a passing list carries, its marks and its counts: what a list and a choice say of each other.
+-- Lemmas. The choice that a passing list carries, its marks and its counts: what a list and a
+-- choice say of each other.
 use Prim.Native.Nat.{ℕ, suc, _+_, _<_, _^_}
 use mathlib.Core.Path.{_≡_, ap, subst, sym}
 use mathlib.Core.Bool.{Bool, cond}

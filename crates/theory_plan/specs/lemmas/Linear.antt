@@ -1,4 +1,5 @@
--- Lemmas. The trials of Trials.antt take exactly what the plan takes, for any sizes. Assumes nothing. Section 4 of the argument.
+-- Lemmas. The trials of Trials.antt take exactly what the plan takes, for any sizes. Assumes
+-- nothing. Section 4 of the argument.
 use Prim.Native.Nat.{ℕ, zero, suc, _+_, _-_, _≤_, _<_, max, min}
 use mathlib.Core.Path.{_≡_, refl, sym, ap, _∙_, subst}
 use mathlib.Core.Bool.{Bool, true, false, cond, _&&_}
@@ -222,7 +223,8 @@ module _ (j : Job) (n : ℕ) (up : 1 ≤ n) (few : n < 8) (p : ℕ → ℕ) (acc
   below : (k : ℕ) → bytes j lower k ≤ upto k
   below k = sum-mono (size j k) (min (p k) n) (min (p k) (suc n)) (omega arith)
 
-  -- Behind i the trial is the plan up to layer n; before i it is what is settled of the layers below.
+  -- Behind i the trial is the plan up to layer n; before i it is what is settled of the layers
+  -- below.
   behind : (i k : ℕ) → i < k → bytes j (tried p n i) k ≡ upto k
   behind i k h = rw (ne-eqb k i (omega arith), lt-ltb i k h)
 
@@ -360,7 +362,8 @@ pub map-map : {A B : Type 0} (f : A → B) (g : ℕ → A) (ks : List ℕ) → m
 map-map f g [] = refl
 map-map f g (k ∷ ks) = rw (map-map f g ks)
 
--- On the kept chunks of a choice that fits, whose upper layers are taken as document 01 says, the passes take its layers.
+-- On the kept chunks of a choice that fits, whose upper layers are taken as document 01 says, the
+-- passes take its layers.
 module _ (j : Job) (p : ℕ → ℕ) (c : Choice j p) (f : Fits j p) (takes : (n : ℕ) → TakesFitting j p (suc n)) where
   -- What it carries of the layers below n.
   abbrev below-layer : ℕ → ℕ → ℕ

@@ -1,5 +1,6 @@
--- Lemmas. The bases that request 9's walk keeps, of a job: they fit where the limit holds the programme, and no passing list, in any
--- order, carries more. Section 5 (d) of the argument has the prefixes.
+-- Lemmas. The bases that request 9's walk keeps, of a job: they fit where the limit holds the
+-- programme, and no passing list, in any order, carries more. Section 5 (d) of the argument has the
+-- prefixes.
 use Prim.Native.Nat.{ℕ, suc, _+_, _-_, _≤_, _<_}
 use mathlib.Core.Path.{_≡_, refl, sym, _∙_}
 use mathlib.Core.Bool.{Bool, true, false, cond, not}
@@ -32,7 +33,8 @@ module _ (j : Job) where
   forecast-within : (b : ℕ) → b ≤ chunks j → forecastBy j b ≤ pre (forecast j) (lastSlot j)
   forecast-within b h = pre-mono (forecast j) (due j b) (lastSlot j) (due-mono j b (chunks j) h)
 
-  -- What may be spent by the due slot of chunk i, from the sums of what is forecast after each slot; and the walk with it.
+  -- What may be spent by the due slot of chunk i, from the sums of what is forecast after each
+  -- slot; and the walk with it.
   forecast-by-after : (i : ℕ) → i ≤ chunks j → forecastBy j i ≡ after j 0 - after j (due j i)
   forecast-by-after i h = omega (arith, forecast-within i h)
 
@@ -84,7 +86,8 @@ module _ (j : Job) where
     ones [] = refl
     ones (k ∷ ks) = omega (arith, ones ks)
 
-  -- No passing list, in any order, carries more bases. Whatever the limit is: where it binds, a list can do only less.
+  -- No passing list, in any order, carries more bases. Whatever the limit is: where it binds, a
+  -- list can do only less.
   pub list-bases : 0 < layers j → (other : List Row) → Passes j other → layerCount j other 0 ≤ count (isKept j) (chunks j)
   list-bases base other ok =
       let x = level j other in
@@ -106,7 +109,8 @@ module _ (j : Job) where
       base-in : (k m : ℕ) → cond (ltb 0 m) (baseSize j k) 0 ≤ sum (size j k) m
       base-in k m = by-cond (λ (b : ℕ). b ≤ sum (size j k) m) (ltb 0 m) (λ t. omega (arith, sum-mono (size j k) 1 m (ltb→lt 0 m t))) (λ t. omega arith)
 
-  -- ---- a base that is not kept (for request 14): with it beside all that are kept, some due slot is exceeded
+  -- ---- a base that is not kept (for request 14): with it beside all that are kept, some due slot
+  -- is exceeded
 
   pub missing-exceeds :
       (x : ℕ) → 1 ≤ x → x ≤ chunks j → T (not (isKept j x)) →

@@ -1,6 +1,8 @@
--- Lemmas. A list makes its choice fit: the carried chunks of a passing list in playing order fit. Section 2 of the argument.
--- Said more generally, of the rows `more` of a list l: chunks that are begun by the slot of each row of `more` of their own and of later
--- chunks fit, each with its bytes in `more`. Rule 2 is not asked, and A is any measure of what is forecast after a slot (`Between`).
+-- Lemmas. A list makes its choice fit: the carried chunks of a passing list in playing order fit.
+-- Section 2 of the argument. Said more generally, of the rows `more` of a list l: chunks that are
+-- begun by the slot of each row of `more` of their own and of later chunks fit, each with its bytes
+-- in `more`. Rule 2 is not asked, and A is any measure of what is forecast after a slot
+-- (`Between`).
 use Prim.Native.Nat.{ℕ, suc, _+_, _-_, _≤_, _<_}
 use mathlib.Core.Path.{_≡_}
 use mathlib.Core.Bool.{Bool, not, _&&_}
@@ -51,7 +53,8 @@ module _
     (j : Job) (A : ℕ → ℕ) (l more : List Row) (between : Between j A more) (range : All (RowInRange j) more)
     (on-time : All (OnTime j) more) (few : FewHeld j l) (P : ℕ → Type 0)
     (starts : (x : Row) → In x more → (e : ℕ) → 1 ≤ e → e ≤ x .chunk → P e → T (begun l (x .slot) e)) where
-  -- If the rows of the chunks from a on stand after slot q, those chunks need no more than the forecast after q.
+  -- If the rows of the chunks from a on stand after slot q, those chunks need no more than the
+  -- forecast after q.
   need-behind :
       (a q : ℕ) → q ≤ due j a → ((x : Row) → In x more → a ≤ x .chunk → q < x .slot) → (ks : List ℕ) (lo c : ℕ) → a ≤ lo →
       Asc lo (chunks j) ks → c ≤ bytesIf (inRun a lo) more → c ≤ A q → c + needOf (bytesOfChunk more) (due j) A ks ≤ A q
@@ -70,7 +73,8 @@ module _
       (f x i (u .0), omega (arith, at-row (OnTime j) i on-time, due-mono j (x .chunk) k (omega arith)))) in
       omega (arith, r, b, need-behind a q h f ks (suc k) (c + bytesOfChunk more k) (omega arith) (s .2) (omega (arith, r)) (omega (arith, r, b)))
 
-  -- The windows: the rows of the chunk that stands H places behind k, and of later ones, come no earlier than k is due.
+  -- The windows: the rows of the chunk that stands H places behind k, and of later ones, come no
+  -- earlier than k is due.
   row-after-due :
       (k : ℕ) (ks : List ℕ) → Asc 1 (chunks j) (k ∷ ks) → All P (k ∷ ks) →
       heldMost j < length (k ∷ ks) → (x : Row) → In x more → getD (k ∷ ks) (heldMost j) 0 ≤ x .chunk → due j k ≤ x .slot
@@ -150,7 +154,8 @@ module _ (j : Job) (l : List Row) (ok : Passes j l) where
         pre-mono (forecast j) d (lastSlot j) g,
       )
 
-  -- In playing order a carried chunk is begun by the slot of each row of its own and of later chunks.
+  -- In playing order a carried chunk is begun by the slot of each row of its own and of later
+  -- chunks.
   begun-by : PlayingOrder j l → (x : Row) → In x l → (e : ℕ) → 1 ≤ e → e ≤ x .chunk → Carried j l e 0 → T (begun l (x .slot) e)
   unfolding PlayingOrder
   begun-by o x i e g h t =

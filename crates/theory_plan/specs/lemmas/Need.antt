@@ -1,5 +1,6 @@
--- Lemmas. When kept chunks fit: the need of a list of chunks, first to last, and the test by suffixes. Section 1 of the argument.
--- Throughout, w k are the bytes of chunk k, d k its due slot, A t what is forecast after slot t, and h how many chunks may be held.
+-- Lemmas. When kept chunks fit: the need of a list of chunks, first to last, and the test by
+-- suffixes. Section 1 of the argument. Throughout, w k are the bytes of chunk k, d k its due slot,
+-- A t what is forecast after slot t, and h how many chunks may be held.
 use Prim.Native.Nat.{ℕ, zero, suc, _*_, _-_, _≤_, max}
 use mathlib.Core.List.{List, [], _∷_}
 use mathlib.Core.Logic.{_↔_}
@@ -16,7 +17,8 @@ abbrev pub Tails : (w d A : ℕ → ℕ) (h : ℕ) → List ℕ → Type 0
 Tails w d A h [] = Unit {0}
 Tails w d A h (k ∷ ks) = (needOf w d A (drop h (k ∷ ks)) ≤ A (d k - 1)) × Tails w d A h ks
 
--- The chunks fit: all of them into the whole forecast, and each behind the chunk that must be gone when it begins.
+-- The chunks fit: all of them into the whole forecast, and each behind the chunk that must be gone
+-- when it begins.
 pub record Feas (w d A : ℕ → ℕ) (h : ℕ) (ks : List ℕ) : Type 0 where
   pub whole : needOf w d A ks ≤ A 0
   pub tails : Tails w d A h ks

@@ -1,5 +1,5 @@
--- Lemmas. Bases of one size, where the limit holds the programme: those that request 9's walk keeps are the last ones of the programme,
--- those of document 01's way are too, and they are as many.
+-- Lemmas. Bases of one size, where the limit holds the programme: those that request 9's walk keeps
+-- are the last ones of the programme, those of document 01's way are too, and they are as many.
 use Prim.Native.Nat.{ℕ, zero, suc, _+_, _-_, _≤_, _<_}
 use mathlib.Core.Path.{_≡_, refl, sym}
 use mathlib.Core.Bool.{Bool, true, false, cond}

@@ -1,4 +1,5 @@
--- Lemmas. First in, first out: the fill of chunks that fit is in playing order. Section 3 of the argument.
+-- Lemmas. First in, first out: the fill of chunks that fit is in playing order. Section 3 of the
+-- argument.
 use Prim.Native.Nat.{ℕ, zero, suc, _+_, _≤_, _<_}
 use mathlib.Core.Path.{_≡_}
 use mathlib.Core.Bool.{_&&_}

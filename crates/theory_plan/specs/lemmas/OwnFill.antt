@@ -1,5 +1,6 @@
--- Lemmas. The own list, which asks rule 6 itself, is the fill by releases (`own-list-is`). First in, first out, so
--- when a piece comes up the chunks begun are those of the pieces before it. Section 3 of the argument.
+-- Lemmas. The own list, which asks rule 6 itself, is the fill by releases (`own-list-is`). First
+-- in, first out, so when a piece comes up the chunks begun are those of the pieces before it.
+-- Section 3 of the argument.
 use Prim.Native.Nat.{ℕ, zero, suc, _+_, _-_, _≤_}
 use mathlib.Core.Path.{_≡_, refl, sym, ap, _∙_, subst, fun-ext}
 use mathlib.Core.Bool.{Bool, true, false, not, cond, _&&_, _||_}
@@ -193,7 +194,8 @@ carried-queue j lv =
 
 -- ---- the theorem
 
--- The list that asks rule 6 at each byte is the fill by releases, for every job and every choice, whether it fits or not.
+-- The list that asks rule 6 at each byte is the fill by releases, for every job and every choice,
+-- whether it fits or not.
 pub own-list-is : (j : Job) (lv : ℕ → ℕ) → ownList j lv ≡ fetch j lv (kept j lv)
 unfolding ownList fetch
 own-list-is j lv =

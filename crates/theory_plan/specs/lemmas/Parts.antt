@@ -16,7 +16,8 @@ use Rattle.theory_basics.specs.lemmas.Tests.{test}
 abbrev pub at : List ℕ → ℕ → ℕ
 at l k = getD l k 0
 
--- A part of the forecast that starts at a slot, as the forecast whose slots before that one have nothing.
+-- A part of the forecast that starts at a slot, as the forecast whose slots before that one have
+-- nothing.
 abbrev pub padded : ℕ → List ℕ → List ℕ
 padded start part = replicate (start - 1) 0 ++ part
 

@@ -1,5 +1,6 @@
--- Lemmas. The plan computed: the trials in document 01's order, on any bases, each decided by whether the choice fits; and that the
--- computed plan is a plan in the sense of Statement. Sections 1 and 3 of the argument.
+-- Lemmas. The plan computed: the trials in document 01's order, on any bases, each decided by
+-- whether the choice fits; and that the computed plan is a plan in the sense of Statement. Sections
+-- 1 and 3 of the argument.
 use Prim.Native.Nat.{ℕ, zero, suc, _+_, _-_, _≤_, _<_, min}
 use mathlib.Core.Path.{_≡_, refl, sym, ap, _∙_, subst}
 use mathlib.Core.Bool.{Bool, true, false, not, cond}

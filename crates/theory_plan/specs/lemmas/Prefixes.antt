@@ -1,5 +1,5 @@
--- Lemmas. Where the limit holds the whole programme a choice fits exactly if each prefix of the programme does, and every passing list, in
--- any order, obeys that. Section 5 (d) of the argument.
+-- Lemmas. Where the limit holds the whole programme a choice fits exactly if each prefix of the
+-- programme does, and every passing list, in any order, obeys that. Section 5 (d) of the argument.
 use Prim.Native.Nat.{ℕ, zero, suc, _+_, _≤_, _<_}
 use mathlib.Core.Bool.{Bool}
 use mathlib.Core.List.{List, _∷_}

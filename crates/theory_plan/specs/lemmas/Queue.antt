@@ -1,5 +1,5 @@
--- Lemmas. The queue of the kept chunks with their releases: what it needs, if the chunks fit, and what it holds of each layer.
--- Sections 1 and 3 of the argument.
+-- Lemmas. The queue of the kept chunks with their releases: what it needs, if the chunks fit, and
+-- what it holds of each layer. Sections 1 and 3 of the argument.
 use Prim.Native.Nat.{ℕ, zero, suc, _+_, _-_, _≤_, _<_, max}
 use mathlib.Core.Path.{_≡_, refl, ap}
 use mathlib.Core.Bool.{Bool, false, cond, _&&_}
@@ -30,7 +30,8 @@ abbrev pub weight : (ℕ → ℕ → ℕ) → (k m n : ℕ) → ℕ
 weight size k m zero = 0
 weight size k m (suc n) = size k m + weight size k (suc m) n
 
--- The layers of the chunks ks, of chunk k the first lv k, by chunk, then layer; rs are the chunks' releases.
+-- The layers of the chunks ks, of chunk k the first lv k, by chunk, then layer; rs are the chunks'
+-- releases.
 abbrev pub queue : (ℕ → ℕ → ℕ) → (ℕ → ℕ) → List ℕ → List ℕ → List QueuedPiece
 queue size lv [] rs = []
 queue size lv (k ∷ ks) [] = []

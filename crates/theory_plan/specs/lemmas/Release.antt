@@ -1,5 +1,6 @@
--- Lemmas. Rule 6 allows a chunk in slot t exactly if its release is at most t: with it begun, those of the kept chunks up to it that
--- are due after t are at most H. The chunks begun stand in a list, the last begun first. Sections 2 and 3 of the argument.
+-- Lemmas. Rule 6 allows a chunk in slot t exactly if its release is at most t: with it begun, those
+-- of the kept chunks up to it that are due after t are at most H. The chunks begun stand in a list,
+-- the last begun first. Sections 2 and 3 of the argument.
 use Prim.Native.Nat.{ℕ, zero, suc, _+_, _-_, _≤_, _<_, compare·suc-suc}
 use mathlib.Core.Path.{_≡_, refl, sym, ap, _∙_, subst, fun-ext}
 use mathlib.Core.Bool.{Bool, true, false, cond, _&&_, _||_}
@@ -95,7 +96,8 @@ module _ (d : ℕ → ℕ) (d-mono : (x y : ℕ) → x ≤ y → d x ≤ d y) (t
 
 -- ---- the releases still to come
 
--- The releases of the chunks after those begun: of the last h begun their due slots, 1 where fewer have begun, then rs.
+-- The releases of the chunks after those begun: of the last h begun their due slots, 1 where fewer
+-- have begun, then rs.
 abbrev window : (ℕ → ℕ) → ℕ → List ℕ → List ℕ → List ℕ
 window d zero ks rs = rs
 window d (suc h) [] rs = window d h [] (1 ∷ rs)
@@ -133,7 +135,8 @@ with-twice k b = fun-ext (λ i. or-twice (eqb k i) (b i))
     or-twice true y = refl
     or-twice false y = refl
 
--- Where the chunks b have begun: each piece of the queue has the release of its chunk, those before it begun.
+-- Where the chunks b have begun: each piece of the queue has the release of its chunk, those before
+-- it begun.
 abbrev pub Fair : Job → (ℕ → Bool) → List QueuedPiece → Type 0
 Fair j b [] = Unit {0}
 Fair j b (p ∷ ps) = ReleasedAt j (with (p .chunk) b) (p .ready) × Fair j (with (p .chunk) b) ps

@@ -1,5 +1,6 @@
--- Lemmas. When kept chunks fit, said by stretches: the bytes of each run of kept chunks are at most the forecast of the slots from the
--- release of the first to the due slot of the last. The bridge of section 1 of the argument.
+-- Lemmas. When kept chunks fit, said by stretches: the bytes of each run of kept chunks are at most
+-- the forecast of the slots from the release of the first to the due slot of the last. The bridge
+-- of section 1 of the argument.
 use Prim.Native.Nat.{ℕ, zero, suc, _+_, _-_, _≤_, _<_}
 use mathlib.Core.Path.{_≡_}
 use mathlib.Core.Bool.{false, cond}
@@ -19,7 +20,8 @@ abbrev pub total : (ℕ → ℕ) → List ℕ → ℕ
 total w [] = 0
 total w (k ∷ ks) = w k + total w ks
 
--- The release of the m-th kept chunk, counted from 0: slot 1 for the first h, then the due slot of the chunk h places before.
+-- The release of the m-th kept chunk, counted from 0: slot 1 for the first h, then the due slot of
+-- the chunk h places before.
 abbrev pub release : (d : ℕ → ℕ) (h : ℕ) (ks : List ℕ) (m : ℕ) → ℕ
 release d h ks m = cond (ltb m h) 1 (d (getD ks (m - h) 0))
 

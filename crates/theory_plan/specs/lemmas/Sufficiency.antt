@@ -1,5 +1,5 @@
--- Lemmas. A choice that fits has a list: the fill of the kept chunks with their releases passes, rules 1 to 6 one by one.
--- Section 3 of the argument.
+-- Lemmas. A choice that fits has a list: the fill of the kept chunks with their releases passes,
+-- rules 1 to 6 one by one. Section 3 of the argument.
 use Prim.Native.Nat.{ℕ, zero, suc, _+_, _≤_, _<_}
 use mathlib.Core.Path.{_≡_, refl, ap}
 use mathlib.Core.Bool.{Bool, true, false, not, cond, _&&_, _||_}
@@ -92,7 +92,8 @@ few-live-after-due t d k ks [] u f = omega (arith, due-not-counted (leb (d k) t)
 few-live-after-due t d k ks (q ∷ qs) u f =
     omega (arith, due-not-counted (leb q t) (ltb t (d k)) u, rw (append-assoc, length-append) at (f (qs ++ d k ∷ [])))
 
--- At most the length of ps have their release by t and are due after t; with ones h for ps, at most h.
+-- At most the length of ps have their release by t and are due after t; with ones h for ps, at most
+-- h.
 few-live :
     (t : ℕ) (d : ℕ → ℕ) (d-mono : (x y : ℕ) → x ≤ y → d x ≤ d y) (ks ps : List ℕ) (lo c : ℕ) → Asc lo c ks →
     lives t d ks (ps ++ each d ks) ≤ length ps
@@ -142,7 +143,8 @@ still-queue size lv c layers pos lim KS RS (k ∷ ks) (r ∷ rs) lo h a f =
     }))
     (still-queue size lv c layers pos lim KS RS ks rs (suc k) (omega arith) (a .2) (λ t i u. f t i (T-or-iff (eqb k i && leb r t) (live t ks rs i) .1 (inr u))))
 
--- The fill of the chunks ks with their releases, lv k layers of chunk k, few-live-after-due all slots.
+-- The fill of the chunks ks with their releases, lv k layers of chunk k, few-live-after-due all
+-- slots.
 unfoldable pub fetch : Job → (ℕ → ℕ) → List ℕ → List Row
 fetch j lv ks = fill (forecast j) (lastSlot j) 0 (queue (size j) lv ks (releases (due j) (heldMost j) ks))
 

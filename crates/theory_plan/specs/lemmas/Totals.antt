@@ -1,5 +1,5 @@
--- Lemmas. Sums over the numbers of a range that pass a test, one number more or less, and over an ascending list. In general: nothing
--- here knows of jobs.
+-- Lemmas. Sums over the numbers of a range that pass a test, one number more or less, and over an
+-- ascending list. In general: nothing here knows of jobs.
 use Prim.Native.Nat.{ℕ, zero, suc, _+_, _≤_}
 use mathlib.Core.Path.{_≡_, refl}
 use mathlib.Core.Bool.{Bool, true, false, not, cond, _&&_, _||_}

@@ -1,5 +1,6 @@
--- Lemmas. The trials in linear time, as definitions over any sizes, due slots and forecast: a stack of needs for the base, rooms
--- forward and trials back for a layer above it. Linear.antt shows that they take what the plan takes. Assumes nothing. Section 4 of the argument.
+-- Lemmas. The trials in linear time, as definitions over any sizes, due slots and forecast: a stack
+-- of needs for the base, rooms forward and trials back for a layer above it. Linear.antt shows that
+-- they take what the plan takes. Assumes nothing. Section 4 of the argument.
 use Prim.Native.Nat.{ℕ, zero, suc, _+_, _-_, max, min}
 use mathlib.Core.Bool.{Bool, true, cond, _&&_}
 use mathlib.Core.List.{List, [], _∷_, map}
@@ -14,13 +15,15 @@ use Rattle.theory_plan.specs.Plan.{byMooreHodgson}
 use Rattle.theory_plan.specs.lemmas.Necessity.{after}
 use Rattle.theory_plan.specs.lemmas.Sufficiency.{releases}
 
--- ---- the base: chunks from the last down, and the needs of the kept ones, the one kept last in front
+-- ---- the base: chunks from the last down, and the needs of the kept ones, the one kept last in
+-- front
 
 pub record Stack : Type 0 where
   pub needs : List ℕ
   pub chunks : List ℕ
 
--- s: the base's bytes of a chunk; d: its due slot; A t: what is forecast after slot t; h: how many chunks may be held.
+-- s: the base's bytes of a chunk; d: its due slot; A t: what is forecast after slot t; h: how many
+-- chunks may be held.
 module _ (s d A : ℕ → ℕ) where
   -- The need of chunk i in front of the kept ones.
   abbrev pub candidate : List ℕ → ℕ → ℕ
@@ -51,8 +54,9 @@ pub record Kept : Type 0 where
   pub bytes : ℕ
   pub mark : ℕ
 
--- How much of the forecast, counted from its end, the chunks from each one on may use up: what its release leaves, and what the
--- chunk before it leaves. ws: the bytes of the chunks; rs: their releases.
+-- How much of the forecast, counted from its end, the chunks from each one on may use up: what its
+-- release leaves, and what the chunk before it leaves. ws: the bytes of the chunks; rs: their
+-- releases.
 abbrev pub rooms : (ℕ → ℕ) → ℕ → List ℕ → List ℕ → List ℕ
 rooms A room [] rs = []
 rooms A room (w ∷ ws) [] = []
@@ -93,7 +97,8 @@ keptAt j lv k = record { chunk = k; due = due j k; bytes = sum (size j k) (lv k)
 
 -- ---- all layers
 
--- Layer n over what the layers below have settled. room: what all chunks together may use up; rs: the releases.
+-- Layer n over what the layers below have settled. room: what all chunks together may use up; rs:
+-- the releases.
 abbrev pub onLayer : (ℕ → ℕ → ℕ) → (ℕ → ℕ) → ℕ → List ℕ → ℕ → List Kept → List Kept
 onLayer size A room rs n ks = back size A n (rooms A room (map bytesKept ks) rs) ks .kept
 

@@ -1,5 +1,6 @@
--- Lemmas. The words that say what a plan is leave one choice only. Trial by trial, in the order in which layers are settled: where all
--- that is settled before agrees, so does what the trial settles.
+-- Lemmas. The words that say what a plan is leave one choice only. Trial by trial, in the order in
+-- which layers are settled: where all that is settled before agrees, so does what the trial
+-- settles.
 -- Section 3 of the argument.
 use Prim.Native.Nat.{ℕ, zero, suc, _+_, _≤_, _<_, min}
 use mathlib.Core.Path.{_≡_, refl, sym, ap}
@@ -44,7 +45,8 @@ below p n k = min (p k) n
 abbrev pub Follows : (c n : ℕ) (p q : ℕ → ℕ) → Type 0
 Follows c n p q = (i : ℕ) → 1 ≤ i → i ≤ c → ((k : ℕ) → i < k → k ≤ c → below p (suc n) k ≡ below q (suc n) k) → n < p i → n < q i
 
--- Where each follows the other, and they agree below n, they agree up to it: from the last of c chunks down to lo + 1.
+-- Where each follows the other, and they agree below n, they agree up to it: from the last of c
+-- chunks down to lo + 1.
 pub same-down :
     (c n : ℕ) (p q : ℕ → ℕ) → Follows c n p q → Follows c n q p → ((k : ℕ) → 1 ≤ k → k ≤ c → below p n k ≡ below q n k) → (m lo : ℕ) →
     lo + m ≡ c → (k : ℕ) → lo < k → k ≤ c → below p (suc n) k ≡ below q (suc n) k

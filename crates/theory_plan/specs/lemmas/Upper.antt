@@ -1,5 +1,6 @@
--- Lemmas. A layer above the base, in playing order: where the layers below are the plan's, the plan carries it for as many chunks as any
--- choice that fits, if it has one size. Section 5 (c) of the argument, for layer n.
+-- Lemmas. A layer above the base, in playing order: where the layers below are the plan's, the plan
+-- carries it for as many chunks as any choice that fits, if it has one size. Section 5 (c) of the
+-- argument, for layer n.
 use Prim.Native.Nat.{ℕ, zero, suc, _+_, _*_, _-_, _≤_, _<_, max, min}
 use mathlib.Core.Path.{_≡_, refl, ap}
 use mathlib.Core.Bool.{Bool, true, false, not, cond}
@@ -31,8 +32,8 @@ among-count : (q : ℕ → Bool) (lo m : ℕ) → among q lo m + count q lo ≡ 
 among-count q lo zero = let e : 0 + lo ≡ lo = omega arith in rw e (omega arith)
 among-count q lo (suc m) = let e : suc m + lo ≡ m + suc lo = omega arith in rw e (omega (arith, among-count q (suc lo) m))
 
--- The scan goes from the last chunk down: g and c are how many the plan and the other have taken, np and nx what they need. One chunk:
--- the plan takes the layer if a, the other if b.
+-- The scan goes from the last chunk down: g and c are how many the plan and the other have taken,
+-- np and nx what they need. One chunk: the plan takes the layer if a, the other if b.
 scan-step :
     (a b : Bool) (s r np nx g c z : ℕ) → c ≤ g → np + c * z ≤ nx + g * z → (T (not a) → T b → c < g) →
     (bit b + c ≤ bit a + g) × (s + cond a z 0 + max r np + (bit b + c) * z ≤ s + cond b z 0 + max r nx + (bit a + g) * z)
@@ -71,7 +72,8 @@ module _
       rw (e, le-ltb n (lv k) l) (omega arith))
       (test (ltb n (lv k)))
 
-  -- ---- where the layer is tried at lo + 1, the other takes it, and the plan needs no more behind it, the plan takes it
+  -- ---- where the layer is tried at lo + 1, the other takes it, and the plan needs no more behind
+  -- it, the plan takes it
 
   module _
       (lo m : ℕ) (all : lo + suc m ≡ chunks j) (takes : n < x (suc lo))

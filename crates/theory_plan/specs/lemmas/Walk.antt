@@ -1,5 +1,6 @@
--- Lemmas. The walk over the bases, as lists of numbers: what is dropped, that one drop is enough, and that what is kept at the end fits
--- at every place. s k: the bytes of chunk k; room i: what those of chunks 1 to i may sum to. Assumes nothing of them but that room rises.
+-- Lemmas. The walk over the bases, as lists of numbers: what is dropped, that one drop is enough,
+-- and that what is kept at the end fits at every place. s k: the bytes of chunk k; room i: what
+-- those of chunks 1 to i may sum to. Assumes nothing of them but that room rises.
 use Prim.Native.Nat.{ℕ, zero, suc, _+_, _≤_, _<_}
 use mathlib.Core.Path.{_≡_, refl}
 use mathlib.Core.List.{List, [], _∷_, _++_}

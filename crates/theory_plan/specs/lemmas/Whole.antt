@@ -1,5 +1,5 @@
--- Lemmas. Where the limit holds the whole programme, in any order: at the first layer where the counts differ the plan has more, if each
--- layer has one size. Section 5 (d) of the argument.
+-- Lemmas. Where the limit holds the whole programme, in any order: at the first layer where the
+-- counts differ the plan has more, if each layer has one size. Section 5 (d) of the argument.
 use Prim.Native.Nat.{ℕ, zero, suc, _+_, _*_, _-_, _≤_, _<_, min}
 use mathlib.Core.Path.{_≡_, refl, sym, _∙_}
 use mathlib.Core.Bool.{cond}
@@ -36,7 +36,8 @@ module _ (j : Job) (sized : Sized j) (z : ℕ → ℕ) (equal : (i n : ℕ) → 
       ∙ sum-swap (λ k m. cond (ltb m (lv k)) (z m) 0) b (layers j)
       ∙ sum-cong (λ m. pre (λ k. cond (ltb m (lv k)) (z m) 0) b) (λ m. count (λ k. ltb m (lv k)) b * z m) (layers j) (λ m u. pre-of-tests (λ k. ltb m (lv k)) (z m) b)
 
-  -- Of two choices, the one that carries each layer for fewer of the chunks up to b has fewer bytes there.
+  -- Of two choices, the one that carries each layer for fewer of the chunks up to b has fewer bytes
+  -- there.
   prefix-le :
       (y x : ℕ → ℕ) → Choice j y → Choice j x → (b : ℕ) → b ≤ chunks j →
       ((m : ℕ) → m < layers j → count (λ k. ltb m (y k)) b ≤ count (λ k. ltb m (x k)) b) → pre (bytes j y) b ≤ pre (bytes j x) b
@@ -53,7 +54,8 @@ module _ (j : Job) (sized : Sized j) (z : ℕ → ℕ) (equal : (i n : ℕ) → 
 
     -- Otherwise the plan carries layer n of chunk y, and of a later chunk x only the layers below.
     module _ (n y x : ℕ) (ry : 1 ≤ y) (yx : y < x) (rx : x ≤ chunks j) (ln : n < layers j) (has-y : n < p y) (at-x : p x ≡ n) where
-      -- The trial of x has the layer's bytes at x where the trial of y has them at y, and no others more.
+      -- The trial of x has the layer's bytes at x where the trial of y has them at y, and no others
+      -- more.
       trial-exchanged :
           (k : ℕ) → 1 ≤ k → k ≤ chunks j → bytes j (tried p n x) k + point y (z n) k ≤ bytes j (tried p n y) k + point x (z n) k
       trial-exchanged k g h =
@@ -129,7 +131,8 @@ module _ (j : Job) (sized : Sized j) (z : ℕ → ℕ) (equal : (i n : ℕ) → 
     module _
         (n : ℕ) (ln : n < layers j) (l : List Row) (ok : Passes j l) (x : ℕ → ℕ) (cx : Choice j x) (ax : CarriesExactly j l x)
         (same : (m : ℕ) → m < n → countOf j x m ≡ countOf j p m) where
-      -- If it had more of layer n: look at the trial of the last chunk i that the plan leaves without layer n.
+      -- If it had more of layer n: look at the trial of the last chunk i that the plan leaves
+      -- without layer n.
       module _
           (i : ℕ) (ri : 1 ≤ i) (hi : i ≤ chunks j) (lacks : p i ≤ n) (rest : (k : ℕ) → i < k → k ≤ chunks j → n < p k)
           (more : countOf j p n < countOf j x n) where
@@ -156,7 +159,8 @@ module _ (j : Job) (sized : Sized j) (z : ℕ → ℕ) (equal : (i n : ℕ) → 
             )))
             (test (ltb m (p i)))
 
-        -- The trial has layers 0 to n from i on, and what the plan has below n before it; so it rises.
+        -- The trial has layers 0 to n from i on, and what the plan has below n before it; so it
+        -- rises.
         tried-late : (k : ℕ) → i ≤ k → k ≤ chunks j → tried p n i k ≡ suc n
         tried-late k g h =
             ⊎-elim

@@ -1,4 +1,5 @@
--- Lemmas. Words of the argument that document 01 does not have, and the order of due slots and forecasts. Section 1 of the argument.
+-- Lemmas. Words of the argument that document 01 does not have, and the order of due slots and
+-- forecasts. Section 1 of the argument.
 use Prim.Native.Nat.{ℕ, suc, _-_, _≤_, _<_}
 use mathlib.Core.Bool.{Bool}
 use mathlib.Core.List.{List}
@@ -38,7 +39,8 @@ after-anti j x y h = omega (arith, pre-mono (forecast j) x y h)
 pub layer-of : (j : Job) (i n : ℕ) → 1 ≤ i → i ≤ chunks j → n < layers j → Layer j i n
 layer-of j i n u v w = record { chunk-low = u; chunk-high = v; layer-in = w }
 
--- Every layer has at least one byte. Sizes may differ by chunk and layer: this is all that the decision asks of them.
+-- Every layer has at least one byte. Sizes may differ by chunk and layer: this is all that the
+-- decision asks of them.
 abbrev pub Sized : Job → Type 0
 Sized j = (i n : ℕ) → Layer j i n → 1 ≤ size j i n
 

@@ -1,5 +1,5 @@
--- Lemmas. From the places of Runs to the kept chunks of a choice: their slots rise, carry is a difference of forecasts, and no stretch
--- needs more than it carries exactly if the choice fits.
+-- Lemmas. From the places of Runs to the kept chunks of a choice: their slots rise, carry is a
+-- difference of forecasts, and no stretch needs more than it carries exactly if the choice fits.
 use Prim.Native.Nat.{ℕ, zero, suc, _+_, _-_, _≤_, _<_}
 use mathlib.Core.Path.{_≡_, refl, ap}
 use mathlib.Core.Bool.{cond, not}
@@ -213,7 +213,8 @@ module _ (j : Job) (acc : Accepted j) (choice : ℕ → ℕ) where
   pub none-late-fits : ((m : ℕ) → m < c → T (not (late w d r F m))) → Fits j choice
   none-late-fits f = runs-fit (λ k m h l. omega (arith, used-covers w d r F m k h, nltb→le (F (d m)) (used w d r F (suc m)) (f m l)))
 
-  -- The stretch of the first late chunk, and of the last from which the run to it breaks the forecast, is the one named.
+  -- The stretch of the first late chunk, and of the last from which the run to it breaks the
+  -- forecast, is the one named.
   pub found-named : (m k : ℕ) → Found w d r F c m k → Named j choice (r k) (d m)
   found-named m k f =
       let ok = rising j acc choice in

@@ -1,5 +1,6 @@
--- Lemmas. The stretch with the smallest last slot, then the greatest first slot, among those that need more than is forecast: it ends
--- where a place is due and begins where a place can begin. Places, w, d, r and F as in Runs.
+-- Lemmas. The stretch with the smallest last slot, then the greatest first slot, among those that
+-- need more than is forecast: it ends where a place is due and begins where a place can begin.
+-- Places, w, d, r and F as in Runs.
 use Prim.Native.Nat.{ℕ, zero, suc, _+_, _-_, _≤_, _<_, max, min}
 use mathlib.Core.Path.{_≡_, refl, sym, ap, subst, _∙_}
 use mathlib.Core.Bool.{Bool, true, not, cond, _&&_}
@@ -24,7 +25,8 @@ module _ (w d r F : ℕ → ℕ) where
   abbrev pub needIn : ℕ → ℕ → ℕ → ℕ
   needIn c a b = sum (λ q. cond (leb a (r q) && leb (d q) b) (w q) 0) c
 
-  -- What is spent of the forecast, counted from slot 1, when the first places have their bytes as early as can be.
+  -- What is spent of the forecast, counted from slot 1, when the first places have their bytes as
+  -- early as can be.
   abbrev pub used : ℕ → ℕ
   used zero = 0
   used (suc m) = max (used m) (F (r m - 1)) + w m

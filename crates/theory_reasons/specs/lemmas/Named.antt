@@ -1,5 +1,5 @@
--- Lemmas. The stretch named: the two passes of Search give it for a choice that does not fit, and so does the search over all stretches;
--- and one line under each missing layer.
+-- Lemmas. The stretch named: the two passes of Search give it for a choice that does not fit, and
+-- so does the search over all stretches; and one line under each missing layer.
 use Prim.Native.Nat.{ℕ, zero, suc, _+_, _-_, _≤_, _<_}
 use mathlib.Core.Path.{_≡_, refl, sym, ap, _∙_}
 use mathlib.Core.Bool.{Bool, cond}

@@ -1,4 +1,5 @@
--- Lemmas. The list of missing layers has each layer of the job that the plan doesn't carry, by chunk and then layer, and no other.
+-- Lemmas. The list of missing layers has each layer of the job that the plan doesn't carry, by
+-- chunk and then layer, and no other.
 use Prim.Native.Nat.{ℕ, zero, suc, _+_, _-_, _≤_, _<_}
 use mathlib.Core.Path.{_≡_, refl, _∙_}
 use mathlib.Core.Bool.{cond}

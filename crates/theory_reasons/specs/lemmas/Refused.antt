@@ -1,5 +1,5 @@
--- Lemmas. Each missing layer whose lower ones are carried was refused, against the choice that its line is held against: so there are
--- lines, and no others.
+-- Lemmas. Each missing layer whose lower ones are carried was refused, against the choice that its
+-- line is held against: so there are lines, and no others.
 use Prim.Native.Nat.{ℕ, zero, suc, _≤_, _<_}
 use mathlib.Core.Path.{_≡_, refl}
 use mathlib.Core.Bool.{not}
@@ -44,7 +44,8 @@ lines-unique j plan held ls ms = under-unique (Reason j plan held) (reason-uniqu
 one-refused : (j : Job) (p : ℕ → ℕ) → Choice j p → (n : ℕ) → Settles j p n → (i : ℕ) → Layer j i n → p i ≡ n → Choice j (settledBefore p i n) × (CanCarry j (settledBefore p i n) → ⊥)
 one-refused j p c n s i l e = (tried-choice j p i n c (l .layer-in), λ can. let u = s i l .1 (omega arith, can) in omega arith)
 
--- ---- bases settled by request 9, against all bases kept: with one more there would be more than any passing list carries
+-- ---- bases settled by request 9, against all bases kept: with one more there would be more than
+-- any passing list carries
 
 module _ (j : Job) (p : ℕ → ℕ) (most : (other : List Row) → Passes j other → layerCount j other 0 ≤ countOf j p 0) where
   one-more-base : (i : ℕ) → Layer j i 0 → p i ≡ 0 → CanCarry j (allBases p i) → ⊥

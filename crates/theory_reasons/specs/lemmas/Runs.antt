@@ -1,5 +1,6 @@
--- Lemmas. Stretches over places 0, 1, .., c - 1, in general: place q has w q bytes, can begin in slot r q and is due in slot d q, and
--- F t is what is forecast up to slot t. Nothing here knows of jobs.
+-- Lemmas. Stretches over places 0, 1, .., c - 1, in general: place q has w q bytes, can begin in
+-- slot r q and is due in slot d q, and F t is what is forecast up to slot t. Nothing here knows of
+-- jobs.
 use Prim.Native.Nat.{ℕ, zero, suc, _+_, _-_, _≤_, _<_}
 use mathlib.Core.Path.{_≡_, refl}
 use mathlib.Core.Bool.{Bool, true, false, not, cond, _&&_}

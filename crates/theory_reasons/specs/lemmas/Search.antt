@@ -1,5 +1,5 @@
--- Lemmas. The search in two passes over the places: forward to the first that is late, then back to where the stretch begins. Linear in
--- the places. Places, w, d, r and F as in Runs.
+-- Lemmas. The search in two passes over the places: forward to the first that is late, then back to
+-- where the stretch begins. Linear in the places. Places, w, d, r and F as in Runs.
 use Prim.Native.Nat.{ℕ, zero, suc, _+_, _-_, _≤_, _<_, max}
 use mathlib.Core.Path.{_≡_, refl, sym, ap, subst, _∙_}
 use mathlib.Core.Bool.{Bool, not, cond, _&&_}
@@ -19,12 +19,14 @@ pub record Begin : Type 0 where
   pub need : ℕ
 
 module _ (w d r F : ℕ → ℕ) where
-  -- Forward: u is spent before place `at`, and n places are left. What comes is the first place that is late, or the end.
+  -- Forward: u is spent before place `at`, and n places are left. What comes is the first place
+  -- that is late, or the end.
   abbrev pub forward : ℕ → ℕ → ℕ → ℕ
   forward u at zero = at
   forward u at (suc n) = let v = max u (F (r at - 1)) + w at in cond (ltb (F (d at)) v) at (forward v (suc at) n)
 
-  -- Back from the late place: s are the bytes of the places from k on, and `most` is what is forecast up to its due slot.
+  -- Back from the late place: s are the bytes of the places from k on, and `most` is what is
+  -- forecast up to its due slot.
   abbrev pub back : ℕ → ℕ → ℕ → Begin
   back most s zero = record { first = 0; carry = 0; need = s }
   back most s (suc k) =
@@ -107,7 +109,8 @@ module _ (w d r F : ℕ → ℕ) where
 
   -- ---- both
 
-  -- Where a place is late, the search gives the stretch of the first that is, and of the last from which the run to it breaks.
+  -- Where a place is late, the search gives the stretch of the first that is, and of the last from
+  -- which the run to it breaks.
   pub record Searched (c : ℕ) (s : Stretch) : Type 0 where
     pub to : ℕ
     pub from : ℕ

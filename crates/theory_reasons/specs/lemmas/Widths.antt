@@ -173,8 +173,8 @@ module _ (j : Job) (acc : Accepted j) (plan : ℕ → ℕ) (held : ℕ → ℕ �
       (test (ltb (plan (suc i)) (layers j))) in
       omega (arith, text-append lineOfPlace (missingTo plan (layers j) i) (missingOf plan (suc i) (layers j)), to-chunk i (omega arith), here)
 
-  -- The output of an accepted job has at most 94,000 bytes: for each of 500 chunks 74 in the line of its first missing layer, and 38 in
-  -- each of 3 more.
+  -- The output of an accepted job has at most 94,000 bytes: for each of 500 chunks 74 in the line
+  -- of its first missing layer, and 38 in each of 3 more.
   pub lines-fit : (ls : List Line) → Reasons j plan held ls → length (reasonsText ls) ≤ 94000
   lines-fit ls r =
       let e = lines-unique j plan held ls (linesOf j plan held) r (lines-hold j acc plan held refuses) in

@@ -1,5 +1,6 @@
--- Lemmas. The fetched rows may come in any order: the refusal, what is settled and the own rows from p on are the same. So a standing plan
--- goes on from its own rows before p in whatever order they are fetched.
+-- Lemmas. The fetched rows may come in any order: the refusal, what is settled and the own rows
+-- from p on are the same. So a standing plan goes on from its own rows before p in whatever order
+-- they are fetched.
 use Prim.Native.Nat.{ℕ, zero, suc, _+_, _-_, _≤_, _<_, max, min}
 use mathlib.Core.Path.{_≡_, refl, sym, ap, _∙_, subst, fun-ext}
 use mathlib.Core.Bool.{Bool, true, false, cond, _&&_, _||_}

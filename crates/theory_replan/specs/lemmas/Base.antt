@@ -1,6 +1,8 @@
--- Lemmas. The bases in linear time, chunks from the last down. A chunk that is not begun is kept exactly if, in front of the kept ones and
--- behind the begun ones, it passes the landed test of a stack of needs, and each begun chunk its own (`base-new`). A begun chunk whose
--- base is not whole is kept exactly if what is left of it fits before those behind it (`base-begun`). README.md has the pass.
+-- Lemmas. The bases in linear time, chunks from the last down. A chunk that is not begun is kept
+-- exactly if, in front of the kept ones and behind the begun ones, it passes the landed test of a
+-- stack of needs, and each begun chunk its own (`base-new`). A begun chunk whose base is not whole
+-- is kept exactly if what is left of it fits before those behind it (`base-begun`). README.md has
+-- the pass.
 use Prim.Native.Nat.{ℕ, zero, suc, _+_, _-_, _≤_, _<_, max, min}
 use mathlib.Core.Path.{_≡_, refl, sym, ap, _∙_, subst}
 use mathlib.Core.Bool.{Bool, true, false, not, cond, _&&_, _||_}

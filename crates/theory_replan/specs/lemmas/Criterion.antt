@@ -1,6 +1,7 @@
--- Lemmas. The criterion in the form that the code may decide: only the chunks due from p on are asked, the others must have nothing left;
--- the begun ones among them stand in front, are at most H, and have nothing to be fetched until they are tried; and one layer tried
--- for a fixed list of chunks in one pass forward and one back. See README.md for how the passes go together.
+-- Lemmas. The criterion in the form that the code may decide: only the chunks due from p on are
+-- asked, the others must have nothing left; the begun ones among them stand in front, are at most
+-- H, and have nothing to be fetched until they are tried; and one layer tried for a fixed list of
+-- chunks in one pass forward and one back. See README.md for how the passes go together.
 use Prim.Native.Nat.{ℕ, zero, suc, _+_, _-_, _≤_, _<_, max, min}
 use mathlib.Core.Path.{_≡_, refl, sym, ap, _∙_, subst}
 use mathlib.Core.Bool.{Bool, true, false, not, cond, _&&_, _||_}
@@ -132,7 +133,8 @@ begun-few j p fetched ok =
 
 -- ---- begun chunks in front
 
--- What the begun chunks bs ask of those behind them, whose needs are ns: the one that stands h places behind fits from the due slot on.
+-- What the begun chunks bs ask of those behind them, whose needs are ns: the one that stands h
+-- places behind fits from the due slot on.
 abbrev pub FrontOk : (d A : ℕ → ℕ) (h : ℕ) → List ℕ → List ℕ → Type 0
 FrontOk d A h [] ns = Unit {0}
 FrontOk d A h (b ∷ bs) ns = (getD ns (h - length (b ∷ bs)) 0 ≤ A (d b - 1)) × FrontOk d A h bs ns

@@ -1,5 +1,6 @@
--- Lemmas. The decision from slot p on: some list that begins with the rows fetched carries exactly a choice if and only if the choice
--- fits, and then the fetched rows with the own rows from p on are one.
+-- Lemmas. The decision from slot p on: some list that begins with the rows fetched carries exactly
+-- a choice if and only if the choice fits, and then the fetched rows with the own rows from p on
+-- are one.
 use Prim.Native.Nat.{ℕ, zero, suc, _+_, _-_, _≤_, _<_}
 use mathlib.Core.Path.{_≡_, refl, sym, ap, _∙_, subst}
 use mathlib.Core.Bool.{Bool, not, _&&_}
@@ -51,7 +52,8 @@ module _ (j : Job) (sized : Sized j) (p : ℕ) (fetched : List Row) (ok : Accept
   carried-in : (i n : ℕ) → Layer j i n → n < lv i → Carried j rows i n
   carried-in i n r h = sums i n ∙ target-in j sized p fetched ok lv choice f i n (r .chunk-low) (r .chunk-high) h
 
-  -- A layer that is not of the choice has its fetched rows and no others, and they are short of its size.
+  -- A layer that is not of the choice has its fetched rows and no others, and they are short of its
+  -- size.
   carried-out : (i n : ℕ) → Layer j i n → lv i ≤ n → (bytesOfLayer rows i n ≡ bytesOfLayer fetched i n) × (bytesOfLayer fetched i n < size j i n)
   carried-out i n r h = (
     sums i n ∙ target-out j sized p fetched ok lv choice f i n (r .chunk-low) (r .chunk-high) h,

@@ -1,5 +1,6 @@
--- Lemmas, then the theorem `rest-is-fill`: the own rows from p on, which ask rule 6 itself, are the landed fill from slot p on, of the
--- layers still to be fetched, with the landed releases of the chunks begun or kept and due from p on. So the code's fill serves as it is.
+-- Lemmas, then the theorem `rest-is-fill`: the own rows from p on, which ask rule 6 itself, are the
+-- landed fill from slot p on, of the layers still to be fetched, with the landed releases of the
+-- chunks begun or kept and due from p on. So the code's fill serves as it is.
 use Prim.Native.Nat.{ℕ, zero, suc, _+_, _-_, _≤_, _<_}
 use mathlib.Core.Path.{_≡_, refl, sym, ap, _∙_, subst, fun-ext}
 use mathlib.Core.Bool.{Bool, true, false, not, cond, _&&_, _||_}
@@ -259,7 +260,8 @@ module _ (j : Job) (sized : Sized j) (p : ℕ) (fetched : List Row) (ok : Accept
       ∙ append-assoc (g .rows) (o .rows) (fill B n (suc u) (o .rest))
       ∙ ap (λ (i : ℕ). g .rows ++ (take-slot i (B i) (map piece (g .left)) .rows ++ fill B n (suc u) (take-slot i (B i) (map piece (g .left)) .rest))) (sym s)
 
-  -- The own rows from p on are the fill from p on of what is left, each layer with its chunk's release.
+  -- The own rows from p on are the fill from p on of what is left, each layer with its chunk's
+  -- release.
   pub rest-is-fill :
       ownRest j p fetched lv ≡ fill (forecast j) (suc (lastSlot j) - p) (p - 1) (map piece (unfetched fetched (carriedTo j lv (chunks j))))
   unfolding ownRest

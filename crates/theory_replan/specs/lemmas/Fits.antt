@@ -1,5 +1,6 @@
--- Lemmas. When a choice can still be carried from slot p on, as the code may decide it: the chunks begun or kept fit, each with the
--- bytes still to be fetched, into the forecast from p on. Then one half of the decision: what can be carried fits.
+-- Lemmas. When a choice can still be carried from slot p on, as the code may decide it: the chunks
+-- begun or kept fit, each with the bytes still to be fetched, into the forecast from p on. Then one
+-- half of the decision: what can be carried fits.
 use Prim.Native.Nat.{ℕ, zero, suc, _+_, _-_, _≤_, _<_, max}
 use mathlib.Core.Path.{_≡_, refl, sym, ap, _∙_}
 use mathlib.Core.Bool.{Bool, true, false, not, cond, _&&_, _||_}

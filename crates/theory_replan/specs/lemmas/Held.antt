@@ -1,4 +1,5 @@
--- Lemmas. Which chunks are begun and held when rows are added, and that rule 6 is kept by each row that it allows.
+-- Lemmas. Which chunks are begun and held when rows are added, and that rule 6 is kept by each row
+-- that it allows.
 use Prim.Native.Nat.{ℕ, suc, _+_, _≤_, _<_}
 use mathlib.Core.Path.{_≡_, refl}
 use mathlib.Core.Bool.{Bool, not, _&&_, _||_}
@@ -48,7 +49,8 @@ in-last x y here = refl
 in-last x y (there m) = absurd (at-row (λ x. ⊥) m tt)
 
 module _ (j : Job) (rows : List Row) (t : ℕ) (slots : All (λ x. x .slot ≤ t) rows) where
-  -- A chunk held with one row of p more, in slot t, at the end of some slot: held before, or held at the end of t as `allowed` asks.
+  -- A chunk held with one row of p more, in slot t, at the end of some slot: held before, or held
+  -- at the end of t as `allowed` asks.
   held-early : (p : Piece) (b s i : ℕ) → s < t → T (held j (rows ++ (rowOf t p b ∷ [])) s i) → T (held j rows s i)
   held-early p b s i h u =
       let v = and-T (begun (rows ++ (rowOf t p b ∷ [])) s i) (ltb s (due j i)) u in

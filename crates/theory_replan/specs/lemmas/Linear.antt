@@ -1,5 +1,6 @@
--- Theorems. What the linear passes make of a plan made afresh: the new chunks, the begun chunks, and each layer above the base. The code
--- may compute the right-hand sides' left; nothing else is asked of it.
+-- Theorems. What the linear passes make of a plan made afresh: the new chunks, the begun chunks,
+-- and each layer above the base. The code may compute the right-hand sides' left; nothing else is
+-- asked of it.
 use Prim.Native.Nat.{ℕ, zero, suc, _+_, _-_, _≤_, _<_, max, min}
 use mathlib.Core.Path.{_≡_, ap, _∙_}
 use mathlib.Core.Bool.{Bool, _&&_}
@@ -50,7 +51,8 @@ module _ (j : Job) (a : Accepted j) (p : ℕ) (fetched : List Row) (ok : Accepta
         let some = a .layers-in .low in
         bases-new-are j sized p fetched ok some plan (is-replan-fits j p fetched ok sized plan d) (λ i u v. is-replan-accepts j p fetched ok sized plan d i 0 (layer-of j i 0 u v some)) last behind last (chunks j - last) (omega arith) (omega arith)
 
-    -- From the need of the new chunks on; 1 layer for each base kept, and the layers whole before p.
+    -- From the need of the new chunks on; 1 layer for each base kept, and the layers whole before
+    -- p.
     pub begun-bases :
         basesBegun (λ b. rest b 0) (due j) A (λ b. leb 1 (level j fetched b)) (A 0) (needOf one (due j) A (picked isKept last (chunks j - last))) (picked isBegun 0 last) ≡
         record { need = needOf (bytesLeft j fetched (λ e. max (level j fetched e) (min (plan e) 1))) (due j) A (busyFrom j p fetched plan); kept = picked (λ i. isBegun i && isKept i) 0 last }

@@ -1,5 +1,6 @@
--- Lemmas. How far the own list of document 01 has come after some slots: its rows stand by slot, what is left is what those rows leave of
--- the carried bytes, and no row is of a later layer than one that is left.
+-- Lemmas. How far the own list of document 01 has come after some slots: its rows stand by slot,
+-- what is left is what those rows leave of the carried bytes, and no row is of a later layer than
+-- one that is left.
 use Prim.Native.Nat.{ℕ, zero, suc, _+_, _-_, _≤_, _<_}
 use mathlib.Core.Path.{_≡_, refl, sym, ap, _∙_, subst}
 use mathlib.Core.Bool.{Bool, true, false, not, cond, _&&_}

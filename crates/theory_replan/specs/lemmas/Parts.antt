@@ -1,5 +1,6 @@
--- Lemmas. Lists of parts, in general: what they hold, what they need, that their layers rise; and what a need is bounded by if rule 6
--- holds a chunk back. d k is the due slot of chunk k, A t what is forecast after slot t, w k the bytes left of chunk k.
+-- Lemmas. Lists of parts, in general: what they hold, what they need, that their layers rise; and
+-- what a need is bounded by if rule 6 holds a chunk back. d k is the due slot of chunk k, A t what
+-- is forecast after slot t, w k the bytes left of chunk k.
 use Prim.Native.Nat.{ℕ, zero, suc, _+_, _-_, _≤_, _<_, max}
 use mathlib.Core.Path.{_≡_, refl, sym, ap, _∙_}
 use mathlib.Core.Bool.{Bool, true, false, not, cond, _&&_, _||_}
@@ -139,7 +140,8 @@ module _ (w d A : ℕ → ℕ) where
   need-since c (k ∷ ks) =
       by-cond (λ (l : List ℕ). needOf w d A l ≤ needOf w d A (k ∷ ks)) (ltb k c) (λ t. omega (arith, need-since c ks)) (λ t. omega arith)
 
-  -- Where more than m of the chunks are up to c, those from c on are among those behind the first m.
+  -- Where more than m of the chunks are up to c, those from c on are among those behind the first
+  -- m.
   need-behind-first :
       (p : ℕ → Bool) (c m lo hi : ℕ) (ks : List ℕ) → Asc lo hi ks → suc m ≤ upToCount p c ks →
       needOf w d A (since c ks) ≤ needOf w d A (drop m ks)

@@ -1,5 +1,6 @@
--- Lemmas. The base passes as the code makes them: the stack of needs over the chunks that play after all begun ones, and then the begun
--- ones from the last to the first; and that they keep the chunks of the plan made afresh and hand on its need.
+-- Lemmas. The base passes as the code makes them: the stack of needs over the chunks that play
+-- after all begun ones, and then the begun ones from the last to the first; and that they keep the
+-- chunks of the plan made afresh and hand on its need.
 use Prim.Native.Nat.{ℕ, zero, suc, _+_, _-_, _≤_, _<_, max, min}
 use mathlib.Core.Path.{_≡_, refl, sym, ap, _∙_, subst}
 use mathlib.Core.Bool.{Bool, true, false, not, cond, _&&_}
@@ -57,7 +58,8 @@ abbrev pub frontOk : (d A : ℕ → ℕ) (h : ℕ) → List ℕ → List ℕ →
 frontOk d A h [] ns = true
 frontOk d A h (b ∷ bs) ns = leb (getD ns (h - length (b ∷ bs)) 0) (A (d b - 1)) && frontOk d A h bs ns
 
--- A chunk that is not begun, in front of the kept ones. s: the base's bytes; d: due slot; A: what is forecast after a slot.
+-- A chunk that is not begun, in front of the kept ones. s: the base's bytes; d: due slot; A: what
+-- is forecast after a slot.
 module _ (s d A : ℕ → ℕ) (p h : ℕ) (bs : List ℕ) where
   abbrev pub keepsNew : List ℕ → ℕ → Bool
   keepsNew ns i = leb p (d i) && (keeps s d A h ns i && frontOk d A h bs (candidate s d A ns i ∷ ns))

@@ -1,5 +1,6 @@
--- Lemmas. The plan made afresh, computed: the trials in document 01's order, from the layers whole before p on, each decided by whether
--- the choice fits; that it is one in the sense of Statement, and the only one.
+-- Lemmas. The plan made afresh, computed: the trials in document 01's order, from the layers whole
+-- before p on, each decided by whether the choice fits; that it is one in the sense of Statement,
+-- and the only one.
 use Prim.Native.Nat.{ℕ, zero, suc, _+_, _-_, _≤_, _<_, max}
 use mathlib.Core.Path.{_≡_, refl, sym, ap, _∙_, subst}
 use mathlib.Core.Bool.{Bool, true, false, not, cond, _&&_, _||_}
@@ -178,7 +179,8 @@ module _ (j : Job) (p : ℕ) (fetched : List Row) (ok : Acceptable j p fetched) 
     pub is-replan-fits : (plan : ℕ → ℕ) → IsReplan j p fetched plan → FitsFrom j p fetched plan
     is-replan-fits plan d = fits-from-cong j p fetched (replan j p fetched) plan (replans-agree (replan j p fetched) plan replan-is-replan d) replan-fits
 
-    -- It carries a layer exactly if that is whole before p, or its chunk is due from p on, the layers below are carried and what is tried fits.
+    -- It carries a layer exactly if that is whole before p, or its chunk is due from p on, the
+    -- layers below are carried and what is tried fits.
     pub is-replan-accepts :
         (plan : ℕ → ℕ) → IsReplan j p fetched plan → (i n : ℕ) → Layer j i n →
         (n < plan i) ↔ ((n < level j fetched i) ⊎ ((p ≤ due j i) × (n ≤ plan i) × FitsFrom j p fetched (triedFrom j fetched plan n i)))

@@ -1,5 +1,6 @@
--- Lemmas. The slots from p on fetch all that a fitting choice has left: one invariant over the rows taken and one over the slots. Where
--- rule 6 holds a chunk back, more than H chunks up to it are due later, and what is left from it on fits behind that slot.
+-- Lemmas. The slots from p on fetch all that a fitting choice has left: one invariant over the rows
+-- taken and one over the slots. Where rule 6 holds a chunk back, more than H chunks up to it are
+-- due later, and what is left from it on fits behind that slot.
 use Prim.Native.Nat.{ℕ, zero, suc, _+_, _-_, _≤_, _<_, max}
 use mathlib.Core.Path.{_≡_, refl, sym, ap, _∙_, subst}
 use mathlib.Core.Bool.{Bool, true, false, not, cond, _&&_, _||_}

@@ -1,5 +1,6 @@
--- Lemmas, then the theorems `own-rest-ascending` and `own-rest-rows`: the own rows from p on, of any choice, have one row for each slot,
--- chunk and layer, in this order; and those of a choice that fits are at most 5,599.
+-- Lemmas, then the theorems `own-rest-ascending` and `own-rest-rows`: the own rows from p on, of
+-- any choice, have one row for each slot, chunk and layer, in this order; and those of a choice
+-- that fits are at most 5,599.
 use Prim.Native.Nat.{ℕ, zero, suc, _+_, _*_, _-_, _≤_, _<_}
 use mathlib.Core.Path.{_≡_, refl, sym, ap, _∙_, subst}
 use mathlib.Core.Bool.{Bool, cond}
@@ -184,7 +185,8 @@ carried-length j lv few (suc c) h =
       few (suc c) (omega arith) h,
     )
 
--- At most a row for each layer of each chunk, and one more for each slot from p on but one; so at most 5,599.
+-- At most a row for each layer of each chunk, and one more for each slot from p on but one; so at
+-- most 5,599.
 pub own-rest-rows :
     (j : Job) → Accepted j → (p : ℕ) (fetched : List Row) → Acceptable j p fetched → (plan : ℕ → ℕ) → IsReplan j p fetched plan →
     length (ownRest j p fetched plan) ≤ 5599

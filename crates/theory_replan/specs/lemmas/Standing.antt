@@ -1,5 +1,6 @@
--- Lemmas, then the theorem `standing-plan`: "If the standing plan was settled for the whole job in document 01's way, bases too, the rows
--- are all its own before p and the forecast hasn't changed, the new rows are exactly the rest of that plan."
+-- Lemmas, then the theorem `standing-plan`: "If the standing plan was settled for the whole job in
+-- document 01's way, bases too, the rows are all its own before p and the forecast hasn't changed,
+-- the new rows are exactly the rest of that plan."
 use Prim.Native.Nat.{ℕ, zero, suc, _+_, _-_, _≤_, _<_, max, min}
 use mathlib.Core.Path.{_≡_, refl, sym, ap, _∙_, subst, fun-ext}
 use mathlib.Core.Bool.{Bool, true, false, not, cond, _&&_}
@@ -243,7 +244,8 @@ module _ (j : Job) (sized : Sized j) (q : ℕ → ℕ) (plan : SettledByTrials j
         exactly = own .2;
       }
 
-  -- A layer of the plan that is not whole before p is due from p on, and can be carried with what is settled before it.
+  -- A layer of the plan that is not whole before p is due from p on, and can be carried with what
+  -- is settled before it.
   kept-again :
       (i n : ℕ) → Layer j i n → n < q i → (Carried j old i n → ⊥) → (p ≤ due j i) × (n ≤ q i) × CanCarryFrom j p old (triedFrom j old q n i)
   kept-again i n r h o =

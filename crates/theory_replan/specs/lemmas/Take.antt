@@ -1,4 +1,5 @@
--- Lemmas. What a slot takes, by an invariant: what holds before, and is kept by each row taken, holds where the slot ends; and why it ends.
+-- Lemmas. What a slot takes, by an invariant: what holds before, and is kept by each row taken,
+-- holds where the slot ends; and why it ends.
 use Prim.Native.Nat.{ℕ, zero, suc, _+_, _-_, _≤_, _<_, max}
 use mathlib.Core.Path.{_≡_, refl}
 use mathlib.Core.Bool.{Bool, true, false, not, cond, _&&_}
@@ -13,12 +14,14 @@ use Rattle.fetch.specs.Rows.{Row}
 use Rattle.theory_plan.specs.Own.{allowed, Fetched, Piece, rowOf, slotTakes, without}
 use Rattle.theory_replan.specs.lemmas.Parts.{leftIf, needsOf, Rising}
 
--- Of part p, before ps, b bytes are taken of the c that the slot has: all of it, or a part. c′ and the last list are what is left then.
+-- Of part p, before ps, b bytes are taken of the c that the slot has: all of it, or a part. c′ and
+-- the last list are what is left then.
 pub data Taken (c : ℕ) (p : Piece) (ps : List Piece) : ℕ → ℕ → List Piece → Type 0 where
   all-of : {c′ : ℕ} → p .bytes + c′ ≡ c → Taken c p ps (p .bytes) c′ ps
   part-of : 1 ≤ c → c < p .bytes → Taken c p ps c 0 (without p c ∷ ps)
 
--- The slot has ended: its forecast is spent, nothing is left, or rule 6 does not allow the next byte.
+-- The slot has ended: its forecast is spent, nothing is left, or rule 6 does not allow the next
+-- byte.
 abbrev pub Stop : Job → ℕ → ℕ → List Row → List Piece → Type 0
 Stop j t c rows [] = Unit {0}
 Stop j t c rows (p ∷ ps) = (c ≡ 0) ⊎ T (not (allowed j rows t p))
@@ -87,7 +90,8 @@ module _ {c : ℕ} {p : Piece} {ps : List Piece} where
   taken-rising (all-of e) r = r .1
   taken-rising (part-of m l) r = r
 
-  -- What holds of all parts by their chunks and layers, and that they have bytes, holds of those left.
+  -- What holds of all parts by their chunks and layers, and that they have bytes, holds of those
+  -- left.
   pub taken-all :
       (Q : ℕ → ℕ → Type 0) {b c′ : ℕ} {left : List Piece} → Taken c p ps b c′ left →
       All (λ q. Q (q .chunk) (q .layer) × (1 ≤ q .bytes)) (p ∷ ps) → All (λ q. Q (q .chunk) (q .layer) × (1 ≤ q .bytes)) left

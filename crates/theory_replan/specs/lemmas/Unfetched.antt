@@ -1,4 +1,5 @@
--- Lemmas. What the fetched rows leave of the carried bytes: its layers rise, each is of the choice and has bytes, and how many.
+-- Lemmas. What the fetched rows leave of the carried bytes: its layers rise, each is of the choice
+-- and has bytes, and how many.
 use Prim.Native.Nat.{ℕ, zero, suc, _+_, _-_, _≤_, _<_}
 use mathlib.Core.Path.{_≡_, refl, sym, ap, _∙_}
 use mathlib.Core.Bool.{Bool, true, false, not, cond, _&&_}

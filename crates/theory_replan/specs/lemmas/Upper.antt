@@ -1,6 +1,7 @@
--- Lemmas. A layer above the base in linear time: the passes `rooms` and `back` of schedule's Trials, which the code has, take from slot p on
--- what the plan made afresh takes. The list is that of the chunks begun or kept and due from p on, each with the bytes still to be
--- fetched; the sizes are what the fetched rows leave of each layer, so a layer whole before p costs nothing and stays.
+-- Lemmas. A layer above the base in linear time: the passes `rooms` and `back` of theory_plan's
+-- Trials, which the code has, take from slot p on what the plan made afresh takes. The list is that
+-- of the chunks begun or kept and due from p on, each with the bytes still to be fetched; the sizes
+-- are what the fetched rows leave of each layer, so a layer whole before p costs nothing and stays.
 use Prim.Native.Nat.{ℕ, zero, suc, _+_, _-_, _≤_, _<_, max, min}
 use mathlib.Core.Path.{_≡_, refl, sym, ap, _∙_, subst}
 use mathlib.Core.Bool.{Bool, true, false, cond, _&&_, _||_}

@@ -1,4 +1,5 @@
--- Lemmas. The first of the sets of most chunks: the best so far, carried along, is it, and there is only one.
+-- Lemmas. The first of the sets of most chunks: the best so far, carried along, is it, and there is
+-- only one.
 use Prim.Native.Nat.{ℕ, _≤_, _<_}
 use mathlib.Core.Path.{_≡_, refl, sym, ap, _∙_, subst}
 use mathlib.Core.List.{List, [], _∷_, _++_}

@@ -1,4 +1,5 @@
--- Lemmas. The bases of a set can be carried exactly if they fit, and so can those that a passing list in playing order carries.
+-- Lemmas. The bases of a set can be carried exactly if they fit, and so can those that a passing
+-- list in playing order carries.
 use Prim.Native.Nat.{ℕ, _+_, _≤_}
 use mathlib.Core.Path.{_≡_, refl, sym, ap, _∙_, subst}
 use mathlib.Core.Bool.{Bool, true, false, cond}

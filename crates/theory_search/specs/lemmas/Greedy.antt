@@ -1,4 +1,5 @@
--- Lemmas. The bases of document 01's way are the chunks kept by keeping whatever can be kept, which is how the walk begins.
+-- Lemmas. The bases of document 01's way are the chunks kept by keeping whatever can be kept, which
+-- is how the walk begins.
 use Prim.Native.Nat.{ℕ, zero, suc, _+_, _≤_}
 use mathlib.Core.Path.{_≡_, ap, _∙_}
 use mathlib.Core.Bool.{Bool, cond}

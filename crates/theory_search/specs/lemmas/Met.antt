@@ -1,5 +1,5 @@
--- Lemmas. The sets met in the walk: each fits, no set that fits is larger than the best of the whole walk, and the first 2C steps meet
--- the set that document 01 keeps.
+-- Lemmas. The sets met in the walk: each fits, no set that fits is larger than the best of the
+-- whole walk, and the first 2C steps meet the set that document 01 keeps.
 use Prim.Native.Nat.{ℕ, zero, suc, _+_, _*_, _-_, _≤_}
 use mathlib.Core.Path.{_≡_, refl, _∙_}
 use mathlib.Core.Bool.{Bool, true, false, cond}

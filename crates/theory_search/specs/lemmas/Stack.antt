@@ -1,5 +1,5 @@
--- Lemmas. The search with a stack of needs, whose test takes the same time at each step, finds what the search by any telling test finds;
--- and its recursion turn by turn, as the code goes.
+-- Lemmas. The search with a stack of needs, whose test takes the same time at each step, finds what
+-- the search by any telling test finds; and its recursion turn by turn, as the code goes.
 use Prim.Native.Nat.{ℕ, zero, suc, _≤_}
 use mathlib.Core.Path.{_≡_, refl, ap, _∙_}
 use mathlib.Core.Bool.{Bool, true, false, cond, not}
@@ -23,7 +23,8 @@ use Rattle.theory_search.specs.lemmas.Fitting.{Good}
 abbrev pub empty : Stack
 empty = record { needs = []; chunks = [] }
 
--- s: the base's bytes of a chunk; d: its due slot; A t: what is forecast after slot t; h: how many chunks may be held.
+-- s: the base's bytes of a chunk; d: its due slot; A t: what is forecast after slot t; h: how many
+-- chunks may be held.
 module _ (s d A : ℕ → ℕ) (h : ℕ) where
   -- Chunk i in front of the kept ones.
   abbrev pub inFront : Stack → ℕ → Stack

@@ -1,6 +1,6 @@
--- Lemmas. Bases of one size z. The bases of a passing list fit, in whatever order it fetches, and chunks that fit are the bases of some
--- passing list. So for a list that passes with b bytes more in slot t, one that passes without them has at most n bases fewer, where
--- b ≤ n × z.
+-- Lemmas. Bases of one size z. The bases of a passing list fit, in whatever order it fetches, and
+-- chunks that fit are the bases of some passing list. So for a list that passes with b bytes more
+-- in slot t, one that passes without them has at most n bases fewer, where b ≤ n × z.
 use Prim.Native.Nat.{ℕ, _*_, _-_, _≤_, _<_}
 use mathlib.Core.Path.{_≡_}
 use mathlib.Core.List.{List, [], _∷_}

@@ -1,5 +1,5 @@
--- Lemmas. A job and the same job with b bytes more in slot t: what passes for the one passes for the other, and what is forecast after
--- a slot.
+-- Lemmas. A job and the same job with b bytes more in slot t: what passes for the one passes for
+-- the other, and what is forecast after a slot.
 use Prim.Native.Nat.{ℕ, suc, _+_, _≤_, _<_}
 use mathlib.Core.Path.{_≡_, refl, sym, _∙_}
 use mathlib.Core.List.{List}

@@ -1,6 +1,6 @@
--- Lemmas. Chunks of z bytes that fit a forecast with b bytes more in slot t fit it without them, once the first n of those due in
--- slot t or later are left out, where b ≤ n × z. From each place on, what is left needs b bytes less, or nothing. Nothing here knows of
--- jobs.
+-- Lemmas. Chunks of z bytes that fit a forecast with b bytes more in slot t fit it without them,
+-- once the first n of those due in slot t or later are left out, where b ≤ n × z. From each place
+-- on, what is left needs b bytes less, or nothing. Nothing here knows of jobs.
 use Prim.Native.Nat.{ℕ, zero, suc, _+_, _*_, _-_, _≤_, _<_}
 use mathlib.Core.Path.{_≡_, refl}
 use mathlib.Core.Bool.{cond}

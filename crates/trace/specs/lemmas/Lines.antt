@@ -1,4 +1,5 @@
--- Lemmas. The lines of a trace: what is found is what was put together, and the tests say what the words say. Assumes nothing.
+-- Lemmas. The lines of a trace: what is found is what was put together, and the tests say what the
+-- words say. Assumes nothing.
 use Prim.Native.Nat.{ℕ}
 use mathlib.Core.Path.{_≡_, refl, sym, ap, _∙_}
 use mathlib.Core.Bool.{Bool, false, cond, _&&_}

@@ -1,4 +1,5 @@
--- Lemmas. A table of counts, one for each slot, that stop at a cap, as the code keeps it; and how long a written trace is. Assumes nothing.
+-- Lemmas. A table of counts, one for each slot, that stop at a cap, as the code keeps it; and how
+-- long a written trace is. Assumes nothing.
 use Prim.Native.Nat.{ℕ, zero, suc, _+_, _*_, _/_, _≤_, _<_, min}
 use mathlib.Core.Path.{_≡_, refl, sym, ap, _∙_}
 use mathlib.Core.Bool.{cond}

@@ -1,5 +1,6 @@
--- Lemmas. Of one job: the plan skips no base exactly if all chunks fit with their bases alone, and so exactly if all bases can be carried,
--- if some passing list in playing order carries them all, and for equal chunks if some passing list in any order does.
+-- Lemmas. Of one job: the plan skips no base exactly if all chunks fit with their bases alone, and
+-- so exactly if all bases can be carried, if some passing list in playing order carries them all,
+-- and for equal chunks if some passing list in any order does.
 use Prim.Native.Nat.{ℕ, _≤_, _<_}
 use mathlib.Core.Path.{_≡_}
 use mathlib.Core.Bool.{true}

@@ -1,4 +1,5 @@
--- Lemmas. The first number of a range that passes: what it is where there is one, and what 0 says. Assumes nothing.
+-- Lemmas. The first number of a range that passes: what it is where there is one, and what 0 says.
+-- Assumes nothing.
 use Prim.Native.Nat.{ℕ, zero, suc, _+_, _≤_, _<_}
 use mathlib.Core.Path.{_≡_, refl}
 use mathlib.Core.Bool.{Bool, not}

@@ -1,4 +1,5 @@
--- Lemmas. What the functions of lib.rt ask of each other and hand each other: the tables, and the pass over the chunks for one s.
+-- Lemmas. What the functions of lib.rt ask of each other and hand each other: the tables, and the
+-- pass over the chunks for one s.
 use Prim.Native.Nat.{ℕ, _+_, _*_, _-_, _≤_, _<_}
 use mathlib.Core.Path.{_≡_}
 use mathlib.Core.Bool.{Bool}
@@ -16,7 +17,8 @@ pub record SumTable (f sums : List ℕ) : Type 0 where
 abbrev pub BaseTable : ℕ → List ℕ → List ℕ → Type 0
 BaseTable chunks table bases = (i : ℕ) → 1 ≤ i → i ≤ chunks → getD bases (i - 1) 0 ≡ tableAt table i 0
 
--- By the tables: the bytes of chunk i, its due slot, and what comes after slot t up to the last due slot.
+-- By the tables: the bytes of chunk i, its due slot, and what comes after slot t up to the last due
+-- slot.
 abbrev pub sizeAt : List ℕ → ℕ → ℕ
 sizeAt bases i = getD bases (i - 1) 0
 

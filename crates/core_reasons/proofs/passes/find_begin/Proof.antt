@@ -1,4 +1,5 @@
--- `find_begin` meets its contract: what is left of the pass back from k gives the whole pass. Assumes nothing.
+-- `find_begin` meets its contract: what is left of the pass back from k gives the whole pass.
+-- Assumes nothing.
 use Rattle.core_reasons.proofs.passes.find_begin.Statement.{statement}
 use Rattle.core_reasons.proofs.passes.find_begin.Tie as tie
 use mathlib.Core.Path.{_≡_, sym, _∙_}

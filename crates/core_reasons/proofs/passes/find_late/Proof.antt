@@ -1,4 +1,5 @@
--- `find_late` meets its contract: what is left of the pass forward from q gives the whole pass. Assumes nothing.
+-- `find_late` meets its contract: what is left of the pass forward from q gives the whole pass.
+-- Assumes nothing.
 use Rattle.core_reasons.proofs.passes.find_late.Statement.{statement}
 use Rattle.core_reasons.proofs.passes.find_late.Tie as tie
 use mathlib.Core.Path.{_≡_, _∙_}

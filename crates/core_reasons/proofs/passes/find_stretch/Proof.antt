@@ -1,4 +1,5 @@
--- `find_stretch` meets its contract: both passes give the stretch of every choice that the tables hold. Assumes nothing.
+-- `find_stretch` meets its contract: both passes give the stretch of every choice that the tables
+-- hold. Assumes nothing.
 use borrow.Author.Needs.{needs}
 use Rattle.core_reasons.proofs.passes.find_stretch.Statement.{statement}
 use Rattle.core_reasons.proofs.passes.find_stretch.Tie as tie

@@ -1,4 +1,5 @@
--- `find_short` meets its contract: the tables that are laid out hold the trial of every job and plan behind them. Assumes nothing.
+-- `find_short` meets its contract: the tables that are laid out hold the trial of every job and
+-- plan behind them. Assumes nothing.
 use borrow.Author.Needs.{needs}
 use Rattle.core_reasons.proofs.stretch.find_short.Statement.{statement}
 use Rattle.core_reasons.proofs.stretch.find_short.Tie as tie

@@ -1,4 +1,4 @@
--- `lay_chunks` meets its contract: the tables hold the kept chunks behind k. Assumes nothing.
+-- `set_tables` meets its contract: the tables hold the kept chunks behind k. Assumes nothing.
 use Rattle.core_reasons.proofs.stretch.set_tables.Statement.{statement}
 use Rattle.core_reasons.proofs.stretch.set_tables.Tie as tie
 use mathlib.Core.Path.{_≡_}

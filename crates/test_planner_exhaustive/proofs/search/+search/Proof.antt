@@ -1,4 +1,5 @@
--- `test_planner_exhaustive::search::search` is safe and ends: each call has a byte less. Assumes nothing.
+-- `test_planner_exhaustive::search::search` is safe and ends: each call has a byte less. Assumes
+-- nothing.
 use borrow.Author.Needs.{needs}
 use native.Mathlib.Omega.{arith}
 use mathlib.Core.Path.{_≡_}

@@ -1,4 +1,5 @@
--- Lemmas. What a turn of the reader makes of the record read: the file is read further, or its answer is known. Assumes nothing.
+-- Lemmas. What a turn of the reader makes of the record read: the file is read further, or its
+-- answer is known. Assumes nothing.
 use Prim.Native.Nat.{ℕ, _+_, _≤_, _<_}
 use mathlib.Core.Path.{_≡_, sym, ap, _∙_}
 use mathlib.Core.Bool.{Bool, true, false}

@@ -1,4 +1,5 @@
--- Lemmas. A turn of the loop that reads a job file: a record read, judged and taken. Assumes nothing.
+-- Lemmas. A turn of the loop that reads a job file: a record read, judged and taken. Assumes
+-- nothing.
 use Prim.Native.Nat.{ℕ, _+_, _-_, _≤_, _<_}
 use mathlib.Core.Path.{_≡_, refl, sym, ap, _∙_}
 use mathlib.Core.Bool.{Bool, true, false, cond}
