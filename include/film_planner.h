@@ -1,7 +1,7 @@
 /* The layered film planner of the winch desk, for callers in C.
  *
- * This header says all there is to know to link the proved library. Build the archive by `tools/archive` (`rt staticlib export`), which
- * writes target/staticlib/libexport.a, and link it after your own files; nothing else is needed. Every call below is proved to answer what
+ * This header says all there is to know to link the proved library. Build the archive by `tools/archive` (`rt staticlib film_planner`), which
+ * writes target/staticlib/libfilm_planner.a, and link it after your own files; nothing else is needed. Every call below is proved to answer what
  * is said here, for every input, in its source; the compiler that makes the archive is trusted. No call has a precondition on the numbers
  * and slices it is handed, none keeps anything, none allocates, and each ends. What the caller owes is what C owes any function: a pointer
  * with at least so many elements behind it as its length says, aligned for its type and not null (a slice of length 0 may point anywhere

@@ -1,5 +1,5 @@
-"""Two films on one link once more, by `reference.py`: the lines that the program `booking_trials` has to print.
-Run it at the root of the repository: python3 tools/bookings.py | diff - crates/booking_trials/stdout"""
+"""Two films on one link once more, by `reference.py`: the lines that the program `test_booking` has to print.
+Run it at the root of the repository: python3 tools/bookings.py | diff - crates/test_booking/stdout"""
 from reference import *
 
 A = Job(3, 2, 2, 2, [2, 1], [], [3, 0, 1, 0, 2, 0])

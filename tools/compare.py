@@ -81,7 +81,7 @@ def build(out="target/kit/libfilm.so"):
     """The archive of the proved calls as a shared object."""
     subprocess.run(["tools/archive"], check=True)
     os.makedirs(os.path.dirname(out), exist_ok=True)
-    subprocess.run(["gcc", "-shared", "-o", out, "-Wl,--whole-archive", "target/staticlib/libexport.a", "-Wl,--no-whole-archive"], check=True)
+    subprocess.run(["gcc", "-shared", "-o", out, "-Wl,--whole-archive", "target/staticlib/libfilm_planner.a", "-Wl,--no-whole-archive"], check=True)
     return out
 
 
@@ -271,11 +271,11 @@ def film_replan(*args):
         return plan_handed(*replan(job, p, onward, *columns), 15)
     # Of larger jobs only a standing plan is made afresh, and goes on.
     levels, rows = plan_fast(job)
-    assert not walked(job) and onward == job.forecast[p - 1:] and sorted(listed(*columns)) == [x for x in rows if x.slot < p]
+    assert not by_moore_hodgson(job) and onward == job.forecast[p - 1:] and sorted(listed(*columns)) == [x for x in rows if x.slot < p]
     return plan_handed(levels, [x for x in rows if x.slot >= p], 15)
 
 
-def walked(job):
+def by_moore_hodgson(job):
     """Request 9 settles the bases."""
     return job.limit // job.span >= job.chunks and any(o.layer == 0 for o in job.overrides)
 
@@ -636,7 +636,7 @@ class Cases:
     def standing(self):
         """A larger job, its plan's own rows before p in any order, and its forecast from p on."""
         r, job = self.r, self.job(self.r.choices(("middle", "large"), (9, 1))[0])
-        if small(job) or walked(job):
+        if small(job) or by_moore_hodgson(job):
             job = job._replace(limit=job.span * r.randrange(job.chunks))
         p = r.randint(1, len(job.forecast))
         rows = [x for x in plan_fast(job)[1] if x.slot < p]

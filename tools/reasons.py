@@ -1,5 +1,5 @@
 """The reason under each missing layer once more (document 02, request 14): plans by `reference.py`, and for each missing layer a search over
-all pairs of slots, with carry and need summed anew for each. Writes the case files of the program `reason_trials` and what it has to print.
+all pairs of slots, with carry and need summed anew for each. Writes the case files of the program `test_reasons` and what it has to print.
 Run it at the root of the repository after changing a case: python3 tools/reasons.py"""
 import os
 import shutil
@@ -128,13 +128,13 @@ nothing in no room: written 0
 
 
 def main():
-    folder = "crates/reason_trials/data"
+    folder = "crates/test_reasons/data"
     shutil.rmtree(folder, ignore_errors=True)
     os.makedirs(folder)
     said = lambda data: reasons(read_job(data))
     cases = [(name, write_job(job)) for name, job in CASES] + REFUSED
-    with open("crates/reason_trials/stdout", "w") as out, open("crates/reason_trials/CASES.md", "w") as notes:
-        notes.write("# The reason trials' case files\n\nMade by tools/reasons.py. `s..` are job files.\n\n")
+    with open("crates/test_reasons/stdout", "w") as out, open("crates/test_reasons/CASES.md", "w") as notes:
+        notes.write("# The case files of test_reasons\n\nMade by tools/reasons.py. `s..` are job files.\n\n")
         for k, (name, data) in enumerate(cases):
             with open(f"{folder}/s{k:02d}", "wb") as file:
                 file.write(data)

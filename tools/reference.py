@@ -1,6 +1,6 @@
 """Documents 01 and 02 once more, in plain Python and independent of the proved crates: job and plan files, the seven rules, the plan, the
 report, link traces, bookings, plans made afresh, the search, the reasons, the wait, counts, the meter. `cases.py`, `traces.py`, `waits.py`, `bookings.py` and
-`replans.py` compute from it what the trials programs have to print; `compare.py` compares it with the library, call by call."""
+`replans.py` compute from it what the test programs have to print; `compare.py` compares it with the library, call by call."""
 from collections import namedtuple
 
 Job = namedtuple("Job", "chunks span delay limit sizes overrides forecast")
@@ -265,7 +265,7 @@ def own_list(job, levels, since=1, fetched=()):
     return rows
 
 
-def walk(job):
+def moore_hodgson(job):
     """Document 02, request 9: the chunks whose bases are kept."""
     kept = []
     for i in range(1, job.chunks + 1):
@@ -278,7 +278,7 @@ def walk(job):
 def plan(job):
     levels, settled = [0] * job.chunks, 0
     if job.limit // job.span >= job.chunks and any(size(job, i, 0) != job.sizes[0] for i in range(2, job.chunks + 1)):
-        levels, settled = [int(i in walk(job)) for i in range(1, job.chunks + 1)], 1
+        levels, settled = [int(i in moore_hodgson(job)) for i in range(1, job.chunks + 1)], 1
     for n in range(settled, len(job.sizes)):
         for i in range(job.chunks, 0, -1):
             if levels[i - 1] == n:
@@ -418,7 +418,7 @@ def search(job, budget):
     except StopIteration:
         ended = False
     levels = settle_fast(job, [int(i in best) for i in range(1, job.chunks + 1)], range(1, len(job.sizes)), table, sums)
-    shortfall = 0 if ended else len(walk_fast(job, table, sums)) - len(best)
+    shortfall = 0 if ended else len(moore_hodgson_fast(job, table, sums)) - len(best)
     return levels, own_list_fast(job, levels, table), steps, ended, shortfall
 
 
@@ -440,7 +440,7 @@ def stretch(job, levels, table):
 def reasons(job, planned=None):
     """A line under each layer of the job that its plan doesn't carry."""
     levels, table = (planned or plan(job))[0], sizes_by_chunk(job)
-    walked = job.limit // job.span >= job.chunks and any(z[0] != job.sizes[0] for z in table)
+    by_moore_hodgson = job.limit // job.span >= job.chunks and any(z[0] != job.sizes[0] for z in table)
     text = ""
     for i in range(1, job.chunks + 1):
         for n in range(levels[i - 1], len(job.sizes)):
@@ -448,7 +448,7 @@ def reasons(job, planned=None):
                 text += f"chunk {i} layer {n}: layer {n - 1} is missing\n"
                 continue
             # Settled before it: the layers below of all chunks, and this one of later chunks; a base of request 9 is against all bases kept.
-            later = range(1, job.chunks + 1) if walked and n == 0 else range(i + 1, job.chunks + 1)
+            later = range(1, job.chunks + 1) if by_moore_hodgson and n == 0 else range(i + 1, job.chunks + 1)
             against = [n + 1 if k == i else min(levels[k - 1], n + 1 if k in later else n) for k in range(1, job.chunks + 1)]
             text += f"chunk {i} layer {n}: {stretch(job, against, table)}\n"
     return text
@@ -495,7 +495,7 @@ def settle_fast(job, levels, layers, table, sums):
     return levels
 
 
-def walk_fast(job, table, sums):
+def moore_hodgson_fast(job, table, sums):
     kept, held_bytes = [], 0
     for i in range(1, job.chunks + 1):
         kept.append(i)
@@ -511,7 +511,7 @@ def plan_fast(job):
     table, sums = sizes_by_chunk(job), brought(job)
     levels, settled = [0] * job.chunks, 0
     if job.limit // job.span >= job.chunks and any(z[0] != job.sizes[0] for z in table):
-        kept, settled = set(walk_fast(job, table, sums)), 1
+        kept, settled = set(moore_hodgson_fast(job, table, sums)), 1
         levels = [int(i in kept) for i in range(1, job.chunks + 1)]
     levels = settle_fast(job, levels, range(settled, len(job.sizes)), table, sums)
     return levels, own_list_fast(job, levels, table)

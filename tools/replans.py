@@ -1,9 +1,9 @@
-"""Planning afresh once more. The cases that the program `replan_trials` reads and what it has to print of them, by `reference.py`; and what
-`replan_family` has to print, each layer decided by a search over all fetch lists, which takes some minutes. Run it at the root of the
+"""Planning afresh once more. The cases that the program `test_replan` reads and what it has to print of them, by `reference.py`; and what
+`test_replan_exhaustive` has to print, each layer decided by a search over all fetch lists, which takes some minutes. Run it at the root of the
 repository:
-python3 tools/replans.py cases | diff - crates/replan_trials/stdin
-python3 tools/replans.py | diff - crates/replan_trials/stdout
-python3 tools/replans.py family | diff - crates/replan_family/stdout"""
+python3 tools/replans.py cases | diff - crates/test_replan/stdin
+python3 tools/replans.py | diff - crates/test_replan/stdout
+python3 tools/replans.py family | diff - crates/test_replan_exhaustive/stdout"""
 import random
 import sys
 from itertools import combinations_with_replacement, product
@@ -22,7 +22,7 @@ def marks_of(levels):
     return [(1 << k) - 1 for k in levels]
 
 
-# ---- single cases: a title, and the call's numbers on one line (crate replan_trials, table), or what comes of it
+# ---- single cases: a title, and the call's numbers on one line (crate test_replan, table), or what comes of it
 
 CASES = sys.argv[1:] == ["cases"]
 
@@ -244,7 +244,7 @@ def any_jobs():
             check(f"job {k} without its last row", on, p, marks_given(job, less), less)
 
 
-# ---- the family of replan_family
+# ---- the family of test_replan_exhaustive
 
 KINDS = [[[1]] * 3, [[2]] * 3, [[1], [2], [1]], [[2], [1], [2]], [[1, 1]] * 3, [[2, 1]] * 3, [[1, 2]] * 3, [[1, 1], [2, 1], [1, 2]]]
 MODULUS = 2**31 - 1

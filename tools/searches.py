@@ -1,8 +1,8 @@
 """Request 13 once more, literally: the walk step by step, each set decided by an exhaustive search for a passing list in playing order that
-carries exactly its bases. The lines that the program `search_trials` has to print.
-Run it at the root of the repository: python3 tools/searches.py | diff - crates/search_trials/stdout"""
+carries exactly its bases. The lines that the program `test_search` has to print.
+Run it at the root of the repository: python3 tools/searches.py | diff - crates/test_search/stdout"""
 from itertools import product
-from reference import Job, Override, Refused, Row, check_job, due, own_list, size, verdict, walk as most_pictures
+from reference import Job, Override, Refused, Row, check_job, due, own_list, size, verdict, moore_hodgson as most_pictures
 
 
 def spread(left, slots, room):

@@ -1,6 +1,6 @@
 """Tries job.py, draw.py and desk.sh: `make` and `show` are inverse on 1,000 random jobs whose files `plan` accepts, texts typed loosely make
 the same file, traces are read as request 4 has it, bad input of every kind ends with a message and status 1, pictures are whole and say what
-the report says. Run it at the root of the repository after `rt check plan verdict film_report`: python3 tools/try_tools.py [SEED]"""
+the report says. Run it at the root of the repository after `rt check film_plan film_verdict film_report`: python3 tools/try_tools.py [SEED]"""
 import os
 import random
 import re
@@ -15,7 +15,7 @@ from refusals import SENTENCES
 
 ROOT = os.path.dirname(os.path.dirname(os.path.abspath(__file__)))
 BIN = os.path.join(ROOT, "target", "bin")
-REASONS = os.path.exists(os.path.join(BIN, "reasons"))
+REASONS = os.path.exists(os.path.join(BIN, "film_reasons"))
 A = Job(3, 2, 2, 2, [2, 1], [], [3, 0, 1, 0, 2, 0])
 A_TEXT = "chunks 3\nspan 2\ndelay 2\nlimit 2\nlayer 2\nlayer 1\nforecast 3 0 1 0 2 0\n"
 
@@ -118,7 +118,7 @@ def try_inverse(number=1000):
         assert read_job(make(text.encode())) == job
         assert show(read_job(make(text.encode()))) == text
         assert make(loose(job).encode()) == file
-        plan_file = program("plan", file)
+        plan_file = program("film_plan", file)
         assert plan_file[:2] == b"KP", (text, plan_file)
         slots, rows = slots + len(job.forecast), rows + (len(plan_file) - 2 - 5 * job.chunks) // 11
         if k % 25 == 0:
@@ -303,7 +303,7 @@ def try_colours():
 
 
 def planned(job):
-    marks, rows = read_plan(job, program("plan", write_job(job)))
+    marks, rows = read_plan(job, program("film_plan", write_job(job)))
     return marks, rows
 
 
@@ -327,7 +327,7 @@ def try_pictures(folder, number=150):
         job = pictured(k)
         marks, rows = planned(job)
         plan = Plan(job, marks, rows)
-        lines = program("reasons", write_job(job)).decode() if REASONS else None
+        lines = program("film_reasons", write_job(job)).decode() if REASONS else None
         if len(job.forecast) <= 40:
             computed = reasons_of(job, [bin(m).count("1") for m in marks])
             assert lines in (None, computed), (show(job), lines, computed)
@@ -352,7 +352,7 @@ def try_pictures(folder, number=150):
 def try_bad_pictures(folder):
     """Files that are no job, no plan, no plan of the job, no reasons of it."""
     marks, rows = planned(A)
-    file = program("plan", write_job(A))
+    file = program("film_plan", write_job(A))
     put(folder, "job", write_job(A))
     good = {"plan": file, "reasons": reasons_of(A, [0, 2, 1]).encode()}
 
@@ -383,7 +383,7 @@ def try_bad_pictures(folder):
     for case in [lines[1:], lines[:-1], lines + lines[:1], [*lines, "refused 5"], ["refused 1"], [], ["", *lines], ["\xff\0"],
                  *([lines[0].replace(a, b), *lines[1:]] for a, b in others), [lines[0], lines[1].replace("layer 0 is", "layer 3 is"), *lines[2:]]]:
         trial("reasons", case, reasons="\n".join(case).encode())
-    trial("rule 6: ", "the plan of A with limit 6", plan=program("plan", write_job(A._replace(limit=6))))
+    trial("rule 6: ", "the plan of A with limit 6", plan=program("film_plan", write_job(A._replace(limit=6))))
     for words in [[], ["job"], ["job", "plan", "plan"], ["job", "nothing"], ["nothing", "plan"], ["plan", "job"], [folder, "plan"], ["--reasons"],
                   ["--paint", "job", "plan"]]:
         ended(tool("draw.py", *words, folder=folder), "", words)
@@ -404,7 +404,7 @@ def try_noise(folder):
             data[at:at + random.randint(0, 3)] = bytes(noise)
         try:
             made = make(bytes(data)) if k % 4 in (0, 2) else write_job(read_job(bytes(data)))
-            assert program("plan", made)[:2] == b"KP", data
+            assert program("film_plan", made)[:2] == b"KP", data
             kept += 1
         except Exception as e:
             assert type(e).__name__ in ("Bad", "Refused"), (data, e)
@@ -412,7 +412,7 @@ def try_noise(folder):
         ended(tool("job.py", "make", data=data), "job.py: standard input", data[:20])
         ended(tool("job.py", "show", data=data), "refused", data[:20])
     for words in [["job.py", "show", "job"], ["job.py", "make", "text"], ["draw.py", "job", "plan"]]:
-        put(folder, "job", write_job(A)), put(folder, "text", A_TEXT), put(folder, "plan", program("plan", write_job(A)))
+        put(folder, "job", write_job(A)), put(folder, "text", A_TEXT), put(folder, "plan", program("film_plan", write_job(A)))
         line = " ".join([sys.executable, os.path.join(ROOT, "tools", words[0]), *words[1:]])
         assert tool(*words, folder=folder).returncode == 0
         for ending in ("> /dev/full", ">&-"):
@@ -435,16 +435,16 @@ def try_desk(folder):
     def desk(*words):
         return subprocess.run(["bash", "tools/desk.sh", *words], capture_output=True, cwd=folder)
 
-    ended(desk("samples/flight.txt"), "rt check plan verdict film_report reasons", "no program")
-    for name in ("plan", "verdict", "film_report"):
+    ended(desk("samples/flight.txt"), "rt check film_plan film_verdict film_report film_reasons", "no program")
+    for name in ("film_plan", "film_verdict", "film_report"):
         os.symlink(os.path.join(BIN, name), os.path.join(folder, "target", "bin", name))
-    ended(desk("samples/flight.txt"), "rt check reasons$", "no program reasons")
-    reasons = os.path.join(folder, "target", "bin", "reasons")
+    ended(desk("samples/flight.txt"), "rt check film_reasons$", "no program reasons")
+    reasons = os.path.join(folder, "target", "bin", "film_reasons")
     if REASONS:
-        os.symlink(os.path.join(BIN, "reasons"), reasons)
+        os.symlink(os.path.join(BIN, "film_reasons"), reasons)
     else:
         head = f"#!{sys.executable}\nimport sys\nsys.path.insert(0, {os.path.join(ROOT, 'tools')!r})\n"
-        put(folder, "target/bin/reasons", head + "from try_tools import print_reasons\nprint_reasons()\n")
+        put(folder, "target/bin/film_reasons", head + "from try_tools import print_reasons\nprint_reasons()\n")
         os.chmod(reasons, 0o755)
     answer = desk("samples/flight.txt")
     assert answer.returncode == 0, answer

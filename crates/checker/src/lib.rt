@@ -124,7 +124,7 @@ fn allowed_chunk(
     all
 }
 
-// And for all chunks.
+// Rule 2 of the second call for every layer of every chunk.
 fn allowed_all(
     table: &SizeTable,
     depth: usize,

@@ -58,7 +58,7 @@ pub fn less(a: u64, b: u64) -> u64
     a - b
 }
 
-// A value at the places from and on, up to to.
+// Writes v at the places `from` to `to` - 1.
 fn set_places(after: &mut SlotSums, from: usize, to: usize, v: u64)
     requires { ⌜ (from ≤ to) × (to ≤ 3601) × (length (now after) ≡ 3601) ⌝ }
     ensures { λ _. ⌜ SetPlacesPost from to v (now (after .entry)) (now (after .exit)) ⌝ }
@@ -145,7 +145,7 @@ pub fn keep_bases(
     first
 }
 
-// The bases of the plan: by request 9's walk where it settles them, else in document 01's way.
+// The bases of the plan: by Moore-Hodgson where request 9 settles them, else in document 01's way.
 fn settle_bases(
     p: Programme,
     table: &SizeTable,

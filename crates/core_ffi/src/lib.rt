@@ -25,6 +25,7 @@ ghost use mathlib.Core.Bool.{_&&_, cond};
 ghost use mathlib.Core.List.{[], _∷_};
 ghost use mathlib.Core.Path.{_≡_};
 
+// A refusal as the answer of a C call: 2^32 and its number more.
 pub fn refused(n: u8) -> u64
     ensures { λ r. ⌜ r ≡ refusedNumber n ⌝ }
 {
@@ -85,12 +86,14 @@ pub fn job_refused(file: &[u8]) -> u64
     job_number(jobfile::read_job(file, &mut [], &mut [], &mut [], &mut [], &mut []))
 }
 
+// As job_refused, of a mixed file.
 pub fn mixed_refused(file: &[u8]) -> u64
     ensures { λ r. ⌜ r ≡ refusedNumber (refusalOf mixed (now (file .entry)) orElse 11) ⌝ }
 {
     job_number(jobfile::read_mixed_job(file, &mut [], &mut []))
 }
 
+// The bytes of the job file, or the refusal.
 pub fn job_written_number(written: jobfile::Written) -> u64
     ensures { λ r. ⌜ r ≡ jobWrittenNumber written ⌝ }
 {
@@ -100,6 +103,7 @@ pub fn job_written_number(written: jobfile::Written) -> u64
     }
 }
 
+// The rows of the plan file, or the refusal.
 pub fn plan_read_number(read: PlanRead) -> u64
     ensures { λ r. ⌜ r ≡ planReadNumber read ⌝ }
 {
@@ -109,6 +113,7 @@ pub fn plan_read_number(read: PlanRead) -> u64
     }
 }
 
+// The bytes of the plan file, or the refusal.
 pub fn plan_written_number(written: planfile::Written) -> u64
     ensures { λ r. ⌜ r ≡ planWrittenNumber written ⌝ }
 {
@@ -118,6 +123,7 @@ pub fn plan_written_number(written: planfile::Written) -> u64
     }
 }
 
+// The verdict, or the refusal.
 pub fn verdict_number(answer: Checked) -> u64
     ensures { λ r. ⌜ r ≡ checkedNumber answer ⌝ }
 {
@@ -127,6 +133,7 @@ pub fn verdict_number(answer: Checked) -> u64
     }
 }
 
+// 0 for a list booked or released, or the refusal.
 pub fn booking_number(answer: booking::Answer) -> u64
     ensures { λ r. ⌜ r ≡ bookedNumber answer ⌝ }
 {
@@ -136,6 +143,7 @@ pub fn booking_number(answer: booking::Answer) -> u64
     }
 }
 
+// A count of the caller's slice, 0 where it is too short.
 pub fn count_at(counts: &[u16], k: usize) -> u16
     ensures { λ r. ⌜ r ≡ getD (now (counts .entry)) k 0 ⌝ }
 {
@@ -145,6 +153,7 @@ pub fn count_at(counts: &[u16], k: usize) -> u16
     0
 }
 
+// The four counts of a slice; counts past its end are 0.
 pub fn four_counts(counts: &[u16]) -> [u16; 4]
     ensures { λ r. ⌜ r ≡ fourCounts (now (counts .entry)) ⌝ }
 {
@@ -155,6 +164,7 @@ pub fn four_counts(counts: &[u16]) -> [u16; 4]
     [base, first, second, third]
 }
 
+// How two plans' counts stand: 0 the same, 1 less, 2 more.
 pub fn order_number(order: Order) -> u64
     ensures { λ r. ⌜ r ≡ orderNumber order ⌝ }
 {
@@ -219,6 +229,7 @@ pub fn sample_refusal(slot: u16, bytes: u32) -> u8
     taken.code
 }
 
+// The forecast in bytes, or the refusal.
 pub fn forecast_number(answer: meter::Answer) -> u64
     ensures { λ r. ⌜ r ≡ forecastNumber answer ⌝ }
 {
@@ -235,6 +246,7 @@ pub fn refused_or_11(before: u8) -> u64
     refused(job::or_else(before, 11))
 }
 
+// The rows of the plan, or the refusal.
 pub fn plan_number(answer: Answer) -> u64
     ensures { λ r. ⌜ r ≡ planNumber answer ⌝ }
 {
@@ -306,6 +318,7 @@ pub fn holds_walk(counts: usize, walk: usize) -> bool
     3 <= walk
 }
 
+// Whether the walk ended, as 1 or 0.
 pub fn flag(ended: bool) -> u32
     ensures { λ r. ⌜ r ≡ cond ended 1 0 ⌝ }
 {
@@ -329,6 +342,7 @@ pub fn store_walk(answer: Answer, steps: u32, ended: bool, shortfall: u16, walk:
     }
 }
 
+// The bytes of the report, or the refusal.
 pub fn report_number(written: report::Written) -> u64
     ensures { λ r. ⌜ r ≡ reportNumber written ⌝ }
 {
@@ -338,6 +352,7 @@ pub fn report_number(written: report::Written) -> u64
     }
 }
 
+// The bytes of the lines, or the refusal.
 pub fn reasons_number(written: reasons::Written) -> u64
     ensures { λ r. ⌜ r ≡ reasonNumber written ⌝ }
 {
@@ -347,6 +362,7 @@ pub fn reasons_number(written: reasons::Written) -> u64
     }
 }
 
+// The slots of the forecast, or the refusal.
 pub fn trace_read_number(read: TraceRead) -> u64
     ensures { λ r. ⌜ r ≡ traceReadNumber read ⌝ }
 {
@@ -356,6 +372,7 @@ pub fn trace_read_number(read: TraceRead) -> u64
     }
 }
 
+// The bytes of the trace, or the refusal.
 pub fn trace_written_number(written: trace::Written) -> u64
     ensures { λ r. ⌜ r ≡ traceWrittenNumber written ⌝ }
 {
@@ -365,6 +382,7 @@ pub fn trace_written_number(written: trace::Written) -> u64
     }
 }
 
+// The shortest start delay, or the refusal.
 pub fn wait_number(answer: wait::Answer) -> u64
     ensures { λ r. ⌜ r ≡ waitNumber answer ⌝ }
 {

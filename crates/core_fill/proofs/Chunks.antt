@@ -57,7 +57,7 @@ module _ (start : ℕ) (part : List ℕ) where
       }
 
   same-both : {s₁ c₁ l₁ b₁ s₂ c₂ l₂ b₂ s₃ c₃ l₃ b₃ : List ℕ} → Same s₁ c₁ l₁ b₁ s₂ c₂ l₂ b₂ → Same s₂ c₂ l₂ b₂ s₃ c₃ l₃ b₃ → Same s₁ c₁ l₁ b₁ s₃ c₃ l₃ b₃
-  same-both x y = record { s = y .s ∙ x .s; c = y .left ∙ x .c; l = y .l ∙ x .l; b = y .b ∙ x .b }
+  same-both x y = record { s = y .s ∙ x .s; c = y .c ∙ x .c; l = y .l ∙ x .l; b = y .b ∙ x .b }
 
   pub puts-both : {q q' : List QueuedPiece} {k k' : ℕ} {a b c : Position} {s₁ c₁ l₁ b₁ s₂ c₂ l₂ b₂ s₃ c₃ l₃ b₃ : List ℕ}
       → PutPost start part q k a s₁ c₁ l₁ b₁ b s₂ c₂ l₂ b₂ → PutPost start part q' k' b s₂ c₂ l₂ b₂ c s₃ c₃ l₃ b₃ → PutPost start part (q ++ q') (k + k') a s₁ c₁ l₁ b₁ c s₃ c₃ l₃ b₃
@@ -89,7 +89,7 @@ module _ (start : ℕ) (part : List ℕ) where
         high = p .goes .high;
         count = omega (arith, r, g .count);
         s = omega (arith, r, g .s, p .long .s);
-        c = omega (arith, r, g .c, p .long .left);
+        c = omega (arith, r, g .c, p .long .c);
         l = omega (arith, r, g .l, p .long .l);
         b = omega (arith, r, g .b, p .long .b);
       }
@@ -101,7 +101,7 @@ module _ (start : ℕ) (part : List ℕ) where
         ⊎-elim
         (λ t.
         let u = ltb→lt (a .slot) ready t in
-        rw (lt-ltb (a .slot) ready u) (record { part-in = g .part-in; low = omega (arith, g .low); high = by; count = omega (arith, g .count); s = omega (arith, g .s); c = omega (arith, g .left); l = omega (arith, g .l); b = omega (arith, g .b) }))
+        rw (lt-ltb (a .slot) ready u) (record { part-in = g .part-in; low = omega (arith, g .low); high = by; count = omega (arith, g .count); s = omega (arith, g .s); c = omega (arith, g .c); l = omega (arith, g .l); b = omega (arith, g .b) }))
         (λ t. rw (le-ltb (a .slot) ready (nltb→le (a .slot) ready t)) g)
         (test (ltb (a .slot) ready))
 

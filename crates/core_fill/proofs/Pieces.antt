@@ -95,11 +95,11 @@ module _ {whole : List Row} {start : ℕ} {part s₀ c₀ l₀ b₀ ss cs ls bs 
         made = m .made ++ (r ∷ []);
         says = m .says ∙ ap (λ (l : List Row). m .made ++ l) g ∙ sym (append-assoc (m .made) (r ∷ []) (onward start part (b .slot) (b .left) q'));
         slots = stored rowSlot s₀ ss (m .made) r (a .rows) (m .counted) hs (m .slots) (m .long .s);
-        chunks = stored rowChunk c₀ cs (m .made) r (a .rows) (m .counted) hc (m .chunks) (m .long .left);
+        chunks = stored rowChunk c₀ cs (m .made) r (a .rows) (m .counted) hc (m .chunks) (m .long .c);
         layers = stored rowLayer l₀ ls (m .made) r (a .rows) (m .counted) hl (m .layers) (m .long .l);
         bytes = stored rowBytes b₀ bs (m .made) r (a .rows) (m .counted) hb (m .bytes) (m .long .b);
         counted = omega (arith, m .counted, length-snoc (m .made) r);
-        long = record { s = simp length-set (m .long .s); c = simp length-set (m .long .left); l = simp length-set (m .long .l); b = simp length-set (m .long .b) };
+        long = record { s = simp length-set (m .long .s); c = simp length-set (m .long .c); l = simp length-set (m .long .l); b = simp length-set (m .long .b) };
       }
 
 -- ---- one piece
@@ -159,7 +159,7 @@ module _ (start : ℕ) (part : List ℕ) (chunk layer size : ℕ) (a : Position)
         }
 
     sets-long : (x y z w : ℕ) → Same ss cs ls bs (set ss' n x) (set cs' n y) (set ls' n z) (set bs' n w)
-    sets-long x y z w = record { s = simp length-set (p .long .s); c = simp length-set (p .long .left); l = simp length-set (p .long .l); b = simp length-set (p .long .b) }
+    sets-long x y z w = record { s = simp length-set (p .long .s); c = simp length-set (p .long .c); l = simp length-set (p .long .l); b = simp length-set (p .long .b) }
 
     pub putting-part : 0 < c → c < left → Putting start part chunk layer size a ss cs ls bs (set ss' n t) (set cs' n chunk) (set ls' n layer) (set bs' n c) (t + 1) (bytesAt start part (t + 1)) (n + 1) (left - c)
     putting-part z h =

@@ -18,6 +18,7 @@ pub struct Position {
     pub rows: usize,
 }
 
+// One row at place n of the four slices.
 fn put_row(
     slots: &mut [u16],
     chunks: &mut [u16],

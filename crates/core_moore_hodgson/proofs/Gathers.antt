@@ -16,7 +16,7 @@ use Rattle.job.specs.Job.{dueSlot}
 use Rattle.theory_plan.specs.Plan.{picked}
 use Rattle.theory_plan.specs.lemmas.Kept.{picked-asc, picked-cong, picked-each, picked-has}
 use Rattle.theory_plan.specs.lemmas.Parts.{at}
-use Rattle.theory_plan.specs.lemmas.Walk.{kept-asc}
+use Rattle.theory_plan.specs.lemmas.KeepOrDrop.{kept-asc}
 use Rattle.core_moore_hodgson.specs.lemmas.Tables.{Fit, GatherPre, GatherPost, KeptIn, Long, KeepOrDropPost, roomIn, stands, mooreHodgsonIn}
 
 module _ (p : Programme) (tree : List ℕ) where
@@ -105,7 +105,7 @@ map-picked : (f g : ℕ → ℕ) (ks : List ℕ) → All (λ k. f k ≡ g k) ks 
 map-picked f g [] a = refl
 map-picked f g (k ∷ ks) a = rw (a .0, map-picked f g ks (a .1))
 
--- What is gathered of the walk's table is what the walk keeps.
+-- What is gathered of the tree are the chunks that the algorithm keeps.
 pub keeps :
     (p : Programme) (size : ℕ → ℕ → ℕ) (after tree : List ℕ) (first : ℕ) (ids dues bytes : List ℕ) → Fit p size after →
     KeepOrDropPost p size after tree → GatherPost p tree first ids dues bytes → KeptIn p size (mooreHodgsonIn p size (at after)) first ids dues bytes

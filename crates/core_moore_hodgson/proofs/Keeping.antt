@@ -1,5 +1,5 @@
--- Laws on the walk: the table shows the kept chunks after n chunks, and their bytes stand beside
--- it. Assumes nothing.
+-- Laws on adding and dropping: the tree shows the kept chunks after n chunks, and their bytes stand
+-- beside it. Assumes nothing.
 use mathlib.Core.Path.{_≡_, refl, sym, _∙_, ap}
 use mathlib.Core.Bool.{Bool, cond}
 use mathlib.Core.List.{List, []}
@@ -16,7 +16,7 @@ use Rattle.job.specs.declared.Programme.{Programme}
 use Rattle.job.specs.Job.{dueSlot}
 use Rattle.theory_plan.specs.Bases.{allBut, keptAfter, keptBytes}
 use Rattle.theory_plan.specs.lemmas.Parts.{at}
-use Rattle.theory_plan.specs.lemmas.Walk.{Largest, Step, added, added-asc, added-has, bytes-add, bytes-all-but, drops, has-all-but, has-in, kept-asc, stays, step}
+use Rattle.theory_plan.specs.lemmas.KeepOrDrop.{Largest, Step, added, added-asc, added-has, bytes-add, bytes-all-but, drops, has-all-but, has-in, kept-asc, stays, step}
 use Rattle.core_moore_hodgson.specs.lemmas.Tables.{Fit, FindLargestPost, Shows, LeafPost, KeepOrDropPre, KeepOrDropPost, roomIn}
 use Rattle.core_moore_hodgson.proofs.Maxima.{leaf-le}
 
@@ -127,7 +127,7 @@ module _ (s room : ℕ → ℕ) (n : ℕ) (few : suc n < 512) (one : (k : ℕ) �
         let g = has-all-but m 1 (suc n) new k (added-asc s room n) in
         same-test (has (allBut m new) k) (has new k) (λ c. g .0 c .0) (λ c. g .1 (c, λ e. d (sym e))))
 
--- ---- the walk
+-- ---- adding and dropping
 
 pub record Keeping (p : Programme) (s : ℕ → ℕ) (after tree : List ℕ) (sum n : ℕ) : Type 0 where
   pub left : n ≤ p .chunks

@@ -1,8 +1,11 @@
-// Internal. Request 9's walk over the bases, in C log C: a table of maxima of 1,024 places, place
-// 512 + i the bytes of chunk i's base if it is kept, else 0, and each place below 512 the larger of
-// the two under it. A base added or dropped costs a way up, which ends where nothing changes, and
-// the largest kept one, the earliest among equals, a way down. The kept chunks end up where
-// core_decide's pass over the bases leaves them: at the end of tables of 500 places, in playing order.
+// Internal. Request 9's way to settle bases is the Moore-Hodgson algorithm (fewest late jobs on one
+// machine, 1968): take the jobs by due date, and whenever the taken ones are late drop the longest.
+// Here in C log C by a tree of maxima in a table of 1,024 places: place 512 + i has the bytes of
+// chunk i's base if it is kept, else 0, and each place below 512 the larger of the two under it.
+// Adding or dropping a base changes the places from its leaf to the root, up to the first that
+// stays as it is; the largest kept one, the earliest among equals, is found from the root down. The
+// kept chunks end up where core_decide's pass over the bases leaves them: at the end of tables of
+// 500 places, in playing order.
 use job::CHUNKS;
 use job::Programme;
 use job::SizeTable;
@@ -38,7 +41,7 @@ fn equal_bases(p: Programme, table: &SizeTable) -> bool
     true
 }
 
-// The walk settles the bases: the limit holds the programme, and base sizes vary.
+// Request 9 settles the bases: the limit holds the programme, and base sizes vary.
 pub fn applies(p: Programme, table: &SizeTable) -> bool
     ensures { λ r. ⌜ r ≡ appliesIn p (tableAt (now (table .entry))) ⌝ }
 {
@@ -49,7 +52,8 @@ pub fn applies(p: Programme, table: &SizeTable) -> bool
     !equal_bases(p, table)
 }
 
-// A leaf gets a value no smaller than its own. The way up ends where a place has as much.
+// A leaf gets a value no smaller than its own, and so does each place above it up to the first that
+// has as much.
 fn add_leaf(tree: &mut [u32; 1024], leaf: usize, v: u32)
     requires { ⌜ LeafPre leaf (now tree) × (at (now tree) leaf ≤ v) ⌝ }
     ensures { λ _. ⌜ LeafPost leaf v (now (tree .entry)) (now (tree .exit)) ⌝ }
@@ -65,7 +69,7 @@ fn add_leaf(tree: &mut [u32; 1024], leaf: usize, v: u32)
     }
 }
 
-// A leaf gets 0. The way up ends where a place keeps what it has.
+// A leaf gets 0, and each place above it its maximum anew, up to the first that stays as it is.
 fn clear_leaf(tree: &mut [u32; 1024], leaf: usize)
     requires { ⌜ LeafPre leaf (now tree) ⌝ }
     ensures { λ _. ⌜ LeafPost leaf 0 (now (tree .entry)) (now (tree .exit)) ⌝ }
@@ -171,7 +175,7 @@ fn gather(
     first
 }
 
-// The bases that the walk keeps, from the place handed back on: chunks, due slots and bytes.
+// The bases kept, from the place handed back on: chunks, due slots and bytes.
 pub fn keep_most(
     p: Programme,
     table: &SizeTable,

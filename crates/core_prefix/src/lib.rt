@@ -3,6 +3,7 @@
 ghost use mathlib.Core.Path.{_≡_};
 ghost use lib.ListN.{take};
 
+// The first n bytes.
 pub fn bytes(s: &[u8], n: usize) -> &[u8]
     ensures { λ r. ⌜ now r ≡ take n (now (s .entry)) ⌝ }
 {
@@ -12,6 +13,7 @@ pub fn bytes(s: &[u8], n: usize) -> &[u8]
     &s[..n]
 }
 
+// The first n 16-bit numbers.
 pub fn halves(s: &[u16], n: usize) -> &[u16]
     ensures { λ r. ⌜ now r ≡ take n (now (s .entry)) ⌝ }
 {
@@ -21,6 +23,7 @@ pub fn halves(s: &[u16], n: usize) -> &[u16]
     &s[..n]
 }
 
+// The first n 32-bit numbers.
 pub fn words(s: &[u32], n: usize) -> &[u32]
     ensures { λ r. ⌜ now r ≡ take n (now (s .entry)) ⌝ }
 {

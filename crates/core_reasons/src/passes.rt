@@ -18,7 +18,7 @@ pub struct Stretch {
     pub need: u64,
 }
 
-// Where it begins.
+// The first slot of a stretch, what the stretch carries and what it needs.
 struct Begin {
     first: u16,
     carry: u64,
@@ -115,7 +115,8 @@ fn find_begin(
     }
 }
 
-// Both: the stretch that is named, for kept chunks that can't be carried.
+// The stretch that a line names, for kept chunks that can't be carried: its last slot by the pass
+// forward, its first one by the pass back.
 pub(crate) fn find_stretch(
     after: &SlotSums,
     dues: &[u16; CHUNKS],

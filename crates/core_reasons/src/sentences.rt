@@ -18,7 +18,7 @@ fn put_two(out: &mut [u8], at: usize, word: &[u8], n: u64, other: &[u8], m: u64)
     core_text::put_field(out, next, other, m)
 }
 
-// Of the first kind.
+// The sentence `chunk 1 layer 0: slots 2 to 4 carry 1, need 2`.
 pub(crate) fn put_short(out: &mut [u8], at: usize, chunk: u64, layer: u64, s: Stretch) -> usize
     requires { ⌜ at + length (sentence (shortOf chunk layer s)) ≤ length (now out) ⌝ }
     ensures { λ r. ⌜ Put (now (out .entry)) at (sentence (shortOf chunk layer s)) (now (out .exit)) r ⌝ }
@@ -33,7 +33,7 @@ pub(crate) fn put_short(out: &mut [u8], at: usize, chunk: u64, layer: u64, s: St
     core_text::put_word(out, end, b"\n")
 }
 
-// Of the second kind.
+// The sentence `chunk 1 layer 1: layer 0 is missing`.
 pub(crate) fn put_lower(out: &mut [u8], at: usize, chunk: u64, layer: u64, below: u64) -> usize
     requires { ⌜ at + length (sentence (lower chunk layer below)) ≤ length (now out) ⌝ }
     ensures { λ r. ⌜ Put (now (out .entry)) at (sentence (lower chunk layer below)) (now (out .exit)) r ⌝ }

@@ -16,7 +16,7 @@ ghost use Rattle.job.specs.Table.{tableAt};
 ghost use Rattle.fetch.specs.Rows.{rowsOf};
 ghost use Rattle.core_replan_input.specs.lemmas.Gather.{fewBy, SetFlagsPost, InTurnPost, SetLeftPost, GatherPre, GatherPost};
 
-// Of all chunks: rule 3, and that no sum exceeds its size.
+// Whether rule 3 holds, and whether no sum exceeds its size, for all chunks.
 pub struct Kept {
     pub lower: bool,
     pub few: bool,
@@ -45,6 +45,7 @@ fn set_left(table: &SizeTable, sums: &[u64; SIZES], left: &mut SizeTable)
     }
 }
 
+// A sum of rows is at most the layer's size.
 fn at_most(sum: u64, size: u32) -> bool
     ensures { λ r. ⌜ r ≡ leb sum size ⌝ }
 {
@@ -131,6 +132,7 @@ fn in_turn(count: u16, first: &[u16; 501]) -> bool
     true
 }
 
+// No sum above its size, rules 3 to 6 and the playing order: all hold.
 fn all_six(a: bool, b: bool, c: bool, d: bool, e: bool, f: bool) -> bool
     ensures { λ r. ⌜ r ≡ a && (b && (c && (d && (e && f)))) ⌝ }
 {

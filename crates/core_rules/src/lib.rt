@@ -61,6 +61,7 @@ fn add(sum: u64, more: u32) -> u64
     next
 }
 
+// The earlier of two first slots.
 fn sooner(a: u16, b: u16) -> u16
     ensures { λ r. ⌜ r ≡ min a b ⌝ }
 {

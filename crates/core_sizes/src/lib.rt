@@ -7,6 +7,7 @@ ghost use Prim.Native.Nat.{_<_};
 ghost use Rattle.job.specs.Job.{Within};
 ghost use Rattle.job.specs.Table.{tableAt};
 
+// The size of layer n of chunk i, for a chunk and a layer of the job.
 pub fn size_in(table: &SizeTable, i: u16, n: usize) -> u32
     requires { ⌜ Within 1 500 i × (n < 4) ⌝ }
     ensures { λ r. ⌜ r ≡ tableAt (now (table .entry)) i n ⌝ }

@@ -29,6 +29,7 @@ pub fn count_layers(marks: &[u8]) -> [u16; 4]
     [base, first, second, third]
 }
 
+// The first n bytes of one slice over those of another.
 pub fn copy8(from: &[u8], n: usize, to: &mut [u8])
     requires { ⌜ (n ≤ length (now from)) × (n ≤ length (now to)) ⌝ }
     ensures { λ _. ⌜ now (to .exit) ≡ over (take n (now (from .entry))) (now (to .entry)) ⌝ }
@@ -40,6 +41,7 @@ pub fn copy8(from: &[u8], n: usize, to: &mut [u8])
     }
 }
 
+// The first n 16-bit numbers of one slice over those of another.
 pub fn copy16(from: &[u16], n: usize, to: &mut [u16])
     requires { ⌜ (n ≤ length (now from)) × (n ≤ length (now to)) ⌝ }
     ensures { λ _. ⌜ now (to .exit) ≡ over (take n (now (from .entry))) (now (to .entry)) ⌝ }
@@ -51,6 +53,7 @@ pub fn copy16(from: &[u16], n: usize, to: &mut [u16])
     }
 }
 
+// The first n 32-bit numbers of one slice over those of another.
 pub fn copy32(from: &[u32], n: usize, to: &mut [u32])
     requires { ⌜ (n ≤ length (now from)) × (n ≤ length (now to)) ⌝ }
     ensures { λ _. ⌜ now (to .exit) ≡ over (take n (now (from .entry))) (now (to .entry)) ⌝ }

@@ -42,6 +42,7 @@ pub fn without(mark: u8, n: u8) -> u8
     mark & !(1 << n)
 }
 
+// How many bits of a word are set.
 fn set_bits(x: u64) -> u8
     ensures { λ r. ⌜ r ≡ ones x ⌝ }
 {

@@ -9,6 +9,7 @@ ghost use Rattle.planfile.specs.Calls.{readLent, slicesOf, writeLent};
 ghost use Rattle.core_ffi.specs.Convention.{film};
 ghost use Rattle.core_ffi.specs.Files.{JobReturned, jobWriteAnswer, planReadAnswer, planWriteAnswer};
 
+// `jobfile::read_job` for C.
 #[no_mangle]
 pub extern "C" fn film_read_job(
     file: &[u8],
@@ -30,6 +31,7 @@ pub extern "C" fn film_read_job(
     core_ffi::job_number(read)
 }
 
+// `jobfile::read_mixed_job` for C.
 #[no_mangle]
 pub extern "C" fn film_read_mixed_job(
     file: &[u8],
@@ -48,6 +50,7 @@ pub extern "C" fn film_read_mixed_job(
     core_ffi::job_number(read)
 }
 
+// `jobfile::write_job` for C.
 #[no_mangle]
 pub extern "C" fn film_write_job(
     chunks: u16,
@@ -81,6 +84,7 @@ pub extern "C" fn film_write_job(
     ))
 }
 
+// `planfile::read_plan` for C.
 #[no_mangle]
 pub extern "C" fn film_read_plan(
     chunks: u16,
@@ -124,6 +128,7 @@ pub extern "C" fn film_read_plan(
     ))
 }
 
+// `planfile::write_plan` for C.
 #[no_mangle]
 pub extern "C" fn film_write_plan(
     chunks: u16,

@@ -7,6 +7,7 @@ ghost use Rattle.core_ffi.specs.Convention.{answered, film};
 ghost use Rattle.core_ffi.specs.Lists.{bookAnswer, checkAnswer, checkFromAnswer, countAfter, countRefusal, forecastBooked, forecastReleased, releaseAnswer};
 ghost use Rattle.core_ffi.specs.Plans.{fourCounts, orderNumber};
 
+// `checker::check` for C.
 #[no_mangle]
 pub extern "C" fn film_check(
     chunks: u16,
@@ -47,6 +48,7 @@ pub extern "C" fn film_check(
     ))
 }
 
+// `checker::check_from` for C.
 #[no_mangle]
 pub extern "C" fn film_check_from(
     chunks: u16,
@@ -89,6 +91,7 @@ pub extern "C" fn film_check_from(
     ))
 }
 
+// `booking::book` for C.
 #[no_mangle]
 pub extern "C" fn film_book(
     chunks: u16,
@@ -130,6 +133,7 @@ pub extern "C" fn film_book(
     ))
 }
 
+// `booking::release` for C.
 #[no_mangle]
 pub extern "C" fn film_release(
     chunks: u16,
@@ -183,6 +187,7 @@ pub extern "C" fn film_count_marks(marks: &[u8], n: u8, count: &mut [u64]) -> u6
     0
 }
 
+// `fetch::count_word` for C.
 #[no_mangle]
 pub extern "C" fn film_count_word(word: u64, n: u8) -> u64
     ensures { λ r. ⌜ r ≡ wordCount word n ⌝ }
@@ -190,6 +195,7 @@ pub extern "C" fn film_count_word(word: u64, n: u8) -> u64
     fetch::count_word(word, n) as u64
 }
 
+// `planner::compare` for C.
 #[no_mangle]
 pub extern "C" fn film_compare(counts: &[u16], others: &[u16]) -> u64
     ensures { λ r. ⌜ r ≡ orderNumber (compared (fourCounts (now (counts .entry))) (fourCounts (now (others .entry)))) ⌝ }

@@ -3,6 +3,7 @@ ghost use mathlib.Core.Path.{_≡_};
 ghost use Rattle.meter.specs.Meter.{sample};
 ghost use Rattle.core_ffi.specs.Meters.{Begun, Sampled, meanNumber, storage};
 
+// `meter::new` into the caller's storage.
 #[no_mangle]
 pub extern "C" fn film_meter_new(slots: &mut [u16], bytes: &mut [u32], kept: &mut [u8]) -> u64
     ensures { λ r. ⌜ Begun (storage (now (slots .entry)) (now (bytes .entry)) (now (kept .entry))) r (storage (now (slots .exit)) (now (bytes .exit)) (now (kept .exit))) ⌝ }
@@ -17,6 +18,7 @@ pub extern "C" fn film_meter_new(slots: &mut [u16], bytes: &mut [u32], kept: &mu
     0
 }
 
+// `meter::take` of the meter in the caller's storage.
 #[no_mangle]
 pub extern "C" fn film_meter_take(
     slots: &mut [u16],
@@ -42,6 +44,7 @@ pub extern "C" fn film_meter_take(
     0
 }
 
+// `meter::forecast` of the meter in the caller's storage.
 #[no_mangle]
 pub extern "C" fn film_meter_forecast(slots: &[u16], bytes: &[u32], kept: &[u8]) -> u64
     ensures { λ r. ⌜ r ≡ meanNumber (storage (now (slots .entry)) (now (bytes .entry)) (now (kept .entry))) ⌝ }

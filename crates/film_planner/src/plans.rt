@@ -4,6 +4,7 @@ ghost use Rattle.replan.specs.Answer.{replanInput};
 ghost use Rattle.core_ffi.specs.Convention.{film};
 ghost use Rattle.core_ffi.specs.Plans.{PlanReturned, ReplanReturned, SearchReturned, planSlices};
 
+// `planner::plan` for C.
 #[no_mangle]
 pub extern "C" fn film_plan(
     chunks: u16,
@@ -59,6 +60,7 @@ pub extern "C" fn film_plan(
     core_ffi::plan_number(answer)
 }
 
+// `replan::replan` for C.
 #[no_mangle]
 pub extern "C" fn film_replan(
     chunks: u16,
@@ -132,6 +134,7 @@ pub extern "C" fn film_replan(
     core_ffi::plan_number(answer)
 }
 
+// `search::search` for C.
 #[no_mangle]
 pub extern "C" fn film_search(
     chunks: u16,

@@ -5,6 +5,7 @@ ghost use Rattle.wait.specs.Answer.{waitInput};
 ghost use Rattle.core_ffi.specs.Convention.{film};
 ghost use Rattle.core_ffi.specs.Texts.{forecastRead, reasonsAfter, reasonsAnswer, reportAfter, reportAnswer, traceAfter, traceReadAnswer, traceWriteAnswer, waitAnswer};
 
+// `report::report` for C.
 #[no_mangle]
 pub extern "C" fn film_report(
     chunks: u16,
@@ -38,6 +39,7 @@ pub extern "C" fn film_report(
     ))
 }
 
+// `reasons::reasons` for C.
 #[no_mangle]
 pub extern "C" fn film_reasons(
     chunks: u16,
@@ -71,6 +73,7 @@ pub extern "C" fn film_reasons(
     ))
 }
 
+// `trace::read_trace` for C.
 #[no_mangle]
 pub extern "C" fn film_read_trace(trace: &[u8], slots: usize, forecast: &mut [u32]) -> u64
     ensures number { λ r. ⌜ r ≡ traceReadAnswer (now (trace .entry)) slots (now (forecast .entry)) ⌝ }
@@ -79,6 +82,7 @@ pub extern "C" fn film_read_trace(trace: &[u8], slots: usize, forecast: &mut [u3
     core_ffi::trace_read_number(trace::read_trace(trace, slots, forecast))
 }
 
+// `trace::write_trace` for C.
 #[no_mangle]
 pub extern "C" fn film_write_trace(forecast: &[u32], out: &mut [u8]) -> u64
     ensures number { λ r. ⌜ r ≡ traceWriteAnswer (now (forecast .entry)) (now (out .entry)) ⌝ }
@@ -87,6 +91,7 @@ pub extern "C" fn film_write_trace(forecast: &[u32], out: &mut [u8]) -> u64
     core_ffi::trace_written_number(trace::write_trace(forecast, out))
 }
 
+// `wait::wait` for C.
 #[no_mangle]
 pub extern "C" fn film_wait(
     chunks: u16,

@@ -16,7 +16,7 @@ spot i n = (i - 1) * 4 + n
 abbrev pub ownTable : List ℕ → ℕ → List ℕ
 ownTable sizes c = upTo (λ k. getD sizes (k % 4) 0) (c * 4)
 
--- And the SZs written over them, from the last to the first.
+-- The table with SZs written over it, from the last to the first.
 abbrev pub overriddenBy : List Override → List ℕ → List ℕ
 overriddenBy [] t = t
 overriddenBy (o ∷ os) t = set (overriddenBy os t) (spot (o .chunk) (o .layer)) (o .bytes)

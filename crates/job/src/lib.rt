@@ -140,6 +140,7 @@ pub fn or_else(first: u8, next: u8) -> u8
     first
 }
 
+// 5 for a field of the programme out of range.
 pub fn fields_refusal(p: Programme) -> u8
     ensures { λ r. ⌜ r ≡ fieldsRefusal p ⌝ }
 {
@@ -153,6 +154,7 @@ pub fn last_due_refusal(p: Programme) -> u8
     refuse_unless(5, last_due(p) <= SLOTS)
 }
 
+// Every number is at least lo and at most hi.
 fn all_within(lo: u32, hi: u32, s: &[u32]) -> bool
     ensures { λ r. ⌜ r ≡ all (within lo hi) (now (s .entry)) ⌝ }
 {
@@ -216,6 +218,7 @@ pub fn slots_refusal(p: Programme, forecast: &[u32]) -> u8
     refuse_unless(7, forecast.len() == last_due(p))
 }
 
+// 7 for bytes out of range, then for a number of slots other than d(C).
 pub fn forecast_refusal(p: Programme, forecast: &[u32]) -> u8
     ensures { λ r. ⌜ r ≡ forecastRefusal p (now (forecast .entry)) ⌝ }
 {
@@ -229,6 +232,7 @@ fn fewest(a: usize, b: usize, c: usize) -> usize
     fewer(a, fewer(b, c))
 }
 
+// What is left of a after b, or 0.
 fn fewer(a: usize, b: usize) -> usize
     ensures { λ r. ⌜ r ≡ min a b ⌝ }
 {

@@ -60,11 +60,11 @@ runRecord r = Bw (r .count) (r .bytes)
 abbrev pub bodyOf : List ℕ → List Override → List ℕ → List Record
 bodyOf sizes overrides forecast = map layerRecord sizes ++ (map overrideRecord overrides ++ map runRecord (runs forecast))
 
--- PG and these.
+-- All records of the job but EN: PG, LYs, SZs, BWs.
 abbrev pub recordsOf : Job → List Record
 recordsOf j = Pg (j .programme) ∷ bodyOf (j .sizes) (j .overrides) (j .forecast)
 
--- Those records and EN.
+-- The file of a job: its records, then EN.
 unfoldable pub jobFile : Job → List ℕ
 jobFile j = encodeAll encode (recordsOf j) ++ encode En
 

@@ -160,6 +160,7 @@ fn layer_follows(place: u8) -> bool
     place <= 2
 }
 
+// An SZ may stand after a PG, an LY or an SZ: places 1 to 3 of the sequence.
 fn override_follows(place: u8) -> bool
     ensures { λ r. ⌜ r ≡ within 1 3 place ⌝ }
 {
@@ -169,6 +170,7 @@ fn override_follows(place: u8) -> bool
     place <= 3
 }
 
+// A BW may stand after a PG, an LY or an SZ, and after a run of other bytes.
 fn run_follows(place: u8, last: u32, bytes: u32) -> bool
     ensures { λ r. ⌜ r ≡ runFollows place last bytes ⌝ }
 {
@@ -226,7 +228,7 @@ fn run_fault(slots: usize, count: u16, bytes: u32) -> u8
     0
 }
 
-// So many SZs that stand in a file from a place on go to the start of three buffers.
+// The n SZs that stand in a file from a place on go to the start of three buffers.
 fn gather(file: &[u8], from: usize, n: usize, cs: &mut [u16], ls: &mut [u8], bs: &mut [u32])
     requires { ⌜ from + 9 * n ≤ length (now file) ⌝ }
     requires { ⌜ (n ≤ length (now cs)) × (n ≤ length (now ls)) × (n ≤ length (now bs)) ⌝ }
@@ -339,6 +341,7 @@ fn fault_of(sequenced: bool, j: Progress, record: Record) -> u8
     }
 }
 
+// The record is EN.
 fn is_end(record: Record) -> bool
     ensures { λ r. ⌜ r ≡ isEnd «record» ⌝ }
 {
@@ -368,7 +371,7 @@ fn ended(file: &[u8], j: Progress, after: usize, sizes: &[u32]) -> Step
     Step::Stop(n)
 }
 
-// So many numbers from a place on become v.
+// The slots `from` to `from` + count - 1 get v bytes.
 fn fill(slots: &mut [u32], from: usize, count: usize, v: u32)
     requires { ⌜ from + count ≤ length (now slots) ⌝ }
     ensures { λ _. ⌜ now (slots .exit) ≡ paste (now (slots .entry)) from (replicate count v) count ⌝ }
@@ -469,6 +472,7 @@ fn take_record(
     }
 }
 
+// The refusal of a record that was not read, 0 for one that was.
 fn refusal_of(read: Read) -> u8
     ensures { λ r. ⌜ r ≡ readRefusalOf read ⌝ }
 {
@@ -558,6 +562,7 @@ fn copy(from: &[u32], to: &mut [u32], n: usize)
     }
 }
 
+// The refusal with which the file ends, 0 for a whole job.
 fn refusal_at(end: Ending) -> u8
     ensures { λ r. ⌜ r ≡ endRefusalOf end ⌝ }
 {

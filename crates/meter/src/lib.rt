@@ -89,7 +89,7 @@ fn next_slots(a: [u16; 10], at: usize, v: u16) -> [u16; 10]
     [a[1], a[2], a[3], a[4], a[5], a[6], a[7], a[8], a[9], v]
 }
 
-// The same of the bytes.
+// The bytes of ten samples with one more, which goes where its slot goes in next_slots.
 fn next_bytes(b: [u32; 10], at: usize, v: u32) -> [u32; 10]
     requires { ⌜ at ≤ 10 ⌝ }
     ensures { λ r. ⌜ (r ≡ nextCells b at v) × (length b ≡ 10) ⌝ }

@@ -94,6 +94,7 @@ fn record_at(file: &[u8], at: usize) -> Read
     Read::Refused(2)
 }
 
+// The refusal of a record that was not read, 0 for one that was.
 fn refusal_of(read: Read) -> u8
     ensures { λ r. ⌜ r ≡ refusalOf read ⌝ }
 {
@@ -279,6 +280,7 @@ pub fn read_plan(
     PlanRead::Refused(11)
 }
 
+// A KP record: chunk and marks.
 fn put_kp(out: &mut [u8], at: usize, chunk: u16, marks: u8)
     requires { ⌜ at + 5 ≤ length (now out) ⌝ }
     ensures { λ _. ⌜ now (out .exit) ≡ written (now (out .entry)) at (encode (Record.Kp chunk marks)) ⌝ }
@@ -289,6 +291,7 @@ fn put_kp(out: &mut [u8], at: usize, chunk: u16, marks: u8)
     records::put(out, next, &body);
 }
 
+// An FT record: slot, chunk, layer and bytes.
 fn put_ft(out: &mut [u8], at: usize, slot: u16, chunk: u16, layer: u8, bytes: u32)
     requires { ⌜ at + 11 ≤ length (now out) ⌝ }
     ensures { λ _. ⌜ now (out .exit) ≡ written (now (out .entry)) at (encode (Record.Ft slot chunk layer bytes)) ⌝ }

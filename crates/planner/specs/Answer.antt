@@ -77,7 +77,7 @@ pub record PlanOutput (h : JobInput) (marks slots chunks layers bytes : List ℕ
 
 -- "The plan carries a layer of a chunk if and only if, beside the layers already settled, some
 -- fetch list in playing order still keeps them all"; for bases that request 9 settles, `IsPlan` has
--- its walk instead.
+-- the Moore-Hodgson algorithm instead.
 abbrev pub DecidedByLists : JobInput → Type 0
 DecidedByLists h = jobRefusal h ≡ 0 → IsPlan (jobIn h) (plan (jobIn h))
 

@@ -30,6 +30,7 @@ pub enum Order {
     More,
 }
 
+// Counts are compared entry by entry from the base.
 pub fn compare(a: [u16; 4], b: [u16; 4]) -> Order
     ensures { λ r. ⌜ r ≡ compared a b ⌝ }
 {
@@ -87,7 +88,8 @@ fn write_decided(
     requires { ⌜ (jobRefusal (jobInput p (now sizes) (now «size_chunks») (now «size_layers») (now «size_bytes») (now forecast)) ≡ 0) × (p .chunks ≤ length (now marks)) ⌝ }
     ensures { λ r. ⌜ PlanOutput (jobInput p (now (sizes .entry)) (now («size_chunks» .entry)) (now («size_layers» .entry)) (now («size_bytes» .entry)) (now (forecast .entry))) (now (marks .entry)) (now (slots .entry)) (now (chunks .entry)) (now (layers .entry)) (now (bytes .entry)) r (now (marks .exit)) (now (slots .exit)) (now (chunks .exit)) (now (layers .exit)) (now (bytes .exit)) ⌝ }
 {
-    // Filled with no constant, as in decide.
+    // Every place is written before it is read. A filling that is no constant is stored in wide
+    // words, faster than cleared.
     let unset = p.chunks as u32;
     let mut table = [unset; SIZES];
     job::fill_sizes(sizes, size_chunks, size_layers, size_bytes, &mut table);
@@ -137,7 +139,7 @@ pub fn plan(
     layers: &mut [u8],
     bytes: &mut [u32],
 ) -> Planned
-    ensures jobInput { λ r. ⌜ PlanOutput (jobInput p (now (sizes .entry)) (now («size_chunks» .entry)) (now («size_layers» .entry)) (now («size_bytes» .entry)) (now (forecast .entry))) (now (marks .entry)) (now (slots .entry)) (now (chunks .entry)) (now (layers .entry)) (now (bytes .entry)) r (now (marks .exit)) (now (slots .exit)) (now (chunks .exit)) (now (layers .exit)) (now (bytes .exit)) ⌝ }
+    ensures output { λ r. ⌜ PlanOutput (jobInput p (now (sizes .entry)) (now («size_chunks» .entry)) (now («size_layers» .entry)) (now («size_bytes» .entry)) (now (forecast .entry))) (now (marks .entry)) (now (slots .entry)) (now (chunks .entry)) (now (layers .entry)) (now (bytes .entry)) r (now (marks .exit)) (now (slots .exit)) (now (chunks .exit)) (now (layers .exit)) (now (bytes .exit)) ⌝ }
     ensures decided { λ _. ⌜ DecidedByLists (jobInput p (now (sizes .entry)) (now («size_chunks» .entry)) (now («size_layers» .entry)) (now («size_bytes» .entry)) (now (forecast .entry))) ⌝ }
     ensures pictures { λ _. ⌜ PicturesOfLists (jobInput p (now (sizes .entry)) (now («size_chunks» .entry)) (now («size_layers» .entry)) (now («size_bytes» .entry)) (now (forecast .entry))) ⌝ }
     ensures best { λ _. ⌜ BestOfLists (jobInput p (now (sizes .entry)) (now («size_chunks» .entry)) (now («size_layers» .entry)) (now («size_bytes» .entry)) (now (forecast .entry))) ⌝ }

@@ -36,7 +36,8 @@ fn put_plan(
     requires { ⌜ Accepted (jobIn (jobInput p (now sizes) (now «size_chunks») (now «size_layers») (now «size_bytes») (now forecast))) × (length (planText (jobIn (jobInput p (now sizes) (now «size_chunks») (now «size_layers») (now «size_bytes») (now forecast)))) ≤ length (now out)) ⌝ }
     ensures { λ r. ⌜ Put (now (out .entry)) 0 (planText (jobIn (jobInput p (now (sizes .entry)) (now («size_chunks» .entry)) (now («size_layers» .entry)) (now («size_bytes» .entry)) (now (forecast .entry))))) (now (out .exit)) r ⌝ }
 {
-    // Filled with no constant, as in settle.
+    // Every place is written before it is read. A filling that is no constant is stored in wide
+    // words, faster than cleared.
     let unset = p.chunks as u32;
     let mut table = [unset; SIZES];
     let mut sums = [unset; SIZES];

@@ -107,7 +107,7 @@ pub fn replan(
     layers: &mut [u8],
     bytes: &mut [u32],
 ) -> Planned
-    ensures jobInput { λ r. ⌜ ReplanOutput (jobInput p (now (sizes .entry)) (now («size_chunks» .entry)) (now («size_layers» .entry)) (now («size_bytes» .entry)) (now (forecast .entry))) (replanInput from (now («fetched_slots» .entry)) (now («fetched_chunks» .entry)) (now («fetched_layers» .entry)) (now («fetched_bytes» .entry)) (now (onward .entry))) (now (marks .entry)) (now (slots .entry)) (now (chunks .entry)) (now (layers .entry)) (now (bytes .entry)) r (now (marks .exit)) (now (slots .exit)) (now (chunks .exit)) (now (layers .exit)) (now (bytes .exit)) ⌝ }
+    ensures output { λ r. ⌜ ReplanOutput (jobInput p (now (sizes .entry)) (now («size_chunks» .entry)) (now («size_layers» .entry)) (now («size_bytes» .entry)) (now (forecast .entry))) (replanInput from (now («fetched_slots» .entry)) (now («fetched_chunks» .entry)) (now («fetched_layers» .entry)) (now («fetched_bytes» .entry)) (now (onward .entry))) (now (marks .entry)) (now (slots .entry)) (now (chunks .entry)) (now (layers .entry)) (now (bytes .entry)) r (now (marks .exit)) (now (slots .exit)) (now (chunks .exit)) (now (layers .exit)) (now (bytes .exit)) ⌝ }
     ensures settled { λ _. ⌜ SettledAfresh (jobInput p (now (sizes .entry)) (now («size_chunks» .entry)) (now («size_layers» .entry)) (now («size_bytes» .entry)) (now (forecast .entry))) (replanInput from (now («fetched_slots» .entry)) (now («fetched_chunks» .entry)) (now («fetched_layers» .entry)) (now («fetched_bytes» .entry)) (now (onward .entry))) ⌝ }
     ensures standing { λ _. ⌜ StandingGoesOn (jobInput p (now (sizes .entry)) (now («size_chunks» .entry)) (now («size_layers» .entry)) (now («size_bytes» .entry)) (now (forecast .entry))) (replanInput from (now («fetched_slots» .entry)) (now («fetched_chunks» .entry)) (now («fetched_layers» .entry)) (now («fetched_bytes» .entry)) (now (onward .entry))) ⌝ }
 {
@@ -130,7 +130,8 @@ pub fn replan(
     }
     let depth = sizes.len();
     let start = from as usize;
-    // Filled with no constant, as in the planner.
+    // Every place is written before it is read. A filling that is no constant is stored in wide
+    // words, faster than cleared.
     let unset = p.chunks as u32;
     let mut table = [unset; SIZES];
     let mut left = [unset; SIZES];

@@ -28,6 +28,7 @@ pub enum Written {
     Refused(u8),
 }
 
+// A line for each chunk: number, layers carried, bytes carried.
 fn chunk_lines(
     out: &mut [u8],
     at: usize,
@@ -72,6 +73,7 @@ fn layer_counts(
     next
 }
 
+// The line `layers`: the counts of the job's layers.
 fn layers_line(
     out: &mut [u8],
     at: usize,

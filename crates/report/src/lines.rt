@@ -23,6 +23,7 @@ pub(crate) fn put_end(out: &mut [u8], at: usize) -> usize
     at + 1
 }
 
+// The line `slots`: d(C), C and H.
 pub(crate) fn slots_line(out: &mut [u8], at: usize, last: u64, count: u64, held: u64) -> usize
     requires { ⌜ at + length (line (ascii "slots") (digits last ∷ ascii "chunks" ∷ digits count ∷ ascii "held" ∷ digits held ∷ [])) ≤ length (now out) ⌝ }
     ensures { λ r. ⌜ Put (now (out .entry)) at (line (ascii "slots") (digits last ∷ ascii "chunks" ∷ digits count ∷ ascii "held" ∷ digits held ∷ [])) (now (out .exit)) r ⌝ }
@@ -33,6 +34,7 @@ pub(crate) fn slots_line(out: &mut [u8], at: usize, last: u64, count: u64, held:
     put_end(out, end)
 }
 
+// The line of a chunk.
 pub(crate) fn chunk_line(out: &mut [u8], at: usize, i: u64, layers: u64, bytes: u64) -> usize
     requires { ⌜ at + length (line (digits i) (digits layers ∷ digits bytes ∷ [])) ≤ length (now out) ⌝ }
     ensures { λ r. ⌜ Put (now (out .entry)) at (line (digits i) (digits layers ∷ digits bytes ∷ [])) (now (out .exit)) r ⌝ }
@@ -43,6 +45,7 @@ pub(crate) fn chunk_line(out: &mut [u8], at: usize, i: u64, layers: u64, bytes: 
     put_end(out, end)
 }
 
+// The line `bytes`: bytes in rows, and forecast bytes unspent.
 pub(crate) fn bytes_line(out: &mut [u8], at: usize, spent: u64, left: u64) -> usize
     requires { ⌜ at + length (line (ascii "bytes") (digits spent ∷ ascii "left" ∷ digits left ∷ [])) ≤ length (now out) ⌝ }
     ensures { λ r. ⌜ Put (now (out .entry)) at (line (ascii "bytes") (digits spent ∷ ascii "left" ∷ digits left ∷ [])) (now (out .exit)) r ⌝ }
@@ -52,6 +55,7 @@ pub(crate) fn bytes_line(out: &mut [u8], at: usize, spent: u64, left: u64) -> us
     put_end(out, end)
 }
 
+// The line `switch`.
 fn switch_line(out: &mut [u8], at: usize, switch: u64) -> usize
     requires { ⌜ at + length (line (ascii "switch") (digits switch ∷ [])) ≤ length (now out) ⌝ }
     ensures { λ r. ⌜ Put (now (out .entry)) at (line (ascii "switch") (digits switch ∷ [])) (now (out .exit)) r ⌝ }
@@ -72,6 +76,7 @@ fn rate_line(out: &mut [u8], at: usize, switch: u64, film: u64) -> usize
     put_end(out, end)
 }
 
+// The lines `switch` and `rate`: the switch sum, and it divided by C x L with the remainder.
 pub(crate) fn switch_lines(out: &mut [u8], at: usize, switch: u64, film: u64) -> usize
     requires { ⌜ (1 ≤ film) × (at + length (switchLines switch film) ≤ length (now out)) ⌝ }
     ensures { λ r. ⌜ Put (now (out .entry)) at (switchLines switch film) (now (out .exit)) r ⌝ }

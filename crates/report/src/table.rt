@@ -37,6 +37,7 @@ fn add(total: u64, more: u32) -> u64
     total + (more as u64)
 }
 
+// The sum of a slice. Sums in 64 bits: 3,600 slots need 36.
 pub(crate) fn sum_of(s: &[u32]) -> u64
     requires { ⌜ length (now s) ≤ 5599 ⌝ }
     ensures { λ r. ⌜ r ≡ sum (λ k. getD (now (s .entry)) k 0) (length (now (s .entry))) ⌝ }
@@ -86,6 +87,7 @@ fn bytes_at(table: &[u64; SIZES], i: u16, n: usize) -> u64
     table[at]
 }
 
+// The bytes fetched of a layer are its size: the layer is carried.
 fn same(sum: u64, size: u32) -> bool
     ensures { λ r. ⌜ r ≡ eqb sum size ⌝ }
 {
@@ -102,6 +104,7 @@ fn is_carried(sizes: &SizeTable, table: &[u64; SIZES], i: u16, n: usize) -> bool
     same(sum, job::size_at(sizes, i, n))
 }
 
+// A number, or 0 for a layer that is not carried.
 fn only_if(carried: bool, x: u64) -> u64
     ensures { λ r. ⌜ r ≡ cond carried x 0 ⌝ }
 {
@@ -143,6 +146,7 @@ pub(crate) fn layer_count(sizes: &SizeTable, table: &[u64; SIZES], count: u16, n
     carry
 }
 
+// The difference of two numbers.
 fn distance(a: u64, b: u64) -> u64
     ensures { λ r. ⌜ r ≡ apart a b ⌝ }
 {
@@ -188,6 +192,7 @@ fn held(last: Picture, here: Picture) -> Picture
     }
 }
 
+// The sum of the differences in bytes between each carried chunk and the next carried one.
 pub(crate) fn switch_sum(sizes: &SizeTable, depth: usize, table: &[u64; SIZES], count: u16) -> u64
     requires { ⌜ (depth ≤ 4) × (count ≤ 500) × SizesIn (now sizes) ⌝ }
     ensures { λ r. ⌜ r ≡ switchBy (now (sizes .entry)) (now (table .entry)) depth count ⌝ }

@@ -1,6 +1,6 @@
 // Request 13, "Good enough before the curtain": the best set of bases met within a budget of steps,
-// and the plan over it. The search itself is core_search's; this crate adds the shortfall, the layers
-// above the bases, and the hand-over.
+// and the plan over it. The search itself is core_search's; this crate adds the shortfall, the
+// layers above the bases, and the hand-over.
 use core_output::Output;
 use job::CHUNKS;
 use job::Programme;
@@ -204,7 +204,7 @@ pub fn search(
     layers: &mut [u8],
     bytes: &mut [u32],
 ) -> Searched
-    ensures jobInput { λ r. ⌜ SearchOutput (jobInput p (now (sizes .entry)) (now («size_chunks» .entry)) (now («size_layers» .entry)) (now («size_bytes» .entry)) (now (forecast .entry))) budget (now (marks .entry)) (now (slots .entry)) (now (chunks .entry)) (now (layers .entry)) (now (bytes .entry)) r (now (marks .exit)) (now (slots .exit)) (now (chunks .exit)) (now (layers .exit)) (now (bytes .exit)) ⌝ }
+    ensures output { λ r. ⌜ SearchOutput (jobInput p (now (sizes .entry)) (now («size_chunks» .entry)) (now («size_layers» .entry)) (now («size_bytes» .entry)) (now (forecast .entry))) budget (now (marks .entry)) (now (slots .entry)) (now (chunks .entry)) (now (layers .entry)) (now (bytes .entry)) r (now (marks .exit)) (now (slots .exit)) (now (chunks .exit)) (now (layers .exit)) (now (bytes .exit)) ⌝ }
     ensures found { λ _. ⌜ FoundByWalk (jobInput p (now (sizes .entry)) (now («size_chunks» .entry)) (now («size_layers» .entry)) (now («size_bytes» .entry)) (now (forecast .entry))) budget ⌝ }
     ensures enough { λ _. ⌜ GoodEnoughFound (jobInput p (now (sizes .entry)) (now («size_chunks» .entry)) (now («size_layers» .entry)) (now («size_bytes» .entry)) (now (forecast .entry))) budget ⌝ }
     ensures steps { λ _. ⌜ MoreSteps (jobInput p (now (sizes .entry)) (now («size_chunks» .entry)) (now («size_layers» .entry)) (now («size_bytes» .entry)) (now (forecast .entry))) budget ⌝ }

@@ -83,7 +83,7 @@ fn read_job(text: &[u8], file: &[u8], n: usize, layers: usize, slots: usize) {
     shown(&sizes, &forecast);
 }
 
-// The same by document 01's reader.
+// Job A read by document 01's reader, with and without room.
 fn read_mixed(text: &[u8], file: &[u8], n: usize, layers: usize, slots: usize) {
     let mut sizes = [9u32; 3];
     let mut forecast = [9u32; 7];

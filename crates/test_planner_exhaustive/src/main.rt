@@ -14,7 +14,7 @@ mod planned;
 mod search;
 mod steady;
 mod tally;
-mod walk;
+mod moore_hodgson;
 
 use crate::film::Film;
 use libc::STDOUT_FILENO;
@@ -108,7 +108,7 @@ fn flags_of(f: Film, marks: u32) -> u32 {
             (bits::nonzero(f.forecast) as usize) < film::last_due(f),
         )
         | tally::flag_if(tally::BINDING, unlimited_plan(f) != marks)
-        | tally::flag_if(tally::WALKED, walk::settles(f))
+        | tally::flag_if(tally::MOORE_HODGSON, moore_hodgson::settles(f))
 }
 
 fn trial(f: Film, tally: &mut [u64]) {

@@ -7,7 +7,7 @@ use crate::film::Film;
 use crate::lists;
 use crate::marks;
 use crate::tally;
-use crate::walk;
+use crate::moore_hodgson;
 ghost use Prim.Native.Nat.{_≤_, _-_};
 
 // Whether byte k may be of a part: the forecast has it (rule 4), the chunk is due in its slot or
@@ -125,8 +125,8 @@ fn settle_from(f: Film, from: u16, settled: u32) -> u32 {
 
 // The bases of request 9 where it settles them, else document 01's; the upper layers in its way.
 pub(crate) fn plan(f: Film) -> u32 {
-    if walk::settles(f) {
-        return settle_from(f, 3, walk::bases(f));
+    if moore_hodgson::settles(f) {
+        return settle_from(f, 3, moore_hodgson::bases(f));
     }
     settle_from(f, 0, 0)
 }

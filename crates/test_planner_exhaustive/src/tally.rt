@@ -15,7 +15,7 @@ pub(crate) const EMPTY: u16 = 6;
 
 pub(crate) const BINDING: u16 = 7;
 
-pub(crate) const WALKED: u16 = 8;
+pub(crate) const MOORE_HODGSON: u16 = 8;
 
 pub(crate) const LISTS: u16 = 9;
 

@@ -1,7 +1,8 @@
 -- Meaning. The bases of uneven film: document 02, request 9. "Go through chunks from 1 to C, add
 -- each, and whenever the kept bases due by then exceed the forecast up to that due slot, drop the
--- largest kept one, the earliest among equals." Where a plan's bases are settled so says Statement
--- (`IsPlan`).
+-- largest kept one, the earliest among equals." In scheduling this is the Moore-Hodgson algorithm
+-- (Moore 1968): fewest late jobs on one machine, jobs by due date, the longest dropped when late.
+-- Where a plan's bases are settled so says Statement (`IsPlan`).
 use Prim.Native.Nat.{ℕ, zero, suc, _+_, _≤_}
 use mathlib.Core.Bool.{Bool, cond}
 use mathlib.Core.List.{List, [], _∷_, _++_}
@@ -17,7 +18,8 @@ abbrev pub Asc : ℕ → ℕ → List ℕ → Type 0
 Asc lo hi [] = Unit {0}
 Asc lo hi (k ∷ ks) = (lo ≤ k) × (k ≤ hi) × Asc (suc k) hi ks
 
--- ---- the walk. s k: the bytes of chunk k's base. Kept chunks are listed in playing order.
+-- ---- the Moore-Hodgson algorithm. s k: the bytes of chunk k's base. Kept chunks are listed in
+-- playing order.
 
 -- The bytes of the kept bases.
 abbrev pub keptBytes : (ℕ → ℕ) → List ℕ → ℕ

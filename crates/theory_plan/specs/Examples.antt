@@ -43,7 +43,7 @@ pub limit-2-plan : (p : ℕ → ℕ) → IsPlan (with-limit 2) p → marksOf (wi
 unfolding sizeIn plan
 limit-2-plan p d = plan-marks-unique (with-limit 2) p (plan (with-limit 2)) d (plan-exists (with-limit 2) limit-2-accepted) ∙ refl
 
--- What the walk keeps.
+-- What Moore-Hodgson keeps.
 pub poor-kept : mooreHodgson poor ≡ 1 ∷ 2 ∷ []
 unfolding sizeIn
 poor-kept = refl

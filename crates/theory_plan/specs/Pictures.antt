@@ -24,7 +24,7 @@ use Rattle.theory_plan.specs.lemmas.Unique.{same-on-bases, same-moore-ho
 use Rattle.theory_plan.specs.lemmas.MooreHodgson.{after-drop, kept-count, list-bases}
 use Rattle.theory_plan.specs.lemmas.Words.{accepted-sized}
 
--- ---- the walk
+-- ---- the Moore-Hodgson algorithm
 
 -- "whenever the kept bases due by then exceed the forecast up to that due slot, drop": after one
 -- drop they fit again,
@@ -36,7 +36,7 @@ pub no-second-drop :
     (j : Job) (i : ℕ) → let ks = keptAfter (baseSize j) (forecastBy j) i in keepOrDrop (baseSize j) (forecastBy j i) ks ≡ ks
 no-second-drop j i = rw (le-leb (keptBytes (baseSize j) (keptAfter (baseSize j) (forecastBy j) i)) (forecastBy j i) (after-drop j i))
 
--- No passing list, in any order, carries more bases than the walk keeps, whatever the limit is.
+-- No passing list, in any order, carries more bases than it keeps, whatever the limit is.
 pub none-carries-more : (j : Job) → Accepted j → (list : List Row) → Passes j list → layerCount j list 0 ≤ length (mooreHodgson j)
 none-carries-more j ok list o = omega (arith, list-bases j (ok .layers-in .low) list o, kept-count j)
 
@@ -44,18 +44,18 @@ none-carries-more j ok list o = omega (arith, list-bases j (ok .layers-in .low) 
 
 module _ (j : Job) (ok : Accepted j) (wide : HoldsAll j) where
   -- "For equal sizes the marks are those of document 01": its way carries exactly the bases that
-  -- the walk keeps,
+  -- Moore-Hodgson keeps,
   pub equal-moore-hodgson : EqualBases j → (p : ℕ → ℕ) → SettledByTrials j p → BasesMooreHodgson j p
   equal-moore-hodgson equal p d = trials-moore-hodgson j (accepted-sized j ok) (ok .layers-in .low) wide equal p d
 
-  -- so settling the bases by the walk makes no difference to the marks.
+  -- so settling the bases by it makes no difference to the marks.
   pub equal-marks :
       EqualBases j → (p q : ℕ → ℕ) → Choice j p → BasesMooreHodgson j p → ((n : ℕ) → Settles j p (suc n)) → SettledByTrials j q →
       marksOf j p ≡ marksOf j q
   equal-marks equal p q c b d dq =
       same-marks j p q (same-on-bases j p q c (dq .choice) d (λ n. dq .decided (suc n)) (λ h. same-moore-hodgson j p q b (equal-moore-hodgson equal q dq)))
 
-  -- The plan's bases are those that the walk keeps, whether or not their sizes vary.
+  -- The plan's bases are those that it keeps, whether or not their sizes vary.
   pub plan-moore-hodgson : (p : ℕ → ℕ) → IsPlan j p → BasesMooreHodgson j p
   plan-moore-hodgson p d =
       either-way j (BasesMooreHodgson j p) (d .moore-hodgson) (λ n. equal-moore-hodgson (equal-bases-if-not j (λ v. n (wide, v))) p (elsewhere-iff j n p .0 d))

@@ -106,7 +106,7 @@ equalBases j = allTo (chunks j) (λ i. eqb (baseSize j i) (baseSize j 1))
 abbrev pub byMooreHodgson : Job → Bool
 byMooreHodgson j = leb (chunks j) (heldMost j) && not (equalBases j)
 
--- The bases that its walk keeps.
+-- The bases that Moore-Hodgson keeps.
 abbrev pub basesMooreHodgson : Job → ℕ → ℕ
 basesMooreHodgson j i = cond (isKept j i) 1 0
 

@@ -1,20 +1,14 @@
 -- Meaning. What a plan is, and what it is the best of: document 01, "How the plan decides",
 -- document 02, request 9, and demand 3. The statements and nothing else, to be read from top to
 -- bottom. What they are made of stands once, elsewhere:
---   a job, its sizes, due slots, H, `Accepted`, `EqualChunks`, `EqualBases`, `HoldsAll` crate job,
---   Job
---   a row, a layer carried, a chunk begun and held, the count and the marks of a list   crate
---   fetch, Rows
---   rules 1 to 7, `Keeps` (a list with marks), `Passes` (a list alone), `PlayingOrder`  crate
---   fetch, Rules
---   the verdict, 0 exactly if rules 1 to 7 are kept                                     crate
---   fetch, Verdict
---   the bases that request 9's walk keeps                                               Bases, in
---   this crate
---   the own list of a choice                                                            Own, in
---   this crate
---   the plan computed, so that a contract can name it                                   Plan, in
---   this crate Theorems proves what this file states.
+--   job, Job: a job, its sizes, due slots, H, `Accepted`, `EqualChunks`, `EqualBases`, `HoldsAll`
+--   fetch, Rows: a row, a layer carried, a chunk begun and held, the count and marks of a list
+--   fetch, Rules: rules 1 to 7, `Keeps` (a list with marks), `Passes` (a list), `PlayingOrder`
+--   fetch, Verdict: the verdict, 0 exactly if rules 1 to 7 are kept
+--   Bases, in this crate: the bases that request 9 keeps, by the Moore-Hodgson algorithm
+--   Own, in this crate: the own list of a choice
+--   Plan, in this crate: the plan computed, so that a contract can name it
+-- Theorems proves what this file states.
 use Prim.Native.Nat.{ℕ, suc, _+_, _≤_, _<_, min}
 use mathlib.Core.Path.{_≡_}
 use mathlib.Core.Bool.{cond}
@@ -83,7 +77,7 @@ pub record SettledByTrials (j : Job) (plan : ℕ → ℕ) : Type 0 where
   pub choice : Choice j plan
   pub decided : (n : ℕ) → Settles j plan n
 
--- The bases of request 9: those that its walk keeps (Bases).
+-- The bases of request 9: those that the Moore-Hodgson algorithm keeps (Bases).
 abbrev pub BasesMooreHodgson : Job → (ℕ → ℕ) → Type 0
 BasesMooreHodgson j plan = (i : ℕ) → 1 ≤ i → i ≤ chunks j → (0 < plan i) ↔ T (isKept j i)
 

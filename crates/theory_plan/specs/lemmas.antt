@@ -27,7 +27,7 @@ pub mod Totals
 pub mod Trials
 pub mod Unique
 pub mod Upper
-pub mod Walk
+pub mod KeepOrDrop
 pub mod MooreHodgson
 pub mod Whole
 pub mod Words

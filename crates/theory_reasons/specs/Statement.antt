@@ -1,6 +1,6 @@
 -- Meaning. The reason under each missing layer: document 02, request 14. A choice says of each
--- chunk how many layers it carries, from the base up (Statement of crate theory_plan); its kept chunks
--- are those with at least one.
+-- chunk how many layers it carries, from the base up (Statement of crate theory_plan); its kept
+-- chunks are those with at least one.
 use Prim.Native.Nat.{ℕ, zero, suc, _-_, _≤_, _<_, min}
 use mathlib.Core.Path.{_≡_}
 use mathlib.Core.Bool.{Bool, cond, _&&_}
@@ -111,12 +111,12 @@ pub record Place : Type 0 where
   pub chunk : ℕ
   pub layer : ℕ
 
--- Of the layers below n of chunk i those that the plan doesn't carry.
+-- The layers below n of chunk i that the plan doesn't carry.
 abbrev pub missingOf : (ℕ → ℕ) → ℕ → ℕ → List Place
 missingOf plan i zero = []
 missingOf plan i (suc n) = missingOf plan i n ++ cond (ltb n (plan i)) [] (record { chunk = i; layer = n } ∷ [])
 
--- Those of the chunks 1 to i.
+-- The layers below n of the chunks 1 to i that the plan doesn't carry.
 abbrev pub missingTo : (ℕ → ℕ) → ℕ → ℕ → List Place
 missingTo plan n zero = []
 missingTo plan n (suc i) = missingTo plan n i ++ missingOf plan (suc i) n

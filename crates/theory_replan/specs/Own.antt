@@ -1,6 +1,6 @@
 -- Meaning. The rows from p on: document 02, request 12: "only the rows from p on, listed in
--- document 01's way". The own list of document 01 (theory_plan's Own), begun with the fetched rows and
--- what they leave; rule 6 is asked of all rows together.
+-- document 01's way". The own list of document 01 (theory_plan's Own), begun with the fetched rows
+-- and what they leave; rule 6 is asked of all rows together.
 use Prim.Native.Nat.{ℕ, zero, suc, _+_, _-_}
 use mathlib.Core.Bool.{cond}
 use mathlib.Core.List.{List, [], _∷_}

@@ -1,16 +1,12 @@
 -- Meaning. What a plan made afresh at slot p is: document 02, request 12. The statements and
--- nothing else, to be read from top to bottom, beside theory_plan's Statement. `fetched` are "the rows
--- fetched before p". What they are made of stands once, elsewhere:
---   the second checker call: its rule 2, `KeepsFrom` (a list with marks), `PassesFrom`   crate
---   fetch, RulesFrom
---   its verdict, 0 exactly if its rules are kept                                         crate
---   fetch, VerdictFrom
---   a choice, the layers settled so far, the counts and marks of a choice                crate
---   theory_plan, Statement
---   the rows from p on                                                                   Own, in
---   this crate
---   the refusals                                                                         Refusal,
---   in this crate Theorems proves what this file states, and Desk as the desk calls it.
+-- nothing else, to be read from top to bottom, beside theory_plan's Statement. `fetched` are "the
+-- rows fetched before p". What they are made of stands once, elsewhere:
+--   fetch, RulesFrom: the second checker call: its rule 2, `KeepsFrom` (with marks), `PassesFrom`
+--   fetch, VerdictFrom: its verdict, 0 exactly if its rules are kept
+--   theory_plan, Statement: a choice, the layers settled so far, the counts and marks of a choice
+--   Own, in this crate: the rows from p on
+--   Refusal, in this crate: the refusals
+-- Theorems proves what this file states, and Desk as the desk calls it.
 use Prim.Native.Nat.{ℕ, suc, _-_, _≤_, _<_, max}
 use mathlib.Core.Path.{_≡_}
 use mathlib.Core.Bool.{cond}
@@ -82,7 +78,7 @@ pub record CanCarryFrom (j : Job) (p : ℕ) (fetched : List Row) (choice : ℕ �
 abbrev pub settledFrom : Job → List Row → (ℕ → ℕ) → ℕ → ℕ → ℕ → ℕ
 settledFrom j fetched plan n i k = max (layersCarried j fetched k) (settled plan n i k)
 
--- Those, and layer n of chunk i.
+-- What the trial of layer n of chunk i carries: what is settled before it, and that layer.
 abbrev pub triedFrom : Job → List Row → (ℕ → ℕ) → ℕ → ℕ → ℕ → ℕ
 triedFrom j fetched plan n i k = cond (eqb k i) (suc n) (settledFrom j fetched plan n i k)
 

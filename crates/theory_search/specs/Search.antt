@@ -2,7 +2,8 @@
 -- the chunk number, which falls at each call, carrying the best set so far (document 01, "Forms we
 -- want to see"), with the budget left threaded through. What is to be found says Statement
 -- (`IsFound`); that this is it, and nothing else is, say `found-is-found` and `found-unique` of
--- Theorems. So nobody has to believe this recursion, nor the test of theory_plan that decides a keep.
+-- Theorems. So nobody has to believe this recursion, nor the test of theory_plan that decides a
+-- keep.
 use Prim.Native.Nat.{ℕ, zero, suc, _-_}
 use mathlib.Core.Bool.{Bool, true, false, cond, _&&_}
 use mathlib.Core.List.{List, [], _∷_}

@@ -37,6 +37,7 @@ struct Digits {
     pub next: usize,
 }
 
+// The byte is an ASCII digit.
 fn is_digit(b: u8) -> bool
     ensures { λ r. ⌜ r ≡ within 48 57 b ⌝ }
 {
@@ -190,6 +191,7 @@ fn is_writable(b: u32) -> bool
     b % 1500 == 0
 }
 
+// Every slot is a multiple of 1,500 bytes within range.
 fn all_writable(forecast: &[u32]) -> bool
     ensures { λ r. ⌜ r ≡ all writable (now (forecast .entry)) ⌝ }
 {

@@ -27,7 +27,7 @@ fn put_line(out: &mut [u8], at: usize, n: u64) -> usize
     end + 1
 }
 
-// So many bytes from a place, again at a later one.
+// Copies n bytes that stand at a place to a later one.
 fn copy_on(out: &mut [u8], from: usize, to: usize, n: usize) -> usize
     requires { ⌜ (from + n ≤ to) × (to + n ≤ length (now out)) ⌝ }
     ensures { λ r. ⌜ Put (now (out .entry)) to (take n (drop from (now (out .entry)))) (now (out .exit)) r ⌝ }

@@ -69,7 +69,7 @@ fn read_bases(chunks: u16, table: &SizeTable, bases: &mut [u32; CHUNKS])
     }
 }
 
-// The same of a film as handed. Only here its sizes are read.
+// The base of each chunk of a film as handed. Only here its sizes are read.
 fn set_bases(
     chunks: u16,
     sizes: &[u32],

@@ -45,7 +45,7 @@ pub record KeepBasesPre (p : Programme) (size : ℕ → ℕ → ℕ) (after ids 
 abbrev pub stackIn : Programme → (ℕ → ℕ → ℕ) → (ℕ → ℕ) → List ℕ
 stackIn p size A = bases (λ k. size k 0) (dueSlot p) A (p .limit / p .span) 0 (p .chunks) .chunks
 
--- The chunks whose base is kept: by the walk where it settles them, else by the stack.
+-- The chunks whose base is kept: by Moore-Hodgson where request 9 settles them, else by the stack.
 abbrev pub basesIn : Programme → (ℕ → ℕ → ℕ) → (ℕ → ℕ) → List ℕ
 basesIn p size A = cond (appliesIn p size) (mooreHodgsonIn p size A) (stackIn p size A)
 

@@ -32,7 +32,7 @@ size-in-requires : tie.Need-size-in-requires Inv-loop μ-loop
 size-in-requires c κs =
     let a = c .before .before .before .before .before .before .before .before .before .args in
     let l = c .before .before .loop in
-    (c .before .before .before .before .before .before .before .before .before .pre .chunk-in, omega (arith, below-level (a .start) (now (a .part)) (tableAt (now (a .table))) (a .chunk) (a .ready) (a .mark) (a .from) (now (a .slots)) (now (a .chunks)) (now (a .layers)) (now (a .bytes)) (c .before .before .before .before .before .before .before .before .before .pre) (c .before .before .before .begin .result) (c .before .before .before .begin .ensures) (l .slots) (l .chunks) (l .layers) (l .bytes) (l .at) (l .rows) (l .inv) (sym (c .before .has .ensures) ∙ c .if1 .taken), c .before .before .before .before .before .before .before .before .before .pre .levels .high))
+    (c .before .before .before .before .before .before .before .before .before .pre .chunk-in, omega (arith, below-level (a .start) (now (a .part)) (tableAt (now (a .table))) (a .chunk) (a .ready) (a .mark) (a .from) (now (a .slots)) (now (a .chunks)) (now (a .layers)) (now (a .bytes)) (c .before .before .before .before .before .before .before .before .before .pre) (c .before .before .before .begin .result) (c .before .before .before .begin .ensures) (l .slots) (l .chunks) (l .layers) (l .bytes) (l .at) (l .n) (l .inv) (sym (c .before .has .ensures) ∙ c .if1 .taken), c .before .before .before .before .before .before .before .before .before .pre .levels .high))
 
 put-piece-requires : tie.Need-put-piece-requires Inv-loop μ-loop
 put-piece-requires c κs =
@@ -41,31 +41,31 @@ put-piece-requires c κs =
     let o = c .before .before .before .before .before .before .before .before .before .before .before .before .before .before .pre in
     let b = c .before .before .before .before .before .before .before .before .begin in
     let e = sym (c .before .before .before .before .before .before .has .ensures) ∙ c .before .before .before .before .before .if1 .taken in
-    rw (c .before .before .before .before .size-in .ensures) (layer-room (a .start) (now (a .part)) (tableAt (now (a .table))) (a .chunk) (a .ready) (a .mark) (a .from) (now (a .slots)) (now (a .chunks)) (now (a .layers)) (now (a .bytes)) o (b .result) (b .ensures) (l .slots) (l .chunks) (l .layers) (l .bytes) (l .at) (l .rows) (l .inv) e, layer-some (a .start) (now (a .part)) (tableAt (now (a .table))) (a .chunk) (a .ready) (a .mark) (a .from) (now (a .slots)) (now (a .chunks)) (now (a .layers)) (now (a .bytes)) o (b .result) (b .ensures) (l .slots) (l .chunks) (l .layers) (l .bytes) (l .at) (l .rows) (l .inv) e, layer-fits (a .start) (now (a .part)) (tableAt (now (a .table))) (a .chunk) (a .ready) (a .mark) (a .from) (now (a .slots)) (now (a .chunks)) (now (a .layers)) (now (a .bytes)) o (b .result) (b .ensures) (l .slots) (l .chunks) (l .layers) (l .bytes) (l .at) (l .rows) (l .inv) e)
+    rw (c .before .before .before .before .size-in .ensures) (layer-room (a .start) (now (a .part)) (tableAt (now (a .table))) (a .chunk) (a .ready) (a .mark) (a .from) (now (a .slots)) (now (a .chunks)) (now (a .layers)) (now (a .bytes)) o (b .result) (b .ensures) (l .slots) (l .chunks) (l .layers) (l .bytes) (l .at) (l .n) (l .inv) e, layer-some (a .start) (now (a .part)) (tableAt (now (a .table))) (a .chunk) (a .ready) (a .mark) (a .from) (now (a .slots)) (now (a .chunks)) (now (a .layers)) (now (a .bytes)) o (b .result) (b .ensures) (l .slots) (l .chunks) (l .layers) (l .bytes) (l .at) (l .n) (l .inv) e, layer-fits (a .start) (now (a .part)) (tableAt (now (a .table))) (a .chunk) (a .ready) (a .mark) (a .from) (now (a .slots)) (now (a .chunks)) (now (a .layers)) (now (a .bytes)) o (b .result) (b .ensures) (l .slots) (l .chunks) (l .layers) (l .bytes) (l .at) (l .n) (l .inv) e)
 
 add-n : tie.Need-add-n Inv-loop μ-loop
 add-n c =
     let a = c .before .before .before .before .before .before .before .before .before .before .before .before .before .before .before .before .before .before .before .before .before .before .before .args in
     let l = c .before .before .before .before .before .before .before .before .before .before .before .before .before .before .before .before .loop in
-    omega (arith, below-level (a .start) (now (a .part)) (tableAt (now (a .table))) (a .chunk) (a .ready) (a .mark) (a .from) (now (a .slots)) (now (a .chunks)) (now (a .layers)) (now (a .bytes)) (c .before .before .before .before .before .before .before .before .before .before .before .before .before .before .before .before .before .before .before .before .before .before .before .pre) (c .before .before .before .before .before .before .before .before .before .before .before .before .before .before .before .before .before .begin .result) (c .before .before .before .before .before .before .before .before .before .before .before .before .before .before .before .before .before .begin .ensures) (l .slots) (l .chunks) (l .layers) (l .bytes) (l .at) (l .rows) (l .inv) (sym (c .before .before .before .before .before .before .before .before .before .before .before .before .before .before .before .has .ensures) ∙ c .before .before .before .before .before .before .before .before .before .before .before .before .before .before .if1 .taken), c .before .before .before .before .before .before .before .before .before .before .before .before .before .before .before .before .before .before .before .before .before .before .before .pre .levels .high)
+    omega (arith, below-level (a .start) (now (a .part)) (tableAt (now (a .table))) (a .chunk) (a .ready) (a .mark) (a .from) (now (a .slots)) (now (a .chunks)) (now (a .layers)) (now (a .bytes)) (c .before .before .before .before .before .before .before .before .before .before .before .before .before .before .before .before .before .before .before .before .before .before .before .pre) (c .before .before .before .before .before .before .before .before .before .before .before .before .before .before .before .before .before .begin .result) (c .before .before .before .before .before .before .before .before .before .before .before .before .before .before .before .before .before .begin .ensures) (l .slots) (l .chunks) (l .layers) (l .bytes) (l .at) (l .n) (l .inv) (sym (c .before .before .before .before .before .before .before .before .before .before .before .before .before .before .before .has .ensures) ∙ c .before .before .before .before .before .before .before .before .before .before .before .before .before .before .if1 .taken), c .before .before .before .before .before .before .before .before .before .before .before .before .before .before .before .before .before .before .before .before .before .before .before .pre .levels .high)
 
 loop-less : tie.Need-loop-less Inv-loop μ-loop
 loop-less c =
     let a = c .before .before .before .before .before .before .before .before .before .before .before .before .before .before .before .before .before .before .before .before .before .before .before .args in
     let l = c .before .before .before .before .before .before .before .before .before .before .before .before .before .before .before .before .loop in
-    omega (arith, below-level (a .start) (now (a .part)) (tableAt (now (a .table))) (a .chunk) (a .ready) (a .mark) (a .from) (now (a .slots)) (now (a .chunks)) (now (a .layers)) (now (a .bytes)) (c .before .before .before .before .before .before .before .before .before .before .before .before .before .before .before .before .before .before .before .before .before .before .before .pre) (c .before .before .before .before .before .before .before .before .before .before .before .before .before .before .before .before .before .begin .result) (c .before .before .before .before .before .before .before .before .before .before .before .before .before .before .before .before .before .begin .ensures) (l .slots) (l .chunks) (l .layers) (l .bytes) (l .at) (l .rows) (l .inv) (sym (c .before .before .before .before .before .before .before .before .before .before .before .before .before .before .before .has .ensures) ∙ c .before .before .before .before .before .before .before .before .before .before .before .before .before .before .if1 .taken))
+    omega (arith, below-level (a .start) (now (a .part)) (tableAt (now (a .table))) (a .chunk) (a .ready) (a .mark) (a .from) (now (a .slots)) (now (a .chunks)) (now (a .layers)) (now (a .bytes)) (c .before .before .before .before .before .before .before .before .before .before .before .before .before .before .before .before .before .before .before .before .before .before .before .pre) (c .before .before .before .before .before .before .before .before .before .before .before .before .before .before .before .before .before .begin .result) (c .before .before .before .before .before .before .before .before .before .before .before .before .before .before .before .before .before .begin .ensures) (l .slots) (l .chunks) (l .layers) (l .bytes) (l .at) (l .n) (l .inv) (sym (c .before .before .before .before .before .before .before .before .before .before .before .before .before .before .before .has .ensures) ∙ c .before .before .before .before .before .before .before .before .before .before .before .before .before .before .if1 .taken))
 
 loop-again : tie.Need-loop-again Inv-loop μ-loop
 loop-again c =
     let a = c .before .before .before .before .before .before .before .before .before .before .before .before .before .before .before .before .before .before .before .before .before .before .before .args in
     let l = c .before .before .before .before .before .before .before .before .before .before .before .before .before .before .before .before .loop in
-    layering-more (a .start) (now (a .part)) (tableAt (now (a .table))) (a .chunk) (a .ready) (a .mark) (a .from) (now (a .slots)) (now (a .chunks)) (now (a .layers)) (now (a .bytes)) (c .before .before .before .before .before .before .before .before .before .before .before .before .before .before .before .before .before .before .before .before .before .before .before .pre) (c .before .before .before .before .before .before .before .before .before .before .before .before .before .before .before .before .before .begin .result) (c .before .before .before .before .before .before .before .before .before .before .before .before .before .before .before .before .before .begin .ensures) (l .slots) (l .chunks) (l .layers) (l .bytes) (l .at) (l .rows) (l .inv) (sym (c .before .before .before .before .before .before .before .before .before .before .before .before .before .before .before .has .ensures) ∙ c .before .before .before .before .before .before .before .before .before .before .before .before .before .before .if1 .taken) _ _ _ _ _ (rw (c .before .before .before .before .before .before .before .before .before .before .before .before .before .size-in .ensures) at (c .before .before .before .before .before .before .before .before .put-piece .ensures))
+    layering-more (a .start) (now (a .part)) (tableAt (now (a .table))) (a .chunk) (a .ready) (a .mark) (a .from) (now (a .slots)) (now (a .chunks)) (now (a .layers)) (now (a .bytes)) (c .before .before .before .before .before .before .before .before .before .before .before .before .before .before .before .before .before .before .before .before .before .before .before .pre) (c .before .before .before .before .before .before .before .before .before .before .before .before .before .before .before .before .before .begin .result) (c .before .before .before .before .before .before .before .before .before .before .before .before .before .before .before .before .before .begin .ensures) (l .slots) (l .chunks) (l .layers) (l .bytes) (l .at) (l .n) (l .inv) (sym (c .before .before .before .before .before .before .before .before .before .before .before .before .before .before .before .has .ensures) ∙ c .before .before .before .before .before .before .before .before .before .before .before .before .before .before .if1 .taken) _ _ _ _ _ (rw (c .before .before .before .before .before .before .before .before .before .before .before .before .before .size-in .ensures) at (c .before .before .before .before .before .before .before .before .put-piece .ensures))
 
 same-length : tie.Need-same-length Inv-loop μ-loop
 same-length c = c .before .before .loop .inv .puts .long .s
 
 same-length-2 : tie.Need-same-length-2 Inv-loop μ-loop
-same-length-2 c = c .before .before .loop .inv .puts .long .left
+same-length-2 c = c .before .before .loop .inv .puts .long .c
 
 same-length-3 : tie.Need-same-length-3 Inv-loop μ-loop
 same-length-3 c = c .before .before .loop .inv .puts .long .l
@@ -77,7 +77,7 @@ returns : tie.Need-returns Inv-loop μ-loop
 returns c =
     let a = c .before .before .before .before .before .before .before .before .before .args in
     let l = c .before .before .loop in
-    layering-end (a .start) (now (a .part)) (tableAt (now (a .table))) (a .chunk) (a .ready) (a .mark) (a .from) (now (a .slots)) (now (a .chunks)) (now (a .layers)) (now (a .bytes)) (c .before .before .before .before .before .before .before .before .before .pre) (c .before .before .before .begin .result) (c .before .before .before .begin .ensures) (l .slots) (l .chunks) (l .layers) (l .bytes) (l .at) (l .rows) (l .inv) (sym (c .before .has .ensures) ∙ c .if1 .left)
+    layering-end (a .start) (now (a .part)) (tableAt (now (a .table))) (a .chunk) (a .ready) (a .mark) (a .from) (now (a .slots)) (now (a .chunks)) (now (a .layers)) (now (a .bytes)) (c .before .before .before .before .before .before .before .before .before .pre) (c .before .before .before .begin .result) (c .before .before .before .begin .ensures) (l .slots) (l .chunks) (l .layers) (l .bytes) (l .at) (l .n) (l .inv) (sym (c .before .has .ensures) ∙ c .if1 .left)
 
 pub put-chunk-spec : {M : Type 1} → statement M
 put-chunk-spec =

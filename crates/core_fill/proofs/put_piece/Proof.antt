@@ -18,29 +18,29 @@ loop-holds : tie.Need-loop-holds Inv-loop μ-loop
 loop-holds c = let a = c .before .before .before .before .before .args in putting-start (a .start) (now (a .part)) (a .chunk) (a .layer) (a .size) (a .at) (now (a .slots)) (now (a .chunks)) (now (a .layers)) (now (a .bytes)) (c .before .before .before .before .before .pre .0) (c .before .before .before .before .before .pre .1) (c .before .before .before .before .before .pre .2)
 
 add-next : tie.Need-add-next Inv-loop μ-loop
-add-next c = let a = c .before .before .before .before .before .before .before .args in let l = c .before .loop in omega (arith, slot-after (a .start) (now (a .part)) (a .chunk) (a .layer) (a .size) (a .at) (now (a .slots)) (now (a .chunks)) (now (a .layers)) (now (a .bytes)) (c .before .before .before .before .before .before .before .pre .0) (l .slots) (l .chunks) (l .layers) (l .bytes) (l .slot) (l .left) (l .rows) (l .left) (l .inv) (c .loop-test .taken), c .before .before .before .before .before .before .before .pre .0 .part-in .high)
+add-next c = let a = c .before .before .before .before .before .before .before .args in let l = c .before .loop in omega (arith, slot-after (a .start) (now (a .part)) (a .chunk) (a .layer) (a .size) (a .at) (now (a .slots)) (now (a .chunks)) (now (a .layers)) (now (a .bytes)) (c .before .before .before .before .before .before .before .pre .0) (l .slots) (l .chunks) (l .layers) (l .bytes) (l .t) (l .c) (l .n) (l .left) (l .inv) (c .loop-test .taken), c .before .before .before .before .before .before .before .pre .0 .part-in .high)
 
 sub-k : tie.Need-sub-k Inv-loop μ-loop
 sub-k c = omega (arith, c .before .loop .inv .goes .low)
 
 mul-c : tie.Need-mul-c Inv-loop μ-loop
-mul-c c = let a = c .before .before .before .before .before .before .before .before .args in let l = c .before .before .loop in omega (arith, slot-after (a .start) (now (a .part)) (a .chunk) (a .layer) (a .size) (a .at) (now (a .slots)) (now (a .chunks)) (now (a .layers)) (now (a .bytes)) (c .before .before .before .before .before .before .before .before .pre .0) (l .slots) (l .chunks) (l .layers) (l .bytes) (l .slot) (l .left) (l .rows) (l .left) (l .inv) (c .before .loop-test .taken), c .before .before .before .before .before .before .before .before .pre .0 .part-in .high)
+mul-c c = let a = c .before .before .before .before .before .before .before .before .args in let l = c .before .before .loop in omega (arith, slot-after (a .start) (now (a .part)) (a .chunk) (a .layer) (a .size) (a .at) (now (a .slots)) (now (a .chunks)) (now (a .layers)) (now (a .bytes)) (c .before .before .before .before .before .before .before .before .pre .0) (l .slots) (l .chunks) (l .layers) (l .bytes) (l .t) (l .c) (l .n) (l .left) (l .inv) (c .before .loop-test .taken), c .before .before .before .before .before .before .before .before .pre .0 .part-in .high)
 
 shared-slice-read-c : tie.Need-shared-slice-read-c Inv-loop μ-loop
-shared-slice-read-c c = let a = c .before .before .before .before .before .before .before .before .before .args in let l = c .before .before .before .loop in omega (arith, slot-after (a .start) (now (a .part)) (a .chunk) (a .layer) (a .size) (a .at) (now (a .slots)) (now (a .chunks)) (now (a .layers)) (now (a .bytes)) (c .before .before .before .before .before .before .before .before .before .pre .0) (l .slots) (l .chunks) (l .layers) (l .bytes) (l .slot) (l .left) (l .rows) (l .left) (l .inv) (c .before .before .loop-test .taken), l .inv .goes .low, c .before .before .before .before .before .before .before .before .before .pre .0 .part-in .low)
+shared-slice-read-c c = let a = c .before .before .before .before .before .before .before .before .before .args in let l = c .before .before .before .loop in omega (arith, slot-after (a .start) (now (a .part)) (a .chunk) (a .layer) (a .size) (a .at) (now (a .slots)) (now (a .chunks)) (now (a .layers)) (now (a .bytes)) (c .before .before .before .before .before .before .before .before .before .pre .0) (l .slots) (l .chunks) (l .layers) (l .bytes) (l .t) (l .c) (l .n) (l .left) (l .inv) (c .before .before .loop-test .taken), l .inv .goes .low, c .before .before .before .before .before .before .before .before .before .pre .0 .part-in .low)
 
 loop-less : tie.Need-loop-less Inv-loop μ-loop
-loop-less c = let a = c .before .before .before .before .before .before .before .before .before .args in let l = c .before .before .before .loop in omega (arith, slot-after (a .start) (now (a .part)) (a .chunk) (a .layer) (a .size) (a .at) (now (a .slots)) (now (a .chunks)) (now (a .layers)) (now (a .bytes)) (c .before .before .before .before .before .before .before .before .before .pre .0) (l .slots) (l .chunks) (l .layers) (l .bytes) (l .slot) (l .left) (l .rows) (l .left) (l .inv) (c .before .before .loop-test .taken))
+loop-less c = let a = c .before .before .before .before .before .before .before .before .before .args in let l = c .before .before .before .loop in omega (arith, slot-after (a .start) (now (a .part)) (a .chunk) (a .layer) (a .size) (a .at) (now (a .slots)) (now (a .chunks)) (now (a .layers)) (now (a .bytes)) (c .before .before .before .before .before .before .before .before .before .pre .0) (l .slots) (l .chunks) (l .layers) (l .bytes) (l .t) (l .c) (l .n) (l .left) (l .inv) (c .before .before .loop-test .taken))
 
 loop-again : tie.Need-loop-again Inv-loop μ-loop
 loop-again c =
     let a = c .before .before .before .before .before .before .before .before .before .args in
     let l = c .before .before .before .loop in
-    let e = bytes-in (a .start) (now (a .part)) (l .slot + 1) (c .before .before .before .before .before .before .before .before .before .pre .0 .part-in .low) (omega (arith, l .inv .goes .low)) in
-    rw e at (putting-wait (a .start) (now (a .part)) (a .chunk) (a .layer) (a .size) (a .at) (now (a .slots)) (now (a .chunks)) (now (a .layers)) (now (a .bytes)) (c .before .before .before .before .before .before .before .before .before .pre .0) (l .slots) (l .chunks) (l .layers) (l .bytes) (l .slot) (l .left) (l .rows) (l .left) (l .inv) (c .before .if1 .taken) (c .before .before .loop-test .taken))
+    let e = bytes-in (a .start) (now (a .part)) (l .t + 1) (c .before .before .before .before .before .before .before .before .before .pre .0 .part-in .low) (omega (arith, l .inv .goes .low)) in
+    rw e at (putting-wait (a .start) (now (a .part)) (a .chunk) (a .layer) (a .size) (a .at) (now (a .slots)) (now (a .chunks)) (now (a .layers)) (now (a .bytes)) (c .before .before .before .before .before .before .before .before .before .pre .0) (l .slots) (l .chunks) (l .layers) (l .bytes) (l .t) (l .c) (l .n) (l .left) (l .inv) (c .before .if1 .taken) (c .before .before .loop-test .taken))
 
 put-row-requires : tie.Need-put-row-requires Inv-loop μ-loop
-put-row-requires c κs = let a = c .before .before .before .before .before .before .before .before .before .before .before .before .args in let l = c .before .before .before .before .before .before .loop in places (a .start) (now (a .part)) (a .chunk) (a .layer) (a .size) (a .at) (now (a .slots)) (now (a .chunks)) (now (a .layers)) (now (a .bytes)) (c .before .before .before .before .before .before .before .before .before .before .before .before .pre .0) (l .slots) (l .chunks) (l .layers) (l .bytes) (l .slot) (l .left) (l .rows) (l .left) (l .inv)
+put-row-requires c κs = let a = c .before .before .before .before .before .before .before .before .before .before .before .before .args in let l = c .before .before .before .before .before .before .loop in places (a .start) (now (a .part)) (a .chunk) (a .layer) (a .size) (a .at) (now (a .slots)) (now (a .chunks)) (now (a .layers)) (now (a .bytes)) (c .before .before .before .before .before .before .before .before .before .before .before .before .pre .0) (l .slots) (l .chunks) (l .layers) (l .bytes) (l .t) (l .c) (l .n) (l .left) (l .inv)
 
 add-n : tie.Need-add-n Inv-loop μ-loop
 add-n c = let a = c .before .before .before .before .before .before .before .before .before .before .before .before .before .before .before .before .before .before .before .before .before .args in let l = c .before .before .before .before .before .before .before .before .before .before .before .before .before .before .before .loop in omega (arith, l .inv .goes .rows, l .inv .goes .later, c .before .before .before .before .before .before .before .before .before .before .before .before .before .before .before .before .before .before .before .before .before .pre .0 .count)
@@ -49,25 +49,25 @@ sub-left : tie.Need-sub-left Inv-loop μ-loop
 sub-left c = omega (arith, c .before .before .before .before .before .before .before .before .before .before .before .before .before .before .loop-test .taken)
 
 mul-c-2 : tie.Need-mul-c-2 Inv-loop μ-loop
-mul-c-2 c = let a = c .before .before .before .before .before .before .before .before .before .before .before .before .before .before .before .before .before .before .before .before .before .args in let l = c .before .before .before .before .before .before .before .before .before .before .before .before .before .before .before .loop in omega (arith, slot-after (a .start) (now (a .part)) (a .chunk) (a .layer) (a .size) (a .at) (now (a .slots)) (now (a .chunks)) (now (a .layers)) (now (a .bytes)) (c .before .before .before .before .before .before .before .before .before .before .before .before .before .before .before .before .before .before .before .before .before .pre .0) (l .slots) (l .chunks) (l .layers) (l .bytes) (l .slot) (l .left) (l .rows) (l .left) (l .inv) (c .before .before .before .before .before .before .before .before .before .before .before .before .before .before .loop-test .taken), c .before .before .before .before .before .before .before .before .before .before .before .before .before .before .before .before .before .before .before .before .before .pre .0 .part-in .high)
+mul-c-2 c = let a = c .before .before .before .before .before .before .before .before .before .before .before .before .before .before .before .before .before .before .before .before .before .args in let l = c .before .before .before .before .before .before .before .before .before .before .before .before .before .before .before .loop in omega (arith, slot-after (a .start) (now (a .part)) (a .chunk) (a .layer) (a .size) (a .at) (now (a .slots)) (now (a .chunks)) (now (a .layers)) (now (a .bytes)) (c .before .before .before .before .before .before .before .before .before .before .before .before .before .before .before .before .before .before .before .before .before .pre .0) (l .slots) (l .chunks) (l .layers) (l .bytes) (l .t) (l .c) (l .n) (l .left) (l .inv) (c .before .before .before .before .before .before .before .before .before .before .before .before .before .before .loop-test .taken), c .before .before .before .before .before .before .before .before .before .before .before .before .before .before .before .before .before .before .before .before .before .pre .0 .part-in .high)
 
 shared-slice-read-c-2 : tie.Need-shared-slice-read-c-2 Inv-loop μ-loop
-shared-slice-read-c-2 c = let a = c .before .before .before .before .before .before .before .before .before .before .before .before .before .before .before .before .before .before .before .before .before .before .args in let l = c .before .before .before .before .before .before .before .before .before .before .before .before .before .before .before .before .loop in omega (arith, slot-after (a .start) (now (a .part)) (a .chunk) (a .layer) (a .size) (a .at) (now (a .slots)) (now (a .chunks)) (now (a .layers)) (now (a .bytes)) (c .before .before .before .before .before .before .before .before .before .before .before .before .before .before .before .before .before .before .before .before .before .before .pre .0) (l .slots) (l .chunks) (l .layers) (l .bytes) (l .slot) (l .left) (l .rows) (l .left) (l .inv) (c .before .before .before .before .before .before .before .before .before .before .before .before .before .before .before .loop-test .taken), l .inv .goes .low, c .before .before .before .before .before .before .before .before .before .before .before .before .before .before .before .before .before .before .before .before .before .before .pre .0 .part-in .low)
+shared-slice-read-c-2 c = let a = c .before .before .before .before .before .before .before .before .before .before .before .before .before .before .before .before .before .before .before .before .before .before .args in let l = c .before .before .before .before .before .before .before .before .before .before .before .before .before .before .before .before .loop in omega (arith, slot-after (a .start) (now (a .part)) (a .chunk) (a .layer) (a .size) (a .at) (now (a .slots)) (now (a .chunks)) (now (a .layers)) (now (a .bytes)) (c .before .before .before .before .before .before .before .before .before .before .before .before .before .before .before .before .before .before .before .before .before .before .pre .0) (l .slots) (l .chunks) (l .layers) (l .bytes) (l .t) (l .c) (l .n) (l .left) (l .inv) (c .before .before .before .before .before .before .before .before .before .before .before .before .before .before .before .loop-test .taken), l .inv .goes .low, c .before .before .before .before .before .before .before .before .before .before .before .before .before .before .before .before .before .before .before .before .before .before .pre .0 .part-in .low)
 
 loop-less-2 : tie.Need-loop-less-2 Inv-loop μ-loop
-loop-less-2 c = let a = c .before .before .before .before .before .before .before .before .before .before .before .before .before .before .before .before .before .before .before .before .before .before .args in let l = c .before .before .before .before .before .before .before .before .before .before .before .before .before .before .before .before .loop in omega (arith, slot-after (a .start) (now (a .part)) (a .chunk) (a .layer) (a .size) (a .at) (now (a .slots)) (now (a .chunks)) (now (a .layers)) (now (a .bytes)) (c .before .before .before .before .before .before .before .before .before .before .before .before .before .before .before .before .before .before .before .before .before .before .pre .0) (l .slots) (l .chunks) (l .layers) (l .bytes) (l .slot) (l .left) (l .rows) (l .left) (l .inv) (c .before .before .before .before .before .before .before .before .before .before .before .before .before .before .before .loop-test .taken))
+loop-less-2 c = let a = c .before .before .before .before .before .before .before .before .before .before .before .before .before .before .before .before .before .before .before .before .before .before .args in let l = c .before .before .before .before .before .before .before .before .before .before .before .before .before .before .before .before .loop in omega (arith, slot-after (a .start) (now (a .part)) (a .chunk) (a .layer) (a .size) (a .at) (now (a .slots)) (now (a .chunks)) (now (a .layers)) (now (a .bytes)) (c .before .before .before .before .before .before .before .before .before .before .before .before .before .before .before .before .before .before .before .before .before .before .pre .0) (l .slots) (l .chunks) (l .layers) (l .bytes) (l .t) (l .c) (l .n) (l .left) (l .inv) (c .before .before .before .before .before .before .before .before .before .before .before .before .before .before .before .loop-test .taken))
 
 loop-again-2 : tie.Need-loop-again-2 Inv-loop μ-loop
 loop-again-2 c =
     let a = c .before .before .before .before .before .before .before .before .before .before .before .before .before .before .before .before .before .before .before .before .before .before .args in
     let l = c .before .before .before .before .before .before .before .before .before .before .before .before .before .before .before .before .loop in
-    let d = bytes-in (a .start) (now (a .part)) (l .slot + 1) (c .before .before .before .before .before .before .before .before .before .before .before .before .before .before .before .before .before .before .before .before .before .before .pre .0 .part-in .low) (omega (arith, l .inv .goes .low)) in
+    let d = bytes-in (a .start) (now (a .part)) (l .t + 1) (c .before .before .before .before .before .before .before .before .before .before .before .before .before .before .before .before .before .before .before .before .before .before .pre .0 .part-in .low) (omega (arith, l .inv .goes .low)) in
     let e = c .before .before .before .before .before .before .before .before .before .put-row .ensures in
-    let z : 0 < l .left = omega (arith, c .before .before .before .before .before .before .before .before .before .before .before .before .before .before .if1 .left) in
-    rw (e .0, e .1, e .2, e .3) (rw d at (putting-part (a .start) (now (a .part)) (a .chunk) (a .layer) (a .size) (a .at) (now (a .slots)) (now (a .chunks)) (now (a .layers)) (now (a .bytes)) (c .before .before .before .before .before .before .before .before .before .before .before .before .before .before .before .before .before .before .before .before .before .before .pre .0) (l .slots) (l .chunks) (l .layers) (l .bytes) (l .slot) (l .left) (l .rows) (l .left) (l .inv) z (c .before .before .before .before .before .before .before .before .before .before .before .before .before .before .before .loop-test .taken)))
+    let z : 0 < l .c = omega (arith, c .before .before .before .before .before .before .before .before .before .before .before .before .before .before .if1 .left) in
+    rw (e .0, e .1, e .2, e .3) (rw d at (putting-part (a .start) (now (a .part)) (a .chunk) (a .layer) (a .size) (a .at) (now (a .slots)) (now (a .chunks)) (now (a .layers)) (now (a .bytes)) (c .before .before .before .before .before .before .before .before .before .before .before .before .before .before .before .before .before .before .before .before .before .before .pre .0) (l .slots) (l .chunks) (l .layers) (l .bytes) (l .t) (l .c) (l .n) (l .left) (l .inv) z (c .before .before .before .before .before .before .before .before .before .before .before .before .before .before .before .loop-test .taken)))
 
 put-row-requires-2 : tie.Need-put-row-requires-2 Inv-loop μ-loop
-put-row-requires-2 c κs = let a = c .before .before .before .before .before .before .before .before .before .before .before .args in let l = c .before .before .before .before .before .loop in places (a .start) (now (a .part)) (a .chunk) (a .layer) (a .size) (a .at) (now (a .slots)) (now (a .chunks)) (now (a .layers)) (now (a .bytes)) (c .before .before .before .before .before .before .before .before .before .before .before .pre .0) (l .slots) (l .chunks) (l .layers) (l .bytes) (l .slot) (l .left) (l .rows) (l .left) (l .inv)
+put-row-requires-2 c κs = let a = c .before .before .before .before .before .before .before .before .before .before .before .args in let l = c .before .before .before .before .before .loop in places (a .start) (now (a .part)) (a .chunk) (a .layer) (a .size) (a .at) (now (a .slots)) (now (a .chunks)) (now (a .layers)) (now (a .bytes)) (c .before .before .before .before .before .before .before .before .before .before .before .pre .0) (l .slots) (l .chunks) (l .layers) (l .bytes) (l .t) (l .c) (l .n) (l .left) (l .inv)
 
 add-n-2 : tie.Need-add-n-2 Inv-loop μ-loop
 add-n-2 c = let a = c .before .before .before .before .before .before .before .before .before .before .before .before .before .before .before .before .before .before .before .before .args in let l = c .before .before .before .before .before .before .before .before .before .before .before .before .before .before .loop in omega (arith, l .inv .goes .rows, l .inv .goes .later, c .before .before .before .before .before .before .before .before .before .before .before .before .before .before .before .before .before .before .before .before .pre .0 .count)
@@ -76,7 +76,7 @@ same-length : tie.Need-same-length Inv-loop μ-loop
 same-length c = rw (c .before .before .before .before .before .before .before .before .put-row2 .ensures .0) (simp length-set (c .before .before .before .before .before .before .before .before .before .before .before .before .before .before .loop .inv .long .s))
 
 same-length-2 : tie.Need-same-length-2 Inv-loop μ-loop
-same-length-2 c = rw (c .before .before .before .before .before .before .before .before .put-row2 .ensures .1) (simp length-set (c .before .before .before .before .before .before .before .before .before .before .before .before .before .before .loop .inv .long .left))
+same-length-2 c = rw (c .before .before .before .before .before .before .before .before .put-row2 .ensures .1) (simp length-set (c .before .before .before .before .before .before .before .before .before .before .before .before .before .before .loop .inv .long .c))
 
 same-length-3 : tie.Need-same-length-3 Inv-loop μ-loop
 same-length-3 c = rw (c .before .before .before .before .before .before .before .before .put-row2 .ensures .2) (simp length-set (c .before .before .before .before .before .before .before .before .before .before .before .before .before .before .loop .inv .long .l))
@@ -89,7 +89,7 @@ returns c =
     let a = c .before .before .before .before .before .before .before .before .before .before .before .before .before .before .before .before .before .before .before .before .args in
     let l = c .before .before .before .before .before .before .before .before .before .before .before .before .before .before .loop in
     let e = c .before .before .before .before .before .before .before .before .put-row2 .ensures in
-    rw (e .0, e .1, e .2, e .3) (putting-end (a .start) (now (a .part)) (a .chunk) (a .layer) (a .size) (a .at) (now (a .slots)) (now (a .chunks)) (now (a .layers)) (now (a .bytes)) (c .before .before .before .before .before .before .before .before .before .before .before .before .before .before .before .before .before .before .before .before .pre .0) (l .slots) (l .chunks) (l .layers) (l .bytes) (l .slot) (l .left) (l .rows) (l .left) (l .inv) (c .before .before .before .before .before .before .before .before .before .before .before .before .before .loop-test .left))
+    rw (e .0, e .1, e .2, e .3) (putting-end (a .start) (now (a .part)) (a .chunk) (a .layer) (a .size) (a .at) (now (a .slots)) (now (a .chunks)) (now (a .layers)) (now (a .bytes)) (c .before .before .before .before .before .before .before .before .before .before .before .before .before .before .before .before .before .before .before .before .pre .0) (l .slots) (l .chunks) (l .layers) (l .bytes) (l .t) (l .c) (l .n) (l .left) (l .inv) (c .before .before .before .before .before .before .before .before .before .before .before .before .before .loop-test .left))
 
 pub put-piece-spec : {M : Type 1} → statement M
 put-piece-spec =

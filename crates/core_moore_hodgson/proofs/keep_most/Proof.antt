@@ -1,4 +1,5 @@
--- `keep_most` meets its contract: what is gathered of the walk's table is what the walk keeps.
+-- `keep_most` meets its contract: what is gathered of the tree is what
+-- the algorithm keeps.
 -- Assumes nothing.
 use denote.Ref.{now}
 use Rattle.job.specs.Table.{tableAt}

@@ -1,12 +1,12 @@
--- `keep_or_drop` meets its contract: the table shows what is kept after n chunks, and the sum has their
--- bytes. Assumes nothing.
+-- `keep_or_drop` meets its contract: the table shows what is kept after n chunks, and the sum has
+-- their bytes. Assumes nothing.
 use Prim.Native.Nat.{_+_, _-_}
 use native.Mathlib.Omega.{arith}
 use borrow.Author.Needs.{needs}
 use denote.Ref.{now}
 use Rattle.job.specs.Table.{tableAt}
 use Rattle.theory_plan.specs.lemmas.Words.{due-by}
-use Rattle.core_moore_hodgson.proofs.Keeping.{Walking, drop-within, leaf-free, keeping-start, keeping-stays, keeping-passes, keeping-drops, keeping-end}
+use Rattle.core_moore_hodgson.proofs.Keeping.{Keeping, drop-within, leaf-free, keeping-start, keeping-stays, keeping-passes, keeping-drops, keeping-end}
 use Rattle.core_moore_hodgson.proofs.keep_or_drop.Statement.{statement}
 use Rattle.core_moore_hodgson.proofs.keep_or_drop.Tie as tie
 

@@ -1,4 +1,4 @@
--- Lemmas. What the functions of request 9's walk hand each other: a table of maxima, and tables of
+-- Lemmas. What the functions of this crate hand each other: a table of maxima, and tables of
 -- 500 places whose end, from a first place on, holds the kept chunks in playing order. The
 -- definition behind them is theory_plan's `keptAfter`.
 use Prim.Native.Nat.{ℕ, _+_, _*_, _-_, _/_, _≤_, _<_, max}
@@ -16,7 +16,7 @@ use Rattle.theory_plan.specs.Plan.{picked}
 use Rattle.theory_plan.specs.lemmas.Ascending.{Asc}
 use Rattle.theory_plan.specs.lemmas.Parts.{at}
 
--- ---- where the walk settles the bases: `byMooreHodgson` of a job, over its programme and sizes
+-- ---- where request 9 settles the bases: `byMooreHodgson` of a job, over its programme and sizes
 
 abbrev pub equalIn : ℕ → (ℕ → ℕ → ℕ) → Bool
 equalIn c size = allTo c (λ i. eqb (size i 0) (size 1 0))
@@ -59,13 +59,13 @@ pub record Shows (s : ℕ → ℕ) (t ks : List ℕ) : Type 0 where
   pub maxima : Maxima t
   pub leaf : (k : ℕ) → k < 512 → at t (512 + k) ≡ cond (has ks k) (s k) 0
 
--- ---- the walk
+-- ---- the algorithm
 
 -- What the bases due by chunk i's due slot may sum to; A t: what is forecast after slot t.
 abbrev pub roomIn : Programme → (ℕ → ℕ) → ℕ → ℕ
 roomIn p A i = A 0 - A (dueSlot p i)
 
--- The chunks that the walk keeps: `mooreHodgson` of a job, over its programme, sizes and sums
+-- The chunks that are kept: `mooreHodgson` of a job, over its programme, sizes and sums
 -- (theory_plan, MooreHodgson, `kept-by-after`).
 abbrev pub mooreHodgsonIn : Programme → (ℕ → ℕ → ℕ) → (ℕ → ℕ) → List ℕ
 mooreHodgsonIn p size A = keptAfter (λ k. size k 0) (roomIn p A) (p .chunks)

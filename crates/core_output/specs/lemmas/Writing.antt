@@ -1,5 +1,5 @@
--- Lemmas. What the functions of this crate hand each other: tables that say a choice, its rows, marks
--- and counts in slices, and whether these hold it whole.
+-- Lemmas. What the functions of this crate hand each other: tables that say a choice, its rows,
+-- marks and counts in slices, and whether these hold it whole.
 use Prim.Native.Nat.{ℕ, _≤_}
 use mathlib.Core.Path.{_≡_}
 use mathlib.Core.Bool.{Bool, cond}

@@ -43,7 +43,8 @@ abbrev pub based : List Kept → List ℕ
 based [] = []
 based (k ∷ ks) = cond (bit (k .mark) 0) (k .chunk ∷ based ks) (based ks)
 
--- The walk is the pass of theory_replan, Passes: the same need, and the same begun chunks keep their base.
+-- The walk is the pass of theory_replan, Passes: the same need, and the same begun chunks keep
+-- their base.
 pub scan-is-begun :
     (s d A w : ℕ → ℕ) (cap n : ℕ) (bs : List ℕ) →
     basesBegun s d A (λ b. bit (w b) 0) cap n bs ≡ record { need = scanFront s d A w cap n [] bs .need; kept = based (scanFront s d A w cap n [] bs .kept) }

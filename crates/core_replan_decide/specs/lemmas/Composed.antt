@@ -1,6 +1,6 @@
--- Lemmas. `passes-are-plan`: the passes of theory_replan, Linear, one after the other, make the plan made
--- afresh. New bases, begun bases, then layer by layer, over the chunks begun or kept that are due
--- from p on.
+-- Lemmas. `passes-are-plan`: the passes of theory_replan, Linear, one after the other, make the
+-- plan made afresh. New bases, begun bases, then layer by layer, over the chunks begun or kept that
+-- are due from p on.
 use Prim.Native.Nat.{ℕ, zero, suc, _+_, _-_, _≤_, _<_, max, min}
 use mathlib.Core.Path.{_≡_, refl, sym, ap, _∙_}
 use mathlib.Core.Bool.{Bool, true, false, not, cond, _&&_}

@@ -1,6 +1,6 @@
 -- Lemmas. What the functions hand each other: what is left of the plan's layers, in pieces
--- (core_fill, Filling). A layer with nothing left is out, and a chunk may have none: it was begun and
--- given up, or it is whole.
+-- (core_fill, Filling). A layer with nothing left is out, and a chunk may have none: it was begun
+-- and given up, or it is whole.
 use Prim.Native.Nat.{ℕ, zero, suc, _+_, _-_, _≤_}
 use mathlib.Core.Path.{_≡_}
 use mathlib.Core.Bool.{cond}

@@ -1,5 +1,5 @@
--- `write_aside` meets its contract: what is laid out aside is the plan made afresh, and is copied if
--- it fits.
+-- `write_aside` meets its contract: what is laid out aside is the plan made afresh, and is copied
+-- if it fits.
 use mathlib.Core.Path.{sym, _∙_}
 use Prim.Native.Nat.{ℕ}
 use lib.ListN.{length-replicate}

@@ -1,4 +1,5 @@
--- `write_plan` meets its contract: into the lent slices where they have room for any plan, else aside.
+-- `write_plan` meets its contract: into the lent slices where they have room for any plan, else
+-- aside.
 use Rattle.core_replan_output.proofs.Writing.{ample, ample-from}
 use borrow.Author.Needs.{needs}
 use Rattle.core_replan_output.proofs.write_plan.Statement.{statement}

@@ -67,7 +67,7 @@ module _ (j : Job) (some : 0 < layers j) where
     λ f. fits-can-carry j sized basesAlone bases-choice (all-fit-fits f),
   )
 
-  -- ---- settled by trials, or by the walk
+  -- ---- settled by trials, or by Moore-Hodgson
 
   module _ (sized : Sized j) (p : ℕ → ℕ) (c : Choice j p) (d : Settles j p 0) where
     -- From the last chunk down, each is kept with all behind it.

@@ -30,7 +30,7 @@ use Rattle.theory_plan.specs.lemmas.Plan.{TakesFitting, by-moore-hodgson
 use Rattle.theory_plan.specs.Statement.{BasesMooreHodgson, Choice, tried}
 use Rattle.theory_plan.specs.lemmas.Sufficiency.{RelOk, each, feas-relok, ones, releases}
 use Rattle.theory_plan.specs.lemmas.Trials.{Stack, candidate, keeps, push, bases, levelMark, Kept, rooms, Tried, tryOne, back, bytesKept, keptAt, onLayer, onLayers, based, stacked, keptBases, decidedOn, decided}
-use Rattle.theory_plan.specs.lemmas.Walk.{kept-asc}
+use Rattle.theory_plan.specs.lemmas.KeepOrDrop.{kept-asc}
 use Rattle.theory_plan.specs.lemmas.Words.{layer-of}
 
 -- ---- the base

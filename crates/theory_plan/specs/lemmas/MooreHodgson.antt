@@ -1,4 +1,4 @@
--- Lemmas. The bases that request 9's walk keeps, of a job: they fit where the limit holds the
+-- Lemmas. The bases that request 9 keeps, of a job: they fit where the limit holds the
 -- programme, and no passing list, in any order, carries more. Section 5 (d) of the argument has the
 -- prefixes.
 use Prim.Native.Nat.{ℕ, suc, _+_, _-_, _≤_, _<_}
@@ -23,7 +23,7 @@ use Rattle.theory_plan.specs.lemmas.Exchange.{matched, matched-count}
 use Rattle.theory_plan.specs.lemmas.Level.{count-carried, level, level-choice, level-exactly}
 use Rattle.theory_plan.specs.lemmas.Prefixes.{Prefixes, list-prefixes, prefixes-fit}
 use Rattle.theory_plan.specs.lemmas.Totals.{more, total, total-list, total-mono, total-more}
-use Rattle.theory_plan.specs.lemmas.Walk.{kept-asc, kept-cong, kept-earlier, kept-fits}
+use Rattle.theory_plan.specs.lemmas.KeepOrDrop.{kept-asc, kept-cong, kept-earlier, kept-fits}
 use Rattle.theory_plan.specs.lemmas.Words.{due-mono}
 
 module _ (j : Job) where
@@ -34,7 +34,7 @@ module _ (j : Job) where
   forecast-within b h = pre-mono (forecast j) (due j b) (lastSlot j) (due-mono j b (chunks j) h)
 
   -- What may be spent by the due slot of chunk i, from the sums of what is forecast after each
-  -- slot; and the walk with it.
+  -- slot; and what is kept with it.
   forecast-by-after : (i : ℕ) → i ≤ chunks j → forecastBy j i ≡ after j 0 - after j (due j i)
   forecast-by-after i h = omega (arith, forecast-within i h)
 

@@ -1,4 +1,4 @@
--- Lemmas. Bases of one size, where the limit holds the programme: those that request 9's walk keeps
+-- Lemmas. Bases of one size, where the limit holds the programme: those that request 9 keeps
 -- are the last ones of the programme, those of document 01's way are too, and they are as many.
 use Prim.Native.Nat.{ℕ, zero, suc, _+_, _-_, _≤_, _<_}
 use mathlib.Core.Path.{_≡_, refl, sym}
@@ -22,7 +22,7 @@ use Rattle.theory_plan.specs.lemmas.Kept.{length-picked-le}
 use Rattle.theory_plan.specs.lemmas.Level.{count-carried, level, level-exactly}
 use Rattle.theory_plan.specs.lemmas.Need.{tails-few}
 use Rattle.theory_plan.specs.lemmas.Plan.{base-taken-iff, kept-le}
-use Rattle.theory_plan.specs.lemmas.Walk.{Step, added, added-asc, added-has, drops, has-in, has-all-but, stays, step}
+use Rattle.theory_plan.specs.lemmas.KeepOrDrop.{Step, added, added-asc, added-has, drops, has-in, has-all-but, stays, step}
 use Rattle.theory_plan.specs.lemmas.MooreHodgson.{list-bases, moore-hodgson-fits}
 use Rattle.theory_plan.specs.lemmas.Words.{Sized, after-anti, due-mono}
 
@@ -148,7 +148,7 @@ module _ (j : Job) (sized : Sized j) (some : 0 < layers j) (wide : HoldsAll j) (
   trials-last x y g h l t =
       lt→ltb 0 (p y) (leb→le 1 (p y) (base-rises j wide equal p (base-taken-iff j sized p (dec .choice) (dec .decided 0) some) x y g h l (le→leb 1 (p x) (ltb→lt 0 (p x) t))))
 
-  -- Document 01's way carries exactly the bases that the walk keeps.
+  -- Document 01's way carries exactly the bases that Moore-Hodgson keeps.
   pub trials-moore-hodgson : BasesMooreHodgson j p
   trials-moore-hodgson i u v =
       let e : count (λ i. ltb 0 (p i)) (chunks j) ≡ count (isKept j) (chunks j) = omega (arith, trials-no-more, trials-no-fewer) in (

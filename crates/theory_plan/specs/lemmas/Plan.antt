@@ -339,7 +339,7 @@ plan-takes j n =
     (λ w. rw (plan-by-moore-hodgson j w) (on-upper j (basesMooreHodgson j) (kept-le j) n))
     (λ o. rw (plan-elsewhere j o) (trials-take j (suc n)))
 
--- Its bases are the ones that the walk keeps.
+-- Its bases are the ones that Moore-Hodgson keeps.
 pub plan-bases : (j : Job) → 0 < layers j → ByMooreHodgson j → BasesMooreHodgson j (plan j)
 plan-bases j some w i u v = rw (plan-by-moore-hodgson j w) (on-bases j (isKept j) some i)
 

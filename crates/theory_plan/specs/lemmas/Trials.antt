@@ -115,7 +115,7 @@ based j ks = map (keptAt j (λ k. 1)) ks
 abbrev pub stacked : Job → List ℕ
 stacked j = bases (λ k. size j k 0) (due j) (after j) (heldMost j) 0 (chunks j) .chunks
 
--- The chunks whose base is kept: by request 9's walk where it settles them, else by the stack.
+-- The chunks whose base is kept: by Moore-Hodgson where request 9 settles them, else by the stack.
 abbrev pub keptBases : Job → List ℕ
 keptBases j = cond (byMooreHodgson j) (mooreHodgson j) (stacked j)
 

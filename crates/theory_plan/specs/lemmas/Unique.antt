@@ -111,7 +111,7 @@ same-tested j r p q dp dq k u v =
     (λ t. ⊎-elim (λ w. omega (arith, ltb→lt 0 (q k) w, a .1 (b .0 (ltb→lt 0 (q k) w)))) (λ w. omega (arith, nltb→le 0 (p k) t, nltb→le 0 (q k) w)) (test (ltb 0 (q k))))
     (test (ltb 0 (p k)))
 
--- as the ones kept by the walk.
+-- as the ones kept by Moore-Hodgson.
 pub same-moore-hodgson : (j : Job) (p q : ℕ → ℕ) → BasesMooreHodgson j p → BasesMooreHodgson j q → Same j (below p 1) (below q 1)
 same-moore-hodgson j = same-tested j (isKept j)
 

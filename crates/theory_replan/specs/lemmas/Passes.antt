@@ -277,7 +277,7 @@ module _
         rw (not-T-false (leb 1 (base i)) t, same) (by-kept (keptChunk i) (rest i) want (settledBytes i) i (picked (λ i. isBegun i && keptChunk i) i n) (λ y. bytes-kept i lacks (leb→le 1 (q i) y)) (λ y. bytes-skipped i lacks (nleb→lt 1 (q i) y))))
         (test (leb 1 (base i)))
 
-    -- The walk keeps the plan's begun chunks and hands on what all busy chunks use up.
+    -- The scan keeps the plan's begun chunks and hands on what all busy chunks use up.
     pub bases-begun-are : (n lo : ℕ) → lo + n ≡ last → scanBegun (picked isBegun lo n) ≡ done lo n
     bases-begun-are zero lo e = let d : last ≡ lo = omega arith in ap (λ (x : ℕ). record { need = needOf settledBytes (due j) A (picked member x (chunks j - x)); kept = [] }) d
     bases-begun-are (suc n) lo e =

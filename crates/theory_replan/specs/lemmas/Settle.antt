@@ -1,7 +1,7 @@
 -- Lemmas. Settling layer by layer, chunks from C down to 1, in general: base k layers of chunk k
 -- are carried from the start, and Ok i says of the choice that is tried whether chunk i may have
--- one layer more. One choice only is settled so, and it can be computed. The argument of theory_plan's
--- Plan and Unique, which have base 0.
+-- one layer more. One choice only is settled so, and it can be computed. The argument of
+-- theory_plan's Plan and Unique, which have base 0.
 use Prim.Native.Nat.{ℕ, zero, suc, _+_, _-_, _≤_, _<_, min, max}
 use mathlib.Core.Path.{_≡_, refl, sym, ap, _∙_, subst}
 use mathlib.Core.Bool.{Bool, true, false, cond}

@@ -1,5 +1,6 @@
 -- Lemmas. The plan over a set of bases: the layers above them are tried as in document 01, so there
--- is exactly one, where the bases fit it fits, and the passes of theory_plan decide it in linear time.
+-- is exactly one, where the bases fit it fits, and the passes of theory_plan decide it in linear
+-- time.
 use Prim.Native.Nat.{ℕ, suc, _≤_}
 use mathlib.Core.Path.{_≡_, sym, ap, _∙_}
 use mathlib.Core.List.{List, map}

@@ -1,6 +1,6 @@
--- Lemmas. The base pass of theory_plan's Trials for chunks that must all be kept: from the last chunk
--- down, a stack of needs, one test a chunk. And what the forecast brings up to each slot, which
--- serves every s.
+-- Lemmas. The base pass of theory_plan's Trials for chunks that must all be kept: from the last
+-- chunk down, a stack of needs, one test a chunk. And what the forecast brings up to each slot,
+-- which serves every s.
 use Prim.Native.Nat.{ℕ, zero, suc, _-_, _≤_, _/_}
 use mathlib.Core.Path.{_≡_, refl, sym, ap, _∙_, subst, fun-ext}
 use mathlib.Core.Bool.{Bool, true, _&&_}

@@ -1,6 +1,6 @@
-// Request 9's walk over the bases, written anew: "go through chunks from 1 to C, add each, and
-// whenever the kept bases due by then exceed the forecast up to that due slot, drop the largest
-// kept one, the earliest among equals". The kept bases are marks of layer 0.
+// Request 9's bases, by the Moore-Hodgson algorithm written anew: "go through chunks from 1 to C,
+// add each, and whenever the kept bases due by then exceed the forecast up to that due slot, drop
+// the largest kept one, the earliest among equals". The kept bases are marks of layer 0.
 use crate::bits;
 use crate::film;
 use crate::film::Film;

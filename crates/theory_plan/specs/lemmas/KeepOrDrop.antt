@@ -1,6 +1,6 @@
--- Lemmas. The walk over the bases, as lists of numbers: what is dropped, that one drop is enough,
--- and that what is kept at the end fits at every place. s k: the bytes of chunk k; room i: what
--- those of chunks 1 to i may sum to. Assumes nothing of them but that room rises.
+-- Lemmas. The Moore-Hodgson algorithm, as lists of numbers: what is dropped, that one drop is
+-- enough, and that what is kept at the end fits at every place. s k: the bytes of chunk k; room i:
+-- what those of chunks 1 to i may sum to. Assumes nothing of them but that room rises.
 use Prim.Native.Nat.{ℕ, zero, suc, _+_, _≤_, _<_}
 use mathlib.Core.Path.{_≡_, refl}
 use mathlib.Core.List.{List, [], _∷_, _++_}
@@ -166,14 +166,14 @@ module _ (s : ℕ → ℕ) where
   dropped lo hi (k ∷ ks) x a t =
       (largest s k ks, record { in-list = largest-in k ks; top = largest-top k ks; first = λ i u e. largest-first lo hi k ks i a u e }, refl)
 
--- ---- the walk
+-- ---- all chunks
 
 -- What is kept after n chunks depends on their rooms alone.
 pub kept-cong : (s room room′ : ℕ → ℕ) (n : ℕ) → ((i : ℕ) → i ≤ n → room i ≡ room′ i) → keptAfter s room n ≡ keptAfter s room′ n
 kept-cong s room room′ zero f = refl
 kept-cong s room room′ (suc n) f = rw (f (suc n) (omega arith), kept-cong s room room′ n (λ i h. f i (omega arith)))
 
--- ---- one chunk of the walk
+-- ---- one chunk
 
 module _ (s room : ℕ → ℕ) where
   -- With chunk i + 1 added.
