@@ -1,5 +1,7 @@
-// Plans the largest job (500 chunks, 4 layers, 3,600 slots), of equal or of uneven chunks (1,996 SZs), or of uneven ones on a lean link
-// with a limit that holds them all, so that request 9 settles the bases, by the planner named on the command line and prints the number of rows and a checksum over marks and rows, so that both did the same work.
+// Plans the largest job (500 chunks, 4 layers, 3,600 slots), of equal or of uneven chunks (1,996
+// SZs), or of uneven ones on a lean link with a limit that holds them all, so that request 9
+// settles the bases, by the planner named on the command line and prints the number of rows and a
+// checksum over marks and rows, so that both did the same work.
 #include "film_planner.h"
 #include "plan.h"
 #include <stdio.h>

@@ -1,5 +1,5 @@
-// The planner of documents 01 and 02 in plain C, to measure the proved one against: the same linear decisions and one fill, no checks of
-// bounds, no proof.
+// The planner of documents 01 and 02 in plain C, to measure the proved one against: the same linear
+// decisions and one fill, no checks of bounds, no proof.
 #include "plan.h"
 
 static uint64_t after[3601], needs[500], behind[500], from[500], bytes_of[500], room[500];
@@ -56,7 +56,8 @@ static int vary(const struct job *j)
     return 0;
 }
 
-// Document 02, request 9: chunks from 1 to C are added, and where they exceed the forecast the largest is looked for and dropped.
+// Document 02, request 9: chunks from 1 to C are added, and where they exceed the forecast the
+// largest is looked for and dropped.
 static int walk_bases(const struct job *j)
 {
     static uint8_t kept[500];

@@ -1,4 +1,5 @@
-// Links the archive that `tools/archive` makes: from the folder that FILM_PLANNER_LIB names, or from the repository's target folder.
+// Links the archive that `tools/archive` makes: from the folder that FILM_PLANNER_LIB names, or
+// from the repository's target folder.
 use std::{env, path::PathBuf};
 
 fn main() {

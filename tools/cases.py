@@ -1,6 +1,8 @@
-"""Writes the case files of the programs `test_files`, `test_calls` and `test_report` (crates/NAME/data) and what they, `test_buffers` and
-`test_uneven` have to print (crates/NAME/stdout): for the case files from `reference.py`, for the direct calls from `expected_calls.txt`,
-`expected_rooms.txt`, `expected_uneven.txt`, `LARGE` and `ROOMS`, which are written by hand.
+"""Writes the case files of the programs `test_files`, `test_calls` and `test_report`
+(crates/NAME/data) and what they, `test_buffers` and `test_uneven` have to print
+(crates/NAME/stdout): for the case files from `reference.py`, for the direct calls from
+`expected_calls.txt`, `expected_rooms.txt`, `expected_uneven.txt`, `LARGE` and `ROOMS`, which are
+written by hand.
 Run it at the root of the repository after changing a case: python3 tools/cases.py"""
 import os
 import shutil
@@ -16,7 +18,8 @@ SZ = sz(2, 1, 2) + sz(3, 0, 1)
 EVERY_SZ = b"".join(sz(i, n, 2) for i in range(2, 501) for n in range(4))
 LONG = pg(500, 1, 1, 9) + ly(1) * 4
 
-# (what the case is, its bytes). Each refusal alone, then pairs where two compete and the order decides.
+# (what the case is, its bytes). Each refusal alone, then pairs where two compete and the order
+# decides.
 JOBS = [
     ("job A", PG + LY + BW + EN),
     ("the empty file", b""),
@@ -173,7 +176,8 @@ PLANS = [
 ]
 
 
-# Plan files of 8 chunks and 5,954 rows, of 6 and 5,954, of 6 and 5,955, each written and what was written read; then `TOO_LONG`.
+# Plan files of 8 chunks and 5,954 rows, of 6 and 5,954, of 6 and 5,955, each written and what was
+# written read; then `TOO_LONG`.
 LARGE = """\
 written 65536
 rows 5954
@@ -193,7 +197,8 @@ def stepped(span, sizes, slots):
 
 
 def by_slot(forecast):
-    """A job of a chunk a slot that holds nothing, of layers of 9 and 3 bytes: 12 in a slot carries both, 9 the base, less skips."""
+    """A job of a chunk a slot that holds nothing, of layers of 9 and 3 bytes: 12 in a slot carries
+    both, 9 the base, less skips."""
     return Job(len(forecast), 1, 1, 0, [9, 3], [], forecast)
 
 
@@ -222,7 +227,8 @@ REPORTS = [
     ("the largest layers, uneven", stepped(4, [TOP] * 4, [4, 4, 4])._replace(overrides=[Override(2, 3, TOP - 1), Override(3, 0, 1)])),
 ]
 
-# Job A's report has 86 bytes. Room for them, for one more, for one less; then a job that is refused whatever the room.
+# Job A's report has 86 bytes. Room for them, for one more, for one less; then a job that is refused
+# whatever the room.
 ROOMS = """\
 written 86
 first 115

@@ -1,5 +1,6 @@
-"""The calls of crate `film_planner` as C declarations, from its own sources: a C file that includes the header and declares each call once more, so
-that the compiler refuses a header that says otherwise, and that names each, so that the linker refuses an archive that lacks one.
+"""The calls of crate `film_planner` as C declarations, from its own sources: a C file that includes
+the header and declares each call once more, so that the compiler refuses a header that says
+otherwise, and that names each, so that the linker refuses an archive that lacks one.
 Run it at the root of the repository: python3 tools/prototypes.py > target/kit/prototypes.c"""
 import glob
 import re

@@ -1,5 +1,6 @@
-"""Writes the case files of the program test_trace (crates/test_trace/data) and what it has to print (crates/test_trace/stdout): for the
-case files from `reference.py`, for the other calls from `expected_traces.txt`, which is written by hand.
+"""Writes the case files of the program test_trace (crates/test_trace/data) and what it has to print
+(crates/test_trace/stdout): for the case files from `reference.py`, for the other calls from
+`expected_traces.txt`, which is written by hand.
 Run it at the root of the repository after changing a case: python3 tools/traces.py"""
 import os
 import shutil

@@ -1,5 +1,7 @@
-"""Runs the built programs on case files, damaged, truncated and oversized files, random small jobs and random mixed files, and compares
-every output with `reference.py` and `reasons.py`. Run it at the root of the repository after `rt check film_plan film_report film_verdict film_convert film_reasons`:
+"""Runs the built programs on case files, damaged, truncated and oversized files, random small jobs
+and random mixed files, and compares every output with `reference.py` and `reasons.py`. Run it at
+the root of the repository after `rt check film_plan film_report film_verdict film_convert
+film_reasons`:
 python3 tools/try_programs.py"""
 import glob
 import os
@@ -52,7 +54,8 @@ def random_job(uneven=True):
 
 
 def mixed_file(job):
-    """A file that says the job, which has no SZ: runs split anywhere, PG anywhere, LYs and BWs mixed."""
+    """A file that says the job, which has no SZ: runs split anywhere, PG anywhere, LYs and BWs
+    mixed."""
     layers, runs, k = [ly(z) for z in job.sizes], [], 0
     while k < len(job.forecast):
         n = random.randint(1, 3)

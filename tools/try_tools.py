@@ -1,6 +1,8 @@
-"""Tries job.py, draw.py and desk.sh: `make` and `show` are inverse on 1,000 random jobs whose files `plan` accepts, texts typed loosely make
-the same file, traces are read as request 4 has it, bad input of every kind ends with a message and status 1, pictures are whole and say what
-the report says. Run it at the root of the repository after `rt check film_plan film_verdict film_report`: python3 tools/try_tools.py [SEED]"""
+"""Tries job.py, draw.py and desk.sh: `make` and `show` are inverse on 1,000 random jobs whose files
+`plan` accepts, texts typed loosely make the same file, traces are read as request 4 has it, bad
+input of every kind ends with a message and status 1, pictures are whole and say what the report
+says. Run it at the root of the repository after `rt check film_plan film_verdict film_report`:
+python3 tools/try_tools.py [SEED]"""
 import os
 import random
 import re
@@ -35,7 +37,8 @@ def put(folder, name, data):
     return path
 
 
-# --- Random jobs -------------------------------------------------------------------------------------------------------------------------
+# --- Random jobs
+# -------------------------------------------------------------------------------------------------------------------------
 
 
 def random_number(low, high):
@@ -76,17 +79,20 @@ def random_job(most=500):
 
 
 def largest(limit=2100):
-    """500 chunks, four layers and an SZ of each, 3,600 slots that all differ from their neighbours."""
+    """500 chunks, four layers and an SZ of each, 3,600 slots that all differ from their
+    neighbours."""
     sizes, k = [120000, 90000, 70000, 50000], random.Random(24)
     overrides = [Override(i, n, sizes[n] + 20 * i) for i in range(2, 501) for n in range(4)]
     return Job(500, 7, 107, limit, sizes, overrides, [30000 + 100 * k.randint(0, 300) + t % 2 for t in range(3600)])
 
 
-# --- job.py ------------------------------------------------------------------------------------------------------------------------------
+# --- job.py
+# ------------------------------------------------------------------------------------------------------------------------------
 
 
 def loose(job):
-    """The job's text as somebody might type it: kinds in any order, runs cut anywhere, spaces, comments, leading zeros."""
+    """The job's text as somebody might type it: kinds in any order, runs cut anywhere, spaces,
+    comments, leading zeros."""
     def number(n):
         return random.choice(["", "", "", "0", "00000000000000"]) + str(n)
     kinds = [[f"{kind} {number(n)}"] for kind, n in zip(("chunks", "span", "delay", "limit"), job)]
@@ -205,11 +211,13 @@ def ended(answer, pattern, case):
     assert answer.returncode == 1 and not answer.stdout and said.strip() and "Traceback" not in said and re.search(pattern, said), (case, answer)
 
 
-# --- draw.py -----------------------------------------------------------------------------------------------------------------------------
+# --- draw.py
+# -----------------------------------------------------------------------------------------------------------------------------
 
 
 def reasons_of(job, levels):
-    """Request 14's lines in its own words, by trying every stretch: what draw.py is tried with, and what program `reasons` has to print."""
+    """Request 14's lines in its own words, by trying every stretch: what draw.py is tried with, and
+    what program `film_reasons` has to print."""
     most, lines = job.limit // job.span, []
     of_request_9 = most >= job.chunks and any(size(job, i, 0) != job.sizes[0] for i in range(2, job.chunks + 1))
     chunks = range(1, job.chunks + 1)
@@ -230,7 +238,8 @@ def reasons_of(job, levels):
 
 
 def stretch(job, kept, bytes_of, release):
-    """The slots that need more than they carry, of the smallest last slot and then the greatest first one."""
+    """The slots that need more than they carry, of the smallest last slot and then the greatest
+    first one."""
     for end in range(1, due(job, job.chunks) + 1):
         for start in range(end, 0, -1):
             carry = sum(job.forecast[start - 1:end])
@@ -271,7 +280,8 @@ def whole_picture(picture, case):
     return [text for *_, text in words]
 
 
-# What a colour of linear red, green and blue becomes without one kind of cone (Machado, Oliveira and Fernandes 2009).
+# What a colour of linear red, green and blue becomes without one kind of cone (Machado, Oliveira
+# and Fernandes 2009).
 SIGHTS = {
     "all cones": [[1, 0, 0], [0, 1, 0], [0, 0, 1]],
     "no red cones": [[0.152286, 1.052583, -0.204868], [0.114503, 0.786281, 0.099216], [-0.003882, -0.048116, 1.051998]],
@@ -291,7 +301,8 @@ def seen(colour, sight):
 
 
 def try_colours():
-    """Layers, skips and the ground are well apart for every kind of sight, and lighter from layer to layer."""
+    """Layers, skips and the ground are well apart for every kind of sight, and lighter from layer
+    to layer."""
     colours, least = [*COLOURS, INK, "#ffffff"], 1000
     for sight in SIGHTS:
         places = [seen(c, sight) for c in colours]
@@ -423,11 +434,13 @@ def try_noise(folder):
     print(f"3000 damaged texts and files: {kept} still jobs, which plan accepts, the others refused")
 
 
-# --- desk.sh -----------------------------------------------------------------------------------------------------------------------------
+# --- desk.sh
+# -----------------------------------------------------------------------------------------------------------------------------
 
 
 def try_desk(folder):
-    """In a root of its own: the tools as they are, the programs built, and program reasons computed here unless it is built."""
+    """In a root of its own: the tools as they are, the programs built, and program reasons computed
+    here unless it is built."""
     os.makedirs(os.path.join(folder, "target", "bin"))
     os.symlink(os.path.join(ROOT, "tools"), os.path.join(folder, "tools"))
     os.symlink(os.path.join(ROOT, "samples"), os.path.join(folder, "samples"))

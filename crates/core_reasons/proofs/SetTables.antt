@@ -1,4 +1,4 @@
--- Laws on laying out the kept chunks of a trial. Assumes nothing.
+-- Laws on the tables of the kept chunks of a trial. Assumes nothing.
 use mathlib.Core.Path.{_≡_, sym, _∙_, ap}
 use mathlib.Core.Bool.{Bool, true, false, cond}
 use mathlib.Core.List.{List, [], _∷_, map}
@@ -34,7 +34,7 @@ module _ (p : Programme) (sums levels : List ℕ) (i n cap : ℕ) where
   abbrev bytesAt : ℕ → ℕ
   bytesAt k = bytesIn sums k (level k)
 
-  pub record Laying (dues bytes : List ℕ) (first k : ℕ) : Type 0 where
+  pub record Setting (dues bytes : List ℕ) (first k : ℕ) : Type 0 where
     pub due-slots : drop first dues ≡ map (dueSlot p) (behind k)
     pub carried : drop first bytes ≡ map bytesAt (behind k)
     pub room : k + 500 ≤ first + p .chunks
@@ -42,14 +42,14 @@ module _ (p : Programme) (sums levels : List ℕ) (i n cap : ℕ) where
     pub left : k ≤ p .chunks
     pub long : (length dues ≡ 500) × (length bytes ≡ 500)
 
-  pub laying-start : (dues bytes : List ℕ) → SetTablesPre p sums levels n cap dues bytes → Laying dues bytes 500 (p .chunks)
-  laying-start dues bytes o =
+  pub setting-start : (dues bytes : List ℕ) → SetTablesPre p sums levels n cap dues bytes → Setting dues bytes 500 (p .chunks)
+  setting-start dues bytes o =
       let z : p .chunks - p .chunks ≡ 0 = omega arith in
       let f : drop 500 dues ≡ [] = drop-of-length-le dues {i = 500} (omega (arith, o .long .2)) in
       let g : drop 500 bytes ≡ [] = drop-of-length-le bytes {i = 500} (omega (arith, o .long .3)) in
       record { due-slots = rw (z, f); carried = rw (z, g); room = omega arith; within = omega arith; left = omega arith; long = (o .long .2, o .long .3) }
 
-  module _ (dues bytes : List ℕ) (first k : ℕ) (b : Laying dues bytes first k) (some : 0 < k) (few : p .chunks ≤ 500) where
+  module _ (dues bytes : List ℕ) (first k : ℕ) (b : Setting dues bytes first k) (some : 0 < k) (few : p .chunks ≤ 500) where
     some-place : 0 < first
     some-place = omega (arith, b .room)
 
@@ -62,8 +62,8 @@ module _ (p : Programme) (sums levels : List ℕ) (i n cap : ℕ) where
     front : (l : List ℕ) (v : ℕ) → length l ≡ 500 → drop (first - 1) (set l (first - 1) v) ≡ v ∷ drop first l
     front l v e = set-before l first v some-place (omega (arith, b .within))
 
-    pub laying-pass : level k ≤ 0 → Laying dues bytes first (k - 1)
-    laying-pass h =
+    pub setting-pass : level k ≤ 0 → Setting dues bytes first (k - 1)
+    setting-pass h =
         let e = step false (lt-leb 1 (level k) (omega arith)) in
         record {
           due-slots = rw e (b .due-slots);
@@ -74,8 +74,8 @@ module _ (p : Programme) (sums levels : List ℕ) (i n cap : ℕ) where
           long = b .long;
         }
 
-    pub laying-keep : 0 < level k → Laying (set dues (first - 1) (dueSlot p k)) (set bytes (first - 1) (bytesAt k)) (first - 1) (k - 1)
-    laying-keep h =
+    pub setting-keep : 0 < level k → Setting (set dues (first - 1) (dueSlot p k)) (set bytes (first - 1) (bytesAt k)) (first - 1) (k - 1)
+    setting-keep h =
         let e = step true (le-leb 1 (level k) h) in
         record {
           due-slots = rw e (front dues (dueSlot p k) (b .long .0) ∙ ap (λ (l : List ℕ). dueSlot p k ∷ l) (b .due-slots));
@@ -86,9 +86,9 @@ module _ (p : Programme) (sums levels : List ℕ) (i n cap : ℕ) where
           long = (simp length-set (b .long .0), simp length-set (b .long .1));
         }
 
-  pub laying-end : (dues bytes : List ℕ) (first k : ℕ) → Laying dues bytes first k → k ≤ 0 → SetTablesPost p sums levels i n cap first dues bytes
-  laying-end dues bytes first k b h =
+  pub setting-end : (dues bytes : List ℕ) (first k : ℕ) → Setting dues bytes first k → k ≤ 0 → SetTablesPost p sums levels i n cap first dues bytes
+  setting-end dues bytes first k b h =
       let e : k ≡ 0 = omega arith in
-      let b′ : Laying dues bytes first 0 = rw e at b in
+      let b′ : Setting dues bytes first 0 = rw e at b in
       let s : p .chunks - 0 ≡ p .chunks = omega arith in
       record { within = b .within; due-slots = rw s at (b′ .due-slots); carried = rw s at (b′ .carried); long = b .long }

@@ -1,5 +1,5 @@
 // Internal. The rows made afresh: what is left of the plan's layers, piece by piece, from the slot
-// of replanning on. A piece is placed as listing places it; a layer with nothing left is passed
+// of replanning on. A piece is placed as core_fill places it; a layer with nothing left is passed
 // over.
 use core_fill::Position;
 use job::CHUNKS;

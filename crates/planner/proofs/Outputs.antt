@@ -158,7 +158,7 @@ module _ (h : JobInput) (marks slots cs layers bytes : List ℕ) where
         (fit-marks z fit (over-short (planned j) (l .rows) (room false e) (x .0 ∙ rw e, x .1 ∙ rw e))))
         (test (made .whole))
 
--- ---- what the laying asks for
+-- ---- what writing the plan asks for
 
 module _ (h : JobInput) (z : jobRefusal h ≡ 0) where
   ok-of : Accepted (jobIn h)

@@ -116,7 +116,7 @@ module _ (h : JobInput) (budget : ℕ) (marks slots cs layers bytes : List ℕ) 
         (λ t. let e = not-T-false (made .whole) t in unlaid l e (OutputTo r) (refused-short z (holds-rows fit false (sym (l .whole) ∙ e)) r (x .not-whole e)))
         (test (made .whole))
 
--- ---- what the laying asks for
+-- ---- what writing the plan asks for
 
 pub decided :
     (h : JobInput) (budget : ℕ) → jobRefusal h ≡ 0 → (own : ℕ → ℕ → ℕ) → own ≡ size (jobIn h) → {first : ℕ} {ids ready mark : List ℕ} →

@@ -1,4 +1,4 @@
-// Trials of the readers, the writers and the planner by the room that is lent: exact, one short for
+// Tests of the readers, the writers and the planner by the room that is lent: exact, one short for
 // each slice, and refusals beside 11. The lines are written by hand in tools/expected_rooms.txt.
 mod jobs;
 mod planned;

@@ -1,4 +1,4 @@
-// What the trials lend and say of it.
+// What the tests lend and say of it.
 use crate::print::four;
 use crate::print::word;
 use job::Programme;

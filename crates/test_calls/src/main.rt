@@ -1,6 +1,6 @@
-// Trials of calls that no case file reaches: the checker's lengths, the meter and the counting of
+// Tests of calls that no case file reaches: the checker's lengths, the meter and the counting of
 // marks. The lines are written by hand in tools/expected_calls.txt. The case files are those of
-// program file_trials, trials of the lent room are in room_trials.
+// program test_files, tests of the lent room are in test_buffers.
 mod counts;
 mod lists;
 mod meters;

@@ -155,7 +155,7 @@ fn say(words: &[u8], tally: &[u64], from: u16, to: u16) {
 
 fn say_all(tally: &[u64]) {
     say(
-        b"jobs; with three layers, four layers, uneven chunks, H 0, a limit no multiple of L, an empty slot, a limit that binds, bases settled by the walk:",
+        b"jobs; with three layers, four layers, uneven chunks, H 0, a limit no multiple of L, an empty slot, a limit that binds, bases settled by request 9:",
         tally,
         tally::JOBS,
         tally::LISTS,

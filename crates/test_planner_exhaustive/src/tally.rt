@@ -1,4 +1,4 @@
-// What the trials count. The first 24 numbers are flags: so many jobs, lists or plans had them.
+// What the tests count. The first 24 numbers are flags: so many jobs, lists or plans had them.
 pub(crate) const JOBS: u16 = 0;
 
 pub(crate) const THREE_LAYERS: u16 = 1;

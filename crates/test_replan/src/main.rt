@@ -1,4 +1,4 @@
-// Trials of planning afresh and of the second checker call, on the cases that stand on standard
+// Tests of planning afresh and of the second checker call, on the cases that stand on standard
 // input, a line each: tools/replans.py writes them, and what has to come of each.
 mod call;
 mod line;

@@ -1,4 +1,4 @@
-// What the trials count.
+// What the tests count.
 pub(crate) const FILMS: u16 = 0;
 
 pub(crate) const LISTS: u16 = 1;

@@ -1,4 +1,4 @@
-// Trials of the calls on link traces. First the case files of data/ (CASES.md says what each is),
+// Tests of the calls on link traces. First the case files of data/ (CASES.md says what each is),
 // read for three slots and written again, whose lines tools/reference.py computes; then slot
 // counts, rooms and refusals that compete, whose lines are written by hand in
 // tools/expected_traces.txt.

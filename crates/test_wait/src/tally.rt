@@ -1,4 +1,4 @@
-// What the family's trials count.
+// What the family's tests count.
 use libc::STDOUT_FILENO;
 
 pub const FILMS: usize = 0;

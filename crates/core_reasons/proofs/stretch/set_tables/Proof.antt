@@ -7,16 +7,16 @@ use native.Mathlib.Omega.{arith}
 use borrow.Author.Needs.{needs}
 use denote.Ref.{now}
 use Rattle.theory_plan.specs.lemmas.Words.{due-by}
-use Rattle.core_reasons.proofs.SetTables.{Laying, laying-start, laying-pass, laying-keep, laying-end, level-most}
+use Rattle.core_reasons.proofs.SetTables.{Setting, setting-start, setting-pass, setting-keep, setting-end, level-most}
 
 abbrev Inv-loop : tie.InvT-loop
-Inv-loop p sums levels i n cap dues₀ bytes₀ first₀ k₀ dues bytes first k = Laying p sums levels i n cap dues bytes first k
+Inv-loop p sums levels i n cap dues₀ bytes₀ first₀ k₀ dues bytes first k = Setting p sums levels i n cap dues bytes first k
 
 abbrev μ-loop : tie.MeasureT-loop
 μ-loop p sums levels i n cap dues₀ bytes₀ first₀ k₀ dues bytes first k = k
 
 loop-holds : tie.Need-loop-holds Inv-loop μ-loop
-loop-holds c = let a = c .args in laying-start (a .p) (now (a .sums)) (now (a .levels)) (a .i) (a .n) (a .cap) (now (a .dues)) (now (a .bytes)) (c .pre)
+loop-holds c = let a = c .args in setting-start (a .p) (now (a .sums)) (now (a .levels)) (a .i) (a .n) (a .cap) (now (a .dues)) (now (a .bytes)) (c .pre)
 
 level-of-requires : tie.Need-level-of-requires Inv-loop μ-loop
 level-of-requires c κs = (omega arith, omega (arith, c .before .loop .inv .left, c .before .before .pre .few), c .before .before .pre .layer, c .before .before .pre .long .1)
@@ -78,7 +78,7 @@ loop-again c =
     let a = c .before .before .before .before .before .before .args in
     let m = c .before .before .before .level-of .ensures in
     rw (c .before .due-slot .ensures, m)
-    (laying-keep (a .p) (now (a .sums)) (now (a .levels)) (a .i) (a .n) (a .cap) (l .dues) (l .bytes) (l .first) (l .k) (l .inv) (c .before .before .before .before .loop-test .taken) (c .before .before .before .before .before .before .pre .few) (rw m at (c .before .before .if1 .taken)))
+    (setting-keep (a .p) (now (a .sums)) (now (a .levels)) (a .i) (a .n) (a .cap) (l .dues) (l .bytes) (l .first) (l .k) (l .inv) (c .before .before .before .before .loop-test .taken) (c .before .before .before .before .before .before .pre .few) (rw m at (c .before .before .if1 .taken)))
 
 sub-k-2 : tie.Need-sub-k-2 Inv-loop μ-loop
 sub-k-2 c = omega arith
@@ -90,13 +90,13 @@ loop-again-2 : tie.Need-loop-again-2 Inv-loop μ-loop
 loop-again-2 c =
     let l = c .before .before .before .loop in
     let a = c .before .before .before .before .args in
-    laying-pass (a .p) (now (a .sums)) (now (a .levels)) (a .i) (a .n) (a .cap) (l .dues) (l .bytes) (l .first) (l .k) (l .inv) (c .before .before .loop-test .taken) (c .before .before .before .before .pre .few) (rw (c .before .level-of .ensures) at (c .if1 .left))
+    setting-pass (a .p) (now (a .sums)) (now (a .levels)) (a .i) (a .n) (a .cap) (l .dues) (l .bytes) (l .first) (l .k) (l .inv) (c .before .before .loop-test .taken) (c .before .before .before .before .pre .few) (rw (c .before .level-of .ensures) at (c .if1 .left))
 
 returns : tie.Need-returns Inv-loop μ-loop
 returns c =
     let l = c .before .loop in
     let a = c .before .before .args in
-    laying-end (a .p) (now (a .sums)) (now (a .levels)) (a .i) (a .n) (a .cap) (l .dues) (l .bytes) (l .first) (l .k) (l .inv) (omega arith)
+    setting-end (a .p) (now (a .sums)) (now (a .levels)) (a .i) (a .n) (a .cap) (l .dues) (l .bytes) (l .first) (l .k) (l .inv) (omega arith)
 
 pub set-tables-spec : {M : Type 1} → statement M
 set-tables-spec =
