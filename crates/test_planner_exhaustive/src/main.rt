@@ -9,12 +9,12 @@ mod bounds;
 mod film;
 mod lists;
 mod marks;
+mod moore_hodgson;
 mod own;
 mod planned;
 mod search;
 mod steady;
 mod tally;
-mod moore_hodgson;
 
 use crate::film::Film;
 use libc::STDOUT_FILENO;

@@ -6,8 +6,8 @@ use crate::film;
 use crate::film::Film;
 use crate::lists;
 use crate::marks;
-use crate::tally;
 use crate::moore_hodgson;
+use crate::tally;
 ghost use Prim.Native.Nat.{_≤_, _-_};
 
 // Whether byte k may be of a part: the forecast has it (rule 4), the chunk is due in its slot or
