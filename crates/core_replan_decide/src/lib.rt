@@ -21,6 +21,9 @@ ghost use Rattle.core_replan_decide.specs.lemmas.Begun.{choose, KeepBegu
 ghost use Rattle.core_decide.specs.lemmas.Marks.{markOr};
 ghost use Rattle.core_replan_decide.specs.lemmas.Decision.{DecidePre, DecidePost};
 
+// More than any need: 3,601 times the most bytes of a slot.
+const NO_CAP: u64 = 60414754816;
+
 // What is left of a after b, or 0.
 fn fewer(a: usize, b: usize) -> usize
     ensures { λ r. ⌜ r ≡ a - b ⌝ }
@@ -97,17 +100,17 @@ fn need_cap(caps: &[u64; CHUNKS], head: usize, held: usize) -> u64
     ensures { λ r. ⌜ NeedCapPost held (now (caps .entry)) head r ⌝ }
 {
     if CHUNKS < held {
-        return 60414754816;
+        return NO_CAP;
     }
     let back = CHUNKS - held;
     if back < head {
-        return 60414754816;
+        return NO_CAP;
     }
     if back < CHUNKS {
         return caps[back];
     }
     if head == CHUNKS {
-        return 60414754816;
+        return NO_CAP;
     }
     caps[499]
 }

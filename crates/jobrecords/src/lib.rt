@@ -16,9 +16,11 @@ ghost use Rattle.jobrecords.specs.Records.{front, isEnd};
 ghost use Rattle.jobrecords.specs.Refusal.{layerFault, runFault};
 ghost use Rattle.jobrecords.specs.lemmas.Reading.{noRecords, readWhole, lastMark, runFollows, faultAfter, overridesOn, endRefusal, endedBy, readRefusalOf, endRefusalOf, Inside, Sized, Room, Fine, TakeRecordPost, OneStepPre, OneStepPost, ReadAllPost, roomBy};
 ghost use Rattle.jobrecords.specs.Reader.{readFront, readAt, buffers, readAnswer, lentRead};
+use job::MOST_BYTES;
 use job::OVERRIDES;
 use job::Programme;
 use job::SLOTS;
+use records::FILE_BYTES;
 
 // A record of a job file, without its mark.
 pub enum Record {
@@ -200,7 +202,7 @@ fn layer_fault(layers: usize, size: u32) -> u8
     if size < 1 {
         return 6;
     }
-    if 16777216 < size {
+    if MOST_BYTES < size {
         return 6;
     }
     if layers < 4 {
@@ -216,13 +218,13 @@ fn run_fault(slots: usize, count: u16, bytes: u32) -> u8
     if count < 1 {
         return 7;
     }
-    if 3600 < slots {
+    if SLOTS < slots {
         return 7;
     }
-    if 3600 - slots < (count as usize) {
+    if SLOTS - slots < (count as usize) {
         return 7;
     }
-    if 16777216 < bytes {
+    if MOST_BYTES < bytes {
         return 7;
     }
     0
@@ -259,7 +261,7 @@ fn uneven_refusal(file: &[u8], p: Programme, sizes: &[u32], from: usize, n: usiz
     if n == 0 {
         return 0;
     }
-    if 1996 < n {
+    if OVERRIDES < n {
         return 18;
     }
     let mut cs = [0u16; OVERRIDES];
@@ -622,7 +624,7 @@ pub fn read_job(
     ensures bytes { λ r. ⌜ now («size_bytes» .exit) ≡ lentRead sequenced (now (file .entry)) (buffers (now (sizes .entry)) (now («size_chunks» .entry)) (now («size_layers» .entry)) (now («size_bytes» .entry)) (now (forecast .entry))) .size-bytes ⌝ }
     ensures forecast { λ r. ⌜ now (forecast .exit) ≡ lentRead sequenced (now (file .entry)) (buffers (now (sizes .entry)) (now («size_chunks» .entry)) (now («size_layers» .entry)) (now («size_bytes» .entry)) (now (forecast .entry))) .forecast ⌝ }
 {
-    if 65536 < file.len() {
+    if FILE_BYTES < file.len() {
         return JobRead::Refused(9);
     }
     let mut layer_table = [0u32; 4];

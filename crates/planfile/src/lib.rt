@@ -16,6 +16,7 @@ ghost use Rattle.planfile.specs.Calls.{slicesOf, readAnswer, readLent, p
 ghost use Rattle.planfile.specs.lemmas.Writing.{planRecordsBytes};
 ghost use Rattle.planfile.specs.lemmas.Scan.{refusalOf, inTurn, FileRowsPost, markOn, rowOn, filled};
 use job::Programme;
+use records::FILE_BYTES;
 
 // A record without its mark.
 pub enum Record {
@@ -124,7 +125,7 @@ fn in_turn(count: u16, kept: u16, rows: usize, chunk: u16) -> bool
 fn file_rows(count: u16, file: &[u8]) -> PlanRead
     ensures { λ r. ⌜ FileRowsPost count (now (file .entry)) (fileRefusal (format count) (now (file .entry))) r ⌝ }
 {
-    if 65536 < file.len() {
+    if FILE_BYTES < file.len() {
         return PlanRead::Refused(9);
     }
     let mut at: usize = 0;
@@ -364,7 +365,7 @@ fn write_file(
     let from = 5 * marks.len();
     let last = from + 11 * rows;
     let end = last + 2;
-    if 65536 < end {
+    if FILE_BYTES < end {
         return Written::Refused(9);
     }
     if out.len() < end {

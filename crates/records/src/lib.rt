@@ -6,6 +6,9 @@ ghost use lib.ListN.{length, getD, drop};
 ghost use lib.Seq.{paste};
 ghost use Rattle.records.specs.Fields.{h, w, hAt, wAt, marked, written};
 
+// The most bytes that a file may have.
+pub const FILE_BYTES: usize = 65536;
+
 // A byte as a wider number.
 fn wide(x: u8) -> u16
     ensures { λ r. ⌜ (r ≡ x) × (r < 256) ⌝ }

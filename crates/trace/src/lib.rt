@@ -1,6 +1,7 @@
 // Link traces from the test van, read and written: document 02, request 4. The reader goes once
 // over the trace, with a local table of counts that stop at 11,185, one above what a slot may have;
 // nothing is written before the last refusal.
+use job::MOST_BYTES;
 use job::SLOTS;
 
 mod repeated;
@@ -185,7 +186,7 @@ pub fn read_trace(trace: &[u8], slots: usize, out: &mut [u32]) -> TraceRead
 fn is_writable(b: u32) -> bool
     ensures { λ r. ⌜ r ≡ writable b ⌝ }
 {
-    if 16777216 < b {
+    if MOST_BYTES < b {
         return false;
     }
     b % 1500 == 0
