@@ -1,4 +1,4 @@
-// The order of the refusals: a row in slot 7, for 19 and 20, on job A or a part of it, booked and
+// The order of the refusals: a row in slot 7, for 19 and 20, on job A or a lengths of it, booked and
 // released.
 use crate::print::said;
 use crate::print::word;
@@ -6,7 +6,7 @@ use job::Programme;
 
 // How much is handed: chunks, layers and slots of job A, SZs of chunk 1, which it has none of,
 // marks, and of the row its chunk, layer and bytes.
-struct Part {
+struct Lengths {
     chunks: u16,
     layers: usize,
     uneven: usize,
@@ -33,50 +33,50 @@ fn room(s: &mut [u32], n: usize) -> &mut [u32] {
     &mut s[..n]
 }
 
-fn book(part: Part) {
+fn book(lengths: Lengths) {
     let mut forecast = [3u32, 0, 1, 0, 2, 0];
     said(booking::book(
-        job_of(part.chunks),
-        core_prefix::words(&[2, 1], part.layers),
-        core_prefix::halves(&[1], part.uneven),
-        core_prefix::bytes(&[0], part.uneven),
-        core_prefix::words(&[1], part.uneven),
-        room(&mut forecast, part.slots),
-        core_prefix::bytes(&[0, 1, 0], part.marks),
+        job_of(lengths.chunks),
+        core_prefix::words(&[2, 1], lengths.layers),
+        core_prefix::halves(&[1], lengths.uneven),
+        core_prefix::bytes(&[0], lengths.uneven),
+        core_prefix::words(&[1], lengths.uneven),
+        room(&mut forecast, lengths.slots),
+        core_prefix::bytes(&[0, 1, 0], lengths.marks),
         &[7],
-        core_prefix::halves(&[2], part.chunk),
-        core_prefix::bytes(&[0], part.layer),
-        core_prefix::words(&[2], part.bytes),
+        core_prefix::halves(&[2], lengths.chunk),
+        core_prefix::bytes(&[0], lengths.layer),
+        core_prefix::words(&[2], lengths.bytes),
     ));
 }
 
-fn release(part: Part) {
+fn release(lengths: Lengths) {
     let mut forecast = [3u32, 0, 1, 0, 2, 0];
     said(booking::release(
-        job_of(part.chunks),
-        core_prefix::words(&[2, 1], part.layers),
-        core_prefix::halves(&[1], part.uneven),
-        core_prefix::bytes(&[0], part.uneven),
-        core_prefix::words(&[1], part.uneven),
-        room(&mut forecast, part.slots),
+        job_of(lengths.chunks),
+        core_prefix::words(&[2, 1], lengths.layers),
+        core_prefix::halves(&[1], lengths.uneven),
+        core_prefix::bytes(&[0], lengths.uneven),
+        core_prefix::words(&[1], lengths.uneven),
+        room(&mut forecast, lengths.slots),
         &[7],
-        core_prefix::halves(&[2], part.chunk),
-        core_prefix::bytes(&[0], part.layer),
-        core_prefix::words(&[2], part.bytes),
+        core_prefix::halves(&[2], lengths.chunk),
+        core_prefix::bytes(&[0], lengths.layer),
+        core_prefix::words(&[2], lengths.bytes),
     ));
 }
 
-fn both(text: &[u8], part: Part) {
+fn both(text: &[u8], lengths: Lengths) {
     word(text);
-    book(part);
+    book(lengths);
     word(b", ");
-    release(part);
+    release(lengths);
     word(b"\n");
 }
 
 // The row's chunk is not handed, and a mark too few.
 fn short(text: &[u8], chunks: u16, layers: usize, uneven: usize, slots: usize) {
-    let part = Part {
+    let lengths = Lengths {
         chunks,
         layers,
         uneven,
@@ -86,12 +86,12 @@ fn short(text: &[u8], chunks: u16, layers: usize, uneven: usize, slots: usize) {
         layer: 1,
         bytes: 1,
     };
-    both(text, part);
+    both(text, lengths);
 }
 
 // The whole job A.
 fn whole(text: &[u8], marks: usize, layer: usize, bytes: usize) {
-    let part = Part {
+    let lengths = Lengths {
         chunks: 3,
         layers: 2,
         uneven: 0,
@@ -101,7 +101,7 @@ fn whole(text: &[u8], marks: usize, layer: usize, bytes: usize) {
         layer,
         bytes,
     };
-    both(text, part);
+    both(text, lengths);
 }
 
 pub(crate) fn order() {

@@ -7,7 +7,7 @@ use job::Programme;
 
 // How much is handed: chunks, layers and slots of job A, SZs of chunk 1, which it has none of, and
 // how much of each slice is lent.
-struct Part {
+struct Lengths {
     chunks: u16,
     layers: usize,
     uneven: usize,
@@ -41,9 +41,9 @@ fn front32(s: &mut [u32], n: usize) -> &mut [u32] {
 }
 
 // Slices of 7s, so that what is left as it was can be told.
-fn ask(text: &[u8], part: Part) {
+fn ask(text: &[u8], lengths: Lengths) {
     let p = Programme {
-        chunks: part.chunks,
+        chunks: lengths.chunks,
         span: 2,
         delay: 2,
         limit: 2,
@@ -55,17 +55,17 @@ fn ask(text: &[u8], part: Part) {
     let mut bytes = [7u32; 4];
     let found = search::search(
         p,
-        core_prefix::words(&[2, 1], part.layers),
-        core_prefix::halves(&[1], part.uneven),
-        core_prefix::bytes(&[0], part.uneven),
-        core_prefix::words(&[1], part.uneven),
-        core_prefix::words(&[3, 0, 1, 0, 2, 0], part.slots),
+        core_prefix::words(&[2, 1], lengths.layers),
+        core_prefix::halves(&[1], lengths.uneven),
+        core_prefix::bytes(&[0], lengths.uneven),
+        core_prefix::words(&[1], lengths.uneven),
+        core_prefix::words(&[3, 0, 1, 0, 2, 0], lengths.slots),
         100,
-        front8(&mut marks, part.marks),
-        front16(&mut slots, part.row_slots),
-        front16(&mut chunks, part.row_chunks),
-        front8(&mut layers, part.row_layers),
-        front32(&mut bytes, part.row_bytes),
+        front8(&mut marks, lengths.marks),
+        front16(&mut slots, lengths.row_slots),
+        front16(&mut chunks, lengths.row_chunks),
+        front8(&mut layers, lengths.row_layers),
+        front32(&mut bytes, lengths.row_bytes),
     );
     word(text);
     word(b": ");
@@ -88,7 +88,7 @@ fn lend(
 ) {
     ask(
         text,
-        Part {
+        Lengths {
             chunks: 3,
             layers: 2,
             uneven: 0,
@@ -117,7 +117,7 @@ pub(crate) fn room() {
 fn wrong(text: &[u8], chunks: u16, layers: usize, uneven: usize, slots: usize) {
     ask(
         text,
-        Part {
+        Lengths {
             chunks,
             layers,
             uneven,

@@ -17,21 +17,21 @@ pub(crate) fn job_of(chunks: u16) -> Programme {
 }
 
 // The layers and slots handed of job A, which has two and six.
-struct Part {
+struct Lengths {
     chunks: u16,
     layers: usize,
     slots: usize,
 }
 
-fn write(part: Part, size_chunks: &[u16], size_layers: &[u8], size_bytes: &[u32]) {
+fn write(lengths: Lengths, size_chunks: &[u16], size_layers: &[u8], size_bytes: &[u32]) {
     let mut out = [0u8; 90];
     let written = jobfile::write_job(
-        job_of(part.chunks),
-        core_prefix::words(&[2, 1], part.layers),
+        job_of(lengths.chunks),
+        core_prefix::words(&[2, 1], lengths.layers),
         size_chunks,
         size_layers,
         size_bytes,
-        core_prefix::words(&[3, 0, 1, 0, 2, 0], part.slots),
+        core_prefix::words(&[3, 0, 1, 0, 2, 0], lengths.slots),
         &mut out,
     );
     match written {
@@ -40,19 +40,19 @@ fn write(part: Part, size_chunks: &[u16], size_layers: &[u8], size_bytes: &[u32]
     }
 }
 
-fn plan(part: Part, size_chunks: &[u16], size_layers: &[u8], size_bytes: &[u32]) {
+fn plan(lengths: Lengths, size_chunks: &[u16], size_layers: &[u8], size_bytes: &[u32]) {
     let mut marks = [0u8; 3];
     let mut slots = [0u16; 11];
     let mut chunks = [0u16; 11];
     let mut layers = [0u8; 11];
     let mut bytes = [0u32; 11];
     let plan = planner::plan(
-        job_of(part.chunks),
-        core_prefix::words(&[2, 1], part.layers),
+        job_of(lengths.chunks),
+        core_prefix::words(&[2, 1], lengths.layers),
         size_chunks,
         size_layers,
         size_bytes,
-        core_prefix::words(&[3, 0, 1, 0, 2, 0], part.slots),
+        core_prefix::words(&[3, 0, 1, 0, 2, 0], lengths.slots),
         &mut marks,
         &mut slots,
         &mut chunks,
@@ -67,14 +67,14 @@ fn plan(part: Part, size_chunks: &[u16], size_layers: &[u8], size_bytes: &[u32])
 }
 
 // The list has a byte of chunk 2's base, in slot 1.
-fn check(part: Part, size_chunks: &[u16], size_layers: &[u8], size_bytes: &[u32]) {
+fn check(lengths: Lengths, size_chunks: &[u16], size_layers: &[u8], size_bytes: &[u32]) {
     let checked = checker::check(
-        job_of(part.chunks),
-        core_prefix::words(&[2, 1], part.layers),
+        job_of(lengths.chunks),
+        core_prefix::words(&[2, 1], lengths.layers),
         size_chunks,
         size_layers,
         size_bytes,
-        core_prefix::words(&[3, 0, 1, 0, 2, 0], part.slots),
+        core_prefix::words(&[3, 0, 1, 0, 2, 0], lengths.slots),
         &[0, 1, 0],
         &[1],
         &[2],
@@ -87,15 +87,15 @@ fn check(part: Part, size_chunks: &[u16], size_layers: &[u8], size_bytes: &[u32]
     }
 }
 
-fn report(part: Part, size_chunks: &[u16], size_layers: &[u8], size_bytes: &[u32]) {
+fn report(lengths: Lengths, size_chunks: &[u16], size_layers: &[u8], size_bytes: &[u32]) {
     let mut out = [0u8; 128];
     let written = report::report(
-        job_of(part.chunks),
-        core_prefix::words(&[2, 1], part.layers),
+        job_of(lengths.chunks),
+        core_prefix::words(&[2, 1], lengths.layers),
         size_chunks,
         size_layers,
         size_bytes,
-        core_prefix::words(&[3, 0, 1, 0, 2, 0], part.slots),
+        core_prefix::words(&[3, 0, 1, 0, 2, 0], lengths.slots),
         &mut out,
     );
     match written {
@@ -105,22 +105,28 @@ fn report(part: Part, size_chunks: &[u16], size_layers: &[u8], size_bytes: &[u32
     word(b"\n");
 }
 
-fn ask_part(text: &[u8], part: Part, size_chunks: &[u16], size_layers: &[u8], size_bytes: &[u32]) {
+fn ask_part(
+    text: &[u8],
+    lengths: Lengths,
+    size_chunks: &[u16],
+    size_layers: &[u8],
+    size_bytes: &[u32],
+) {
     word(text);
-    write(part, size_chunks, size_layers, size_bytes);
-    plan(part, size_chunks, size_layers, size_bytes);
-    check(part, size_chunks, size_layers, size_bytes);
-    report(part, size_chunks, size_layers, size_bytes);
+    write(lengths, size_chunks, size_layers, size_bytes);
+    plan(lengths, size_chunks, size_layers, size_bytes);
+    check(lengths, size_chunks, size_layers, size_bytes);
+    report(lengths, size_chunks, size_layers, size_bytes);
 }
 
 // Job A whole.
 fn ask(text: &[u8], size_chunks: &[u16], size_layers: &[u8], size_bytes: &[u32]) {
-    let part = Part {
+    let lengths = Lengths {
         chunks: 3,
         layers: 2,
         slots: 6,
     };
-    ask_part(text, part, size_chunks, size_layers, size_bytes);
+    ask_part(text, lengths, size_chunks, size_layers, size_bytes);
 }
 
 pub(crate) fn sizes() {
@@ -149,12 +155,12 @@ pub(crate) fn halves() {
 
 // A bad SZ in a job of so many chunks, layers and slots.
 fn bad(text: &[u8], chunks: u16, layers: usize, slots: usize) {
-    let part = Part {
+    let lengths = Lengths {
         chunks,
         layers,
         slots,
     };
-    ask_part(text, part, &[1], &[0], &[1]);
+    ask_part(text, lengths, &[1], &[0], &[1]);
 }
 
 pub(crate) fn order() {
