@@ -1,4 +1,4 @@
-// The order of the refusals: a row in slot 7, for 19 and 20, on job A or a lengths of it, booked and
+// The order of the refusals: a row in slot 7, for 19 and 20, on job A or a part of it, booked and
 // released.
 use crate::print::said;
 use crate::print::word;
