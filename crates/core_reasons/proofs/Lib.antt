@@ -2,5 +2,5 @@ pub mod PassForward
 pub mod PassBack
 pub mod Both
 pub mod SetTables
-pub mod Stretch
+pub mod Short
 pub mod Lines

@@ -14,7 +14,7 @@ use Rattle.core_search.proofs.search.Reads as search′
 use Rattle.core_search.proofs.search.Kinds as search-kinds
 use Rattle.core_search.proofs.+search.Lts-search as search-lts
 use Rattle.core_search.proofs.can_keep.Reads as can-keep-reads
-use Rattle.core_search.proofs.note.Reads as note-reads
+use Rattle.core_search.proofs.keep_best.Reads as keep-best-reads
 use Rattle.core_search.proofs.+search.{statement}
 use Rattle.core_search.proofs.+search.Tie.{close}
 
@@ -30,8 +30,8 @@ search-below t = and 7 search-kinds.ps (falls 7 search-kinds.ps _<_ μ-search t)
 search-returns : (t : ℕ) → search-lts.Need-returns (
   can-keep-reads.Asked,
   can-keep-reads.Learnt,
-  note-reads.Asked,
-  note-reads.Learnt,
+  keep-best-reads.Asked,
+  keep-best-reads.Learnt,
   search-below t,
   search′.Post,
 ) (search-at t) search′.Post
@@ -40,8 +40,8 @@ search-returns t c = none-left (c .before .pre .1) (c .before .args .left) (c .i
 search-returns-2 : (t : ℕ) → search-lts.Need-returns-2 (
   can-keep-reads.Asked,
   can-keep-reads.Learnt,
-  note-reads.Asked,
-  note-reads.Learnt,
+  keep-best-reads.Asked,
+  keep-best-reads.Learnt,
   search-below t,
   search′.Post,
 ) (search-at t) search′.Post
@@ -50,8 +50,8 @@ search-returns-2 t c = no-keep (c .before .before .pre .1) (c .before .before .a
 search-sub-down : (t : ℕ) → search-lts.Need-sub-down (
   can-keep-reads.Asked,
   can-keep-reads.Learnt,
-  note-reads.Asked,
-  note-reads.Learnt,
+  keep-best-reads.Asked,
+  keep-best-reads.Learnt,
   search-below t,
   search′.Post,
 ) (search-at t) search′.Post
@@ -60,8 +60,8 @@ search-sub-down t c = pos-of-ne-zero (c .before .if1 .left)
 search-sub-next : (t : ℕ) → search-lts.Need-sub-next (
   can-keep-reads.Asked,
   can-keep-reads.Learnt,
-  note-reads.Asked,
-  note-reads.Learnt,
+  keep-best-reads.Asked,
+  keep-best-reads.Learnt,
   search-below t,
   search′.Post,
 ) (search-at t) search′.Post
@@ -70,8 +70,8 @@ search-sub-next t c = omega arith
 search-can-keep-requires : (t : ℕ) → search-lts.Need-can-keep-requires (
   can-keep-reads.Asked,
   can-keep-reads.Learnt,
-  note-reads.Asked,
-  note-reads.Learnt,
+  keep-best-reads.Asked,
+  keep-best-reads.Learnt,
   search-below t,
   search′.Post,
 ) (search-at t) search′.Post
@@ -80,8 +80,8 @@ search-can-keep-requires t c κs = test-from (c .before .before .before .pre .1)
 search-sub-k : (t : ℕ) → search-lts.Need-sub-k (
   can-keep-reads.Asked,
   can-keep-reads.Learnt,
-  note-reads.Asked,
-  note-reads.Learnt,
+  keep-best-reads.Asked,
+  keep-best-reads.Learnt,
   search-below t,
   search′.Post,
 ) (search-at t) search′.Post
@@ -90,8 +90,8 @@ search-sub-k t c = omega (arith, c .before .before .before .before .before .pre 
 search-mul-ids : (t : ℕ) → search-lts.Need-mul-ids (
   can-keep-reads.Asked,
   can-keep-reads.Learnt,
-  note-reads.Asked,
-  note-reads.Learnt,
+  keep-best-reads.Asked,
+  keep-best-reads.Learnt,
   search-below t,
   search′.Post,
 ) (search-at t) search′.Post
@@ -100,28 +100,28 @@ search-mul-ids t c = omega (arith, c .before .before .before .before .before .pr
 search-element-write-ids : (t : ℕ) → search-lts.Need-element-write-ids (
   can-keep-reads.Asked,
   can-keep-reads.Learnt,
-  note-reads.Asked,
-  note-reads.Learnt,
+  keep-best-reads.Asked,
+  keep-best-reads.Learnt,
   search-below t,
   search′.Post,
 ) (search-at t) search′.Post
 search-element-write-ids t c = omega (arith, c .before .before .before .before .before .pre .1 .room, c .before .before .before .before .before .pre .1 .within, c .before .before .before .before .before .pre .1 .long .0, pos-of-ne-zero (c .before .before .before .before .if1 .left))
 
-search-note-requires : (t : ℕ) → search-lts.Need-keep-best-requires (
+search-keep-best-requires : (t : ℕ) → search-lts.Need-keep-best-requires (
   can-keep-reads.Asked,
   can-keep-reads.Learnt,
-  note-reads.Asked,
-  note-reads.Learnt,
+  keep-best-reads.Asked,
+  keep-best-reads.Learnt,
   search-below t,
   search′.Post,
 ) (search-at t) search′.Post
-search-note-requires t c κs = let f = c .before .before .before .before .before .before .before .before .pre .1 in (omega (arith, f .within), f .few, simp length-set (f .long .0), f .long .2)
+search-keep-best-requires t c κs = let f = c .before .before .before .before .before .before .before .before .pre .1 in (omega (arith, f .within), f .few, simp length-set (f .long .0), f .long .2)
 
 search-search-requires : (t : ℕ) → search-lts.Need-search-requires (
   can-keep-reads.Asked,
   can-keep-reads.Learnt,
-  note-reads.Asked,
-  note-reads.Learnt,
+  keep-best-reads.Asked,
+  keep-best-reads.Learnt,
   search-below t,
   search′.Post,
 ) (search-at t) search′.Post
@@ -133,8 +133,8 @@ search-search-requires t c κs =
 turned : (t : ℕ) (c : search-lts.Joined3 (
   can-keep-reads.Asked,
   can-keep-reads.Learnt,
-  note-reads.Asked,
-  note-reads.Learnt,
+  keep-best-reads.Asked,
+  keep-best-reads.Learnt,
   search-below t,
   search′.Post,
 ) (search-at t) search′.Post) →
@@ -152,8 +152,8 @@ turned t c =
 search-returns-3 : (t : ℕ) → search-lts.Need-returns-3 (
   can-keep-reads.Asked,
   can-keep-reads.Learnt,
-  note-reads.Asked,
-  note-reads.Learnt,
+  keep-best-reads.Asked,
+  keep-best-reads.Learnt,
   search-below t,
   search′.Post,
 ) (search-at t) search′.Post
@@ -162,8 +162,8 @@ search-returns-3 t c = no-skip (c .before .before .before .before .before .befor
 search-sub-skipped : (t : ℕ) → search-lts.Need-sub-skipped (
   can-keep-reads.Asked,
   can-keep-reads.Learnt,
-  note-reads.Asked,
-  note-reads.Learnt,
+  keep-best-reads.Asked,
+  keep-best-reads.Learnt,
   search-below t,
   search′.Post,
 ) (search-at t) search′.Post
@@ -172,8 +172,8 @@ search-sub-skipped t c = omega arith
 search-search-requires-2 : (t : ℕ) → search-lts.Need-search-requires-2 (
   can-keep-reads.Asked,
   can-keep-reads.Learnt,
-  note-reads.Asked,
-  note-reads.Learnt,
+  keep-best-reads.Asked,
+  keep-best-reads.Learnt,
   search-below t,
   search′.Post,
 ) (search-at t) search′.Post
@@ -184,8 +184,8 @@ search-search-requires-2 t c κs =
 search-returns-4 : (t : ℕ) → search-lts.Need-returns-4 (
   can-keep-reads.Asked,
   can-keep-reads.Learnt,
-  note-reads.Asked,
-  note-reads.Learnt,
+  keep-best-reads.Asked,
+  keep-best-reads.Learnt,
   search-below t,
   search′.Post,
 ) (search-at t) search′.Post
@@ -195,8 +195,8 @@ pub +search-spec : {M : Type 1} → statement M
 +search-spec = close μ-search λ t. search-lts.spec (
   can-keep-reads.Asked,
   can-keep-reads.Learnt,
-  note-reads.Asked,
-  note-reads.Learnt,
+  keep-best-reads.Asked,
+  keep-best-reads.Learnt,
   search-below t,
   search′.Post,
 )
@@ -210,7 +210,7 @@ pub +search-spec : {M : Type 1} → statement M
     (search-sub-k t)
     (search-mul-ids t)
     (search-element-write-ids t)
-    (search-note-requires t)
+    (search-keep-best-requires t)
     (search-search-requires t)
     (search-returns-3 t)
     (search-sub-skipped t)

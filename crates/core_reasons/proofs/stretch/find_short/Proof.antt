@@ -4,7 +4,7 @@ use borrow.Author.Needs.{needs}
 use Rattle.core_reasons.proofs.stretch.find_short.Statement.{statement}
 use Rattle.core_reasons.proofs.stretch.find_short.Tie as tie
 use denote.Ref.{now}
-use Rattle.core_reasons.proofs.Stretch.{pass-from, short-found}
+use Rattle.core_reasons.proofs.Short.{pass-from, short-found}
 
 set-tables-requires : tie.Need-set-tables-requires
 set-tables-requires c κs = search needs
