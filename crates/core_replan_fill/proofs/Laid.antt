@@ -77,7 +77,7 @@ module _ {p : Programme} {layers start : ℕ} {part : List ℕ} {left : ℕ → 
         {e : Position} {ss' cs' ls' bs' marks' : List ℕ} →
         PutPost start part (leftQueue left (drop first ids) (drop first ready) (drop first mark)) (4 * (500 - first)) (record { slot = start; left = getD part 0 0; rows = 0 }) ss cs ls bs e ss' cs' ls' bs' →
         marks' ≡ over (upTo (λ i. markOr (getD whole i 0) (i + 1) (drop first ids) (drop first mark)) (p .chunks)) marks →
-        WriteRestPost p layers start part left begun whole marks ss cs ls bs (e .n) marks' ss' cs' ls' bs'
+        WriteRestPost p layers start part left begun whole marks ss cs ls bs (e .rows) marks' ss' cs' ls' bs'
     laid y em =
         record {
           laid = λ sizes overrides earlier fetched plan le st a ok tab is.

@@ -126,7 +126,7 @@ module _ (size : ℕ → ℕ → ℕ) where
 
 -- ---- what the fetched rows leave
 
-unfetched-append : (fetched : List Row) (a b : List own.Part) → unfetched fetched (a ++ b) ≡ unfetched fetched a ++ unfetched fetched b
+unfetched-append : (fetched : List Row) (a b : List own.Piece) → unfetched fetched (a ++ b) ≡ unfetched fetched a ++ unfetched fetched b
 unfetched-append fetched [] b = refl
 unfetched-append fetched (x ∷ a) b = by (ltb (bytesOfLayer fetched (x .chunk) (x .layer)) (x .bytes)) (unfetched-append fetched a b)
   where
@@ -134,7 +134,7 @@ unfetched-append fetched (x ∷ a) b = by (ltb (bytesOfLayer fetched (x .chunk) 
         (t : Bool) → unfetched fetched (a ++ b) ≡ unfetched fetched a ++ unfetched fetched b →
         cond t (own.without x (bytesOfLayer fetched (x .chunk) (x .layer)) ∷ unfetched fetched (a ++ b)) (unfetched fetched (a ++ b))
         ≡ cond t (own.without x (bytesOfLayer fetched (x .chunk) (x .layer)) ∷ unfetched fetched a) (unfetched fetched a) ++ unfetched fetched b
-    by true e = ap (λ (l : List own.Part). own.without x (bytesOfLayer fetched (x .chunk) (x .layer)) ∷ l) e
+    by true e = ap (λ (l : List own.Piece). own.without x (bytesOfLayer fetched (x .chunk) (x .layer)) ∷ l) e
     by false e = e
 
 map-append : {A B : Type 0} (f : A → B) (a b : List A) → map f (a ++ b) ≡ map f a ++ map f b
@@ -322,7 +322,7 @@ module _
 
   -- ---- the rows
 
-  pc : own.Part → QueuedPiece
+  pc : own.Piece → QueuedPiece
   pc q = record { chunk = q .chunk; layer = q .layer; left = q .bytes; ready = readyOf cs rs (q .chunk) }
 
   abbrev ofChunk : ℕ → List QueuedPiece
