@@ -10,7 +10,7 @@ use Rattle.theory_basics.specs.Refusals.{_orElse_}
 use Rattle.theory_basics.specs.lemmas.Refusals.{orElse-iff}
 use Rattle.job.specs.Input.{JobInput, jobInput, input-iff, jobIn, jobRefusal}
 use Rattle.job.specs.Job.{Job, chunks}
-use Rattle.fetch.specs.Input.{Whole, input-iff as whole-iff, listRefusal}
+use Rattle.fetch.specs.Input.{Whole, whole-iff, listRefusal}
 use Rattle.fetch.specs.Rows.{Row, rowAt, rowBytes, rowChunk, rowLayer, rowSlot, rowsOf}
 use Rattle.fetch.specs.Verdict.{verdict, verdict-iff}
 use Rattle.fetch.specs.VerdictFrom.{slot-iff, slotRefusal, verdictFrom}

@@ -23,7 +23,7 @@ use Rattle.job.specs.Job.{chunks}
 use Rattle.planner.specs.Answer.{PlanOutput, holds, lentOf, planRefusal, planRows}
 use Rattle.planner.specs.declared.Answer.{Answer}
 use Rattle.planner.specs.declared.Answer.the-variants.{Refused, Rows}
-use Rattle.planner.specs.declared.Planned.{PlanReturned as Plan}
+use Rattle.planner.specs.declared.Planned.{Planned as Plan}
 use Rattle.theory_plan.specs.Plan.{plan}
 use Rattle.theory_plan.specs.Statement.{countsOf, marksOf}
 use Rattle.core_ffi.specs.Convention.{answered}
