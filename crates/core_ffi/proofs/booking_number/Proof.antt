@@ -3,7 +3,7 @@ use borrow.Author.Needs.{needs}
 use Rattle.core_ffi.proofs.booking_number.Statement.{statement}
 use Rattle.core_ffi.proofs.booking_number.Tie as tie
 
-enum-told : tie.Need-enum-reasons-number
+enum-told : tie.Need-enum-told
 enum-told c = search needs
 
 enum-known-answer : tie.Need-enum-known-answer

@@ -5,7 +5,7 @@ use Rattle.core_ffi.proofs.store_counts.Tie as tie
 use native.Mathlib.Omega.{arith}
 use Rattle.core_ffi.specs.lemmas.Slices.{whole-over}
 
-enum-told : tie.Need-enum-reasons-number
+enum-told : tie.Need-enum-told
 enum-told c = search needs
 
 slice-aggregate-copy16 : tie.Need-slice-aggregate-copy16
@@ -14,7 +14,7 @@ slice-aggregate-copy16 c = search needs
 copy16-requires : tie.Need-copy16-requires
 copy16-requires c κs = search needs
 
-enum-told-2 : tie.Need-enum-reasons-number-2
+enum-told-2 : tie.Need-enum-told-2
 enum-told-2 c = search needs
 
 same-length : tie.Need-same-length

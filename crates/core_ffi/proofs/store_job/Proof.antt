@@ -19,7 +19,7 @@ slice-write-lengths c = search needs
 slice-write-lengths-2 : tie.Need-slice-write-lengths-2
 slice-write-lengths-2 c = search needs
 
-enum-told : tie.Need-enum-reasons-number
+enum-told : tie.Need-enum-told
 enum-told c = search needs
 
 same-length : tie.Need-same-length

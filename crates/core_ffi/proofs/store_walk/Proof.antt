@@ -7,7 +7,7 @@ use mathlib.Core.Path.{ap, _∙_}
 use mathlib.Core.List.{[], _∷_}
 use Rattle.theory_basics.specs.Lent.{over}
 
-enum-told : tie.Need-enum-reasons-number
+enum-told : tie.Need-enum-told
 enum-told c = search needs
 
 flag-requires : tie.Need-flag-requires
@@ -19,7 +19,7 @@ slice-aggregate-copy32 c = search needs
 copy32-requires : tie.Need-copy32-requires
 copy32-requires c κs = search needs
 
-enum-told-2 : tie.Need-enum-reasons-number-2
+enum-told-2 : tie.Need-enum-told-2
 enum-told-2 c = search needs
 
 same-length : tie.Need-same-length
