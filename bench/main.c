@@ -36,8 +36,8 @@ int main(int argc, char **argv)
     }
     char film = argc > 2 ? argv[2][0] : 'e';
     size_t overrides = film == 'e' ? 0 : 1996;
-    uint16_t limit = film == 'w' ? 3500 : 28;
-    for (int t = 0; t < 3600 && film == 'w'; t++) forecast[t] /= 10;
+    uint16_t limit = film == 'm' ? 3500 : 28;
+    for (int t = 0; t < 3600 && film == 'm'; t++) forecast[t] /= 10;
     struct job j = {500, 7, 107, limit, 4, 3600, sizes, forecast, overrides, size_chunks, size_layers, size_bytes};
     size_t rows = argc > 1 && argv[1][0] == 'c' ? plan_c(&j, &out) : plan_rattle(&j, &out);
     uint64_t sum = rows;

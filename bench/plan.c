@@ -58,7 +58,7 @@ static int vary(const struct job *j)
 
 // Document 02, request 9: chunks from 1 to C are added, and where they exceed the forecast the
 // largest is looked for and dropped.
-static int walk_bases(const struct job *j)
+static int moore_hodgson(const struct job *j)
 {
     static uint8_t kept[500];
     uint64_t sum = 0;
@@ -152,7 +152,7 @@ size_t plan_c(const struct job *j, struct plan *out)
     int hold = j->limit / j->span;
     after[j->slots] = 0;
     for (size_t t = j->slots; t > 0; t--) after[t - 1] = after[t] + j->forecast[t - 1];
-    int p = hold >= j->chunks && vary(j) ? walk_bases(j) : keep_bases(j, hold);
+    int p = hold >= j->chunks && vary(j) ? moore_hodgson(j) : keep_bases(j, hold);
     out->counts[0] = 500 - p;
     for (size_t n = 1; n < j->layers; n++) out->counts[n] = try_layer(n, p, hold);
     memset(out->marks, 0, j->chunks);
