@@ -1,5 +1,7 @@
-// Plans the largest job (500 chunks, 4 layers, 3,600 slots), of equal or of uneven chunks (1,996 SZs), or of uneven ones on a lean link
-// with a limit that holds them all, so that request 9 settles the bases, by the planner named on the command line and prints the number of rows and a checksum over marks and rows, so that both did the same work.
+// Plans the largest job (500 chunks, 4 layers, 3,600 slots), of equal or of uneven chunks (1,996
+// SZs), or of uneven ones on a lean link with a limit that holds them all, so that request 9
+// settles the bases, by the planner named on the command line and prints the number of rows and a
+// checksum over marks and rows, so that both did the same work.
 #include "film_planner.h"
 #include "plan.h"
 #include <stdio.h>
@@ -34,8 +36,8 @@ int main(int argc, char **argv)
     }
     char film = argc > 2 ? argv[2][0] : 'e';
     size_t overrides = film == 'e' ? 0 : 1996;
-    uint16_t limit = film == 'w' ? 3500 : 28;
-    for (int t = 0; t < 3600 && film == 'w'; t++) forecast[t] /= 10;
+    uint16_t limit = film == 'm' ? 3500 : 28;
+    for (int t = 0; t < 3600 && film == 'm'; t++) forecast[t] /= 10;
     struct job j = {500, 7, 107, limit, 4, 3600, sizes, forecast, overrides, size_chunks, size_layers, size_bytes};
     size_t rows = argc > 1 && argv[1][0] == 'c' ? plan_c(&j, &out) : plan_rattle(&j, &out);
     uint64_t sum = rows;

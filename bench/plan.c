@@ -1,5 +1,5 @@
-// The planner of documents 01 and 02 in plain C, to measure the proved one against: the same linear decisions and one fill, no checks of
-// bounds, no proof.
+// The planner of documents 01 and 02 in plain C, to measure the proved one against: the same linear
+// decisions and one fill, no checks of bounds, no proof.
 #include "plan.h"
 
 static uint64_t after[3601], needs[500], behind[500], from[500], bytes_of[500], room[500];
@@ -56,8 +56,9 @@ static int vary(const struct job *j)
     return 0;
 }
 
-// Document 02, request 9: chunks from 1 to C are added, and where they exceed the forecast the largest is looked for and dropped.
-static int walk_bases(const struct job *j)
+// Document 02, request 9: chunks from 1 to C are added, and where they exceed the forecast the
+// largest is looked for and dropped.
+static int moore_hodgson(const struct job *j)
 {
     static uint8_t kept[500];
     uint64_t sum = 0;
@@ -151,7 +152,7 @@ size_t plan_c(const struct job *j, struct plan *out)
     int hold = j->limit / j->span;
     after[j->slots] = 0;
     for (size_t t = j->slots; t > 0; t--) after[t - 1] = after[t] + j->forecast[t - 1];
-    int p = hold >= j->chunks && vary(j) ? walk_bases(j) : keep_bases(j, hold);
+    int p = hold >= j->chunks && vary(j) ? moore_hodgson(j) : keep_bases(j, hold);
     out->counts[0] = 500 - p;
     for (size_t n = 1; n < j->layers; n++) out->counts[n] = try_layer(n, p, hold);
     memset(out->marks, 0, j->chunks);

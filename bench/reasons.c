@@ -1,5 +1,6 @@
-// All lines of the largest jobs, 500 chunks of 4 layers: the bytes of the text and how many lines are of the first kind, so that runs can be
-// compared. Prints them; a plan of the same job is for scale.
+// All lines of the largest jobs, 500 chunks of 4 layers: the bytes of the text and how many lines
+// are of the first kind, so that runs can be compared. Prints them; a plan of the same job is for
+// scale.
 #include "film_planner.h"
 #include "plan.h"
 #include <stdio.h>

@@ -1,5 +1,5 @@
-// Planning afresh in plain C, to measure the proved call against: the same tables of the handed rows and the same linear decisions, no checks
-// of bounds, no proof.
+// Planning afresh in plain C, to measure the proved call against: the same tables of the handed
+// rows and the same linear decisions, no checks of bounds, no proof.
 #include "plan.c"
 #include "replan.h"
 
@@ -79,8 +79,9 @@ static void keep_at(const struct job *j, int q, int i, uint64_t bytes, uint8_t m
     mark_of[q] = mark;
 }
 
-// Chunks that play after all begun ones, from the last down. A need that comes to stand H places behind a begun chunk must be at most the
-// forecast from that chunk's due slot on: g is the first place whose cap is below the least need so far, and floor how many may be kept.
+// Chunks that play after all begun ones, from the last down. A need that comes to stand H places
+// behind a begun chunk must be at most the forecast from that chunk's due slot on: g is the first
+// place whose cap is below the least need so far, and floor how many may be kept.
 static int keep_new(const struct job *j, uint16_t start, int hold, int last, int fb)
 {
     const uint64_t none = 60414754816;

@@ -1,6 +1,8 @@
-// Plans the largest job (500 chunks, 4 layers, 3,600 slots) of equal or of uneven chunks, and makes it afresh at a slot on a forecast that
-// changes from there on: the rows handed are the plan's own before the slot. By the call named on the command line; prints the number of rows
-// from the slot on and a checksum over marks and rows, so that both did the same work. `plan` plans the job on the joined forecast instead.
+// Plans the largest job (500 chunks, 4 layers, 3,600 slots) of equal or of uneven chunks, and makes
+// it afresh at a slot on a forecast that changes from there on: the rows handed are the plan's own
+// before the slot. By the call named on the command line; prints the number of rows from the slot
+// on and a checksum over marks and rows, so that both did the same work. `plan` plans the job on
+// the joined forecast instead.
 #include "film_planner.h"
 #include "replan.h"
 #include <stdio.h>

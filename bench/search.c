@@ -1,5 +1,6 @@
-// The best base set of 500 uneven chunks within a budget of 10,000,000 steps under a limit that binds, by the proved call, which lays out the
-// plan over it too, or by the same walk in plain C. Prints the set's size and a checksum of it, so that both did the same work.
+// The best base set of 500 uneven chunks within a budget of 10,000,000 steps under a limit that
+// binds, by the proved call, which lays out the plan over it too, or by the same walk in plain C.
+// Prints the set's size and a checksum of it, so that both did the same work.
 #include "film_planner.h"
 #include <stddef.h>
 #include <stdint.h>
@@ -35,7 +36,8 @@ size_t search_rattle(const struct film *w, uint32_t budget)
     return kept;
 }
 
-// The walk in plain C: kept chunks and their needs at the end of two tables, the best set in a third.
+// The walk in plain C: kept chunks and their needs at the end of two tables, the best set in a
+// third.
 static uint64_t after[SLOTS + 1], needs[C + 1];
 static uint16_t kept[C], best[C];
 static size_t most;

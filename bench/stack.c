@@ -1,5 +1,6 @@
-// How much stack each call takes at most, on the largest jobs, lists and files, with room enough and with too little: each call runs on a stack
-// that was painted before, and what is no longer painted afterwards was used.
+// How much stack each call takes at most, on the largest jobs, lists and files, with room enough
+// and with too little: each call runs on a stack that was painted before, and what is no longer
+// painted afterwards was used.
 #include "film_planner.h"
 #include <pthread.h>
 #include <stdio.h>

@@ -1,5 +1,6 @@
-// Link traces of document 02 in plain C beside the proved calls: reads, or writes, a trace of 1,000,000 lines over 3,600 slots by the call
-// named on the command line, and prints its answer and a checksum, so that both did the same work.
+// Link traces of document 02 in plain C beside the proved calls: reads, or writes, a trace of
+// 1,000,000 lines over 3,600 slots by the call named on the command line, and prints its answer and
+// a checksum, so that both did the same work.
 #include "film_planner.h"
 #include <stdint.h>
 #include <stdio.h>

@@ -1,5 +1,6 @@
-// The shortest wait of a film of 500 chunks on a forecast of 3,600 slots with a limit that binds, by the proved search or by the obvious
-// way, a whole plan for each s. Prints the answer, so that both did the same work; 2^32 and 16 is refusal 16.
+// The shortest wait of a film of 500 chunks on a forecast of 3,600 slots with a limit that binds,
+// by the proved search or by the obvious way, a whole plan for each s. Prints the answer, so that
+// both did the same work; 2^32 and 16 is refusal 16.
 #include "film_planner.h"
 #include "plan.h"
 #include <stdio.h>

@@ -1,5 +1,6 @@
-/* A desk in one page: reads a job's file, plans it, checks the plan, prints plan, report and reasons, and forecasts a link from samples.
- * examples/run builds it against the proved archive and runs it on job A. */
+/* A desk in one page: reads a job's file, plans it, checks the plan, prints plan, report and
+ * reasons, and forecasts a link from samples. examples/run builds it against the proved archive and
+ * runs it on job A. */
 #include "film_planner.h"
 #include <inttypes.h>
 #include <stdio.h>

@@ -1,28 +1,38 @@
 /* The layered film planner of the winch desk, for callers in C.
  *
- * This header says all there is to know to link the proved library. Build the archive by `tools/archive` (`rt staticlib export`), which
- * writes target/staticlib/libexport.a, and link it after your own files; nothing else is needed. Every call below is proved to answer what
- * is said here, for every input, in its source; the compiler that makes the archive is trusted. No call has a precondition on the numbers
- * and slices it is handed, none keeps anything, none allocates, and each ends. What the caller owes is what C owes any function: a pointer
- * with at least so many elements behind it as its length says, aligned for its type and not null (a slice of length 0 may point anywhere
- * but to null), and no two slices of one call that overlap, if one of them is lent for writing. The calls may run on several threads at
- * once; none takes more than 256 KiB of stack (bench/run_stack measures it: film_reasons takes the most, 182 KiB).
+ * This header says all there is to know to link the proved library. Build the archive by
+ * `tools/archive` (`rt staticlib film_planner`), which writes target/staticlib/libfilm_planner.a,
+ * and link it after your own files; nothing else is needed. Every call below is proved to answer
+ * what is said here, for every input, in its source; the compiler that makes the archive is
+ * trusted. No call has a precondition on the numbers and slices it is handed, none keeps anything,
+ * none allocates, and each ends. What the caller owes is what C owes any function: a pointer with
+ * at least so many elements behind it as its length says, aligned for its type and not null (a
+ * slice of length 0 may point anywhere but to null), and no two slices of one call that overlap, if
+ * one of them is lent for writing. The calls may run on several threads at once; none takes more
+ * than 256 KiB of stack (bench/run_stack measures it: film_reasons takes the most, 182 KiB).
  *
  * ANSWERS. Every call answers one 64-bit number:
  *
  *     the result, which is below 2^32, or 2^32 and the refusal's number more.
  *
- * No result can be mistaken for a refusal. `film_refused(answer)` is the refusal's number, or 0. Whatever else a call hands over, it writes
- * to the start of slices that the caller lends: `T *x, size_t x_len`, without const. If one of them is shorter than what is to be written
- * to it, the call refuses with 11, after all other refusals; in a longer one the elements past the result stay as they are. On a refusal no
- * lent byte is changed. How large the largest results are, say the constants below.
+ * No result can be mistaken for a refusal. `film_refused(answer)` is the refusal's number, or 0.
+ * Whatever else a call hands over, it writes to the start of slices that the caller lends: `T *x,
+ * size_t x_len`, without const. If one of them is shorter than what is to be written to it, the
+ * call refuses with 11, after all other refusals; in a longer one the elements past the result stay
+ * as they are. On a refusal no lent byte is changed. How large the largest results are, say the
+ * constants below.
  *
- * A JOB is handed as C, L, s and the limit (`chunks`, `span`, `delay`, `limit`), the layer sizes (`sizes`, base first), the sizes that
- * differ by chunk (`SZ`: `size_chunks`, `size_layers`, `size_bytes`, three slices of one length, empty for film of equal chunks), and the
- * forecast, one number a slot. Chunk i is due in slot (i - 1) * L + s, the last of them, d(C), is the number of slots. H is limit / L.
- * A FETCH LIST is four slices of one length, `row_slots`, `row_chunks`, `row_layers`, `row_bytes`, in any order.
- * MARKS are one byte a chunk; bit n says that layer n is carried. COUNTS are four numbers, how many chunks carry each layer.
- * Slots, chunks and files are counted as documents 01 and 02 of the planner count them: slots and chunks from 1, layers from 0.
+ * A JOB is handed as C, L, s and the limit (`chunks`, `span`, `delay`, `limit`), the layer sizes
+ * (`sizes`, base first), the sizes that differ by chunk (`SZ`: `size_chunks`, `size_layers`,
+ * `size_bytes`, three slices of one length, empty for film of equal chunks), and the forecast, one
+ * number a slot. Chunk i is due in slot (i - 1) * L + s, the last of them, d(C), is the number of
+ * slots. H is limit / L.
+ * A FETCH LIST is four slices of one length, `row_slots`, `row_chunks`, `row_layers`, `row_bytes`,
+ * in any order.
+ * MARKS are one byte a chunk; bit n says that layer n is carried. COUNTS are four numbers, how many
+ * chunks carry each layer.
+ * Slots, chunks and files are counted as documents 01 and 02 of the planner count them: slots and
+ * chunks from 1, layers from 0.
  */
 #ifndef FILM_PLANNER_H
 #define FILM_PLANNER_H
@@ -56,7 +66,8 @@ enum {
     FILM_SAMPLES = 10          /* cells of a meter */
 };
 
-/* ---- refusals: the number, its name (FILM_REFUSED_ENDS_EARLY and so on), and the sentence of document 01 (1 to 13) or 02 (14 to 22) */
+/* ---- refusals: the number, its name (FILM_REFUSED_ENDS_EARLY and so on), and the sentence of
+ * document 01 (1 to 13) or 02 (14 to 22) */
 
 #define FILM_REFUSALS(X) \
     X(1, ENDS_EARLY, "A file ends before a mark, within a record or without `EN`.") \
@@ -109,9 +120,11 @@ static inline const char *film_sentence(uint32_t refusal)
     }
 }
 
-/* ---- types, for callers who want them: no call asks for one. The macros spread them as arguments. */
+/* ---- types, for callers who want them: no call asks for one. The macros spread them as
+ * arguments. */
 
-/* A job as handed: FILM_JOB(j) stands for its arguments in every call that takes one, FILM_WAIT(j) in film_wait. */
+/* A job as handed: FILM_JOB(j) stands for its arguments in every call that takes one, FILM_WAIT(j)
+ * in film_wait. */
 struct film_job {
     uint16_t chunks, span, delay, limit; /* C 1 to 500, L 1 to 60, s 1 to 3,600, and the limit */
     const uint32_t *sizes;               /* 1 to 4, each 1 to 16,777,216 */
@@ -148,9 +161,10 @@ struct film_meter {
 
 /* ---- job and plan files */
 
-/* Reads a job file in one sequence: PG, all LY, all SZ, all BW, EN. Answers the number of slots of the forecast. Lent: the programme (C, L,
- * s, limit), lengths (how many layers, how many SZs), the layer sizes, the SZs in three slices, the forecast.
- * Refuses: 9; record by record 2 or 1 for the mark, 1 for the body, 4 for a second PG, 17, then 5, 6, 7; at EN 3, 4, 6, 18, 7; then 11. */
+/* Reads a job file in one sequence: PG, all LY, all SZ, all BW, EN. Answers the number of slots of
+ * the forecast. Lent: the programme (C, L, s, limit), lengths (how many layers, how many SZs), the
+ * layer sizes, the SZs in three slices, the forecast. Refuses: 9; record by record 2 or 1 for the
+ * mark, 1 for the body, 4 for a second PG, 17, then 5, 6, 7; at EN 3, 4, 6, 18, 7; then 11. */
 uint64_t film_read_job(
     const uint8_t *file, size_t file_len,
     uint16_t *programme, size_t programme_len,
@@ -161,8 +175,9 @@ uint64_t film_read_job(
     uint32_t *size_bytes, size_t size_bytes_len,
     uint32_t *forecast, size_t forecast_len);
 
-/* The same of a mixed file, as document 01 has it and as files kept for ever may be: PG anywhere, LY and BW mixed, no SZ (2). A file in one
- * sequence without SZ is one, too. Refuses as film_read_job, without 17 and 18. */
+/* The same of a mixed file, as document 01 has it and as files kept for ever may be: PG anywhere,
+ * LY and BW mixed, no SZ (2). A file in one sequence without SZ is one, too. Refuses as
+ * film_read_job, without 17 and 18. */
 uint64_t film_read_mixed_job(
     const uint8_t *file, size_t file_len,
     uint16_t *programme, size_t programme_len,
@@ -170,7 +185,8 @@ uint64_t film_read_mixed_job(
     uint32_t *sizes, size_t sizes_len,
     uint32_t *forecast, size_t forecast_len);
 
-/* Writes the job's file, the only one it has in one sequence. Answers its bytes, at most FILM_JOB_FILE. Refuses: 5, 6, 18, 7, 11. */
+/* Writes the job's file, the only one it has in one sequence. Answers its bytes, at most
+ * FILM_JOB_FILE. Refuses: 5, 6, 18, 7, 11. */
 uint64_t film_write_job(
     uint16_t chunks, uint16_t span, uint16_t delay, uint16_t limit,
     const uint32_t *sizes, size_t sizes_len,
@@ -180,8 +196,9 @@ uint64_t film_write_job(
     const uint32_t *forecast, size_t forecast_len,
     uint8_t *out, size_t out_len);
 
-/* Reads a plan file for a job: KP for chunk 1 to C, then FT, EN. Answers the number of rows, at most FILM_FILE_ROWS. Lent: the marks, the
- * rows. Whether they are sensible is film_check's business. Refuses: the job's 5, 6, 18, 7; 9; record by record 2, 1, 8; at EN 3, 8; 11. */
+/* Reads a plan file for a job: KP for chunk 1 to C, then FT, EN. Answers the number of rows, at
+ * most FILM_FILE_ROWS. Lent: the marks, the rows. Whether they are sensible is film_check's
+ * business. Refuses: the job's 5, 6, 18, 7; 9; record by record 2, 1, 8; at EN 3, 8; 11. */
 uint64_t film_read_plan(
     uint16_t chunks, uint16_t span, uint16_t delay, uint16_t limit,
     const uint32_t *sizes, size_t sizes_len,
@@ -196,7 +213,8 @@ uint64_t film_read_plan(
     uint8_t *row_layers, size_t row_layers_len,
     uint32_t *row_bytes, size_t row_bytes_len);
 
-/* Writes a plan file, the rows as handed. Answers its bytes: 5 a chunk, 11 a row, 2. Refuses: 5, 6, 18, 7, 8, 9, 11. */
+/* Writes a plan file, the rows as handed. Answers its bytes: 5 a chunk, 11 a row, 2. Refuses: 5, 6,
+ * 18, 7, 8, 9, 11. */
 uint64_t film_write_plan(
     uint16_t chunks, uint16_t span, uint16_t delay, uint16_t limit,
     const uint32_t *sizes, size_t sizes_len,
@@ -213,15 +231,12 @@ uint64_t film_write_plan(
 
 /* ---- the checker */
 
-/* Judges a fetch list with its marks. Answers the verdict: 0 if rules 1 to 7 all hold, else the lowest broken rule.
- *   1  Slot 1 to d(C), chunk 1 to C, layer below the layer count, bytes at least 1.
- *   2  Each layer of each chunk sums to 0 or its full size.
- *   3  A carried layer has the layer below carried.
- *   4  A slot's rows sum to at most the forecast of the slot.
- *   5  No row is later than its chunk's due slot.
- *   6  At the end of each slot at most H chunks are held.
- *   7  The marks of the plan say the layers carried.
- * Refuses: 5, 6, 18, 7, 8. */
+/* Judges a fetch list with its marks. Answers the verdict: 0 if rules 1 to 7 all hold, else the
+ * lowest broken rule. 1  Slot 1 to d(C), chunk 1 to C, layer below the layer count, bytes at least
+ * 1. 2  Each layer of each chunk sums to 0 or its full size. 3  A carried layer has the layer below
+ * carried. 4  A slot's rows sum to at most the forecast of the slot. 5  No row is later than its
+ * chunk's due slot. 6  At the end of each slot at most H chunks are held. 7  The marks of the plan
+ * say the layers carried. Refuses: 5, 6, 18, 7, 8. */
 uint64_t film_check(
     uint16_t chunks, uint16_t span, uint16_t delay, uint16_t limit,
     const uint32_t *sizes, size_t sizes_len,
@@ -235,8 +250,9 @@ uint64_t film_check(
     const uint8_t *row_layers, size_t row_layers_len,
     const uint32_t *row_bytes, size_t row_bytes_len);
 
-/* The second call, for lists made afresh at slot p (`from`): rule 2 allows a short sum whose rows are all before p. The job's forecast is
- * the joined one, as it was before p and as it was handed from p on. Refuses: 5, 6, 18, 7, 8, 21. */
+/* The second call, for lists made afresh at slot p (`from`): rule 2 allows a short sum whose rows
+ * are all before p. The job's forecast is the joined one, as it was before p and as it was handed
+ * from p on. Refuses: 5, 6, 18, 7, 8, 21. */
 uint64_t film_check_from(
     uint16_t chunks, uint16_t span, uint16_t delay, uint16_t limit,
     const uint32_t *sizes, size_t sizes_len,
@@ -253,8 +269,9 @@ uint64_t film_check_from(
 
 /* ---- plans */
 
-/* Plans a job: the layers that documents 01 and 02 decide to carry, and the plan's own list by slot, chunk, layer. Answers the number of
- * rows, at most FILM_ROWS; with the marks they pass film_check. Lent: the marks, the rows, the four counts. Refuses: 5, 6, 18, 7, 11. */
+/* Plans a job: the layers that documents 01 and 02 decide to carry, and the plan's own list by
+ * slot, chunk, layer. Answers the number of rows, at most FILM_ROWS; with the marks they pass
+ * film_check. Lent: the marks, the rows, the four counts. Refuses: 5, 6, 18, 7, 11. */
 uint64_t film_plan(
     uint16_t chunks, uint16_t span, uint16_t delay, uint16_t limit,
     const uint32_t *sizes, size_t sizes_len,
@@ -269,16 +286,19 @@ uint64_t film_plan(
     uint32_t *row_bytes, size_t row_bytes_len,
     uint16_t *counts, size_t counts_len);
 
-/* Compares two plans' counts entry by entry from the base: 0 if they are the same; at the first that differs 1 if the first plan has fewer,
- * 2 if it has more. Never refuses: a count that is not handed is 0, as that of an absent layer, and none past the fourth is looked at. */
+/* Compares two plans' counts entry by entry from the base: 0 if they are the same; at the first
+ * that differs 1 if the first plan has fewer, 2 if it has more. Never refuses: a count that is not
+ * handed is 0, as that of an absent layer, and none past the fourth is looked at. */
 enum { FILM_SAME = 0, FILM_FEWER = 1, FILM_MORE = 2 };
 uint64_t film_compare(const uint16_t *counts, size_t counts_len, const uint16_t *others, size_t others_len);
 
-/* Plans afresh at slot p (`from`), during the act: the rows fetched before p, in any order, and the forecast from p on, d(C) - p + 1 slots
- * (`onward`); the job's own forecast says the slots before p. Layers whole before p are carried, chunks due before p are settled by what
- * they have, the others as in document 01, bases too, over lists that begin with the rows fetched. Answers the number of rows from p on, at
- * most FILM_ROWS; with the rows fetched before them they pass film_check_from. Lent: the marks, the rows from p on, the four counts.
- * Refuses: 5, 6, 18, 7, 8, 21, 7 (the forecast from p on), 22, 11. */
+/* Plans afresh at slot p (`from`), during the act: the rows fetched before p, in any order, and the
+ * forecast from p on, d(C) - p + 1 slots (`onward`); the job's own forecast says the slots before
+ * p. Layers whole before p are carried, chunks due before p are settled by what they have, the
+ * others as in document 01, bases too, over lists that begin with the rows fetched. Answers the
+ * number of rows from p on, at most FILM_ROWS; with the rows fetched before them they pass
+ * film_check_from. Lent: the marks, the rows from p on, the four counts. Refuses: 5, 6, 18, 7, 8,
+ * 21, 7 (the forecast from p on), 22, 11. */
 uint64_t film_replan(
     uint16_t chunks, uint16_t span, uint16_t delay, uint16_t limit,
     const uint32_t *sizes, size_t sizes_len,
@@ -299,10 +319,12 @@ uint64_t film_replan(
     uint32_t *row_bytes, size_t row_bytes_len,
     uint16_t *counts, size_t counts_len);
 
-/* Searches the best set of bases within a budget of steps, and plans over it: each chunk from the last is tried kept and then skipped,
- * each try is a step. Answers the number of rows, at most FILM_ROWS; with the marks, whose bit 0 is the set, they pass film_check. Lent:
- * the marks, the rows, the four counts, and three numbers of the walk: the steps taken, 1 if it ended, else 0, and the shortfall: how many
- * bases more a passing list in playing order can carry at the most, 0 if the walk ended. Refuses: 5, 6, 18, 7, 11. */
+/* Searches the best set of bases within a budget of steps, and plans over it: each chunk from the
+ * last is tried kept and then skipped, each try is a step. Answers the number of rows, at most
+ * FILM_ROWS; with the marks, whose bit 0 is the set, they pass film_check. Lent: the marks, the
+ * rows, the four counts, and three numbers of the walk: the steps taken, 1 if it ended, else 0, and
+ * the shortfall: how many bases more a passing list in playing order can carry at the most, 0 if
+ * the walk ended. Refuses: 5, 6, 18, 7, 11. */
 uint64_t film_search(
     uint16_t chunks, uint16_t span, uint16_t delay, uint16_t limit,
     const uint32_t *sizes, size_t sizes_len,
@@ -319,8 +341,8 @@ uint64_t film_search(
     uint16_t *counts, size_t counts_len,
     uint32_t *walk, size_t walk_len);
 
-/* The shortest wait: from a job without s and a forecast of up to 3,600 slots the smallest s for which the plan skips no base. Answers s.
- * Refuses: 5 (C, L and the limit alone), 6, 18, 7, 16. */
+/* The shortest wait: from a job without s and a forecast of up to 3,600 slots the smallest s for
+ * which the plan skips no base. Answers s. Refuses: 5 (C, L and the limit alone), 6, 18, 7, 16. */
 uint64_t film_wait(
     uint16_t chunks, uint16_t span, uint16_t limit,
     const uint32_t *sizes, size_t sizes_len,
@@ -348,10 +370,10 @@ uint64_t film_report(
     const uint32_t *forecast, size_t forecast_len,
     uint8_t *out, size_t out_len);
 
-/* The reason under each layer of the job that its plan doesn't carry, by chunk and then layer, lines ended by a line feed:
- *   chunk 1 layer 0: slots 2 to 4 carry 1, need 2
- *   chunk 1 layer 1: layer 0 is missing
- * Answers its bytes, at most FILM_REASONS; 0 for a plan that lacks nothing. Refuses: 5, 6, 18, 7, 11. */
+/* The reason under each layer of the job that its plan doesn't carry, by chunk and then layer,
+ * lines ended by a line feed: chunk 1 layer 0: slots 2 to 4 carry 1, need 2 chunk 1 layer 1: layer
+ * 0 is missing Answers its bytes, at most FILM_REASONS; 0 for a plan that lacks nothing. Refuses:
+ * 5, 6, 18, 7, 11. */
 uint64_t film_reasons(
     uint16_t chunks, uint16_t span, uint16_t delay, uint16_t limit,
     const uint32_t *sizes, size_t sizes_len,
@@ -363,19 +385,22 @@ uint64_t film_reasons(
 
 /* ---- link traces */
 
-/* Reads a link trace for so many slots, 1 to 3,600: a line is a time in milliseconds, 1 to 7 digits and a line feed, and stands for 1,500
- * bytes that got through. Slot j gets 1,500 times the lines from (j - 1) * 1,000 up to, but not including, j * 1,000; later lines are read
- * and not counted. Answers the number of slots. Lent: the forecast. The trace may have any length. Refuses: 7 (the number of slots), 14,
- * 15, 11. */
+/* Reads a link trace for so many slots, 1 to 3,600: a line is a time in milliseconds, 1 to 7 digits
+ * and a line feed, and stands for 1,500 bytes that got through. Slot j gets 1,500 times the lines
+ * from (j - 1) * 1,000 up to, but not including, j * 1,000; later lines are read and not counted.
+ * Answers the number of slots. Lent: the forecast. The trace may have any length. Refuses: 7 (the
+ * number of slots), 14, 15, 11. */
 uint64_t film_read_trace(const uint8_t *trace, size_t trace_len, size_t slots, uint32_t *forecast, size_t forecast_len);
 
-/* Writes a forecast of 1 to 3,600 slots, all multiples of 1,500, as the trace with each slot's lines at its first millisecond. Answers its
- * bytes, at most FILM_TRACE. Refuses: 7 (the number of slots), 15, 11. */
+/* Writes a forecast of 1 to 3,600 slots, all multiples of 1,500, as the trace with each slot's
+ * lines at its first millisecond. Answers its bytes, at most FILM_TRACE. Refuses: 7 (the number of
+ * slots), 15, 11. */
 uint64_t film_write_trace(const uint32_t *forecast, size_t forecast_len, uint8_t *out, size_t out_len);
 
 /* ---- bookings: two films on one link */
 
-/* Takes a passing list's bytes off the job's forecast, in its own storage. Answers 0. Refuses: 5, 6, 18, 7, 8, 19. */
+/* Takes a passing list's bytes off the job's forecast, in its own storage. Answers 0. Refuses: 5,
+ * 6, 18, 7, 8, 19. */
 uint64_t film_book(
     uint16_t chunks, uint16_t span, uint16_t delay, uint16_t limit,
     const uint32_t *sizes, size_t sizes_len,
@@ -389,7 +414,8 @@ uint64_t film_book(
     const uint8_t *row_layers, size_t row_layers_len,
     const uint32_t *row_bytes, size_t row_bytes_len);
 
-/* Adds a list's bytes back; after a booking of that list the forecast is what it was. Answers 0. Refuses: 5, 6, 18, 7, 8, 20. */
+/* Adds a list's bytes back; after a booking of that list the forecast is what it was. Answers 0.
+ * Refuses: 5, 6, 18, 7, 8, 20. */
 uint64_t film_release(
     uint16_t chunks, uint16_t span, uint16_t delay, uint16_t limit,
     const uint32_t *sizes, size_t sizes_len,
@@ -404,27 +430,29 @@ uint64_t film_release(
 
 /* ---- counts of marks */
 
-/* How many marks have bit n, for marks of any length; 0 for n above 7. Answers 0. Lent: one number for the count, since that of very many
- * marks may be 2^32 or more. Refuses: 11. */
+/* How many marks have bit n, for marks of any length; 0 for n above 7. Answers 0. Lent: one number
+ * for the count, since that of very many marks may be 2^32 or more. Refuses: 11. */
 uint64_t film_count_marks(const uint8_t *marks, size_t marks_len, uint8_t n, uint64_t *count, size_t count_len);
 
-/* Answers how many of a word's eight bytes have bit n, for n from 0 to 7, and 0 above. Never refuses. */
+/* Answers how many of a word's eight bytes have bit n, for n from 0 to 7, and 0 above. Never
+ * refuses. */
 uint64_t film_count_word(uint64_t word, uint8_t n);
 
-/* ---- the link meter, in the caller's own storage: ten slots, ten bytes, and how many samples are kept. Only the first `kept` cells mean
- * anything, the newest sample last. A slice shorter than its part of the meter holds no meter: 11. In longer ones the cells past the tenth,
- * and past the first `kept`, are not looked at and stay as they are. */
+/* ---- the link meter, in the caller's own storage: ten slots, ten bytes, and how many samples are
+ * kept. Only the first `kept` cells mean anything, the newest sample last. A slice shorter than its
+ * part of the meter holds no meter: 11. In longer ones the cells past the tenth, and past the first
+ * `kept`, are not looked at and stay as they are. */
 
 /* Makes the storage a meter without samples. Answers 0. Refuses: 11. */
 uint64_t film_meter_new(uint16_t *slots, size_t slots_len, uint32_t *bytes, size_t bytes_len, uint8_t *kept, size_t kept_len);
 
-/* Takes a sample, a slot of 1 to 65,535 and its bytes, 0 to 16,777,216; the last ten are kept. Answers 0.
- * Refuses: 10 of the handed sample, 11, 10 of what is kept, 13. */
+/* Takes a sample, a slot of 1 to 65,535 and its bytes, 0 to 16,777,216; the last ten are kept.
+ * Answers 0. Refuses: 10 of the handed sample, 11, 10 of what is kept, 13. */
 uint64_t film_meter_take(
     uint16_t *slots, size_t slots_len, uint32_t *bytes, size_t bytes_len, uint8_t *kept, size_t kept_len, uint16_t slot, uint32_t sample);
 
-/* Answers the forecast of a slot's bytes: 0 if a sample is 0, else the whole part of the samples' exact harmonic mean or one less, and
- * never more. Refuses: 11, 10, 12. */
+/* Answers the forecast of a slot's bytes: 0 if a sample is 0, else the whole part of the samples'
+ * exact harmonic mean or one less, and never more. Refuses: 11, 10, 12. */
 uint64_t film_meter_forecast(
     const uint16_t *slots, size_t slots_len, const uint32_t *bytes, size_t bytes_len, const uint8_t *kept, size_t kept_len);
 

@@ -1,5 +1,7 @@
-"""Two films on one link once more, by `reference.py`: the lines that the program `booking_trials` has to print.
-Run it at the root of the repository: python3 tools/bookings.py | diff - crates/booking_trials/stdout"""
+"""Two films on one link once more, by `reference.py`: the lines that the program `test_booking` has
+to print.
+Run it at the root of the repository: python3 tools/bookings.py | diff -
+crates/test_booking/stdout"""
 from reference import *
 
 A = Job(3, 2, 2, 2, [2, 1], [], [3, 0, 1, 0, 2, 0])
@@ -105,7 +107,8 @@ def twenty():
 # ---- the order of the refusals
 
 def both(text, chunks=3, layers=2, sz=(), slots=6, marks=3, ends=(1, 1, 1)):
-    """A row in slot 7, for 19 and 20, in a job A of other lengths; ends says how many of the row's other fields are handed."""
+    """A row in slot 7, for 19 and 20, in a job A of other lengths; ends says how many of the row's
+    other fields are handed."""
     job = A._replace(chunks=chunks, sizes=[2, 1][:layers], overrides=[Override(*o) for o in sz], forecast=A.forecast[:slots])
     row = [[7], [2][:ends[0]], [0][:ends[1]], [2][:ends[2]]]
     said = [answer(book, job, [0, 1, 0][:marks], *row)[0], answer(release, job, *row)[0]]

@@ -1,6 +1,8 @@
-"""Writes the case files of the programs `file_trials`, `trials` and `report_trials` (crates/NAME/data) and what they, `room_trials` and
-`uneven_trials` have to print (crates/NAME/stdout): for the case files from `reference.py`, for the direct calls from `expected_calls.txt`,
-`expected_rooms.txt`, `expected_uneven.txt`, `LARGE` and `ROOMS`, which are written by hand.
+"""Writes the case files of the programs `test_files`, `test_calls` and `test_report`
+(crates/NAME/data) and what they, `test_buffers` and `test_uneven` have to print
+(crates/NAME/stdout): for the case files from `reference.py`, for the direct calls from
+`expected_calls.txt`, `expected_rooms.txt`, `expected_uneven.txt`, `LARGE` and `ROOMS`, which are
+written by hand.
 Run it at the root of the repository after changing a case: python3 tools/cases.py"""
 import os
 import shutil
@@ -16,7 +18,8 @@ SZ = sz(2, 1, 2) + sz(3, 0, 1)
 EVERY_SZ = b"".join(sz(i, n, 2) for i in range(2, 501) for n in range(4))
 LONG = pg(500, 1, 1, 9) + ly(1) * 4
 
-# (what the case is, its bytes). Each refusal alone, then pairs where two compete and the order decides.
+# (what the case is, its bytes). Each refusal alone, then pairs where two compete and the order
+# decides.
 JOBS = [
     ("job A", PG + LY + BW + EN),
     ("the empty file", b""),
@@ -173,7 +176,8 @@ PLANS = [
 ]
 
 
-# Plan files of 8 chunks and 5,954 rows, of 6 and 5,954, of 6 and 5,955, each written and what was written read; then `TOO_LONG`.
+# Plan files of 8 chunks and 5,954 rows, of 6 and 5,954, of 6 and 5,955, each written and what was
+# written read; then `TOO_LONG`.
 LARGE = """\
 written 65536
 rows 5954
@@ -193,7 +197,8 @@ def stepped(span, sizes, slots):
 
 
 def by_slot(forecast):
-    """A job of a chunk a slot that holds nothing, of layers of 9 and 3 bytes: 12 in a slot carries both, 9 the base, less skips."""
+    """A job of a chunk a slot that holds nothing, of layers of 9 and 3 bytes: 12 in a slot carries
+    both, 9 the base, less skips."""
     return Job(len(forecast), 1, 1, 0, [9, 3], [], forecast)
 
 
@@ -222,7 +227,8 @@ REPORTS = [
     ("the largest layers, uneven", stepped(4, [TOP] * 4, [4, 4, 4])._replace(overrides=[Override(2, 3, TOP - 1), Override(3, 0, 1)])),
 ]
 
-# Job A's report has 86 bytes. Room for them, for one more, for one less; then a job that is refused whatever the room.
+# Job A's report has 86 bytes. Room for them, for one more, for one less; then a job that is refused
+# whatever the room.
 ROOMS = """\
 written 86
 first 115
@@ -273,29 +279,29 @@ def write_data(program, files):
 def write_files():
     cases = [(f"{kind}{k:02d}", what, data, line)
              for kind, of_kind, line in (("j", JOBS, job_lines), ("p", PLANS, plan_line)) for k, (what, data) in enumerate(of_kind)]
-    write_data("file_trials", [(name, data) for name, _, data, _ in cases] + [("q00", TOO_LONG)])
-    with open("crates/file_trials/stdout", "w") as f:
+    write_data("test_files", [(name, data) for name, _, data, _ in cases] + [("q00", TOO_LONG)])
+    with open("crates/test_files/stdout", "w") as f:
         for name, _, data, line in cases:
             f.write(f"{name} {line(data)}\n")
         f.write(LARGE)
-    with open("crates/file_trials/CASES.md", "w") as f:
-        f.write("# The case files of file_trials\n\nMade by tools/cases.py. `j..` are job files, read in one sequence and then as mixed files, `p..` plan files for job A. `q00` is a plan file of 6 chunks and 5,955 rows: 65,537 bytes.\n\n")
+    with open("crates/test_files/CASES.md", "w") as f:
+        f.write("# The case files of test_files\n\nMade by tools/cases.py. `j..` are job files, read in one sequence and then as mixed files, `p..` plan files for job A. `q00` is a plan file of 6 chunks and 5,955 rows: 65,537 bytes.\n\n")
         for name, what, _, _ in cases:
             f.write(f"- {name}: {what}\n")
     print(len(JOBS), "job files,", len(PLANS), "plan files")
 
 
 def write_calls():
-    write_data("trials", [("q00", TOO_LONG)])
-    shutil.copyfile("tools/expected_calls.txt", "crates/trials/stdout")
-    shutil.copyfile("tools/expected_rooms.txt", "crates/room_trials/stdout")
-    shutil.copyfile("tools/expected_uneven.txt", "crates/uneven_trials/stdout")
+    write_data("test_calls", [("q00", TOO_LONG)])
+    shutil.copyfile("tools/expected_calls.txt", "crates/test_calls/stdout")
+    shutil.copyfile("tools/expected_rooms.txt", "crates/test_buffers/stdout")
+    shutil.copyfile("tools/expected_uneven.txt", "crates/test_uneven/stdout")
 
 
 def write_reports():
-    write_data("report_trials", [(f"r{k:02d}", write_job(job)) for k, (_, job) in enumerate(REPORTS)])
-    with open("crates/report_trials/stdout", "w") as out, open("crates/report_trials/CASES.md", "w") as cases:
-        cases.write("# The report trials' case files\n\nMade by tools/cases.py. `r..` are job files.\n\n")
+    write_data("test_report", [(f"r{k:02d}", write_job(job)) for k, (_, job) in enumerate(REPORTS)])
+    with open("crates/test_report/stdout", "w") as out, open("crates/test_report/CASES.md", "w") as cases:
+        cases.write("# The case files of test_report\n\nMade by tools/cases.py. `r..` are job files.\n\n")
         for k, (what, job) in enumerate(REPORTS):
             out.write(f"r{k:02d}\n{report(job)}")
             cases.write(f"- r{k:02d}: {what}\n")

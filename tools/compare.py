@@ -1,6 +1,7 @@
-"""Every call of the built library, as a caller in C meets it, against `reference.py`: random and damaged files, jobs and lists, meters in any
-state, and lent slices too short by one, exact and longer, with every byte around each slice watched. A difference is printed as a case to
-be replayed. Run it at the root of the repository, with the Rattle toolchain and gcc:
+"""Every call of the built library, as a caller in C meets it, against `reference.py`: random and
+damaged files, jobs and lists, meters in any state, and lent slices too short by one, exact and
+longer, with every byte around each slice watched. A difference is printed as a case to be replayed.
+Run it at the root of the repository, with the Rattle toolchain and gcc:
 
     python3 tools/compare.py                     100,000 calls and some more, in a few minutes
     python3 tools/compare.py --calls 1000000 --seed 7
@@ -27,8 +28,8 @@ JOB = "h h h h I H B I I"
 ROWS = "H H B I"
 LENT_ROWS = "B! H! H! B! I!"
 
-# The arguments of each call: a small letter is a number, a large one a slice of 8 (B), 16 (H), 32 (I) or 64 (Q) bits, ! for lent room, ? for
-# lent storage that holds something.
+# The arguments of each call: a small letter is a number, a large one a slice of 8 (B), 16 (H), 32
+# (I) or 64 (Q) bits, ! for lent room, ? for lent storage that holds something.
 CALLS = {
     "film_read_job": "B H! Q! I! H! B! I! I!",
     "film_read_mixed_job": "B H! Q! I! I!",
@@ -57,7 +58,8 @@ CALLS = {
 
 
 def declared():
-    """The arguments of each call as include/film_planner.h declares them, in the letters of CALLS; storage is lent room there."""
+    """The arguments of each call as include/film_planner.h declares them, in the letters of CALLS;
+    storage is lent room there."""
     with open("include/film_planner.h") as f:
         found = re.findall(r"^uint64_t (film_\w+)\((.*?)\);", f.read(), re.M | re.S)
     letters = {"uint8_t": "b", "uint16_t": "h", "uint32_t": "w", "uint64_t": "q", "size_t": "z"}
@@ -81,12 +83,13 @@ def build(out="target/kit/libfilm.so"):
     """The archive of the proved calls as a shared object."""
     subprocess.run(["tools/archive"], check=True)
     os.makedirs(os.path.dirname(out), exist_ok=True)
-    subprocess.run(["gcc", "-shared", "-o", out, "-Wl,--whole-archive", "target/staticlib/libexport.a", "-Wl,--no-whole-archive"], check=True)
+    subprocess.run(["gcc", "-shared", "-o", out, "-Wl,--whole-archive", "target/staticlib/libfilm_planner.a", "-Wl,--no-whole-archive"], check=True)
     return out
 
 
 class Library:
-    """Calls with every slice in one stretch of memory, each between bytes that nothing may change."""
+    """Calls with every slice in one stretch of memory, each between bytes that nothing may
+    change."""
     ROOM = 1 << 20
 
     def __init__(self, path):
@@ -138,7 +141,8 @@ class Library:
         return f"byte {byte}, beside every slice"
 
 
-# ---- what each call has to answer, by the reference: the result, and what goes to each lent slice by its argument's place
+# ---- what each call has to answer, by the reference: the result, and what goes to each lent slice
+# by its argument's place
 
 def overrides_of(columns):
     if len({len(c) for c in columns}) != 1:
@@ -147,7 +151,8 @@ def overrides_of(columns):
 
 
 def job_of(args):
-    """A job out of a call's first nine arguments; SZs that are not handed whole are 18 after 5 and 6."""
+    """A job out of a call's first nine arguments; SZs that are not handed whole are 18 after 5 and
+    6."""
     chunks, span, delay, limit, sizes, *columns, forecast = args[:9]
     overrides = overrides_of(columns)
     if overrides is None:
@@ -271,11 +276,11 @@ def film_replan(*args):
         return plan_handed(*replan(job, p, onward, *columns), 15)
     # Of larger jobs only a standing plan is made afresh, and goes on.
     levels, rows = plan_fast(job)
-    assert not walked(job) and onward == job.forecast[p - 1:] and sorted(listed(*columns)) == [x for x in rows if x.slot < p]
+    assert not by_moore_hodgson(job) and onward == job.forecast[p - 1:] and sorted(listed(*columns)) == [x for x in rows if x.slot < p]
     return plan_handed(levels, [x for x in rows if x.slot >= p], 15)
 
 
-def walked(job):
+def by_moore_hodgson(job):
     """Request 9 settles the bases."""
     return job.limit // job.span >= job.chunks and any(o.layer == 0 for o in job.overrides)
 
@@ -449,7 +454,8 @@ class Cases:
             values[i], values[k] = values[k], values[i]
 
     def spoiled_file(self, data, marks):
-        """A file's bytes, at times damaged: cut, longer, a byte or a record changed, moved or doubled."""
+        """A file's bytes, at times damaged: cut, longer, a byte or a record changed, moved or
+        doubled."""
         r, data = self.r, bytearray(data)
         while self.odds(0.55) and len(data) < 70000:
             how, at = r.randrange(8), r.randrange(len(data) + 1)
@@ -605,7 +611,8 @@ class Cases:
         return self.handed(self.some_job()) + [None] * 6
 
     def film_replan(self):
-        """A plan's own rows before p, changed or not, and the forecast from p on, as it was or another."""
+        """A plan's own rows before p, changed or not, and the forecast from p on, as it was or
+        another."""
         r = self.r
         if self.odds(0.02):
             return self.standing()
@@ -636,7 +643,7 @@ class Cases:
     def standing(self):
         """A larger job, its plan's own rows before p in any order, and its forecast from p on."""
         r, job = self.r, self.job(self.r.choices(("middle", "large"), (9, 1))[0])
-        if small(job) or walked(job):
+        if small(job) or by_moore_hodgson(job):
             job = job._replace(limit=job.span * r.randrange(job.chunks))
         p = r.randint(1, len(job.forecast))
         rows = [x for x in plan_fast(job)[1] if x.slot < p]

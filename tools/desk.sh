@@ -5,7 +5,7 @@ usage="usage: tools/desk.sh JOBTEXT [FOLDER]
 
 Makes the job from its text (tools/job.py --help says how one is written), plans it, checks the plan, reports it, gives the reasons for what
 is missing and draws it, and says where each file is. FOLDER is desk/ and the text's name unless named; files of an earlier run there are
-replaced. Needed: python3, and the programs that \`rt check plan verdict film_report reasons\` builds."
+replaced. Needed: python3, and the programs that \`rt check film_plan film_verdict film_report film_reasons\` builds."
 
 stop() {
     printf 'desk.sh: %s\n' "$1" >&2
@@ -38,7 +38,7 @@ case $folder in -*) folder=./$folder ;; esac
 
 command -v python3 > /dev/null || stop "python3 is needed"
 missing=
-for each in plan verdict film_report reasons; do
+for each in film_plan film_verdict film_report film_reasons; do
     [ -x "$bin/$each" ] || missing="$missing $each"
 done
 [ -z "$missing" ] || stop "not built yet:$missing. At the root of the repository, this builds what is missing: rt check$missing"
@@ -54,15 +54,15 @@ done
 
 python3 "$root/tools/job.py" make -- "$text" > "$folder/job" || { rm -f -- "$folder/job"; exit 1; }
 done_step 1 job job
-program plan plan
+program film_plan plan
 done_step 2 plan plan
-(CDPATH='' cd -- "$folder" && "$bin/verdict") > "$folder/verdict" || stop "$bin/verdict failed"
+(CDPATH='' cd -- "$folder" && "$bin/film_verdict") > "$folder/verdict" || stop "$bin/film_verdict failed"
 verdict=$(cat "$folder/verdict")
 [ "$verdict" = "verdict 0" ] || stop "the checker says $verdict"
 done_step 3 verdict verdict "$verdict"
 program film_report report
 done_step 4 report report "$(grep '^layers ' "$folder/report")"
-program reasons reasons
+program film_reasons reasons
 done_step 5 reasons reasons "layers missing $(($(wc -l < "$folder/reasons")))"
 python3 "$root/tools/draw.py" --title="${name%.txt}" --reasons="$folder/reasons" -- "$folder/job" "$folder/plan" > "$folder/plan.svg" ||
     { rm -f -- "$folder/plan.svg"; exit 1; }

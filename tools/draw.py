@@ -1,12 +1,13 @@
 #!/usr/bin/env python3
-"""Draws a plan as one picture (SVG): what is shown of each chunk and what is skipped, the link and what is fetched over it, the chunks
-held against the limit, and when each chunk is fetched.
+"""Draws a plan as one picture (SVG): what is shown of each chunk and what is skipped, the link and
+what is fetched over it, the chunks held against the limit, and when each chunk is fetched.
 
   tools/draw.py job plan > plan.svg
   tools/draw.py --reasons reasons --title flight job plan > plan.svg
 
-With the lines of program `reasons`, every missing layer has its reason as a title (point at it in a browser), and the reasons of the longest
-skips are written out. A plan that breaks one of the seven rules is not drawn."""
+With the lines of program `film_reasons`, every missing layer has its reason as a title (point at it in a
+browser), and the reasons of the longest skips are written out. A plan that breaks one of the seven
+rules is not drawn."""
 import argparse
 import re
 from collections import Counter
@@ -106,7 +107,8 @@ LOWER = re.compile(f"chunk {NUMBER} layer {NUMBER}: layer {NUMBER} is missing")
 
 
 def read_reasons(path, plan):
-    """The lines of program `reasons`: by chunk and layer the sentence, and the stretch if it names one. They have to be this plan's."""
+    """The lines of program `film_reasons`: by chunk and layer the sentence, and the stretch if it names
+    one. They have to be this plan's."""
     found = {}
     for k, line in enumerate(read(path, 1 << 20).decode("ascii", "replace").splitlines(), 1):
         place = f"{called(path)} line {k}: {line[:60]!r}"
@@ -178,7 +180,8 @@ class Picture:
 
     def __init__(self, plan):
         self.plan, self.parts, self.y = plan, [], 0
-        # The last chunk's film reaches past the last slot; of a long chunk as much as leaves the slots their room.
+        # The last chunk's film reaches past the last slot; of a long chunk as much as leaves the
+        # slots their room.
         self.slots = plan.last + min(plan.job.span, 1 + plan.last // 8)
         self.width = min(1500, max(840, 3 * plan.job.chunks, ceil(0.42 * self.slots)))
         self.every = step_of(16 / self.x(plan.job.span, 0), [1, 2, 5, 10, 20, 50, 100, 200, 500])
@@ -221,7 +224,8 @@ class Picture:
                 self.line(x, self.y, x, self.y + height, PALE, 0.8)
 
     def labels(self, y, wanted, size=12):
-        """Labels along a line; each only if it covers none before it, so the first are the most wanted."""
+        """Labels along a line; each only if it covers none before it, so the first are the most
+        wanted."""
         taken = []
         for x, words, bold in wanted:
             half = wide(words, size, bold) / 2 + 3
@@ -242,7 +246,8 @@ class Picture:
         self.y += 18
 
     def steps(self, values, height, most):
-        """The path of a stepped line over slots, from the bottom at the left: each value from the end of a slot on."""
+        """The path of a stepped line over slots, from the bottom at the left: each value from the
+        end of a slot on."""
         path, level = f"M{LEFT} {pixels(self.y + height)}", None
         for start, value in values:
             y = pixels(self.y + height - value * height / most)
@@ -307,7 +312,8 @@ def draw_swatch(p, kind, x, y):
 
 
 def draw_film(p):
-    """A tile a chunk from its due slot to the next one's, a cell a layer, the base at the bottom."""
+    """A tile a chunk from its due slot to the next one's, a cell a layer, the base at the
+    bottom."""
     plan, cell = p.plan, 15
     p.panel("Film: the layers of each chunk from its due slot on", 34)
     height, apart = cell * len(plan.layers), p.x(plan.job.span, 0) >= 5
@@ -341,7 +347,8 @@ def draw_film(p):
 
 
 def draw_why(p):
-    """The stretches that skipped bases were too much for: those of the longest skips, and what room there is for others."""
+    """The stretches that skipped bases were too much for: those of the longest skips, and what room
+    there is for others."""
     plan, told = p.plan, {}
     if not plan.skipped or not plan.reasons:
         return
@@ -422,7 +429,8 @@ def draw_held(p):
 
 
 def draw_chunks(p):
-    """A bar a chunk, from its first byte to its due slot, in the colour of the highest layer it carries."""
+    """A bar a chunk, from its first byte to its due slot, in the colour of the highest layer it
+    carries."""
     plan = p.plan
     row = min(16, max(1.4, 480 / plan.job.chunks))
     every = step_of(14 / row, [1, 2, 5, 10, 20, 50])
@@ -450,8 +458,9 @@ def draw_chunks(p):
 
 
 def draw_skips(p, row):
-    """The skipped chunks beside their crosses, where no bar comes; in rows too low for a text as runs, above their row, where every bar has
-    ended, and of runs too near each other the longest."""
+    """The skipped chunks beside their crosses, where no bar comes; in rows too low for a text as
+    runs, above their row, where every bar has ended, and of runs too near each other the
+    longest."""
     taken = []
     for a, b in [(i, i) for i in p.plan.skipped] if row >= TALL else longest(p.plan.runs):
         middle, words = (a + b) // 2, named(a, b, " to ") + " skipped"

@@ -15,8 +15,9 @@ Without a file, standard input is read. The text has one statement a line:
   forecast 600 x 4000    600 slots of 4,000 bytes each
   trace van.txt 600      the first 600 slots of a trace of the link (its place seen from the text's folder)
 
-What `forecast` and `trace` give stands one after the other, up to the slot in which the last chunk is due. The kinds of statement may
-stand in any order. From # to the end of a line is a comment. Numbers are digits alone."""
+What `forecast` and `trace` give stands one after the other, up to the slot in which the last chunk
+is due. The kinds of statement may stand in any order. From # to the end of a line is a comment.
+Numbers are digits alone."""
 import argparse
 import os
 import re
@@ -189,7 +190,8 @@ def make(data, path=None):
 
 
 def show(job):
-    """The text of a job, which is one text a job: sizes as they rise, runs of three or more alike, other slots ten a line."""
+    """The text of a job, which is one text a job: sizes as they rise, runs of three or more alike,
+    other slots ten a line."""
     lines = [f"{kind} {value}" for kind, value in zip(FIELDS, job)]
     lines += [f"layer {size}" for size in job.sizes]
     lines += ["size {} {} {}".format(*size) for size in job.overrides]

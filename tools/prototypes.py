@@ -1,5 +1,6 @@
-"""The calls of crate `export` as C declarations, from its own sources: a C file that includes the header and declares each call once more, so
-that the compiler refuses a header that says otherwise, and that names each, so that the linker refuses an archive that lacks one.
+"""The calls of crate `film_planner` as C declarations, from its own sources: a C file that includes
+the header and declares each call once more, so that the compiler refuses a header that says
+otherwise, and that names each, so that the linker refuses an archive that lacks one.
 Run it at the root of the repository: python3 tools/prototypes.py > target/kit/prototypes.c"""
 import glob
 import re
@@ -10,7 +11,7 @@ TYPES = {"u8": "uint8_t", "u16": "uint16_t", "u32": "uint32_t", "u64": "uint64_t
 
 def calls():
     """Each exported call: its name, its arguments and its result."""
-    for path in sorted(glob.glob("crates/export/src/*.rt")):
+    for path in sorted(glob.glob("crates/film_planner/src/*.rt")):
         with open(path) as f:
             source = f.read()
         for name, args, result in re.findall(r'#\[no_mangle\]\s*pub extern "C" fn (\w+)\((.*?)\) -> (\w+)', source, re.S):

@@ -1,5 +1,6 @@
-"""The reason under each missing layer once more (document 02, request 14): plans by `reference.py`, and for each missing layer a search over
-all pairs of slots, with carry and need summed anew for each. Writes the case files of the program `reason_trials` and what it has to print.
+"""The reason under each missing layer once more (document 02, request 14): plans by `reference.py`,
+and for each missing layer a search over all pairs of slots, with carry and need summed anew for
+each. Writes the case files of the program `test_reasons` and what it has to print.
 Run it at the root of the repository after changing a case: python3 tools/reasons.py"""
 import os
 import shutil
@@ -7,8 +8,8 @@ from reference import *
 
 
 def added(job, levels, i, n):
-    """What the line under layer n of chunk i is held against: the layers settled as carried before it, and this one; for bases settled by
-    request 9 all bases kept, and this one."""
+    """What the line under layer n of chunk i is held against: the layers settled as carried before
+    it, and this one; for bases settled by request 9 all bases kept, and this one."""
     before, own = levels[:i - 1], levels[i:]
     if n == 0 and job.limit // job.span >= job.chunks and any(size(job, k, 0) != job.sizes[0] for k in range(1, job.chunks + 1)):
         return [min(k, 1) for k in before] + [1] + [min(k, 1) for k in own]
@@ -16,7 +17,8 @@ def added(job, levels, i, n):
 
 
 def stretch(job, levels):
-    """Of the slots that need more than they carry those with the smallest last slot, then the greatest first slot."""
+    """Of the slots that need more than they carry those with the smallest last slot, then the
+    greatest first slot."""
     kept = [i for i in range(1, job.chunks + 1) if levels[i - 1]]
     held = job.limit // job.span
     begin = [1 if m < held else due(job, kept[m - held]) for m in range(len(kept))]
@@ -87,7 +89,8 @@ REFUSED = [
 # ---- a family of small jobs, and their texts summed
 
 def member(k):
-    """Small job k: C 1 to 3, L 1 or 2, s 1 or 2, limit 0 to 3, bases of 1 or 2 bytes, a layer of 1 byte, SZs or none, slots of 0 to 2."""
+    """Small job k: C 1 to 3, L 1 or 2, s 1 or 2, limit 0 to 3, bases of 1 or 2 bytes, a layer of 1
+    byte, SZs or none, slots of 0 to 2."""
     chunks, span, delay, limit, base, kind = 1 + k % 3, 1 + k // 3 % 2, 1 + k // 6 % 2, k // 12 % 4, 1 + k // 48 % 2, k // 96 % 3
     sizes = [Override(2, 0, base + 1), Override(2, 1, 2), Override(3, 0, base + 2)]
     f = k // 288
@@ -106,8 +109,8 @@ def family():
     return f"jobs {jobs} without a line {silent}\nlines {lines} of the second kind {lower}\nall texts as one number {total}\n"
 
 
-# Job A's lines have 128 bytes. Room for them, for one more, for one less, for any; then a job that is refused whatever the room, and a plan
-# that lacks nothing, in no room.
+# Job A's lines have 128 bytes. Room for them, for one more, for one less, for any; then a job that
+# is refused whatever the room, and a plan that lacks nothing, in no room.
 ROOMS = """written 128
 first 99
 last 10
@@ -128,13 +131,13 @@ nothing in no room: written 0
 
 
 def main():
-    folder = "crates/reason_trials/data"
+    folder = "crates/test_reasons/data"
     shutil.rmtree(folder, ignore_errors=True)
     os.makedirs(folder)
     said = lambda data: reasons(read_job(data))
     cases = [(name, write_job(job)) for name, job in CASES] + REFUSED
-    with open("crates/reason_trials/stdout", "w") as out, open("crates/reason_trials/CASES.md", "w") as notes:
-        notes.write("# The reason trials' case files\n\nMade by tools/reasons.py. `s..` are job files.\n\n")
+    with open("crates/test_reasons/stdout", "w") as out, open("crates/test_reasons/CASES.md", "w") as notes:
+        notes.write("# The case files of test_reasons\n\nMade by tools/reasons.py. `s..` are job files.\n\n")
         for k, (name, data) in enumerate(cases):
             with open(f"{folder}/s{k:02d}", "wb") as file:
                 file.write(data)

@@ -1,6 +1,8 @@
-"""Documents 01 and 02 once more, in plain Python and independent of the proved crates: job and plan files, the seven rules, the plan, the
-report, link traces, bookings, plans made afresh, the search, the reasons, the wait, counts, the meter. `cases.py`, `traces.py`, `waits.py`, `bookings.py` and
-`replans.py` compute from it what the trials programs have to print; `compare.py` compares it with the library, call by call."""
+"""Documents 01 and 02 once more, in plain Python and independent of the proved crates: job and plan
+files, the seven rules, the plan, the report, link traces, bookings, plans made afresh, the search,
+the reasons, the wait, counts, the meter. `cases.py`, `traces.py`, `waits.py`, `bookings.py` and
+`replans.py` compute from it what the test programs have to print; `compare.py` compares it with the
+library, call by call."""
 from collections import namedtuple
 
 Job = namedtuple("Job", "chunks span delay limit sizes overrides forecast")
@@ -77,7 +79,8 @@ def records(data, bodies):
 
 
 def read_job(data, mixed=False):
-    """A job file in one sequence; a mixed one, as document 01 has it and so without SZ, too if mixed."""
+    """A job file in one sequence; a mixed one, as document 01 has it and so without SZ, too if
+    mixed."""
     if len(data) > 65536:
         raise Refused(9)
     programme, sizes, overrides, forecast, before = None, [], [], [], None
@@ -198,7 +201,8 @@ def held(job, rows, t):
 
 
 def whole_or_none(job, rows, i, n, since):
-    """Rule 2 of a layer; document 02, request 12: "its rule 2 allows a short sum whose rows are all before p"."""
+    """Rule 2 of a layer; document 02, request 12: "its rule 2 allows a short sum whose rows are all
+    before p"."""
     got = layer_sum(rows, i, n)
     short = got < size(job, i, n) and all(x.slot < since for x in rows if (x.chunk, x.layer) == (i, n))
     return got in (0, size(job, i, n)) or short
@@ -210,12 +214,14 @@ def begun(rows, i):
 
 
 def in_order(job, rows):
-    """Playing order: no chunk is begun in an earlier slot than a carried chunk that plays before it."""
+    """Playing order: no chunk is begun in an earlier slot than a carried chunk that plays before
+    it."""
     return all(begun(rows, i) <= x.slot for i in range(1, job.chunks + 1) if carried(job, rows, i, 0) for x in rows if x.chunk > i)
 
 
 def verdict(job, rows, marks=None, since=1):
-    """Of the second checker call with p = since; at 1 it is the first: a row before slot 1 breaks rule 1."""
+    """Of the second checker call with p = since; at 1 it is the first: a row before slot 1 breaks
+    rule 1."""
     last, layers = due(job, job.chunks), range(len(job.sizes))
     chunks = range(1, job.chunks + 1)
     if any(not (1 <= x.slot <= last and 1 <= x.chunk <= job.chunks and x.layer in layers and x.bytes >= 1) for x in rows):
@@ -236,8 +242,8 @@ def verdict(job, rows, marks=None, since=1):
 
 
 def fits(job, levels, since=1, fetched=()):
-    """Whether some passing list in playing order that begins with the rows fetched carries exactly these layers: the fill of theory, slot
-    by slot. `replans.py` asks every list instead."""
+    """Whether some passing list in playing order that begins with the rows fetched carries exactly
+    these layers: the fill of theory, slot by slot. `replans.py` asks every list instead."""
     rows = list(fetched) + own_list(job, levels, since, fetched)
     exactly = marks_given(job, rows) == [(1 << k) - 1 for k in levels]
     return exactly and verdict(job, rows, since=since) == 0 and in_order(job, rows)
@@ -265,7 +271,7 @@ def own_list(job, levels, since=1, fetched=()):
     return rows
 
 
-def walk(job):
+def moore_hodgson(job):
     """Document 02, request 9: the chunks whose bases are kept."""
     kept = []
     for i in range(1, job.chunks + 1):
@@ -278,7 +284,7 @@ def walk(job):
 def plan(job):
     levels, settled = [0] * job.chunks, 0
     if job.limit // job.span >= job.chunks and any(size(job, i, 0) != job.sizes[0] for i in range(2, job.chunks + 1)):
-        levels, settled = [int(i in walk(job)) for i in range(1, job.chunks + 1)], 1
+        levels, settled = [int(i in moore_hodgson(job)) for i in range(1, job.chunks + 1)], 1
     for n in range(settled, len(job.sizes)):
         for i in range(job.chunks, 0, -1):
             if levels[i - 1] == n:
@@ -389,7 +395,8 @@ def meter_forecast(slots, samples, kept):
 # ---- the search within a budget, and the reason under each missing layer
 
 def search(job, budget):
-    """Document 02, request 13: the layers carried by each chunk, the rows, the steps taken, whether the walk ended, the shortfall."""
+    """Document 02, request 13: the layers carried by each chunk, the rows, the steps taken, whether
+    the walk ended, the shortfall."""
     table, sums = sizes_by_chunk(job), brought(job)
     best, steps = [], 0
 
@@ -400,7 +407,8 @@ def search(job, budget):
         steps += 1
 
     def tried(i, kept):
-        """Chunk i kept, then skipped, with all that follows from either; kept has the chunks after it."""
+        """Chunk i kept, then skipped, with all that follows from either; kept has the chunks after
+        it."""
         nonlocal best
         if i == 0:
             return
@@ -418,13 +426,14 @@ def search(job, budget):
     except StopIteration:
         ended = False
     levels = settle_fast(job, [int(i in best) for i in range(1, job.chunks + 1)], range(1, len(job.sizes)), table, sums)
-    shortfall = 0 if ended else len(walk_fast(job, table, sums)) - len(best)
+    shortfall = 0 if ended else len(moore_hodgson_fast(job, table, sums)) - len(best)
     return levels, own_list_fast(job, levels, table), steps, ended, shortfall
 
 
 def stretch(job, levels, table):
-    """Document 02, request 14: of the slots that need more than they carry those with the smallest last slot, then the greatest first slot.
-    Need grows only where a chunk is due, and falls only past a slot in which one can begin, so no other slots are tried."""
+    """Document 02, request 14: of the slots that need more than they carry those with the smallest
+    last slot, then the greatest first slot. Need grows only where a chunk is due, and falls only
+    past a slot in which one can begin, so no other slots are tried."""
     kept, most, sums = [i for i, k in enumerate(levels, 1) if k], job.limit // job.span, brought(job)
     begin = [1 if m < most else due(job, kept[m - most]) for m in range(len(kept))]
     need = [sum(table[i - 1][:levels[i - 1]]) for i in kept]
@@ -440,15 +449,16 @@ def stretch(job, levels, table):
 def reasons(job, planned=None):
     """A line under each layer of the job that its plan doesn't carry."""
     levels, table = (planned or plan(job))[0], sizes_by_chunk(job)
-    walked = job.limit // job.span >= job.chunks and any(z[0] != job.sizes[0] for z in table)
+    by_moore_hodgson = job.limit // job.span >= job.chunks and any(z[0] != job.sizes[0] for z in table)
     text = ""
     for i in range(1, job.chunks + 1):
         for n in range(levels[i - 1], len(job.sizes)):
             if n > levels[i - 1]:
                 text += f"chunk {i} layer {n}: layer {n - 1} is missing\n"
                 continue
-            # Settled before it: the layers below of all chunks, and this one of later chunks; a base of request 9 is against all bases kept.
-            later = range(1, job.chunks + 1) if walked and n == 0 else range(i + 1, job.chunks + 1)
+            # Settled before it: the layers below of all chunks, and this one of later chunks; a
+            # base of request 9 is against all bases kept.
+            later = range(1, job.chunks + 1) if by_moore_hodgson and n == 0 else range(i + 1, job.chunks + 1)
             against = [n + 1 if k == i else min(levels[k - 1], n + 1 if k in later else n) for k in range(1, job.chunks + 1)]
             text += f"chunk {i} layer {n}: {stretch(job, against, table)}\n"
     return text
@@ -473,8 +483,9 @@ def brought(job):
 
 
 def fits_fast(job, kept, sums):
-    """Whether chunks, each with its bytes, can be fetched whole in playing order: each goes on where the one before ended, and not before
-    the slot in which the one H places before it is due."""
+    """Whether chunks, each with its bytes, can be fetched whole in playing order: each goes on
+    where the one before ended, and not before the slot in which the one H places before it is
+    due."""
     most, at = job.limit // job.span, 0
     for k, (i, need) in enumerate(kept):
         first = 1 if k < most else due(job, kept[k - most][0])
@@ -495,7 +506,7 @@ def settle_fast(job, levels, layers, table, sums):
     return levels
 
 
-def walk_fast(job, table, sums):
+def moore_hodgson_fast(job, table, sums):
     kept, held_bytes = [], 0
     for i in range(1, job.chunks + 1):
         kept.append(i)
@@ -511,14 +522,15 @@ def plan_fast(job):
     table, sums = sizes_by_chunk(job), brought(job)
     levels, settled = [0] * job.chunks, 0
     if job.limit // job.span >= job.chunks and any(z[0] != job.sizes[0] for z in table):
-        kept, settled = set(walk_fast(job, table, sums)), 1
+        kept, settled = set(moore_hodgson_fast(job, table, sums)), 1
         levels = [int(i in kept) for i in range(1, job.chunks + 1)]
     levels = settle_fast(job, levels, range(settled, len(job.sizes)), table, sums)
     return levels, own_list_fast(job, levels, table)
 
 
 def own_list_fast(job, levels, table):
-    """The own list: a chunk waits until fewer than H begun ones are still held at the slot's end, or it is due in the slot."""
+    """The own list: a chunk waits until fewer than H begun ones are still held at the slot's end,
+    or it is due in the slot."""
     most, rows, begun_at = job.limit // job.span, [], []
     parts = [[i + 1, n, table[i][n]] for i, k in enumerate(levels) for n in range(k)][::-1]
     for t, left in enumerate(job.forecast, 1):
@@ -616,7 +628,8 @@ def check_from(job, p, marks, *columns):
 
 
 def check_fetched(job, p, rows):
-    """Refusal 22. Rows that are all before p break the second call's rule 2 only where a sum exceeds its size."""
+    """Refusal 22. Rows that are all before p break the second call's rule 2 only where a sum
+    exceeds its size."""
     turn = all(begun(rows, y.chunk) <= x.slot for x in rows for y in rows if y.chunk < x.chunk)
     if verdict(job, rows, since=p) or not turn:
         raise Refused(22)
@@ -628,7 +641,8 @@ def whole_before(job, rows, i):
 
 
 def settle_afresh(job, p, fetched, can):
-    """Layers whole before p are carried; the others of chunks due from p on are settled as in document 01, each by `can`."""
+    """Layers whole before p are carried; the others of chunks due from p on are settled as in
+    document 01, each by `can`."""
     levels = [whole_before(job, fetched, i) for i in range(1, job.chunks + 1)]
     for n in range(len(job.sizes)):
         for i in range(job.chunks, 0, -1):

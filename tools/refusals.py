@@ -1,5 +1,5 @@
-"""What the tools for people share: the sentence of each refusal, as documents 01 and 02 have it, and one way to read input and to end:
-bad input gives a message and status 1."""
+"""What the tools for people share: the sentence of each refusal, as documents 01 and 02 have it,
+and one way to read input and to end: bad input gives a message and status 1."""
 import argparse
 import os
 import sys

@@ -1,9 +1,9 @@
-"""Planning afresh once more. The cases that the program `replan_trials` reads and what it has to print of them, by `reference.py`; and what
-`replan_family` has to print, each layer decided by a search over all fetch lists, which takes some minutes. Run it at the root of the
-repository:
-python3 tools/replans.py cases | diff - crates/replan_trials/stdin
-python3 tools/replans.py | diff - crates/replan_trials/stdout
-python3 tools/replans.py family | diff - crates/replan_family/stdout"""
+"""Planning afresh once more. The cases that the program `test_replan` reads and what it has to
+print of them, by `reference.py`; and what `test_replan_exhaustive` has to print, each layer decided
+by a search over all fetch lists, which takes some minutes. Run it at the root of the repository:
+python3 tools/replans.py cases | diff - crates/test_replan/stdin
+python3 tools/replans.py | diff - crates/test_replan/stdout
+python3 tools/replans.py family | diff - crates/test_replan_exhaustive/stdout"""
 import random
 import sys
 from itertools import combinations_with_replacement, product
@@ -22,7 +22,8 @@ def marks_of(levels):
     return [(1 << k) - 1 for k in levels]
 
 
-# ---- single cases: a title, and the call's numbers on one line (crate replan_trials, table), or what comes of it
+# ---- single cases: a title, and the call's numbers on one line (crate test_replan, table), or what
+# comes of it
 
 CASES = sys.argv[1:] == ["cases"]
 
@@ -163,7 +164,8 @@ def room():
 # ---- the order of the refusals, in both calls
 
 def both(text, chunks=3, layers=2, sz=(), slots=6, p=9, slot=9, ends=(1, 1, 1), onward=3, last=0):
-    """A row of chunk 9 on a part of job A; ends says how many of the row's other fields are handed."""
+    """A row of chunk 9 on a part of job A; ends says how many of the row's other fields are
+    handed."""
     job = A._replace(chunks=chunks, sizes=[2, 1][:layers], overrides=[Override(*o) for o in sz], forecast=A.forecast[:slots])
     row = ([slot], [9][:ends[0]], [0][:ends[1]], [2][:ends[2]])
     check(f"{text}, checked", job, p, [0, 0, 0], row)
@@ -219,8 +221,8 @@ def second():
 # ---- any jobs
 
 def any_jobs():
-    """Jobs of up to 6 chunks and 4 layers, on rows of the plan or of other lists, shuffled; then the second call on the joined list, and with
-    a row left out."""
+    """Jobs of up to 6 chunks and 4 layers, on rows of the plan or of other lists, shuffled; then
+    the second call on the joined list, and with a row left out."""
     random.seed(12)
     for k in range(1, 101):
         chunks, span, delay = random.randint(2, 6), random.randint(1, 3), random.randint(1, 6)
@@ -244,7 +246,7 @@ def any_jobs():
             check(f"job {k} without its last row", on, p, marks_given(job, less), less)
 
 
-# ---- the family of replan_family
+# ---- the family of test_replan_exhaustive
 
 KINDS = [[[1]] * 3, [[2]] * 3, [[1], [2], [1]], [[2], [1], [2]], [[1, 1]] * 3, [[2, 1]] * 3, [[1, 2]] * 3, [[1, 1], [2, 1], [1, 2]]]
 MODULUS = 2**31 - 1
@@ -265,7 +267,8 @@ def parts(job):
 
 
 def fetched_lists(job, p):
-    """Each list of bytes before p, at most two a slot, none late and no layer of more than its size; with its word."""
+    """Each list of bytes before p, at most two a slot, none late and no layer of more than its
+    size; with its word."""
     one_slot = [()] + [(a,) for a in parts(job)] + list(combinations_with_replacement(parts(job), 2))
 
     def more(t, rows, word):
@@ -281,13 +284,15 @@ def fetched_lists(job, p):
 
 
 def alike(job, rows):
-    """What rules and playing order see of a list that keeps rules 4 and 5: the bytes of each layer, and the first slots."""
+    """What rules and playing order see of a list that keeps rules 4 and 5: the bytes of each layer,
+    and the first slots."""
     return tuple(layer_sum(rows, *q) for q in parts(job)), tuple(begun(rows, i) for i in range(1, job.chunks + 1))
 
 
 def marks_met(job, p, rows):
-    """The marks of every list that begins with the rows, passes the second call and is in playing order. Lists grow slot by slot, by every
-    number of bytes of every layer; of lists alike one is followed. Nothing here knows of need, room or release."""
+    """The marks of every list that begins with the rows, passes the second call and is in playing
+    order. Lists grow slot by slot, by every number of bytes of every layer; of lists alike one is
+    followed. Nothing here knows of need, room or release."""
     lists = {alike(job, rows): rows}
     for t in range(p, due(job, job.chunks) + 1):
         taken = [x for k in range(job.forecast[t - 1] + 1) for x in combinations_with_replacement(parts(job), k)]
@@ -302,7 +307,8 @@ def marks_met(job, p, rows):
 
 
 def made_afresh(job, p, rows):
-    """Levels and rows, each layer settled by the lists met; the fill of theory settles them alike, and the whole list passes."""
+    """Levels and rows, each layer settled by the lists met; the fill of theory settles them alike,
+    and the whole list passes."""
     met = marks_met(job, p, rows)
     levels = settle_afresh(job, p, rows, lambda tried: tuple(marks_of(tried)) in met)
     new = own_list(job, levels, p, rows)

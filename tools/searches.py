@@ -1,8 +1,10 @@
-"""Request 13 once more, literally: the walk step by step, each set decided by an exhaustive search for a passing list in playing order that
-carries exactly its bases. The lines that the program `search_trials` has to print.
-Run it at the root of the repository: python3 tools/searches.py | diff - crates/search_trials/stdout"""
+"""Request 13 once more, literally: the walk step by step, each set decided by an exhaustive search
+for a passing list in playing order that carries exactly its bases. The lines that the program
+`test_search` has to print.
+Run it at the root of the repository: python3 tools/searches.py | diff -
+crates/test_search/stdout"""
 from itertools import product
-from reference import Job, Override, Refused, Row, check_job, due, own_list, size, verdict, walk as most_pictures
+from reference import Job, Override, Refused, Row, check_job, due, own_list, size, verdict, moore_hodgson as most_pictures
 
 
 def spread(left, slots, room):
@@ -18,7 +20,8 @@ def spread(left, slots, room):
 
 
 def in_order(job, rows):
-    """No chunk is begun in an earlier slot than a carried chunk that plays before it; all begun ones here are carried."""
+    """No chunk is begun in an earlier slot than a carried chunk that plays before it; all begun
+    ones here are carried."""
     begun = {}
     for x in rows:
         begun[x.chunk] = min(x.slot, begun.get(x.chunk, x.slot))
@@ -26,7 +29,8 @@ def in_order(job, rows):
 
 
 def some_list(job, levels):
-    """Whether some passing list in playing order carries exactly these layers, by trying every list."""
+    """Whether some passing list in playing order carries exactly these layers, by trying every
+    list."""
     pieces = [(i + 1, n) for i, k in enumerate(levels) for n in range(k)]
     room = {t: b for t, b in enumerate(job.forecast, 1)}
 

@@ -1,5 +1,6 @@
-"""Writes the case files of the program trace_trials (crates/trace_trials/data) and what it has to print (crates/trace_trials/stdout): for the
-case files from `reference.py`, for the other calls from `expected_traces.txt`, which is written by hand.
+"""Writes the case files of the program test_trace (crates/test_trace/data) and what it has to print
+(crates/test_trace/stdout): for the case files from `reference.py`, for the other calls from
+`expected_traces.txt`, which is written by hand.
 Run it at the root of the repository after changing a case: python3 tools/traces.py"""
 import os
 import shutil
@@ -58,7 +59,7 @@ def line(data):
 
 
 def main():
-    folder = "crates/trace_trials"
+    folder = "crates/test_trace"
     shutil.rmtree(f"{folder}/data", ignore_errors=True)
     os.makedirs(f"{folder}/data")
     lines = []
@@ -71,7 +72,7 @@ def main():
     with open(f"{folder}/stdout", "w") as f:
         f.write("\n".join(lines) + "\n")
     with open(f"{folder}/CASES.md", "w") as f:
-        f.write("# The case files of trace_trials\n\nMade by tools/traces.py: traces, read for three slots.\n\n")
+        f.write("# The case files of test_trace\n\nMade by tools/traces.py: traces, read for three slots.\n\n")
         f.writelines(f"- t{k:02d}: {what}\n" for k, (what, _) in enumerate(CASES))
     print(len(CASES), "traces")
 

@@ -1,5 +1,7 @@
-"""Runs the built programs on case files, damaged, truncated and oversized files, random small jobs and random mixed files, and compares
-every output with `reference.py` and `reasons.py`. Run it at the root of the repository after `rt check plan film_report verdict convert reasons`:
+"""Runs the built programs on case files, damaged, truncated and oversized files, random small jobs
+and random mixed files, and compares every output with `reference.py` and `reasons.py`. Run it at
+the root of the repository after `rt check film_plan film_report film_verdict film_convert
+film_reasons`:
 python3 tools/try_programs.py"""
 import glob
 import os
@@ -52,7 +54,8 @@ def random_job(uneven=True):
 
 
 def mixed_file(job):
-    """A file that says the job, which has no SZ: runs split anywhere, PG anywhere, LYs and BWs mixed."""
+    """A file that says the job, which has no SZ: runs split anywhere, PG anywhere, LYs and BWs
+    mixed."""
     layers, runs, k = [ly(z) for z in job.sizes], [], 0
     while k < len(job.forecast):
         n = random.randint(1, 3)
@@ -68,7 +71,7 @@ def mixed_file(job):
 
 def try_convert():
     mixed = [mixed_file(random_job(False)) for _ in range(300)]
-    cases = [open(f, "rb").read() for f in sorted(glob.glob("crates/file_trials/data/j*"))]
+    cases = [open(f, "rb").read() for f in sorted(glob.glob("crates/test_files/data/j*"))]
     cases += mixed + [damaged(m) for m in mixed] + [write_job(random_job()) for _ in range(100)]
     cases += [mixed[0][:k] for k in range(len(mixed[0]))] + [bytes(65536), bytes(65537), mixed[0] + bytes(200000), b"\xff" * 1000000]
     refused = 0
@@ -79,13 +82,13 @@ def try_convert():
             wanted = b"refused %d\n" % r.number
             refused += 1
         else:
-            assert read_job(wanted) == read_job(data, mixed=True) and run("convert", wanted) == wanted, data[:80]
-        assert run("convert", data) == wanted, data[:80]
-    print(len(cases), "inputs of convert,", refused, "of them refused")
+            assert read_job(wanted) == read_job(data, mixed=True) and run("film_convert", wanted) == wanted, data[:80]
+        assert run("film_convert", data) == wanted, data[:80]
+    print(len(cases), "inputs of film_convert,", refused, "of them refused")
 
 
 def try_jobs():
-    cases = [open(f, "rb").read() for f in sorted(glob.glob("crates/file_trials/data/j*"))]
+    cases = [open(f, "rb").read() for f in sorted(glob.glob("crates/test_files/data/j*"))]
     cases += [damaged(A) for _ in range(300)] + [damaged(U) for _ in range(300)] + [write_job(random_job()) for _ in range(400)]
     cases += [mixed_file(random_job(False)) for _ in range(100)]
     cases += [bytes(65536), bytes(65537), A + bytes(200000), b"\xff" * 1000000]
@@ -99,9 +102,9 @@ def try_jobs():
             if job.chunks > 20:
                 continue
             wanted = plan_file(job), report(job).encode()
-        assert (run("plan", data), run("film_report", data)) == wanted, data[:80]
+        assert (run("film_plan", data), run("film_report", data)) == wanted, data[:80]
         tried += 1
-    print(tried, "inputs of plan and film_report")
+    print(tried, "inputs of film_plan and film_report")
 
 
 def try_reasons():
@@ -112,16 +115,16 @@ def try_reasons():
             wanted = reasons(read_job(data)).encode()
         except Refused as r:
             wanted = b"refused %d\n" % r.number
-        assert run("reasons", data) == wanted, data[:80]
+        assert run("film_reasons", data) == wanted, data[:80]
         lines += wanted.count(b"slots")
-    print(len(cases), "inputs of reasons,", lines, "stretches")
+    print(len(cases), "inputs of film_reasons,", lines, "stretches")
 
 
 def try_verdicts():
-    plans = [open(f, "rb").read() for f in sorted(glob.glob("crates/file_trials/data/p*"))] + [bytes(65537), bytes(300000)]
+    plans = [open(f, "rb").read() for f in sorted(glob.glob("crates/test_files/data/p*"))] + [bytes(65537), bytes(300000)]
     tried = 0
     with tempfile.TemporaryDirectory() as folder:
-        assert run("verdict", folder=folder) == b"refused 1\n"
+        assert run("film_verdict", folder=folder) == b"refused 1\n"
         for job_data in (A, U, b"", b"XX", A + b"\0", bytes(65537)):
             for plan_data in plans:
                 for name, data in (("job", job_data), ("plan", plan_data)):
@@ -133,9 +136,9 @@ def try_verdicts():
                     wanted = b"verdict %d\n" % verdict(job, rows, marks)
                 except Refused as r:
                     wanted = b"refused %d\n" % r.number
-                assert run("verdict", folder=folder) == wanted, (job_data[:80], plan_data[:80])
+                assert run("film_verdict", folder=folder) == wanted, (job_data[:80], plan_data[:80])
                 tried += 1
-    print(tried, "pairs of files of verdict")
+    print(tried, "pairs of files of film_verdict")
 
 
 random.seed(7)

@@ -1,6 +1,8 @@
-"""Tries job.py, draw.py and desk.sh: `make` and `show` are inverse on 1,000 random jobs whose files `plan` accepts, texts typed loosely make
-the same file, traces are read as request 4 has it, bad input of every kind ends with a message and status 1, pictures are whole and say what
-the report says. Run it at the root of the repository after `rt check plan verdict film_report`: python3 tools/try_tools.py [SEED]"""
+"""Tries job.py, draw.py and desk.sh: `make` and `show` are inverse on 1,000 random jobs whose files
+`plan` accepts, texts typed loosely make the same file, traces are read as request 4 has it, bad
+input of every kind ends with a message and status 1, pictures are whole and say what the report
+says. Run it at the root of the repository after `rt check film_plan film_verdict film_report`:
+python3 tools/try_tools.py [SEED]"""
 import os
 import random
 import re
@@ -15,7 +17,7 @@ from refusals import SENTENCES
 
 ROOT = os.path.dirname(os.path.dirname(os.path.abspath(__file__)))
 BIN = os.path.join(ROOT, "target", "bin")
-REASONS = os.path.exists(os.path.join(BIN, "reasons"))
+REASONS = os.path.exists(os.path.join(BIN, "film_reasons"))
 A = Job(3, 2, 2, 2, [2, 1], [], [3, 0, 1, 0, 2, 0])
 A_TEXT = "chunks 3\nspan 2\ndelay 2\nlimit 2\nlayer 2\nlayer 1\nforecast 3 0 1 0 2 0\n"
 
@@ -35,7 +37,8 @@ def put(folder, name, data):
     return path
 
 
-# --- Random jobs -------------------------------------------------------------------------------------------------------------------------
+# --- Random jobs
+# -------------------------------------------------------------------------------------------------------------------------
 
 
 def random_number(low, high):
@@ -76,17 +79,20 @@ def random_job(most=500):
 
 
 def largest(limit=2100):
-    """500 chunks, four layers and an SZ of each, 3,600 slots that all differ from their neighbours."""
+    """500 chunks, four layers and an SZ of each, 3,600 slots that all differ from their
+    neighbours."""
     sizes, k = [120000, 90000, 70000, 50000], random.Random(24)
     overrides = [Override(i, n, sizes[n] + 20 * i) for i in range(2, 501) for n in range(4)]
     return Job(500, 7, 107, limit, sizes, overrides, [30000 + 100 * k.randint(0, 300) + t % 2 for t in range(3600)])
 
 
-# --- job.py ------------------------------------------------------------------------------------------------------------------------------
+# --- job.py
+# ------------------------------------------------------------------------------------------------------------------------------
 
 
 def loose(job):
-    """The job's text as somebody might type it: kinds in any order, runs cut anywhere, spaces, comments, leading zeros."""
+    """The job's text as somebody might type it: kinds in any order, runs cut anywhere, spaces,
+    comments, leading zeros."""
     def number(n):
         return random.choice(["", "", "", "0", "00000000000000"]) + str(n)
     kinds = [[f"{kind} {number(n)}"] for kind, n in zip(("chunks", "span", "delay", "limit"), job)]
@@ -118,7 +124,7 @@ def try_inverse(number=1000):
         assert read_job(make(text.encode())) == job
         assert show(read_job(make(text.encode()))) == text
         assert make(loose(job).encode()) == file
-        plan_file = program("plan", file)
+        plan_file = program("film_plan", file)
         assert plan_file[:2] == b"KP", (text, plan_file)
         slots, rows = slots + len(job.forecast), rows + (len(plan_file) - 2 - 5 * job.chunks) // 11
         if k % 25 == 0:
@@ -205,11 +211,13 @@ def ended(answer, pattern, case):
     assert answer.returncode == 1 and not answer.stdout and said.strip() and "Traceback" not in said and re.search(pattern, said), (case, answer)
 
 
-# --- draw.py -----------------------------------------------------------------------------------------------------------------------------
+# --- draw.py
+# -----------------------------------------------------------------------------------------------------------------------------
 
 
 def reasons_of(job, levels):
-    """Request 14's lines in its own words, by trying every stretch: what draw.py is tried with, and what program `reasons` has to print."""
+    """Request 14's lines in its own words, by trying every stretch: what draw.py is tried with, and
+    what program `film_reasons` has to print."""
     most, lines = job.limit // job.span, []
     of_request_9 = most >= job.chunks and any(size(job, i, 0) != job.sizes[0] for i in range(2, job.chunks + 1))
     chunks = range(1, job.chunks + 1)
@@ -230,7 +238,8 @@ def reasons_of(job, levels):
 
 
 def stretch(job, kept, bytes_of, release):
-    """The slots that need more than they carry, of the smallest last slot and then the greatest first one."""
+    """The slots that need more than they carry, of the smallest last slot and then the greatest
+    first one."""
     for end in range(1, due(job, job.chunks) + 1):
         for start in range(end, 0, -1):
             carry = sum(job.forecast[start - 1:end])
@@ -271,7 +280,8 @@ def whole_picture(picture, case):
     return [text for *_, text in words]
 
 
-# What a colour of linear red, green and blue becomes without one kind of cone (Machado, Oliveira and Fernandes 2009).
+# What a colour of linear red, green and blue becomes without one kind of cone (Machado, Oliveira
+# and Fernandes 2009).
 SIGHTS = {
     "all cones": [[1, 0, 0], [0, 1, 0], [0, 0, 1]],
     "no red cones": [[0.152286, 1.052583, -0.204868], [0.114503, 0.786281, 0.099216], [-0.003882, -0.048116, 1.051998]],
@@ -291,7 +301,8 @@ def seen(colour, sight):
 
 
 def try_colours():
-    """Layers, skips and the ground are well apart for every kind of sight, and lighter from layer to layer."""
+    """Layers, skips and the ground are well apart for every kind of sight, and lighter from layer
+    to layer."""
     colours, least = [*COLOURS, INK, "#ffffff"], 1000
     for sight in SIGHTS:
         places = [seen(c, sight) for c in colours]
@@ -303,7 +314,7 @@ def try_colours():
 
 
 def planned(job):
-    marks, rows = read_plan(job, program("plan", write_job(job)))
+    marks, rows = read_plan(job, program("film_plan", write_job(job)))
     return marks, rows
 
 
@@ -327,7 +338,7 @@ def try_pictures(folder, number=150):
         job = pictured(k)
         marks, rows = planned(job)
         plan = Plan(job, marks, rows)
-        lines = program("reasons", write_job(job)).decode() if REASONS else None
+        lines = program("film_reasons", write_job(job)).decode() if REASONS else None
         if len(job.forecast) <= 40:
             computed = reasons_of(job, [bin(m).count("1") for m in marks])
             assert lines in (None, computed), (show(job), lines, computed)
@@ -352,7 +363,7 @@ def try_pictures(folder, number=150):
 def try_bad_pictures(folder):
     """Files that are no job, no plan, no plan of the job, no reasons of it."""
     marks, rows = planned(A)
-    file = program("plan", write_job(A))
+    file = program("film_plan", write_job(A))
     put(folder, "job", write_job(A))
     good = {"plan": file, "reasons": reasons_of(A, [0, 2, 1]).encode()}
 
@@ -383,7 +394,7 @@ def try_bad_pictures(folder):
     for case in [lines[1:], lines[:-1], lines + lines[:1], [*lines, "refused 5"], ["refused 1"], [], ["", *lines], ["\xff\0"],
                  *([lines[0].replace(a, b), *lines[1:]] for a, b in others), [lines[0], lines[1].replace("layer 0 is", "layer 3 is"), *lines[2:]]]:
         trial("reasons", case, reasons="\n".join(case).encode())
-    trial("rule 6: ", "the plan of A with limit 6", plan=program("plan", write_job(A._replace(limit=6))))
+    trial("rule 6: ", "the plan of A with limit 6", plan=program("film_plan", write_job(A._replace(limit=6))))
     for words in [[], ["job"], ["job", "plan", "plan"], ["job", "nothing"], ["nothing", "plan"], ["plan", "job"], [folder, "plan"], ["--reasons"],
                   ["--paint", "job", "plan"]]:
         ended(tool("draw.py", *words, folder=folder), "", words)
@@ -404,7 +415,7 @@ def try_noise(folder):
             data[at:at + random.randint(0, 3)] = bytes(noise)
         try:
             made = make(bytes(data)) if k % 4 in (0, 2) else write_job(read_job(bytes(data)))
-            assert program("plan", made)[:2] == b"KP", data
+            assert program("film_plan", made)[:2] == b"KP", data
             kept += 1
         except Exception as e:
             assert type(e).__name__ in ("Bad", "Refused"), (data, e)
@@ -412,7 +423,7 @@ def try_noise(folder):
         ended(tool("job.py", "make", data=data), "job.py: standard input", data[:20])
         ended(tool("job.py", "show", data=data), "refused", data[:20])
     for words in [["job.py", "show", "job"], ["job.py", "make", "text"], ["draw.py", "job", "plan"]]:
-        put(folder, "job", write_job(A)), put(folder, "text", A_TEXT), put(folder, "plan", program("plan", write_job(A)))
+        put(folder, "job", write_job(A)), put(folder, "text", A_TEXT), put(folder, "plan", program("film_plan", write_job(A)))
         line = " ".join([sys.executable, os.path.join(ROOT, "tools", words[0]), *words[1:]])
         assert tool(*words, folder=folder).returncode == 0
         for ending in ("> /dev/full", ">&-"):
@@ -423,11 +434,13 @@ def try_noise(folder):
     print(f"3000 damaged texts and files: {kept} still jobs, which plan accepts, the others refused")
 
 
-# --- desk.sh -----------------------------------------------------------------------------------------------------------------------------
+# --- desk.sh
+# -----------------------------------------------------------------------------------------------------------------------------
 
 
 def try_desk(folder):
-    """In a root of its own: the tools as they are, the programs built, and program reasons computed here unless it is built."""
+    """In a root of its own: the tools as they are, the programs built, and program reasons computed
+    here unless it is built."""
     os.makedirs(os.path.join(folder, "target", "bin"))
     os.symlink(os.path.join(ROOT, "tools"), os.path.join(folder, "tools"))
     os.symlink(os.path.join(ROOT, "samples"), os.path.join(folder, "samples"))
@@ -435,16 +448,16 @@ def try_desk(folder):
     def desk(*words):
         return subprocess.run(["bash", "tools/desk.sh", *words], capture_output=True, cwd=folder)
 
-    ended(desk("samples/flight.txt"), "rt check plan verdict film_report reasons", "no program")
-    for name in ("plan", "verdict", "film_report"):
+    ended(desk("samples/flight.txt"), "rt check film_plan film_verdict film_report film_reasons", "no program")
+    for name in ("film_plan", "film_verdict", "film_report"):
         os.symlink(os.path.join(BIN, name), os.path.join(folder, "target", "bin", name))
-    ended(desk("samples/flight.txt"), "rt check reasons$", "no program reasons")
-    reasons = os.path.join(folder, "target", "bin", "reasons")
+    ended(desk("samples/flight.txt"), "rt check film_reasons$", "no program reasons")
+    reasons = os.path.join(folder, "target", "bin", "film_reasons")
     if REASONS:
-        os.symlink(os.path.join(BIN, "reasons"), reasons)
+        os.symlink(os.path.join(BIN, "film_reasons"), reasons)
     else:
         head = f"#!{sys.executable}\nimport sys\nsys.path.insert(0, {os.path.join(ROOT, 'tools')!r})\n"
-        put(folder, "target/bin/reasons", head + "from try_tools import print_reasons\nprint_reasons()\n")
+        put(folder, "target/bin/film_reasons", head + "from try_tools import print_reasons\nprint_reasons()\n")
         os.chmod(reasons, 0o755)
     answer = desk("samples/flight.txt")
     assert answer.returncode == 0, answer

@@ -1,5 +1,6 @@
-"""The shortest wait once more, by `reference.py`'s plan for every s: the lines that the program `wait_trials` has to print of its family
-of films. Run it at the root of the repository: python3 tools/waits.py | diff - <(tail -n 3 crates/wait_trials/stdout)"""
+"""The shortest wait once more, by `reference.py`'s plan for every s: the lines that the program
+`test_wait` has to print of its family of films. Run it at the root of the repository: python3
+tools/waits.py | diff - <(tail -n 3 crates/test_wait/stdout)"""
 from itertools import product
 from reference import Job, plan
 

@@ -1,5 +1,6 @@
-//! The calls of include/film_planner.h, declared and wrapped: the only file with `unsafe`. A slice crosses as its pointer and its length, so
-//! each wrapper hands on exactly what Rust lent it, and no two of its `&mut` slices overlap.
+//! The calls of include/film_planner.h, declared and wrapped: the only file with `unsafe`. A slice
+//! crosses as its pointer and its length, so each wrapper hands on exactly what Rust lent it, and
+//! no two of its `&mut` slices overlap.
 #![allow(unsafe_code)]
 #![allow(clippy::too_many_arguments)]
 
@@ -10,8 +11,9 @@ macro_rules! calls {
             $(#[$doc])*
             pub(crate) fn $name($($arg: calls!(@safe $kind $ty)),*) -> u64 {
                 calls!(@declare $symbol [] $($arg $kind $ty,)*);
-                // SAFETY: every slice is live for the call, of so many elements as its length says, and lent to this call alone if `&mut`.
-                // The library is proved to touch no byte beside them, to keep no pointer and to return.
+                // SAFETY: every slice is live for the call, of so many elements as its length says,
+                // and lent to this call alone if `&mut`. The library is proved to touch no byte
+                // beside them, to keep no pointer and to return.
                 unsafe { calls!(@call $symbol [] $($arg $kind,)*) }
             }
         )*

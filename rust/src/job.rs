@@ -11,8 +11,9 @@ pub struct Override {
     pub bytes: u32,
 }
 
-/// A job: C chunks of L slots of film each (`span`), a start delay of s slots, the buffer limit, the layer sizes, the sizes that differ by
-/// chunk, and the forecast, one number a slot. Any value may stand in it; each call refuses what is out of range.
+/// A job: C chunks of L slots of film each (`span`), a start delay of s slots, the buffer limit,
+/// the layer sizes, the sizes that differ by chunk, and the forecast, one number a slot. Any value
+/// may stand in it; each call refuses what is out of range.
 #[derive(Clone, Debug, Default, PartialEq, Eq)]
 pub struct Job {
     pub chunks: u16,
@@ -84,7 +85,8 @@ impl Job {
         Ok(out)
     }
 
-    /// Reads a plan file for the job, its marks and rows: 5, 6, 18, 7, 9, record by record, at `EN` 3, 8. Counts are those of the marks.
+    /// Reads a plan file for the job, its marks and rows: 5, 6, 18, 7, 9, record by record, at `EN`
+    /// 3, 8. Counts are those of the marks.
     pub fn read_plan(&self, file: &[u8]) -> Result<Plan, Refusal> {
         let (mut marks, mut list) = (vec![0; MARKS], FetchList::room(FILE_ROWS));
         let rows = with_job!(
@@ -129,8 +131,8 @@ impl Job {
         Ok(Plan { marks, list: list.cut(rows), counts })
     }
 
-    /// Plans afresh at slot p: the rows fetched before it, and the forecast from it on. The plan's list has the rows from p on.
-    /// 5, 6, 18, 7, 8, 21, 7, 22.
+    /// Plans afresh at slot p: the rows fetched before it, and the forecast from it on. The plan's
+    /// list has the rows from p on. 5, 6, 18, 7, 8, 21, 7, 22.
     pub fn replan(&self, p: u16, fetched: &FetchList, onward: &[u32]) -> Result<Plan, Refusal> {
         let (mut marks, mut list, mut counts) = (vec![0; MARKS], FetchList::room(ROWS), [0; COUNTS]);
         let rows = with_job!(
@@ -180,7 +182,8 @@ impl Job {
         Ok(Verdict::of(n))
     }
 
-    /// The second call, for lists made afresh at slot p, on the joined forecast: 5, 6, 18, 7, 8, 21.
+    /// The second call, for lists made afresh at slot p, on the joined forecast: 5, 6, 18, 7, 8,
+    /// 21.
     pub fn check_from(&self, p: u16, marks: &[u8], list: &FetchList) -> Result<Verdict, Refusal> {
         let n = with_job!(check_from, self, &self.forecast, p, marks, &list.slots, &list.chunks, &list.layers, &list.bytes)?;
         Ok(Verdict::of(n))
@@ -212,8 +215,8 @@ impl Job {
         with_job!(release, self, &mut self.forecast, &list.slots, &list.chunks, &list.layers, &list.bytes).map(|_| ())
     }
 
-    /// The smallest start delay for which the plan skips no base, whatever the job's own is: 5 (C, L and the limit alone), 6, 18, 7, 16.
-    /// The forecast may have from 1 to 3,600 slots.
+    /// The smallest start delay for which the plan skips no base, whatever the job's own is: 5 (C,
+    /// L and the limit alone), 6, 18, 7, 16. The forecast may have from 1 to 3,600 slots.
     pub fn wait(&self) -> Result<u16, Refusal> {
         let Columns(chunks, layers, bytes) = columns(&self.overrides);
         let answer = ffi::wait(self.chunks, self.span, self.limit, &self.sizes, &chunks, &layers, &bytes, &self.forecast);

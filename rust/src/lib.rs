@@ -1,11 +1,21 @@
-//! The layered film planner of the winch desk, proved in Rattle, for callers in Rust. A call answers a value or a `Refusal`, which carries
-//! document 01's or 02's number and sentence; nothing is changed by a call that refuses. `include/film_planner.h` says what every call
-//! needs and answers; here buffers are of the largest size a result can have, so that refusal 11 never arises.
+//! The layered film planner of the winch desk, proved in Rattle, for callers in Rust. A call
+//! answers a value or a `Refusal`, which carries document 01's or 02's number and sentence; nothing
+//! is changed by a call that refuses. `include/film_planner.h` says what every call needs and
+//! answers; here buffers are of the largest size a result can have, so that refusal 11 never
+//! arises.
 //!
 //! ```
 //! use film_planner::{Job, Refusal, Verdict};
 //!
-//! let job = Job { chunks: 3, span: 2, delay: 2, limit: 2, sizes: vec![2, 1], overrides: vec![], forecast: vec![3, 0, 1, 0, 2, 0] };
+//! let job = Job {
+//!     chunks: 3,
+//!     span: 2,
+//!     delay: 2,
+//!     limit: 2,
+//!     sizes: vec![2, 1],
+//!     overrides: vec![],
+//!     forecast: vec![3, 0, 1, 0, 2, 0],
+//! };
 //! let plan = job.plan()?;
 //! assert_eq!(plan.counts, [2, 1, 0, 0]);
 //! assert_eq!(job.check(&plan.marks, &plan.list)?, Verdict::Passes);
@@ -73,7 +83,8 @@ largest! {
     SAMPLES = 10;
 }
 
-/// A plan: a mark byte a chunk, whose bit n says that layer n is carried; its fetch list; how many chunks carry each layer.
+/// A plan: a mark byte a chunk, whose bit n says that layer n is carried; its fetch list; how many
+/// chunks carry each layer.
 #[derive(Clone, Debug, PartialEq, Eq)]
 pub struct Plan {
     pub marks: Vec<u8>,
@@ -81,8 +92,9 @@ pub struct Plan {
     pub counts: [u16; COUNTS],
 }
 
-/// What a search within a budget found: the plan over the best set of bases met, the steps taken, whether the walk ended, and by how many
-/// bases at most another list in playing order can be better.
+/// What a search within a budget found: the plan over the best set of bases met, the steps taken,
+/// whether the walk ended, and by how many bases at most another list in playing order can be
+/// better.
 #[derive(Clone, Debug, PartialEq, Eq)]
 pub struct Found {
     pub plan: Plan,

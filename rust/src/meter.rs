@@ -1,7 +1,8 @@
 use crate::{ffi, Refusal, SAMPLES};
 
-/// The link meter: the last ten samples, and a forecast from them. Its fields are the storage that the calls work in, so that a meter can be
-/// kept and brought back; whatever they hold, the calls answer or refuse.
+/// The link meter: the last ten samples, and a forecast from them. Its fields are the storage that
+/// the calls work in, so that a meter can be kept and brought back; whatever they hold, the calls
+/// answer or refuse.
 #[derive(Clone, Debug, PartialEq, Eq)]
 pub struct Meter {
     pub slots: [u16; SAMPLES],

@@ -1,4 +1,5 @@
-//! The calls as a desk makes them: job A of document 01, its refusals, files, two films on one link, the meter, traces.
+//! The calls as a desk makes them: job A of document 01, its refusals, files, two films on one
+//! link, the meter, traces.
 use film_planner::{
     compare, count_marks, count_word, read_trace, write_trace, FetchList, Job, Meter, Override, Refusal, Row, Rule, Verdict,
 };

@@ -1,5 +1,5 @@
-//! The wrapper against include/film_planner.h: every call is declared with the header's own types, every constant and every refusal's name and
-//! sentence are the header's.
+//! The wrapper against include/film_planner.h: every call is declared with the header's own types,
+//! every constant and every refusal's name and sentence are the header's.
 use film_planner::Refusal;
 
 const HEADER: &str = include_str!("../../include/film_planner.h");

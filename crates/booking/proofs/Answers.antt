@@ -1,4 +1,5 @@
--- Laws on what the two calls answer: refusals in turn, and the forecast that is handed back. Assumes nothing.
+-- Laws on what the two calls answer: refusals in turn, and the forecast that is handed back.
+-- Assumes nothing.
 use Prim.Native.Nat.{ℕ, _+_, _≤_, _<_}
 use mathlib.Core.Path.{_≡_, refl, sym, ap, _∙_}
 use mathlib.Core.Bool.{Bool, true, false, cond, _&&_}
@@ -7,14 +8,14 @@ use native.Mathlib.Omega.{arith}
 use lib.ListN.{length}
 use lib.Dec.{eqb, leb}
 use borrow.Author.Tests.{ne-eqb}
-use Rattle.basics.specs.Tests.{All, all, allTo}
-use Rattle.basics.specs.Refusals.{unless, _orElse_}
-use Rattle.basics.specs.lemmas.Refusals.{orElse-none, orElse-some}
+use Rattle.theory_basics.specs.Tests.{All, all, allTo}
+use Rattle.theory_basics.specs.Refusals.{unless, _orElse_}
+use Rattle.theory_basics.specs.lemmas.Refusals.{orElse-none, orElse-some}
 use Rattle.job.specs.Job.{Within}
-use Rattle.job.specs.Handed.{HandedJob, handed-iff, jobIn, jobRefusal}
+use Rattle.job.specs.Input.{JobInput, input-iff, jobIn, jobRefusal}
 use Rattle.fetch.specs.Rows.{Row, bytesInSlot, rowsOf}
-use Rattle.fetch.specs.Handed.{Whole}
-use Rattle.fetch.specs.Handed
+use Rattle.fetch.specs.Input.{Whole}
+use Rattle.fetch.specs.Input
 use Rattle.fetch.specs.Verdict.{verdict}
 use Rattle.checker.specs.declared.Checked.{Checked}
 use Rattle.checker.specs.declared.Checked.the-variants as check
@@ -34,7 +35,7 @@ use Rattle.booking.proofs.Rows.{added-bare, bare-covered, bare-releasab
 abbrev pub TakeOff : List ℕ → List ℕ → List ℕ → ℕ → Type 0
 TakeOff f slots bytes n = (n ≤ length slots) × (n ≤ length bytes) × Covered f (bare slots bytes n)
 
-module _ (h : HandedJob) (marks slots chunks layers bytes : List ℕ) where
+module _ (h : JobInput) (marks slots chunks layers bytes : List ℕ) where
   abbrev no : ℕ
   no = bookRefusal h marks slots chunks layers bytes
 
@@ -82,7 +83,7 @@ twenty f rows never =
     by true g = absurd (g refl)
     by false g = refl
 
-module _ (h : HandedJob) (slots chunks layers bytes : List ℕ) where
+module _ (h : JobInput) (slots chunks layers bytes : List ℕ) where
   abbrev why : ℕ
   why = releaseRefusal h slots chunks layers bytes
 
@@ -108,10 +109,10 @@ module _ (h : HandedJob) (slots chunks layers bytes : List ℕ) where
         past-list = past-job ∙ orElse-none list (roomRefusal (h .forecast) rows) list-fine
 
         whole : Whole 0 [] slots chunks layers bytes
-        whole = Handed.handed-iff 0 [] slots chunks layers bytes .0 (sym l ∙ list-fine)
+        whole = Input.whole-iff 0 [] slots chunks layers bytes .0 (sym l ∙ list-fine)
 
         pub release-asks : (length slots ≡ length bytes) × All (Within 0 16777216) (h .forecast)
-        release-asks = (whole .bytes-each, handed-iff h .0 (sym j ∙ job-fine) .1 .forecast-in)
+        release-asks = (whole .bytes-each, input-iff h .0 (sym j ∙ job-fine) .1 .forecast-in)
 
         module _ (r : ℕ) (mid : List ℕ) (a : Added (h .forecast) slots bytes (length slots) r mid) where
           -- The rows that were added can be taken off again.

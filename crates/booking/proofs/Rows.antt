@@ -1,4 +1,5 @@
--- Laws on the passes over the rows: the forecast after one row more, and rows by slot and bytes alone. Assumes nothing.
+-- Laws on the passes over the rows: the forecast after one row more, and rows by slot and bytes
+-- alone. Assumes nothing.
 use Prim.Native.Nat.{ℕ, zero, suc, _+_, _-_, _≤_, _<_}
 use mathlib.Core.Path.{_≡_, refl, sym, ap, _∙_}
 use mathlib.Core.Bool.{Bool, true, false, cond}
@@ -10,10 +11,10 @@ use lib.ListN.{length, getD, set, length-set}
 use lib.Seq.{ext-getD, getD-set-same, getD-set-other}
 use lib.Dec.{T-not, eqb, leb, eqb→eq}
 use borrow.Author.Tests.{eq-eqb, eqb-true, leb-true, leb-false}
-use Rattle.basics.specs.Tests.{All}
-use Rattle.basics.specs.Lists.{upTo}
-use Rattle.basics.specs.lemmas.Lists.{getD-upTo, upTo-cong}
-use Rattle.basics.specs.lemmas.Tests.{all-append, eqb-iff, last, not-T-false, test, T-true}
+use Rattle.theory_basics.specs.Tests.{All}
+use Rattle.theory_basics.specs.Lists.{upTo}
+use Rattle.theory_basics.specs.lemmas.Lists.{getD-upTo, upTo-cong}
+use Rattle.theory_basics.specs.lemmas.Tests.{all-append, eqb-iff, last, not-T-false, test, T-true}
 use Rattle.job.specs.Job.{Within}
 use Rattle.fetch.specs.Rows.{Row, bytesInSlot, rowAt, rowsOf}
 use Rattle.fetch.specs.lemmas.Rows.{bytes-append}

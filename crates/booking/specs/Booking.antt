@@ -1,14 +1,14 @@
--- Meaning. Two films on one link: document 02, request 11. A forecast is a list of bytes, slot 1 in front; booking and releasing change
--- each slot by the bytes that the rows have in it.
+-- Meaning. Two films on one link: document 02, request 11. A forecast is a list of bytes, slot 1 in
+-- front; booking and releasing change each slot by the bytes that the rows have in it.
 use Prim.Native.Nat.{ℕ, _+_, _-_, _≤_}
 use mathlib.Core.Path.{_≡_}
 use mathlib.Core.Bool.{Bool, _&&_}
 use mathlib.Core.List.{List, [], _∷_, _++_}
 use lib.ListN.{length, getD}
 use lib.Dec.{leb, eqb}
-use Rattle.basics.specs.Lists.{upTo}
-use Rattle.basics.specs.Tests.{All, all, allTo}
-use Rattle.basics.specs.Refusals.{unless}
+use Rattle.theory_basics.specs.Lists.{upTo}
+use Rattle.theory_basics.specs.Tests.{All, all, allTo}
+use Rattle.theory_basics.specs.Refusals.{unless}
 use Rattle.job.specs.Job.{Job, Accepted}
 use Rattle.fetch.specs.Rows.{Row, bytesInSlot}
 use Rattle.fetch.specs.Rules.{Keeps}
@@ -24,7 +24,8 @@ slotHas f t = getD f (t - 1) 0
 abbrev pub slotBySlot : (ℕ → ℕ → ℕ) → List ℕ → List Row → List ℕ
 slotBySlot change f rows = upTo (λ k. change (getD f k 0) (bytesInSlot rows (k + 1))) (length f)
 
--- "Booking a fetch list takes a passing list off its job's forecast and leaves the unspent bytes of each slot."
+-- "Booking a fetch list takes a passing list off its job's forecast and leaves the unspent bytes of
+-- each slot."
 unfoldable pub takenOff : List ℕ → List Row → List ℕ
 takenOff f rows = slotBySlot (λ (has spent : ℕ). has - spent) f rows
 
@@ -58,7 +59,8 @@ pub record Releasable (f : List ℕ) (rows : List Row) : Type 0 where
 
 -- ---- runs of bookings and releases
 
--- The list can be booked on the forecast: with some marks it passes, for some accepted job that has this forecast.
+-- The list can be booked on the forecast: with some marks it passes, for some accepted job that has
+-- this forecast.
 pub record Bookable (f : List ℕ) (rows : List Row) : Type 0 where
   pub job : Job
   pub accepted : Accepted job
@@ -71,8 +73,8 @@ pub data Without (x : List Row) : List (List Row) → List (List Row) → Type 0
   here : {l : List (List Row)} → Without x (x ∷ l) l
   there : {y : List Row} {l m : List (List Row)} → Without x l m → Without x (y ∷ l) (y ∷ m)
 
--- "any run of bookings, and releases of lists still booked": from the first forecast to the one now, with the lists booked and not
--- released.
+-- "any run of bookings, and releases of lists still booked": from the first forecast to the one
+-- now, with the lists booked and not released.
 pub data Run (first : List ℕ) : List ℕ → List (List Row) → Type 0 where
   start : Run first first []
   booking : {f : List ℕ} {booked : List (List Row)} → Run first f booked → (rows : List Row) → Bookable f rows → Run first (takenOff f rows) (rows ∷ booked)

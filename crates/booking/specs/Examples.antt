@@ -1,4 +1,5 @@
--- Theorems. Document 01's job A on one link, by computation: its plan's own list booked, booked again and released, and 20 at its edges.
+-- Theorems. Document 01's job A on one link, by computation: its plan's own list booked, booked
+-- again and released, and 20 at its edges.
 use Prim.Native.Nat.{ℕ}
 use mathlib.Core.Path.{_≡_, refl}
 use mathlib.Core.List.{List, [], _∷_}
@@ -37,7 +38,8 @@ pub A-nineteen :
 unfolding passRefusal verdict sizeIn
 A-nineteen = (refl, refl, refl)
 
--- Slots 0 and 7 aren't there, whatever the bytes; slot 1 has 3 bytes, so 16,777,213 more are its most, in one row or in two.
+-- Slots 0 and 7 aren't there, whatever the bytes; slot 1 has 3 bytes, so 16,777,213 more are its
+-- most, in one row or in two.
 pub A-twenty :
     (roomRefusal (A .forecast) (row 0 1 0 0 ∷ []) ≡ 20) × (roomRefusal (A .forecast) (row 7 1 0 0 ∷ []) ≡ 20)
     × (roomRefusal (A .forecast) (row 1 1 0 16777213 ∷ []) ≡ 0) × (roomRefusal (A .forecast) (row 1 1 0 16777213 ∷ row 1 2 0 1 ∷ []) ≡ 20)

@@ -7,26 +7,26 @@ use mathlib.Core.Logic.{_↔_}
 use native.Mathlib.Omega.{arith}
 use lib.ListN.{length}
 use lib.Dec.{leb, eqb}
-use Rattle.basics.specs.Tests.{All, all, allTo}
-use Rattle.basics.specs.lemmas.Tests.{all-iff, allTo-iff, eqb-iff, leb-iff, tests}
-use Rattle.basics.specs.Refusals.{_orElse_}
-use Rattle.basics.specs.lemmas.Refusals.{unless-as, and-as, orElse-iff}
+use Rattle.theory_basics.specs.Tests.{All, all, allTo}
+use Rattle.theory_basics.specs.lemmas.Tests.{all-iff, allTo-iff, eqb-iff, leb-iff, tests}
+use Rattle.theory_basics.specs.Refusals.{_orElse_}
+use Rattle.theory_basics.specs.lemmas.Refusals.{unless-as, and-as, orElse-iff}
 use Rattle.job.specs.Job.{Job, Accepted, EqualChunks, Within, lastSlot, withForecast}
-use Rattle.job.specs.Handed.{HandedJob, handed-iff, jobIn, jobRefusal}
+use Rattle.job.specs.Input.{JobInput, input-iff, jobIn, jobRefusal}
 use Rattle.fetch.specs.Rows.{Row, bytesInSlot, rowsOf}
-use Rattle.fetch.specs.Handed.{Whole, handedRefusal}
-use Rattle.fetch.specs.Handed
+use Rattle.fetch.specs.Input.{Whole, listRefusal}
+use Rattle.fetch.specs.Input
 use Rattle.fetch.specs.Rules.{Keeps}
 use Rattle.fetch.specs.Verdict.{verdict, verdict-iff}
-use Rattle.schedule.specs.Statement.{Best, IsPlan, MostPictures, marksOf}
-use Rattle.schedule.specs.Pictures.{most-pictures}
-use Rattle.schedule.specs.Own.{ownList}
-use Rattle.schedule.specs.Theorems.{best, plan-carried}
-use Rattle.schedule.specs.lemmas.Words.{accepted-sized}
+use Rattle.theory_plan.specs.Statement.{Best, IsPlan, MostPictures, marksOf}
+use Rattle.theory_plan.specs.Pictures.{most-pictures}
+use Rattle.theory_plan.specs.Own.{ownList}
+use Rattle.theory_plan.specs.Theorems.{best, plan-carried}
+use Rattle.theory_plan.specs.lemmas.Words.{accepted-sized}
 use Rattle.booking.specs.Booking.{slotHas, takenOff, addedBack, passRefusal, slotThere, roomRefusal, SlotsThere, Releasable, Bookable, Without, Run, start, booking, Balanced}
 use Rattle.booking.specs.Booking
 use Rattle.checker.specs.Checked.{checkRefusal}
-use Rattle.booking.specs.Answer.{bookRefusal, handedOn, releaseRefusal, rowsRefusal}
+use Rattle.booking.specs.Answer.{bookRefusal, onForecast, releaseRefusal, rowsRefusal}
 use Rattle.booking.specs.lemmas.Slots.{length-taken, length-added, taken-at, added-at, slots-equal, all-slots, bookable-within}
 use Rattle.booking.specs.lemmas.Runs.{kept, run-in-range, slots-there, without-bytes, without-all, equal-on}
 
@@ -40,7 +40,8 @@ nineteen-iff j marks rows =
     let e = eqb-iff (verdict j marks rows) 0 in
     unless-as 19 (eqb (verdict j marks rows) 0) (omega arith) (λ t. v .0 (e .0 t), λ k. e .1 (v .1 k))
 
--- "20, releasing a row for a slot that isn't there or beyond 16,777,216 bytes in a slot": none exactly for a list that can be released.
+-- "20, releasing a row for a slot that isn't there or beyond 16,777,216 bytes in a slot": none
+-- exactly for a list that can be released.
 pub twenty-iff : (f : List ℕ) (rows : List Row) → (roomRefusal f rows ≡ 0) ↔ Releasable f rows
 unfolding roomRefusal
 twenty-iff f rows =
@@ -64,7 +65,8 @@ release-restores f rows b =
 
 -- ---- two lists
 
--- "Two lists that both can be booked in either sequence leave equal forecasts." It is so of any two lists.
+-- "Two lists that both can be booked in either sequence leave equal forecasts." It is so of any two
+-- lists.
 pub either-sequence : (f : List ℕ) (a b : List Row) → takenOff (takenOff f a) b ≡ takenOff (takenOff f b) a
 either-sequence f a b =
     let la = length-taken f a in
@@ -82,8 +84,8 @@ either-sequence f a b =
 
 -- ---- runs
 
--- "After any run of bookings, and releases of lists still booked, the booked and unspent bytes sum to the forecast before the first
--- booking, slot by slot".
+-- "After any run of bookings, and releases of lists still booked, the booked and unspent bytes sum
+-- to the forecast before the first booking, slot by slot".
 pub balanced : {first f : List ℕ} {booked : List (List Row)} → Run first f booked → Balanced first f booked
 balanced run = kept run .balance
 
@@ -112,7 +114,8 @@ passing-bookable j ok marks rows keeps = record { job = j; accepted = ok; its-fo
 pub plan-bookable : (j : Job) → Accepted j → (p : ℕ → ℕ) → IsPlan j p → Bookable (j .forecast) (ownList j p)
 plan-bookable j ok p d = passing-bookable j ok (marksOf j p) (ownList j p) (plan-carried j (accepted-sized j ok) p d .0)
 
--- ---- "The second film has the same last due slot and is planned on what the first left, and being best means best on that remainder."
+-- ---- "The second film has the same last due slot and is planned on what the first left, and being
+-- best means best on that remainder."
 
 -- After any run: a film with the last due slot of the forecast is an accepted job on what is left,
 pub remainder-accepted :
@@ -171,37 +174,38 @@ module _ (main second : Job) (marks : List ℕ) (rows : List Row) (main-ok : Acc
 
 -- ---- the calls
 
-module _ (h : HandedJob) (marks slots chunks layers bytes : List ℕ) (fine : bookRefusal h marks slots chunks layers bytes ≡ 0) where
+module _ (h : JobInput) (marks slots chunks layers bytes : List ℕ) (fine : bookRefusal h marks slots chunks layers bytes ≡ 0) where
   abbrev rows : List Row
   rows = rowsOf slots chunks layers bytes
 
   parts : (checkRefusal h marks slots chunks layers bytes ≡ 0) × (passRefusal (jobIn h) marks rows ≡ 0)
   parts = orElse-iff (checkRefusal h marks slots chunks layers bytes) (passRefusal (jobIn h) marks rows) .0 fine
 
-  input : (jobRefusal h ≡ 0) × (handedRefusal (h .programme .chunks) marks slots chunks layers bytes ≡ 0)
-  input = orElse-iff (jobRefusal h) (handedRefusal (h .programme .chunks) marks slots chunks layers bytes) .0 (parts .0)
+  input : (jobRefusal h ≡ 0) × (listRefusal (h .programme .chunks) marks slots chunks layers bytes ≡ 0)
+  input = orElse-iff (jobRefusal h) (listRefusal (h .programme .chunks) marks slots chunks layers bytes) .0 (parts .0)
 
-  -- A list that `book` does not refuse is handed whole, for an accepted job, and can be booked on its forecast,
+  -- A list that `book` does not refuse is handed whole, for an accepted job, and can be booked on
+  -- its forecast,
   pub booked-accepted : Accepted (jobIn h)
-  booked-accepted = handed-iff h .0 (input .0) .1
+  booked-accepted = input-iff h .0 (input .0) .1
 
   pub booked-whole : Whole (h .programme .chunks) marks slots chunks layers bytes
-  booked-whole = Handed.handed-iff (h .programme .chunks) marks slots chunks layers bytes .0 (input .1)
+  booked-whole = Input.whole-iff (h .programme .chunks) marks slots chunks layers bytes .0 (input .1)
 
   pub booked-bookable : Bookable (h .forecast) rows
   booked-bookable = passing-bookable (jobIn h) booked-accepted marks rows (nineteen-iff (jobIn h) marks rows .0 (parts .1))
 
   -- and `release` does not refuse it on what `book` has left.
-  pub booked-released : releaseRefusal (handedOn h (takenOff (h .forecast) rows)) slots chunks layers bytes ≡ 0
+  pub booked-released : releaseRefusal (onForecast h (takenOff (h .forecast) rows)) slots chunks layers bytes ≡ 0
   booked-released =
       let left : List ℕ = takenOff (h .forecast) rows in
       let run : Run (h .forecast) left (rows ∷ []) = booking start rows booked-bookable in
       let high = booked-accepted .forecast-in in
       let w = booked-whole in
-      orElse-iff (jobRefusal (handedOn h left)) (rowsRefusal slots chunks layers bytes orElse roomRefusal left rows) .1 (
-        handed-iff (handedOn h left) .1 (handed-iff h .0 (input .0) .0, remainder-accepted (jobIn h) high run booked-accepted (sym (booked-accepted .slots-in))),
+      orElse-iff (jobRefusal (onForecast h left)) (rowsRefusal slots chunks layers bytes orElse roomRefusal left rows) .1 (
+        input-iff (onForecast h left) .1 (input-iff h .0 (input .0) .0, remainder-accepted (jobIn h) high run booked-accepted (sym (booked-accepted .slots-in))),
         orElse-iff (rowsRefusal slots chunks layers bytes) (roomRefusal left rows) .1 (
-          Handed.handed-iff 0 [] slots chunks layers bytes .1 (record { byte-each = refl; chunk-each = w .chunk-each; layer-each = w .layer-each; bytes-each = w .bytes-each }),
+          Input.whole-iff 0 [] slots chunks layers bytes .1 (record { byte-each = refl; chunk-each = w .chunk-each; layer-each = w .layer-each; bytes-each = w .bytes-each }),
           still-booked-releasable rows high run Booking.here,
         ),
       )

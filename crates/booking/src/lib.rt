@@ -1,14 +1,14 @@
-// Two films on one link: document 02, request 11. Booking takes a passing list's bytes off the lent forecast, releasing adds them back,
-// both in the forecast's own storage and row by row.
+// Two films on one link: document 02, request 11. Booking takes a passing list's bytes off the lent
+// forecast, releasing adds them back, both in the forecast's own storage and row by row.
 use checker::Checked;
 use job::Programme;
 ghost use mathlib.Core.Path.{_≡_};
 ghost use Prim.Native.Nat.{_+_, _≤_, _<_};
 ghost use lib.Dec.{leb};
 ghost use lib.ListN.{length};
-ghost use Rattle.basics.specs.Tests.{All};
+ghost use Rattle.theory_basics.specs.Tests.{All};
 ghost use Rattle.job.specs.Job.{Within};
-ghost use Rattle.job.specs.Handed.{handed};
+ghost use Rattle.job.specs.Input.{jobInput};
 ghost use Rattle.booking.specs.Booking.{takenOff};
 ghost use Rattle.booking.specs.Answer.{Booked, Released};
 ghost use Rattle.booking.specs.lemmas.Passes.{Added, Covered, bare, refusedBy};
@@ -25,7 +25,8 @@ fn wide(x: u16) -> usize
     x as usize
 }
 
-// So many rows off the forecast. None of its slots falls below 0: of a passing list by rule 4, else because they were just added.
+// So many rows off the forecast. None of its slots falls below 0: of a passing list by rule 4, else
+// because they were just added.
 fn take_off(forecast: &mut [u32], slots: &[u16], bytes: &[u32], count: usize)
     requires { ⌜ (count ≤ length (now slots)) × (count ≤ length (now bytes)) × Covered (now forecast) (bare (now slots) (now bytes) count) ⌝ }
     ensures { λ _. ⌜ now (forecast .exit) ≡ takenOff (now (forecast .entry)) (bare (now (slots .entry)) (now (bytes .entry)) count) ⌝ }
@@ -46,7 +47,8 @@ fn has_room(held: u32, more: u32) -> bool
     (held as u64) + (more as u64) <= 16777216
 }
 
-// Row by row back to the forecast, up to the first row whose slot isn't there or has no room; how many rows that are.
+// Row by row back to the forecast, up to the first row whose slot isn't there or has no room; how
+// many rows that are.
 fn add_back(forecast: &mut [u32], slots: &[u16], bytes: &[u32]) -> usize
     requires { ⌜ (length (now slots) ≡ length (now bytes)) × All (Within 0 16777216) (now forecast) ⌝ }
     ensures { λ r. ⌜ Added (now (forecast .entry)) (now (slots .entry)) (now (bytes .entry)) (length (now (slots .entry))) r (now (forecast .exit)) ⌝ }
@@ -84,7 +86,8 @@ fn refusal_of(checked: Checked) -> u8
     }
 }
 
-// Takes a list that passes off its job's forecast. Refused: 5, 6, 18, 7, 8, then 19 for a verdict other than 0, by the marks handed.
+// Takes a list that passes off its job's forecast. Refused: 5, 6, 18, 7, 8, then 19 for a verdict
+// other than 0, by the marks handed.
 pub fn book(
     p: Programme,
     sizes: &[u32],
@@ -98,7 +101,7 @@ pub fn book(
     layers: &[u8],
     bytes: &[u32],
 ) -> Answer
-    ensures { λ r. ⌜ Booked (handed p (now (sizes .entry)) (now («size_chunks» .entry)) (now («size_layers» .entry)) (now («size_bytes» .entry)) (now (forecast .entry))) (now (marks .entry)) (now (slots .entry)) (now (chunks .entry)) (now (layers .entry)) (now (bytes .entry)) r (now (forecast .exit)) ⌝ }
+    ensures { λ r. ⌜ Booked (jobInput p (now (sizes .entry)) (now («size_chunks» .entry)) (now («size_layers» .entry)) (now («size_bytes» .entry)) (now (forecast .entry))) (now (marks .entry)) (now (slots .entry)) (now (chunks .entry)) (now (layers .entry)) (now (bytes .entry)) r (now (forecast .exit)) ⌝ }
 {
     let checked = checker::check(
         p,
@@ -121,8 +124,8 @@ pub fn book(
     Answer::Done
 }
 
-// Adds a list's bytes back to its job's forecast. Refused: 5, 6, 18, 7, 8 for a row not handed whole, then 20. On 20 the rows added
-// before the one that can't be are taken off again.
+// Adds a list's bytes back to its job's forecast. Refused: 5, 6, 18, 7, 8 for a row not handed
+// whole, then 20. On 20 the rows added before the one that can't be are taken off again.
 pub fn release(
     p: Programme,
     sizes: &[u32],
@@ -135,13 +138,13 @@ pub fn release(
     layers: &[u8],
     bytes: &[u32],
 ) -> Answer
-    ensures { λ r. ⌜ Released (handed p (now (sizes .entry)) (now («size_chunks» .entry)) (now («size_layers» .entry)) (now («size_bytes» .entry)) (now (forecast .entry))) (now (slots .entry)) (now (chunks .entry)) (now (layers .entry)) (now (bytes .entry)) r (now (forecast .exit)) ⌝ }
+    ensures { λ r. ⌜ Released (jobInput p (now (sizes .entry)) (now («size_chunks» .entry)) (now («size_layers» .entry)) (now («size_bytes» .entry)) (now (forecast .entry))) (now (slots .entry)) (now (chunks .entry)) (now (layers .entry)) (now (bytes .entry)) r (now (forecast .exit)) ⌝ }
 {
     let job = job::refusal(p, sizes, size_chunks, size_layers, size_bytes, forecast);
     if job != 0 {
         return Answer::Refused(job);
     }
-    let list = fetch::handed_refusal(0, &[], slots, chunks, layers, bytes);
+    let list = fetch::list_refusal(0, &[], slots, chunks, layers, bytes);
     if list != 0 {
         return Answer::Refused(list);
     }

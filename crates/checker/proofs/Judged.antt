@@ -1,4 +1,5 @@
--- Laws on the verdict: what the tables say is what the rules of the second call say. Assumes nothing.
+-- Laws on the verdict: what the tables say is what the rules of the second call say. Assumes
+-- nothing.
 use Prim.Native.Nat.{ℕ, _+_, _*_, _-_, _/_, _≤_, _<_}
 use mathlib.Core.Path.{_≡_, sym, ap, ap₂, _∙_}
 use mathlib.Core.Bool.{Bool, true, false, _&&_, _||_}
@@ -7,8 +8,8 @@ use mathlib.Core.Logic.{inl, inr, ⊎-elim}
 use native.Mathlib.Omega.{arith}
 use lib.ListN.{length, getD}
 use lib.Dec.{T, leb, ltb, eqb}
-use Rattle.basics.specs.Tests.{allBelow, allTo}
-use Rattle.basics.specs.lemmas.Tests.{T-or-iff, allBelow-cong, allTo-cong, same-test}
+use Rattle.theory_basics.specs.Tests.{allBelow, allTo}
+use Rattle.theory_basics.specs.lemmas.Tests.{T-or-iff, allBelow-cong, allTo-cong, same-test}
 use Rattle.job.specs.Job.{Accepted, Job, chunks, jobOf, lastDue, layers, size}
 use Rattle.job.specs.Table.{tableAt}
 use Rattle.job.specs.declared.Programme.{Programme}
@@ -16,15 +17,15 @@ use Rattle.job.specs.lemmas.Within.{size-most}
 use Rattle.fetch.specs.Rows.{Row, bytesOfLayer}
 use Rattle.fetch.specs.Verdict.{lowest, rule2, rule2-iff}
 use Rattle.fetch.specs.VerdictFrom.{layerBefore, rule2-from-iff, rule2From, verdictFrom, wholeFrom}
-use Rattle.rules.proofs.Exact.{carried-is, eqb-cap, ltb-cap, rule1-is, rule2-is, rule3-is, rule4-is, rule6-is, rule7-is}
-use Rattle.rules.specs.declared.Layers.{Layers}
-use Rattle.rules.specs.declared.Pass.{Pass}
-use Rattle.rules.specs.lemmas.Tables.{Passed, SeenAll, Shown, Tallied, heldBy}
-use Rattle.checker.specs.lemmas.Judged.{Judged, Late, allowedBy, allowedSum, early}
+use Rattle.core_rules.proofs.Exact.{carried-is, eqb-cap, ltb-cap, rule1-is, rule2-is, rule3-is, rule4-is, rule6-is, rule7-is}
+use Rattle.core_rules.specs.declared.Layers.{Layers}
+use Rattle.core_rules.specs.declared.Pass.{Pass}
+use Rattle.core_rules.specs.lemmas.Tables.{TallyPost, SeeAllPost, Shown, Tallied, heldBy}
+use Rattle.checker.specs.lemmas.Judged.{Judged, MarkLatePost, allowedBy, allowedSum, early}
 
 -- The flags say what the rows say.
 pub late-is :
-    {from : ℕ} {rows : List Row} {late : List ℕ} → Late from rows late → (size : ℕ → ℕ → ℕ) (sums : List ℕ) (count depth : ℕ) → count ≤ 500 → depth ≤ 4 →
+    {from : ℕ} {rows : List Row} {late : List ℕ} → MarkLatePost from rows late → (size : ℕ → ℕ → ℕ) (sums : List ℕ) (count depth : ℕ) → count ≤ 500 → depth ≤ 4 →
     allTo count (λ i. allBelow depth (allowedBy size sums (early late) i)) ≡ allTo count (λ i. allBelow depth (allowedBy size sums (layerBefore from rows) i))
 late-is l size sums count depth few deep =
     allTo-cong count _ _ (λ i u v.
@@ -52,7 +53,7 @@ module _ (j : Job) (rows : List Row) (S L F : List ℕ) (ok : Accepted j) (t : T
 
 -- ---- the verdict, with the last slot and the number of layers as numbers of their own
 
-module _ (p : Programme) (table : List ℕ) (depth : ℕ) (forecast : List ℕ) (from : ℕ) (marks : List ℕ) (rows : List Row) (last : ℕ) (d : last ≡ lastDue p) (r : Pass) (S L F : List ℕ) (a : Passed p last depth rows r S L F) where
+module _ (p : Programme) (table : List ℕ) (depth : ℕ) (forecast : List ℕ) (from : ℕ) (marks : List ℕ) (rows : List Row) (last : ℕ) (d : last ≡ lastDue p) (r : Pass) (S L F : List ℕ) (a : TallyPost p last depth rows r S L F) where
   -- A row out of range: rule 1.
   pub judged-one : r .ranged ≡ false → Judged p table depth forecast from marks rows 1
   unfolding verdictFrom
@@ -60,7 +61,7 @@ module _ (p : Programme) (table : List ℕ) (depth : ℕ) (forecast : List ℕ) 
 
   -- Every row in range: the lowest broken rule of 2 to 7, by the tables.
   pub judged : r .ranged ≡ true → length marks ≡ p .chunks → (m : Layers) (whole room few : Bool)
-      → SeenAll (tableAt table) L marks depth (p .chunks) m
+      → SeeAllPost (tableAt table) L marks depth (p .chunks) m
       → whole ≡ m .whole || allTo (p .chunks) (λ i. allBelow depth (allowedBy (tableAt table) L (layerBefore from rows) i))
       → room ≡ allTo (length forecast) (λ u. leb (getD S u 0) (getD forecast (u - 1) 0))
       → few ≡ allTo last (λ u. leb (heldBy p F u) (p .limit / p .span))

@@ -1,4 +1,5 @@
--- Laws on rule 2 of the second call by tables: a flag for each layer with a row from the slot on. Assumes nothing.
+-- Laws on rule 2 of the second call by tables: a flag for each layer with a row from the slot on.
+-- Assumes nothing.
 use Prim.Native.Nat.{ℕ, zero, suc, _+_, _*_, _-_, _≤_, _<_}
 use mathlib.Core.Path.{_≡_, refl, sym, ap, _∙_}
 use mathlib.Core.Bool.{Bool, true, false, not, _&&_, _||_, and-false, and-true}
@@ -10,14 +11,14 @@ use lib.ListN.{length, getD, set, replicate, length-set, length-replicate, getD-
 use lib.Seq.{getD-set-other, getD-set-same}
 use lib.Dec.{T, eqb, ltb}
 use borrow.Author.Tests.{eqb-false, eqb-true, le-ltb, lt-ltb}
-use Rattle.basics.specs.Lists.{upTo}
-use Rattle.basics.specs.Tests.{all}
-use Rattle.basics.specs.lemmas.Tests.{T-true, all-snoc, and-T, last, true-T}
+use Rattle.theory_basics.specs.Lists.{upTo}
+use Rattle.theory_basics.specs.Tests.{all}
+use Rattle.theory_basics.specs.lemmas.Tests.{T-true, all-snoc, and-T, last, true-T}
 use Rattle.fetch.specs.Rows.{Row, rowAt, rowsOf}
 use Rattle.fetch.specs.VerdictFrom.{layerBefore}
-use Rattle.rules.proofs.Rows.{Places, places}
-use Rattle.rules.specs.lemmas.Tables.{inRange}
-use Rattle.checker.specs.lemmas.Judged.{InTables, Late, early}
+use Rattle.core_rules.proofs.Rows.{Places, places}
+use Rattle.core_rules.specs.lemmas.Tables.{inRange}
+use Rattle.checker.specs.lemmas.Judged.{InTables, MarkLatePost, early}
 
 -- A test that every row of a run passes, each passes.
 all-each : (p : Row → Bool) (f : ℕ → Row) (n : ℕ) → all p (upTo f n) ≡ true → (k : ℕ) → k < n → p (f k) ≡ true
@@ -62,7 +63,7 @@ module _ {from : ℕ} {ss cs ls bs late : List ℕ} {k : ℕ} (m : Marking from 
   one-more : (i n : ℕ) → layerBefore from (upTo (rowAt ss cs ls bs) (suc k)) i n ≡ layerBefore from front i n && passes i n
   one-more i n = all-snoc (λ y. not (eqb (y .chunk) i && eqb (y .layer) n) || ltb (y .slot) from) front x
 
-  pub marking-end : length ss ≤ k → Late from (rowsOf ss cs ls bs) late
+  pub marking-end : length ss ≤ k → MarkLatePost from (rowsOf ss cs ls bs) late
   marking-end h = let e : k ≡ length ss = omega (arith, m .within) in record { is = λ i n u v w. rw e at (m .is i n u v w); long = m .long }
 
   module _ (h : k < length ss) where

@@ -1,22 +1,26 @@
-// The checker: document 01's verdict for any fetch list with its marks, and document 02's from a slot on, whose rule 2 allows a short sum
-// whose rows are all before that slot. At slot 1 the second is the first. The tables and what they say of the rules are those of rules.
+// The checker: document 01's verdict for any fetch list with its marks, and document 02's from a
+// slot on, whose rule 2 allows a short sum whose rows are all before that slot. At slot 1 the
+// second is the first. The tables and what they say of the rules are those of rules.
 use job::Programme;
+use job::SIZES;
+use job::SUMS;
+use job::SizeTable;
 ghost use mathlib.Core.Path.{_≡_};
 ghost use mathlib.Core.Bool.{_||_};
 ghost use mathlib.Core.List.{[], _∷_};
 ghost use Prim.Native.Nat.{ℕ, _+_, _*_, _-_, _<_, _≤_};
 ghost use lib.ListN.{length, getD, replicate};
 ghost use lib.Dec.{eqb};
-ghost use Rattle.basics.specs.Tests.{allBelow, allTo};
+ghost use Rattle.theory_basics.specs.Tests.{allBelow, allTo};
 ghost use Rattle.job.specs.Job.{lastDue};
-ghost use Rattle.job.specs.Handed.{handed};
+ghost use Rattle.job.specs.Input.{jobInput};
 ghost use Rattle.job.specs.Table.{tableAt};
 ghost use Rattle.fetch.specs.Rows.{rowsOf};
-ghost use Rattle.fetch.specs.Handed.{Whole};
+ghost use Rattle.fetch.specs.Input.{Whole};
 ghost use Rattle.fetch.specs.Verdict.{lowest};
 ghost use Rattle.fetch.specs.VerdictFrom.{layerBefore};
 ghost use Rattle.checker.specs.Checked.{checked, checkedFrom};
-ghost use Rattle.checker.specs.lemmas.Judged.{allowedSum, allowedBy, early, InTables, Late, Judged};
+ghost use Rattle.checker.specs.lemmas.Judged.{allowedSum, allowedBy, early, InTables, MarkLatePost, Judged};
 
 // The verdict 0 to 7, or the number of a refusal.
 pub enum Checked {
@@ -49,7 +53,8 @@ fn lowest_broken(whole: bool, lower: bool, within: bool, timely: bool, few: bool
     0
 }
 
-// Rule 2 of the second call for one layer: its sum is 0 or its size, or less where its rows are all before the slot.
+// Rule 2 of the second call for one layer: its sum is 0 or its size, or less where its rows are all
+// before the slot.
 fn allowed(sum: u64, size: u32, flag: u8) -> bool
     ensures { λ r. ⌜ r ≡ allowedSum sum size (eqb flag 0) ⌝ }
 {
@@ -76,15 +81,15 @@ fn mark_late(
     chunks: &[u16],
     layers: &[u8],
     bytes: &[u32],
-    late: &mut [u8; 2000],
+    late: &mut [u8; SIZES],
 )
     requires { ⌜ InTables last count depth (now slots) (now chunks) (now layers) (now bytes) × (now late ≡ replicate 2000 0) ⌝ }
-    ensures { λ _. ⌜ Late from (rowsOf (now (slots .entry)) (now (chunks .entry)) (now (layers .entry)) (now (bytes .entry))) (now (late .exit)) ⌝ }
+    ensures { λ _. ⌜ MarkLatePost from (rowsOf (now (slots .entry)) (now (chunks .entry)) (now (layers .entry)) (now (bytes .entry))) (now (late .exit)) ⌝ }
 {
     let mut k: usize = 0;
     while k < slots.len() {
         let s = slots[k];
-        let i = rules::wide(chunks[k]);
+        let i = core_rules::wide(chunks[k]);
         let n = layers[k] as usize;
         let at = 4 * (i - 1) + n;
         if from <= s {
@@ -98,33 +103,33 @@ fn mark_late(
 
 // Rule 2 of the second call for the layers of a chunk.
 fn allowed_chunk(
-    table: &[u32; 2000],
+    table: &SizeTable,
     depth: usize,
-    layersum: &[u64; 2000],
-    late: &[u8; 2000],
+    layersum: &[u64; SIZES],
+    late: &[u8; SIZES],
     i: u16,
 ) -> bool
     requires { ⌜ (depth ≤ 4) × (1 ≤ i) × (i ≤ 500) ⌝ }
     ensures { λ r. ⌜ r ≡ allBelow depth (allowedBy (tableAt (now (table .entry))) (now (layersum .entry)) (early (now (late .entry))) i) ⌝ }
 {
-    let from = 4 * (rules::wide(i) - 1);
+    let from = 4 * (core_rules::wide(i) - 1);
     let mut all = true;
     let mut n: usize = 0;
     while n < depth {
         let at = from + n;
         let z = job::size_at(table, i, n);
-        all = rules::both(allowed(layersum[at], z, late[at]), all);
+        all = core_rules::both(allowed(layersum[at], z, late[at]), all);
         n = n + 1;
     }
     all
 }
 
-// And for all chunks.
+// Rule 2 of the second call for every layer of every chunk.
 fn allowed_all(
-    table: &[u32; 2000],
+    table: &SizeTable,
     depth: usize,
-    layersum: &[u64; 2000],
-    late: &[u8; 2000],
+    layersum: &[u64; SIZES],
+    late: &[u8; SIZES],
     count: u16,
 ) -> bool
     requires { ⌜ (depth ≤ 4) × (count ≤ 500) ⌝ }
@@ -134,7 +139,7 @@ fn allowed_all(
     let mut i: u16 = 0;
     while i < count {
         let next = i + 1;
-        all = rules::both(allowed_chunk(table, depth, layersum, late, next), all);
+        all = core_rules::both(allowed_chunk(table, depth, layersum, late, next), all);
         i = next;
     }
     all
@@ -147,8 +152,8 @@ fn whole_from(
     count: u16,
     depth: usize,
     from: u16,
-    table: &[u32; 2000],
-    layersum: &[u64; 2000],
+    table: &SizeTable,
+    layersum: &[u64; SIZES],
     slots: &[u16],
     chunks: &[u16],
     layers: &[u8],
@@ -160,7 +165,7 @@ fn whole_from(
     if whole {
         return true;
     }
-    let mut late = [0u8; 2000];
+    let mut late = [0u8; SIZES];
     mark_late(
         last,
         count,
@@ -175,11 +180,11 @@ fn whole_from(
     allowed_all(table, depth, layersum, &late, count)
 }
 
-// The verdict from a slot on of an accepted job's list, its rows whole and its marks one byte a chunk. The job's sizes are seen by their
-// table alone; `depth` is the number of layers.
+// The verdict from a slot on of an accepted job's list, its rows whole and its marks one byte a
+// chunk. The job's sizes are seen by their table alone; `depth` is the number of layers.
 fn verdict_of(
     p: Programme,
-    table: &[u32; 2000],
+    table: &SizeTable,
     depth: usize,
     forecast: &[u32],
     from: u16,
@@ -193,10 +198,10 @@ fn verdict_of(
     ensures { λ r. ⌜ Judged p (now (table .entry)) depth (now (forecast .entry)) from (now (marks .entry)) (rowsOf (now (slots .entry)) (now (chunks .entry)) (now (layers .entry)) (now (bytes .entry))) r ⌝ }
 {
     let last = job::last_due(p);
-    let mut slotsum = [0u64; 3601];
-    let mut layersum = [0u64; 2000];
+    let mut slotsum = [0u64; SUMS];
+    let mut layersum = [0u64; SIZES];
     let mut first = [65535u16; 501];
-    let pass = rules::tally(
+    let pass = core_rules::tally(
         p,
         last,
         depth,
@@ -209,9 +214,9 @@ fn verdict_of(
         &mut first,
     );
     if pass.ranged {
-        let seen = rules::see_all(table, depth, &layersum, marks, p.chunks);
-        let room = rules::within(forecast, &slotsum);
-        let few = rules::sweep(p, last, &first);
+        let seen = core_rules::see_all(table, depth, &layersum, marks, p.chunks);
+        let room = core_rules::within(forecast, &slotsum);
+        let few = core_rules::sweep(p, last, &first);
         let whole = whole_from(
             seen.whole,
             last,
@@ -230,8 +235,8 @@ fn verdict_of(
     1
 }
 
-// The verdict for a job, marks and rows: any number of rows in any order, of equal rows each counts.
-// Refused: 5, 6, 18, 7 by the job, then 8 by the marks and rows.
+// The verdict for a job, marks and rows: any number of rows in any order, of equal rows each
+// counts. Refused: 5, 6, 18, 7 by the job, then 8 by the marks and rows.
 pub fn check(
     p: Programme,
     sizes: &[u32],
@@ -245,19 +250,19 @@ pub fn check(
     layers: &[u8],
     bytes: &[u32],
 ) -> Checked
-    ensures { λ r. ⌜ r ≡ checked (handed p (now (sizes .entry)) (now («size_chunks» .entry)) (now («size_layers» .entry)) (now («size_bytes» .entry)) (now (forecast .entry))) (now (marks .entry)) (now (slots .entry)) (now (chunks .entry)) (now (layers .entry)) (now (bytes .entry)) ⌝ }
+    ensures { λ r. ⌜ r ≡ checked (jobInput p (now (sizes .entry)) (now («size_chunks» .entry)) (now («size_layers» .entry)) (now («size_bytes» .entry)) (now (forecast .entry))) (now (marks .entry)) (now (slots .entry)) (now (chunks .entry)) (now (layers .entry)) (now (bytes .entry)) ⌝ }
 {
     let job = job::refusal(p, sizes, size_chunks, size_layers, size_bytes, forecast);
     if job != 0 {
         return Checked::Refused(job);
     }
-    let list = fetch::handed_refusal(p.chunks, marks, slots, chunks, layers, bytes);
+    let list = fetch::list_refusal(p.chunks, marks, slots, chunks, layers, bytes);
     if list != 0 {
         return Checked::Refused(list);
     }
     let depth = sizes.len();
     let unset = p.chunks as u32;
-    let mut table = [unset; 2000];
+    let mut table = [unset; SIZES];
     job::fill_sizes(sizes, size_chunks, size_layers, size_bytes, &mut table);
     Checked::Verdict(verdict_of(
         p,
@@ -273,7 +278,8 @@ pub fn check(
     ))
 }
 
-// The same from a slot on: rule 2 allows a short sum whose rows are all before it. Refused: 5, 6, 18, 7, 8, then 21 by the slot.
+// The same from a slot on: rule 2 allows a short sum whose rows are all before it. Refused: 5, 6,
+// 18, 7, 8, then 21 by the slot.
 pub fn check_from(
     p: Programme,
     sizes: &[u32],
@@ -288,13 +294,13 @@ pub fn check_from(
     layers: &[u8],
     bytes: &[u32],
 ) -> Checked
-    ensures { λ r. ⌜ r ≡ checkedFrom (handed p (now (sizes .entry)) (now («size_chunks» .entry)) (now («size_layers» .entry)) (now («size_bytes» .entry)) (now (forecast .entry))) from (now (marks .entry)) (now (slots .entry)) (now (chunks .entry)) (now (layers .entry)) (now (bytes .entry)) ⌝ }
+    ensures { λ r. ⌜ r ≡ checkedFrom (jobInput p (now (sizes .entry)) (now («size_chunks» .entry)) (now («size_layers» .entry)) (now («size_bytes» .entry)) (now (forecast .entry))) from (now (marks .entry)) (now (slots .entry)) (now (chunks .entry)) (now (layers .entry)) (now (bytes .entry)) ⌝ }
 {
     let job = job::refusal(p, sizes, size_chunks, size_layers, size_bytes, forecast);
     if job != 0 {
         return Checked::Refused(job);
     }
-    let list = fetch::handed_refusal(p.chunks, marks, slots, chunks, layers, bytes);
+    let list = fetch::list_refusal(p.chunks, marks, slots, chunks, layers, bytes);
     if list != 0 {
         return Checked::Refused(list);
     }
@@ -304,7 +310,7 @@ pub fn check_from(
     }
     let depth = sizes.len();
     let unset = p.chunks as u32;
-    let mut table = [unset; 2000];
+    let mut table = [unset; SIZES];
     job::fill_sizes(sizes, size_chunks, size_layers, size_bytes, &mut table);
     Checked::Verdict(verdict_of(
         p,

@@ -1,12 +1,13 @@
--- Lemmas. The bits of a byte after a shift, an or, an and, for every layer number at once. Assumes nothing.
+-- Lemmas. The bits of a byte after a shift, an or, an and, for every layer number at once. Assumes
+-- nothing.
 use Prim.Native.Nat.{ℕ, zero, suc, _*_, _-_, _/_, _%_, _^_, _<_}
 use mathlib.Core.Path.{_≡_, refl, sym, ap, _∙_}
 use mathlib.Core.Bool.{Bool, true, false, not, cond, _&&_, _||_}
 use native.Mathlib.Omega.{arith}
 use lib.Bits.{bitAnd, bitOr, or-shr, or-mod, or-lt, and-shr, and-mod, and-lt}
 use lib.Dec.{T, eqb, eqb→eq}
-use Rattle.basics.specs.Tests.{allBelow}
-use Rattle.basics.specs.lemmas.Tests.{allBelow-iff}
+use Rattle.theory_basics.specs.Tests.{allBelow}
+use Rattle.theory_basics.specs.lemmas.Tests.{allBelow-iff}
 use Rattle.fetch.specs.Marks.{bit, withLayer, withoutLayer}
 use Rattle.fetch.specs.lemmas.Marks.{with-bit, without-bit, with-lt, without-lt, same-bits}
 

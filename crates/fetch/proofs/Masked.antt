@@ -1,4 +1,5 @@
--- Lemmas. The heart: a word shifted by n and masked has in byte k exactly bit n of the word's byte k, so its set bits are counted. Assumes nothing.
+-- Lemmas. The heart: a word shifted by n and masked has in byte k exactly bit n of the word's byte
+-- k, so its set bits are counted. Assumes nothing.
 use Prim.Native.Nat.{ℕ, zero, suc, _+_, _*_, _/_, _%_, _^_, _<_}
 use mathlib.Core.Path.{_≡_, refl, sym, ap, _∙_}
 use mathlib.Core.Bool.{cond}

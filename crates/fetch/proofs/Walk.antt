@@ -1,4 +1,5 @@
--- Lemmas. The walk by words and the walk by bytes: eight marks as a word, and what is counted so far. Assumes nothing.
+-- Lemmas. The walk by words and the walk by bytes: eight marks as a word, and what is counted so
+-- far. Assumes nothing.
 use Prim.Native.Nat.{ℕ, suc, _+_, _*_, _/_, _≤_, _<_}
 use mathlib.Core.Path.{_≡_, refl, sym, ap, _∙_}
 use mathlib.Core.Bool.{cond}
@@ -7,8 +8,8 @@ use native.Mathlib.Omega.{arith}
 use native.Mathlib.Numerals.{add-one, towards-suc}
 use lib.ListN.{length, getD, take, drop, drop-of-length-le, length-drop}
 use lib.Seq.{drop-cons}
-use Rattle.basics.specs.Sums.{sum}
-use Rattle.basics.specs.lemmas.Tables.{drop-next}
+use Rattle.theory_basics.specs.Sums.{sum}
+use Rattle.theory_basics.specs.lemmas.Tables.{drop-next}
 use Rattle.fetch.specs.Marks.{bit}
 use Rattle.fetch.specs.Counts.{markCount, wordBytes, wordCount, wordOf, wordAt, overWords, overRest}
 use Rattle.fetch.specs.Words.{word-length, word-count}

@@ -1,10 +1,11 @@
--- Meaning. Marks counted: document 02, request 7, "take eight marks together as a 64-bit word, and the odd rest by bytes".
+-- Meaning. Marks counted: document 02, request 7, "take eight marks together as a 64-bit word, and
+-- the odd rest by bytes".
 use Prim.Native.Nat.{ℕ, zero, suc, _+_, _*_, _/_, _%_}
 use mathlib.Core.Bool.{cond}
 use mathlib.Core.List.{List, [], _∷_}
 use lib.ListN.{length, take, drop}
 use lib.Dec.{ltb}
-use Rattle.basics.specs.Sums.{sum}
+use Rattle.theory_basics.specs.Sums.{sum}
 use Rattle.fetch.specs.Marks.{bit}
 
 -- How many marks have layer n.
@@ -24,7 +25,8 @@ wordBytes w = lowBytes 8 w
 unfoldable pub wordCount : ℕ → ℕ → ℕ
 wordCount w n = cond (ltb n 8) (markCount n (wordBytes w)) 0
 
--- The number that bytes make, the lowest first, and the k-th eight marks, from 0, together as a word.
+-- The number that bytes make, the lowest first, and the k-th eight marks, from 0, together as a
+-- word.
 abbrev pub wordOf : List ℕ → ℕ
 wordOf [] = 0
 wordOf (b ∷ bs) = b + 256 * wordOf bs

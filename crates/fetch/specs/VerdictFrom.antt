@@ -1,5 +1,6 @@
--- Meaning, then its theorems. The verdict of the second checker call (RulesFrom): document 01's, with that call's rule 2; and 21, "p not from
--- 1 to d(C)". Where no row stands before p it is the first call.
+-- Meaning, then its theorems. The verdict of the second checker call (RulesFrom): document 01's,
+-- with that call's rule 2; and 21, "p not from 1 to d(C)". Where no row stands before p it is the
+-- first call.
 use Prim.Native.Nat.{ℕ, _≤_, _<_}
 use mathlib.Core.Path.{_≡_, refl, ap}
 use mathlib.Core.Bool.{Bool, true, false, not, _&&_, _||_}
@@ -7,15 +8,15 @@ use mathlib.Core.List.{List, [], _∷_}
 use mathlib.Core.Logic.{inl, inr, ⊎-elim, _↔_}
 use native.Mathlib.Omega.{arith}
 use lib.Dec.{T, ltb, eqb, eqb→eq, ltb→lt, lt→ltb}
-use Rattle.basics.specs.Refusals.{unless}
-use Rattle.basics.specs.Tests.{All, In, all, any}
-use Rattle.basics.specs.lemmas.Refusals.{unless-as}
-use Rattle.basics.specs.lemmas.Tests.{T-and, T-or-iff, all-iff, all-map, allBelow-cong, allTo-cong, and-T, at-row, each-row, eqb-iff, if-iff, not-T-false, same-test, test}
+use Rattle.theory_basics.specs.Refusals.{unless}
+use Rattle.theory_basics.specs.Tests.{All, In, all, any}
+use Rattle.theory_basics.specs.lemmas.Refusals.{unless-as}
+use Rattle.theory_basics.specs.lemmas.Tests.{T-and, T-or-iff, all-iff, all-map, allBelow-cong, allTo-cong, and-T, at-row, each-row, eqb-iff, if-iff, not-T-false, same-test, test}
 use Rattle.job.specs.Job.{Job, Layer, Within, chunks, lastDue, layers, size}
 use Rattle.job.specs.Refusal.{within, within-iff}
 use Rattle.job.specs.declared.Programme.{Programme}
 use Rattle.fetch.specs.Rows.{Row, Permuted, bytesIf, bytesOfLayer}
-use Rattle.fetch.specs.Rules.{InRange, WholeLayers}
+use Rattle.fetch.specs.Rules.{RowInRange, WholeLayers}
 use Rattle.fetch.specs.RulesFrom.{KeepsFrom, WholeFrom}
 use Rattle.fetch.specs.Verdict.{allLayers, layers-iff, lowerCarried, lowest, lowest-iff, rule1, rule1-iff, rule2, rule2-iff, rule3, rule3-iff, rule4, rule4-iff, rule5, rule5-iff, rule6, rule6-iff, rule7, rule7-iff, verdict}
 use Rattle.fetch.specs.lemmas.Rows.{all-permuted, any-permuted, bytes-none, bytes-permuted, lower-permuted}
@@ -169,6 +170,6 @@ pub first-slot : (j : Job) (marks : List ℕ) (rows : List Row) → verdictFrom 
 unfolding verdictFrom verdict
 first-slot j marks rows =
     ⊎-elim
-    (λ t. no-rows-before j 1 marks rows (all-map (InRange j) (λ x. 1 ≤ x .slot) rows (λ x r. r .slot-low) (rule1-iff j rows .0 t)))
+    (λ t. no-rows-before j 1 marks rows (all-map (RowInRange j) (λ x. 1 ≤ x .slot) rows (λ x r. r .slot-low) (rule1-iff j rows .0 t)))
     (λ t. rw (not-T-false (rule1 j rows) t))
     (test (rule1 j rows))

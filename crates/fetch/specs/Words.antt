@@ -1,4 +1,5 @@
--- Theorems. A word is its eight bytes, and for marks of any length every count is the sum over words and rest: document 02, request 7.
+-- Theorems. A word is its eight bytes, and for marks of any length every count is the sum over
+-- words and rest: document 02, request 7.
 use Prim.Native.Nat.{ℕ, zero, suc, _+_, _*_, _/_, _^_, _≤_, _<_}
 use mathlib.Core.Path.{_≡_, refl, sym, ap, _∙_}
 use mathlib.Core.List.{List}
@@ -7,10 +8,10 @@ use native.Mathlib.Omega.{arith}
 use lib.ListN.{length, take, drop, length-take, length-drop}
 use lib.Dec.{ltb, ltb→lt, nltb→le}
 use borrow.Author.Tests.{lt-ltb, le-ltb}
-use Rattle.basics.specs.Tests.{All}
-use Rattle.basics.specs.Sums.{sum}
-use Rattle.basics.specs.lemmas.Tests.{test}
-use Rattle.basics.specs.lemmas.Tables.{all-take, all-drop}
+use Rattle.theory_basics.specs.Tests.{All}
+use Rattle.theory_basics.specs.Sums.{sum}
+use Rattle.theory_basics.specs.lemmas.Tests.{test}
+use Rattle.theory_basics.specs.lemmas.Tables.{all-take, all-drop}
 use Rattle.fetch.specs.Counts.{markCount, lowBytes, wordBytes, wordCount, wordOf, wordAt, overWords, overRest}
 use Rattle.fetch.specs.lemmas.Counts.{Byte, bytes-small, number-of-bytes, bytes-of-number, count-none, eight-more}
 

@@ -1,4 +1,5 @@
-// A fetch list as it is handed: four slices of one length and a mark byte a chunk; and a slot that is handed.
+// A fetch list as it is handed: four slices of one length and a mark byte a chunk; and a slot that
+// is handed.
 use job::Programme;
 ghost use mathlib.Core.Path.{_≡_};
 ghost use mathlib.Core.Bool.{cond};
@@ -8,7 +9,7 @@ ghost use lib.Count.{ones};
 ghost use Rattle.fetch.specs.Marks.{bit, withLayer, withoutLayer};
 ghost use Rattle.fetch.specs.Counts.{markCount, wordCount, wordOf, overWords, overRest};
 ghost use Rattle.fetch.specs.lemmas.Counts.{eight};
-ghost use Rattle.fetch.specs.Handed.{handedRefusal};
+ghost use Rattle.fetch.specs.Input.{listRefusal};
 ghost use Rattle.fetch.specs.VerdictFrom.{slotRefusal};
 
 // Whether bit n of a mark byte is set. A byte has no bit 8 or above.
@@ -41,14 +42,16 @@ pub fn without(mark: u8, n: u8) -> u8
     mark & !(1 << n)
 }
 
+// How many bits of a word are set.
 fn set_bits(x: u64) -> u8
     ensures { λ r. ⌜ r ≡ ones x ⌝ }
 {
     u64::count_ones(x) as u8
 }
 
-// How many of a word's eight bytes have bit n set, for n from 0 to 7, and 0 above. Shifted and masked, each byte is 0 or 1, so that no
-// count runs into the next byte; the compiler sums them by one multiplication.
+// How many of a word's eight bytes have bit n set, for n from 0 to 7, and 0 above. Shifted and
+// masked, each byte is 0 or 1, so that no count runs into the next byte; the compiler sums them by
+// one multiplication.
 pub fn count_word(word: u64, n: u8) -> u8
     ensures { λ r. ⌜ r ≡ wordCount word n ⌝ }
 {
@@ -129,7 +132,7 @@ pub fn count_marks(marks: &[u8], n: u8) -> usize
 }
 
 // Refusal 8 of a list handed with its marks, or 0.
-pub fn handed_refusal(
+pub fn list_refusal(
     count: u16,
     marks: &[u8],
     slots: &[u16],
@@ -137,7 +140,7 @@ pub fn handed_refusal(
     layers: &[u8],
     bytes: &[u32],
 ) -> u8
-    ensures { λ r. ⌜ r ≡ handedRefusal count (now (marks .entry)) (now (slots .entry)) (now (chunks .entry)) (now (layers .entry)) (now (bytes .entry)) ⌝ }
+    ensures { λ r. ⌜ r ≡ listRefusal count (now (marks .entry)) (now (slots .entry)) (now (chunks .entry)) (now (layers .entry)) (now (bytes .entry)) ⌝ }
 {
     if marks.len() != (count as usize) {
         return 8;

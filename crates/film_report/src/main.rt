@@ -1,5 +1,7 @@
 // Reads a job on standard input and prints its report; on a refusal, `refused n`.
+use job::OVERRIDES;
 use job::Programme;
+use job::SLOTS;
 use jobrecords::JobRead;
 use libc::STDIN_FILENO;
 use libc::STDOUT_FILENO;
@@ -12,7 +14,7 @@ fn refused(n: u8) {
 }
 
 fn write_first(out: &[u8; 8192], n: usize) {
-    io::write_all(STDOUT_FILENO, parts::bytes(out, n));
+    io::write_all(STDOUT_FILENO, core_prefix::bytes(out, n));
 }
 
 fn print_report(
@@ -40,12 +42,12 @@ fn print_report(
 
 fn job_file(file: &[u8; 65537], n: usize) {
     let mut sizes = [0u32; 4];
-    let mut size_chunks = [0u16; 1996];
-    let mut size_layers = [0u8; 1996];
-    let mut size_bytes = [0u32; 1996];
-    let mut forecast = [0u32; 3600];
+    let mut size_chunks = [0u16; OVERRIDES];
+    let mut size_layers = [0u8; OVERRIDES];
+    let mut size_bytes = [0u32; OVERRIDES];
+    let mut forecast = [0u32; SLOTS];
     match jobfile::read_job(
-        parts::bytes(file, n),
+        core_prefix::bytes(file, n),
         &mut sizes,
         &mut size_chunks,
         &mut size_layers,
@@ -60,11 +62,11 @@ fn job_file(file: &[u8; 65537], n: usize) {
             slots,
         } => print_report(
             programme,
-            parts::words(&sizes, layers),
-            parts::halves(&size_chunks, overrides),
-            parts::bytes(&size_layers, overrides),
-            parts::words(&size_bytes, overrides),
-            parts::words(&forecast, slots),
+            core_prefix::words(&sizes, layers),
+            core_prefix::halves(&size_chunks, overrides),
+            core_prefix::bytes(&size_layers, overrides),
+            core_prefix::words(&size_bytes, overrides),
+            core_prefix::words(&forecast, slots),
         ),
     }
 }

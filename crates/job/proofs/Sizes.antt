@@ -1,4 +1,5 @@
--- Refusal 18 one SZ at a time, and the table of sizes one write at a time, over plain lists. Assumes nothing.
+-- Refusal 18 one SZ at a time, and the table of sizes one write at a time, over plain lists.
+-- Assumes nothing.
 use Prim.Native.Nat.{ℕ, suc, _+_, _-_, _*_, _%_, _≤_, _<_, min}
 use mathlib.Core.Path.{_≡_, refl, sym, ap, _∙_}
 use mathlib.Core.Bool.{Bool, true, false, _&&_}
@@ -10,9 +11,9 @@ use lib.Seq.{set-out}
 use borrow.Author.Tests.{lt-ltb, le-ltb}
 use Rattle.job.specs.declared.Programme.{Programme}
 use Rattle.job.specs.Job.{Override}
-use Rattle.basics.specs.Refusals.{unless}
+use Rattle.theory_basics.specs.Refusals.{unless}
 use Rattle.job.specs.Refusal.{named, sized, comes, overridesRefusal}
-use Rattle.job.specs.Handed.{overridesOf}
+use Rattle.job.specs.Input.{overridesOf}
 use Rattle.job.specs.lemmas.Run.{runs, runs-all, from, from-end, from-more}
 use Rattle.job.specs.Table.{spot, overriddenBy, tableAt}
 use Rattle.job.specs.lemmas.Table.{storedTo, length-overridden}

@@ -1,6 +1,6 @@
 pub mod Job
 pub mod Refusal
-pub mod Handed
+pub mod Input
 pub mod Table
 pub mod Uneven
 pub mod lemmas

@@ -1,6 +1,7 @@
--- Meaning, then its theorem. The refusals of a job that come from its own numbers: document 01, refusals 5, 6 and 7 of a direct call,
--- and document 02's 18, "after 6 and before 7".
--- A definition a number, 5 apart for the fields and for d(C); the whole composes them, and is 0 exactly for accepted jobs.
+-- Meaning, then its theorem. The refusals of a job that come from its own numbers: document 01,
+-- refusals 5, 6 and 7 of a direct call, and document 02's 18, "after 6 and before 7".
+-- A definition a number, 5 apart for the fields and for d(C); the whole composes them, and is 0
+-- exactly for accepted jobs.
 use Prim.Native.Nat.{ℕ, _-_, _≤_}
 use mathlib.Core.Path.{_≡_}
 use mathlib.Core.Bool.{Bool, true, not, _&&_, _||_}
@@ -9,12 +10,12 @@ use mathlib.Core.Logic.{_↔_, _⊎_, inl, inr, ⊎-elim}
 use native.Mathlib.Omega.{arith}
 use lib.ListN.{length, getD}
 use lib.Dec.{T, leb, ltb, eqb, T-not, not-T}
-use Rattle.basics.specs.Tests.{All, all}
-use Rattle.basics.specs.lemmas.Tests.{all-iff, leb-iff, ltb-iff, eqb-iff, T-or-iff, tests}
-use Rattle.basics.specs.Refusals.{unless, _orElse_}
-use Rattle.basics.specs.lemmas.Refusals.{and-as, unless-as, orElse-as}
+use Rattle.theory_basics.specs.Tests.{All, all}
+use Rattle.theory_basics.specs.lemmas.Tests.{all-iff, leb-iff, ltb-iff, eqb-iff, T-or-iff, tests}
+use Rattle.theory_basics.specs.Refusals.{unless, _orElse_}
+use Rattle.theory_basics.specs.lemmas.Refusals.{and-as, unless-as, orElse-as}
 use Rattle.job.specs.declared.Programme.{Programme}
-use Rattle.job.specs.Job.{Job, Override, Within, Named, Before, Rising, Accepted, lastDue}
+use Rattle.job.specs.Job.{Job, Override, Within, Named, OverrideBefore, Rising, Accepted, lastDue}
 
 -- lo ≤ x ≤ hi, as a test.
 abbrev pub within : ℕ → ℕ → ℕ → Bool
@@ -46,7 +47,8 @@ lastDueRefusal p = unless 5 (leb (lastDue p) 3600)
 abbrev pub sizesRefusal : List ℕ → ℕ
 sizesRefusal sizes = unless 6 (within 1 4 (length sizes) && all (within 1 16777216) sizes)
 
--- An SZ names a chunk after the first and a layer, both in the job, and a size that is not the layer's own.
+-- An SZ names a chunk after the first and a layer, both in the job, and a size that is not the
+-- layer's own.
 abbrev pub named : Programme → List ℕ → Override → Bool
 named p sizes o = within 2 (p .chunks) (o .chunk) && (ltb (o .layer) (length sizes) && not (eqb (o .bytes) (getD sizes (o .layer) 0)))
 
@@ -65,7 +67,8 @@ rising (o ∷ (q ∷ os)) = before o q && rising (q ∷ os)
 abbrev pub sized : Override → Bool
 sized o = within 1 16777216 (o .bytes)
 
--- 18: "an SZ naming chunk 1, or a chunk or layer that isn't in the job, not rising, or of size out of range or equal to the layer's own".
+-- 18: "an SZ naming chunk 1, or a chunk or layer that isn't in the job, not rising, or of size out
+-- of range or equal to the layer's own".
 abbrev pub overridesRefusal : Programme → List ℕ → List Override → ℕ
 overridesRefusal p sizes os = unless 18 (all (named p sizes) os && (rising os && all sized os))
 
@@ -126,7 +129,7 @@ named-iff p sizes o =
       λ n. u .1 (n .chunk-in, (n .layer-in, n .not-own)),
     )
 
-pub before-iff : (o q : Override) → T (before o q) ↔ Before o q
+pub before-iff : (o q : Override) → T (before o q) ↔ OverrideBefore o q
 before-iff o q =
     let less : Bool = ltb (o .chunk) (q .chunk) in
     let same : Bool = eqb (o .chunk) (q .chunk) && ltb (o .layer) (q .layer) in

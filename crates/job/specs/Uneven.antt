@@ -1,13 +1,14 @@
--- Theorems. Film with uneven chunks: how many SZs a job can have, chunk 1's own sizes, that chunks are equal exactly if there is no SZ,
--- that then their bases are, and that a call's table of sizes says the job's.
+-- Theorems. Film with uneven chunks: how many SZs a job can have, chunk 1's own sizes, that chunks
+-- are equal exactly if there is no SZ, that then their bases are, and that a call's table of sizes
+-- says the job's.
 use Prim.Native.Nat.{ℕ, _+_, _*_, _≤_}
 use mathlib.Core.Path.{_≡_, refl, sym, subst, fun-ext, _∙_}
 use mathlib.Core.List.{List, [], _∷_}
 use mathlib.Core.Logic.{_↔_, inl}
 use native.Mathlib.Omega.{arith}
 use lib.ListN.{length, getD}
-use Rattle.basics.specs.Tests.{All}
-use Rattle.basics.specs.lemmas.Tests.{all-map}
+use Rattle.theory_basics.specs.Tests.{All}
+use Rattle.theory_basics.specs.lemmas.Tests.{all-map}
 use Rattle.job.specs.Job.{Job, Override, Named, Layer, Accepted, EqualBases, EqualChunks, chunks, layers, size}
 use Rattle.job.specs.Table.{sizesTable, tableAt}
 use Rattle.job.specs.lemmas.Table.{table-says}

@@ -1,16 +1,43 @@
-// What a job is, and the checks of a job handed in a direct call: refusals 5, 6, 18 and 7, a function a number. The table of its sizes.
-// A refusal is its number, and 0 is none. An SZ is an element of each of three slices: its chunk, its layer, its size.
+// What a job is, and the checks of a job handed in a direct call: refusals 5, 6, 18 and 7, a
+// function a number. The table of its sizes. A refusal is its number, and 0 is none. An SZ is an
+// element of each of three slices: its chunk, its layer, its size.
 ghost use mathlib.Core.Path.{_≡_};
 ghost use mathlib.Core.Bool.{_&&_};
 ghost use Prim.Native.Nat.{_/_, _≤_, max, min};
 ghost use lib.ListN.{length, getD};
-ghost use Rattle.basics.specs.Tests.{all};
-ghost use Rattle.basics.specs.Refusals.{unless, _orElse_};
+ghost use Rattle.theory_basics.specs.Tests.{all};
+ghost use Rattle.theory_basics.specs.Refusals.{unless, _orElse_};
 ghost use Rattle.job.specs.Job.{dueSlot, lastDue};
 ghost use Rattle.job.specs.Refusal.{within, filmRefusal, delayRefusal, fieldsRefusal, lastDueRefusal, sizesRefusal, named, sized, comes, overridesRefusal, bytesRefusal, slotsRefusal, forecastRefusal};
-ghost use Rattle.job.specs.Handed.{overridesOf, wholeRefusal, handed, jobRefusal};
+ghost use Rattle.job.specs.Input.{overridesOf, wholeRefusal, jobInput, jobRefusal};
 ghost use Rattle.job.specs.lemmas.Greatest.{greatest};
 ghost use Rattle.job.specs.Table.{spot, ownSizes, overriddenBy, sizesTable, tableAt};
+
+// The limits of a job, as document 01 and request 8 have them: at most 500 chunks, 4 layers, 3,600
+// slots, 16,777,216 bytes in a slot or a layer.
+pub const CHUNKS: usize = 500;
+
+pub const LAYERS: usize = 4;
+
+pub const SLOTS: usize = 3600;
+
+pub const MOST_BYTES: u32 = 16777216;
+
+// A size for each layer of each chunk; an SZ for each of them but chunk 1's.
+pub const SIZES: usize = 2000;
+
+pub const OVERRIDES: usize = 1996;
+
+// A sum for each slot and one before the first.
+pub const SUMS: usize = 3601;
+
+// The most rows of a plan's own list.
+pub const ROWS: usize = 5599;
+
+// Sizes by chunk and layer, and sums by slot.
+pub type SizeTable = [u32; SIZES];
+
+pub type SlotSums = [u64; SUMS];
 
 // Document 01's C, L, s and buffer limit.
 pub struct Programme {
@@ -92,7 +119,7 @@ pub fn film_refusal(p: Programme) -> u8
 {
     let limit = is_within(0, 65535, p.limit as u32);
     let span = is_within(1, 60, p.span as u32);
-    let chunks = is_within(1, 500, p.chunks as u32);
+    let chunks = is_within(1, CHUNKS as u32, p.chunks as u32);
     refuse_unless(5, both(chunks, both(span, limit)))
 }
 
@@ -100,7 +127,7 @@ pub fn film_refusal(p: Programme) -> u8
 pub fn delay_refusal(p: Programme) -> u8
     ensures { λ r. ⌜ r ≡ delayRefusal p ⌝ }
 {
-    refuse_unless(5, is_within(1, 3600, p.delay as u32))
+    refuse_unless(5, is_within(1, SLOTS as u32, p.delay as u32))
 }
 
 // The refusal first, or where it is 0, next.
@@ -113,6 +140,7 @@ pub fn or_else(first: u8, next: u8) -> u8
     first
 }
 
+// 5 for a field of the programme out of range.
 pub fn fields_refusal(p: Programme) -> u8
     ensures { λ r. ⌜ r ≡ fieldsRefusal p ⌝ }
 {
@@ -123,9 +151,10 @@ pub fn fields_refusal(p: Programme) -> u8
 pub fn last_due_refusal(p: Programme) -> u8
     ensures { λ r. ⌜ r ≡ lastDueRefusal p ⌝ }
 {
-    refuse_unless(5, last_due(p) <= 3600)
+    refuse_unless(5, last_due(p) <= SLOTS)
 }
 
+// Every number is at least lo and at most hi.
 fn all_within(lo: u32, hi: u32, s: &[u32]) -> bool
     ensures { λ r. ⌜ r ≡ all (within lo hi) (now (s .entry)) ⌝ }
 {
@@ -149,8 +178,8 @@ pub fn sizes_refusal(sizes: &[u32]) -> u8
 {
     let n = sizes.len();
     let few = 1 <= n;
-    let many = n <= 4;
-    refuse_unless(6, both(both(few, many), all_within(1, 16777216, sizes)))
+    let many = n <= LAYERS;
+    refuse_unless(6, both(both(few, many), all_within(1, MOST_BYTES, sizes)))
 }
 
 // The greatest of the numbers, without a branch in the loop: a forecast has up to 3,600.
@@ -179,7 +208,7 @@ fn larger(a: u32, b: u32) -> u32
 pub fn bytes_refusal(forecast: &[u32]) -> u8
     ensures { λ r. ⌜ r ≡ bytesRefusal (now (forecast .entry)) ⌝ }
 {
-    refuse_unless(7, most(forecast) <= 16777216)
+    refuse_unless(7, most(forecast) <= MOST_BYTES)
 }
 
 // 7: a slot total other than d(C).
@@ -189,6 +218,7 @@ pub fn slots_refusal(p: Programme, forecast: &[u32]) -> u8
     refuse_unless(7, forecast.len() == last_due(p))
 }
 
+// 7 for bytes out of range, then for a number of slots other than d(C).
 pub fn forecast_refusal(p: Programme, forecast: &[u32]) -> u8
     ensures { λ r. ⌜ r ≡ forecastRefusal p (now (forecast .entry)) ⌝ }
 {
@@ -202,6 +232,7 @@ fn fewest(a: usize, b: usize, c: usize) -> usize
     fewer(a, fewer(b, c))
 }
 
+// What is left of a after b, or 0.
 fn fewer(a: usize, b: usize) -> usize
     ensures { λ r. ⌜ r ≡ min a b ⌝ }
 {
@@ -231,8 +262,8 @@ fn comes_before(c: u16, l: u8, chunk: u16, layer: u8) -> bool
     false
 }
 
-// An SZ that is in order: its chunk after the first and its layer, both in the job, its size in range and not the layer's own, and it
-// comes after layer l of chunk c, the one before it.
+// An SZ that is in order: its chunk after the first and its layer, both in the job, its size in
+// range and not the layer's own, and it comes after layer l of chunk c, the one before it.
 fn in_order(p: Programme, sizes: &[u32], c: u16, l: u8, chunk: u16, layer: u8, size: u32) -> bool
     ensures { λ r. ⌜ r ≡ (named p (now (sizes .entry)) (record { chunk = chunk; layer = layer; bytes = size }) && sized (record { chunk = chunk; layer = layer; bytes = size })) && comes c l chunk layer ⌝ }
 {
@@ -241,7 +272,7 @@ fn in_order(p: Programme, sizes: &[u32], c: u16, l: u8, chunk: u16, layer: u8, s
     let film = is_within(2, p.chunks as u32, chunk as u32);
     let named = both(film, both(n < sizes.len(), size != own));
     both(
-        both(named, is_within(1, 16777216, size)),
+        both(named, is_within(1, MOST_BYTES, size)),
         comes_before(c, l, chunk, layer),
     )
 }
@@ -268,7 +299,8 @@ pub fn overrides_refusal(p: Programme, sizes: &[u32], cs: &[u16], ls: &[u8], bs:
     0
 }
 
-// Refusals 5, 6, 18 and 7 of a direct call, in that order; 0 exactly for an accepted job whose SZs are handed whole.
+// Refusals 5, 6, 18 and 7 of a direct call, in that order; 0 exactly for an accepted job whose SZs
+// are handed whole.
 pub fn refusal(
     p: Programme,
     sizes: &[u32],
@@ -277,7 +309,7 @@ pub fn refusal(
     size_bytes: &[u32],
     forecast: &[u32],
 ) -> u8
-    ensures { λ r. ⌜ r ≡ jobRefusal (handed p (now (sizes .entry)) (now («size_chunks» .entry)) (now («size_layers» .entry)) (now («size_bytes» .entry)) (now (forecast .entry))) ⌝ }
+    ensures { λ r. ⌜ r ≡ jobRefusal (jobInput p (now (sizes .entry)) (now («size_chunks» .entry)) (now («size_layers» .entry)) (now («size_bytes» .entry)) (now (forecast .entry))) ⌝ }
 {
     let seven = forecast_refusal(p, forecast);
     let named = overrides_refusal(p, sizes, size_chunks, size_layers, size_bytes);
@@ -298,11 +330,11 @@ fn spot_of(i: u16, n: usize) -> usize
     if i == 0 {
         return n;
     }
-    (i as usize - 1) * 4 + n
+    (i as usize - 1) * LAYERS + n
 }
 
 // The layers' own sizes, for 500 chunks.
-fn fill_own(sizes: &[u32], table: &mut [u32; 2000])
+fn fill_own(sizes: &[u32], table: &mut SizeTable)
     ensures { λ _. ⌜ (length (now (table .entry)) ≡ 2000 → now (table .exit) ≡ ownSizes (now (sizes .entry))) ⌝ }
 {
     let a = own_size(sizes, 0);
@@ -310,7 +342,7 @@ fn fill_own(sizes: &[u32], table: &mut [u32; 2000])
     let c = own_size(sizes, 2);
     let d = own_size(sizes, 3);
     let mut k: usize = 0;
-    while k < 2000 {
+    while k < SIZES {
         let k1 = k + 1;
         let k2 = k + 2;
         let k3 = k + 3;
@@ -318,19 +350,19 @@ fn fill_own(sizes: &[u32], table: &mut [u32; 2000])
         table[k1] = b;
         table[k2] = c;
         table[k3] = d;
-        k = k + 4;
+        k = k + LAYERS;
     }
 }
 
 // The SZs, from the last to the first. One that has no place is not written.
-fn write_over(cs: &[u16], ls: &[u8], bs: &[u32], table: &mut [u32; 2000])
+fn write_over(cs: &[u16], ls: &[u8], bs: &[u32], table: &mut SizeTable)
     ensures { λ _. ⌜ (length (now (table .entry)) ≡ 2000 → now (table .exit) ≡ overriddenBy (overridesOf (now (cs .entry)) (now (ls .entry)) (now (bs .entry))) (now (table .entry))) ⌝ }
 {
     let mut i = fewest(cs.len(), ls.len(), bs.len());
     while 0 < i {
         let k = i - 1;
         let at = spot_of(cs[k], ls[k] as usize);
-        if at < 2000 {
+        if at < SIZES {
             table[at] = bs[k];
             i = k;
         } else {
@@ -340,20 +372,21 @@ fn write_over(cs: &[u16], ls: &[u8], bs: &[u32], table: &mut [u32; 2000])
 }
 
 // The table of all sizes, which a call fills once: read it by size_at.
-pub fn fill_sizes(sizes: &[u32], cs: &[u16], ls: &[u8], bs: &[u32], table: &mut [u32; 2000])
+pub fn fill_sizes(sizes: &[u32], cs: &[u16], ls: &[u8], bs: &[u32], table: &mut SizeTable)
     ensures { λ _. ⌜ (length (now (table .entry)) ≡ 2000 → now (table .exit) ≡ sizesTable (now (sizes .entry)) (overridesOf (now (cs .entry)) (now (ls .entry)) (now (bs .entry)))) ⌝ }
 {
     fill_own(sizes, table);
     write_over(cs, ls, bs, table);
 }
 
-// The bytes of layer n of chunk i, out of the table of all sizes. For an accepted job this is its size, for every chunk and layer.
-pub fn size_at(table: &[u32; 2000], i: u16, n: usize) -> u32
+// The bytes of layer n of chunk i, out of the table of all sizes. For an accepted job this is its
+// size, for every chunk and layer.
+pub fn size_at(table: &SizeTable, i: u16, n: usize) -> u32
     ensures { λ r. ⌜ r ≡ tableAt (now (table .entry)) i n ⌝ }
 {
-    if n < 4 {
+    if n < LAYERS {
         let at = spot_of(i, n);
-        if at < 2000 {
+        if at < SIZES {
             return table[at];
         }
         return table[n];

@@ -5,16 +5,16 @@ use mathlib.Core.List.{List, [], _∷_, _++_, map, append-assoc}
 use native.Mathlib.Omega.{arith}
 use lib.ListN.{length, length-append}
 use borrow.Author.Tests.{ne-eqb, le-leb, lt-leb}
-use Rattle.basics.specs.Refusals.{_orElse_}
-use Rattle.basics.specs.lemmas.Refusals.{orElse-none, orElse-some}
+use Rattle.theory_basics.specs.Refusals.{_orElse_}
+use Rattle.theory_basics.specs.lemmas.Refusals.{orElse-none, orElse-some}
 use Rattle.job.specs.Job.{Job, Accepted}
-use Rattle.job.specs.Handed.{HandedJob, WholeSizes, jobIn, jobRefusal, handed-iff, overridesOf}
+use Rattle.job.specs.Input.{JobInput, WholeSizes, jobIn, jobRefusal, input-iff, overridesOf}
 use Rattle.jobrecords.specs.declared.Record.the-variants.{Pg}
 use Rattle.jobfile.specs.declared.Written.{Written}
 use Rattle.jobfile.specs.declared.Written.the-variants.{Bytes, Refused}
 use Rattle.jobrecords.specs.Records.{EN, encode}
 use Rattle.jobfile.specs.Writer.{runs, layerRecord, overrideRecord, runRecord, jobFile, longRefusal, shortRefusal, writeRefusal, writeAnswer, fileWritten}
-use Rattle.jobfile.specs.lemmas.Puts.{Puts, bytesOf, bytes-append, puts-then, length-puts}
+use Rattle.jobfile.specs.lemmas.Puts.{Puts, recordsBytes, bytes-append, puts-then, length-puts}
 use Rattle.records.specs.lemmas.Puts.{written-fits}
 use Rattle.jobfile.specs.lemmas.FileLength.{file-length, short-file}
 
@@ -25,33 +25,33 @@ overrides-long (c ∷ cs) [] bs e f = absurd (omega arith)
 overrides-long (c ∷ cs) (l ∷ ls) [] e f = absurd (omega arith)
 overrides-long (c ∷ cs) (l ∷ ls) (b ∷ bs) e f = ap suc (overrides-long cs ls bs (omega arith) (omega arith))
 
-module _ (h : HandedJob) (out : List ℕ) where
+module _ (h : JobInput) (out : List ℕ) where
   abbrev j : Job
   j = jobIn h
 
   -- What the writer hands over.
-  pub record Handed (r : Written) (out′ : List ℕ) : Type 0 where
+  pub record WriteOutput (r : Written) (out′ : List ℕ) : Type 0 where
     pub answer : r ≡ writeAnswer h (length out)
     pub buffer : out′ ≡ fileWritten h out
 
-  refused : (n : ℕ) → writeRefusal h (length out) ≡ n → (n ≡ 0 → ⊥) → Handed (Refused n) out
+  refused : (n : ℕ) → writeRefusal h (length out) ≡ n → (n ≡ 0 → ⊥) → WriteOutput (Refused n) out
   unfolding writeAnswer fileWritten
   refused n e some = record { answer = rw (e, ne-eqb n 0 some); buffer = rw (e, ne-eqb n 0 some) }
 
   -- 5, 6, 18 or 7.
-  pub handed-wrong : (n : ℕ) → n ≡ jobRefusal h → (n ≡ 0 → ⊥) → Handed (Refused n) out
-  handed-wrong n e some = refused n (orElse-some (jobRefusal h) (longRefusal j orElse shortRefusal j (length out)) (λ y. some (e ∙ y)) ∙ sym e) some
+  pub output-refused : (n : ℕ) → n ≡ jobRefusal h → (n ≡ 0 → ⊥) → WriteOutput (Refused n) out
+  output-refused n e some = refused n (orElse-some (jobRefusal h) (longRefusal j orElse shortRefusal j (length out)) (λ y. some (e ∙ y)) ∙ sym e) some
 
   module _ (none : jobRefusal h ≡ 0) where
     pub whole : WholeSizes (h .size-chunks) (h .size-layers) (h .size-bytes)
-    whole = handed-iff h .0 none .0
+    whole = input-iff h .0 none .0
 
     -- As many bytes as the lengths of the slices and the number of runs say.
     pub bytes-count : length (jobFile j) ≡ 12 + 6 * length (h .sizes) + 9 * length (h .size-chunks) + 8 * length (runs (h .forecast))
     bytes-count = omega (arith, file-length j, overrides-long (h .size-chunks) (h .size-layers) (h .size-bytes) (whole .layer-each) (whole .bytes-each))
 
     pub good : Accepted j
-    good = handed-iff h .0 none .1
+    good = input-iff h .0 none .1
 
     pub few-bytes : 12 + 6 * length (h .sizes) + 9 * length (h .size-chunks) + 8 * length (runs (h .forecast)) ≤ 46800
     few-bytes = omega (arith, bytes-count, short-file j good)
@@ -62,12 +62,12 @@ module _ (h : HandedJob) (out : List ℕ) where
         orElse-none (jobRefusal h) (longRefusal j orElse shortRefusal j (length out)) none
         ∙ orElse-none (longRefusal j) (shortRefusal j (length out)) (rw (le-leb (length (jobFile j)) 65536 (omega (arith, short-file j good))))
 
-    pub handed-short : length out < length (jobFile j) → Handed (Refused 11) out
-    handed-short l = refused 11 (by-room ∙ rw (lt-leb (length (jobFile j)) (length out) l)) (λ y. omega arith)
+    pub output-short : length out < length (jobFile j) → WriteOutput (Refused 11) out
+    output-short l = refused 11 (by-room ∙ rw (lt-leb (length (jobFile j)) (length out) l)) (λ y. omega arith)
 
-    pub handed-file : length (jobFile j) ≤ length out → (out′ : List ℕ) (next : ℕ) → Puts out 0 (jobFile j) out′ next → Handed (Bytes next) out′
+    pub output-file : length (jobFile j) ≤ length out → (out′ : List ℕ) (next : ℕ) → Puts out 0 (jobFile j) out′ next → WriteOutput (Bytes next) out′
     unfolding writeAnswer fileWritten
-    handed-file l out′ next p =
+    output-file l out′ next p =
         let e : writeRefusal h (length out) ≡ 0 = by-room ∙ rw (le-leb (length (jobFile j)) (length out) l) in
         let n : 0 + length (jobFile j) ≡ length (jobFile j) = omega arith in
         record {
@@ -79,15 +79,15 @@ module _ (h : HandedJob) (out : List ℕ) where
 
 -- PG, the layers, the SZs, the runs, EN.
 pub file-parts :
-    (j : Job) → jobFile j ≡ encode (Pg (j .programme)) ++ bytesOf (map layerRecord (j .sizes)) ++ bytesOf (map overrideRecord (j .overrides)) ++ bytesOf (map runRecord (runs (j .forecast))) ++ EN
+    (j : Job) → jobFile j ≡ encode (Pg (j .programme)) ++ recordsBytes (map layerRecord (j .sizes)) ++ recordsBytes (map overrideRecord (j .overrides)) ++ recordsBytes (map runRecord (runs (j .forecast))) ++ EN
 unfolding jobFile
 file-parts j =
     let a = map layerRecord (j .sizes) in
     let b = map overrideRecord (j .overrides) in
     let c = map runRecord (runs (j .forecast)) in
     let pg = encode (Pg (j .programme)) in
-    ap (λ (l : List ℕ). (pg ++ l) ++ EN) (bytes-append a (b ++ c) ∙ ap (λ (l : List ℕ). bytesOf a ++ l) (bytes-append b c) ∙ sym (append-assoc (bytesOf a) (bytesOf b) (bytesOf c)))
-    ∙ ap (λ (l : List ℕ). l ++ EN) (sym (append-assoc pg (bytesOf a ++ bytesOf b) (bytesOf c)) ∙ ap (λ (l : List ℕ). l ++ bytesOf c) (sym (append-assoc pg (bytesOf a) (bytesOf b))))
+    ap (λ (l : List ℕ). (pg ++ l) ++ EN) (bytes-append a (b ++ c) ∙ ap (λ (l : List ℕ). recordsBytes a ++ l) (bytes-append b c) ∙ sym (append-assoc (recordsBytes a) (recordsBytes b) (recordsBytes c)))
+    ∙ ap (λ (l : List ℕ). l ++ EN) (sym (append-assoc pg (recordsBytes a ++ recordsBytes b) (recordsBytes c)) ∙ ap (λ (l : List ℕ). l ++ recordsBytes c) (sym (append-assoc pg (recordsBytes a) (recordsBytes b))))
 
 -- Five parts, one after the other from the start of a buffer that has room for them.
 module _ (whole a b c d e : List ℕ) (is : whole ≡ a ++ b ++ c ++ d ++ e) (out : List ℕ) (fits : length whole ≤ length out) where

@@ -1,5 +1,6 @@
--- Theorems. Job files in one sequence: demand 2, "Job and plan files read back as the job and plan written", and document 02, request 6,
--- "Each job then has a single file". `fileRefusal` and `jobOfFile` are what the reader's contract cites, `jobFile` what the writer's does.
+-- Theorems. Job files in one sequence: demand 2, "Job and plan files read back as the job and plan
+-- written", and document 02, request 6, "Each job then has a single file". `fileRefusal` and
+-- `jobOfFile` are what the reader's contract cites, `jobFile` what the writer's does.
 use Prim.Native.Nat.{ℕ, _+_, _≤_}
 use mathlib.Core.Path.{_≡_, refl, sym, ap, subst, _∙_}
 use mathlib.Core.List.{List, _++_}
@@ -7,7 +8,7 @@ use mathlib.Core.Logic.{_↔_}
 use native.Mathlib.Omega.{arith}
 use lib.ListN.{length}
 use borrow.Author.Tests.{le-leb}
-use Rattle.basics.specs.lemmas.Refusals.{orElse-none}
+use Rattle.theory_basics.specs.lemmas.Refusals.{orElse-none}
 use Rattle.records.specs.Fields.{Bytes}
 use Rattle.records.specs.File.{split, encodeAll}
 use Rattle.records.specs.lemmas.Written.{split-written, refusal-written}
@@ -17,7 +18,7 @@ use Rattle.jobrecords.specs.declared.Record.{Record}
 use Rattle.jobrecords.specs.declared.Record.the-variants.{En}
 use Rattle.jobrecords.specs.Records.{encode}
 use Rattle.jobrecords.specs.Refusal.{oneSequence, format, refusalOf, jobOfFile}
-use Rattle.jobrecords.specs.Reader.{Buffers, roomRefusal, jobAnswer, readRefusal, readAnswer, lentBy, lentRead}
+use Rattle.jobrecords.specs.Reader.{Buffers, roomRefusal, jobAnswer, jobReadRefusal, readAnswer, lentBy, lentRead}
 use Rattle.jobrecords.specs.Theorems.{file-accepted}
 use Rattle.jobrecords.specs.lemmas.Clean.{taken}
 use Rattle.jobrecords.specs.lemmas.Exact.{exact, file-bytes}
@@ -41,7 +42,8 @@ pub reads-back : (j : Job) → Accepted j → jobOfFile oneSequence (jobFile j) 
 unfolding jobFile
 reads-back j a = rw (split-written (format oneSequence) encode En end-back refl (recordsOf j) (records-back j a)) (job-back j)
 
--- So the reader, lent enough room, answers with the job that was written, and its sizes, SZs and forecast stand in the buffers.
+-- So the reader, lent enough room, answers with the job that was written, and its sizes, SZs and
+-- forecast stand in the buffers.
 pub record ReadAgain (j : Job) (lent : Buffers) : Type 0 where
   pub answer : readAnswer oneSequence (jobFile j) lent ≡ jobAnswer j
   pub buffers-are : lentRead oneSequence (jobFile j) lent ≡ lentBy 0 j lent
@@ -50,7 +52,7 @@ pub read-again : (j : Job) (lent : Buffers) → Accepted j → roomRefusal j len
 unfolding readAnswer lentRead
 read-again j lent a room =
     let back = reads-back j a in
-    let none : readRefusal oneSequence (jobFile j) lent ≡ 0 =
+    let none : jobReadRefusal oneSequence (jobFile j) lent ≡ 0 =
     orElse-none (refusalOf oneSequence (jobFile j)) (roomRefusal (jobOfFile oneSequence (jobFile j)) lent) (never-refused j a)
     ∙ ap (λ (i : Job). roomRefusal i lent) back
     ∙ room in

@@ -1,18 +1,19 @@
--- Meaning. The job file that the writer puts, its answer and the lent buffer afterwards: document 01, "The job writer puts PG, the LYs,
--- then one BW per longest run", document 02, "`SZ` records stand between the `LY` and the `BW` ones", and the refusals of direct calls,
--- "5, 6, 7, .. and a writer then 9", with 18 after 6, then 11.
+-- Meaning. The job file that the writer puts, its answer and the lent buffer afterwards: document
+-- 01, "The job writer puts PG, the LYs, then one BW per longest run", document 02, "`SZ` records
+-- stand between the `LY` and the `BW` ones", and the refusals of direct calls, "5, 6, 7, .. and a
+-- writer then 9", with 18 after 6, then 11.
 use Prim.Native.Nat.{ℕ, suc, _≤_}
 use mathlib.Core.Path.{_≡_}
 use mathlib.Core.Bool.{cond}
 use mathlib.Core.List.{List, [], _∷_, _++_, map}
 use lib.ListN.{length}
 use lib.Dec.{leb, eqb}
-use Rattle.basics.specs.Lent.{lentAfter}
-use Rattle.basics.specs.Tests.{All}
-use Rattle.basics.specs.Refusals.{unless, _orElse_}
+use Rattle.theory_basics.specs.Lent.{lentAfter}
+use Rattle.theory_basics.specs.Tests.{All}
+use Rattle.theory_basics.specs.Refusals.{unless, _orElse_}
 use Rattle.records.specs.File.{encodeAll}
 use Rattle.job.specs.Job.{Job, Override}
-use Rattle.job.specs.Handed.{HandedJob, jobIn, jobRefusal}
+use Rattle.job.specs.Input.{JobInput, jobIn, jobRefusal}
 use Rattle.jobrecords.specs.declared.Record.{Record}
 use Rattle.jobrecords.specs.declared.Record.the-variants.{Pg, Ly, Sz, Bw, En}
 use Rattle.jobfile.specs.declared.Written.{Written}
@@ -59,11 +60,11 @@ runRecord r = Bw (r .count) (r .bytes)
 abbrev pub bodyOf : List ℕ → List Override → List ℕ → List Record
 bodyOf sizes overrides forecast = map layerRecord sizes ++ (map overrideRecord overrides ++ map runRecord (runs forecast))
 
--- PG and these.
+-- All records of the job but EN: PG, LYs, SZs, BWs.
 abbrev pub recordsOf : Job → List Record
 recordsOf j = Pg (j .programme) ∷ bodyOf (j .sizes) (j .overrides) (j .forecast)
 
--- Those records and EN.
+-- The file of a job: its records, then EN.
 unfoldable pub jobFile : Job → List ℕ
 jobFile j = encodeAll encode (recordsOf j) ++ encode En
 
@@ -76,12 +77,12 @@ abbrev pub shortRefusal : Job → ℕ → ℕ
 shortRefusal j room = unless 11 (leb (length (jobFile j)) room)
 
 -- The refusal of a job as handed, to be written into a buffer of so many bytes: 5, 6, 18, 7, 9, 11.
-abbrev pub writeRefusal : HandedJob → ℕ → ℕ
+abbrev pub writeRefusal : JobInput → ℕ → ℕ
 writeRefusal h room = jobRefusal h orElse longRefusal (jobIn h) orElse shortRefusal (jobIn h) room
 
 -- The answer, and the buffer afterwards.
-unfoldable pub writeAnswer : HandedJob → ℕ → Written
+unfoldable pub writeAnswer : JobInput → ℕ → Written
 writeAnswer h room = cond (eqb (writeRefusal h room) 0) (Bytes (length (jobFile (jobIn h)))) (Refused (writeRefusal h room))
 
-unfoldable pub fileWritten : HandedJob → List ℕ → List ℕ
+unfoldable pub fileWritten : JobInput → List ℕ → List ℕ
 fileWritten h out = lentAfter (writeRefusal h (length out)) (jobFile (jobIn h)) out

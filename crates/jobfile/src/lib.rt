@@ -1,16 +1,17 @@
-// Job files, document 02's request 6: a reader of files in one sequence and a writer of any job, into lent buffers that a refusal leaves
-// as they are. What the reader takes is what the writer puts, byte for byte. The reading is crate jobrecords'.
+// Job files, document 02's request 6: a reader of files in one sequence and a writer of any job,
+// into lent buffers that a refusal leaves as they are. What the reader takes is what the writer
+// puts, byte for byte. The reading is crate jobrecords'.
 ghost use mathlib.Core.Path.{_≡_};
 ghost use Prim.Native.Nat.{_+_, _≤_, _<_};
-ghost use mathlib.Core.List.{map};
+ghost use mathlib.Core.List.{[], map};
 ghost use lib.ListN.{length};
 ghost use Rattle.records.specs.Fields.{h, w};
-ghost use Rattle.job.specs.Handed.{WholeSizes, handed, jobIn, overridesOf};
+ghost use Rattle.job.specs.Input.{WholeSizes, jobInput, jobIn, overridesOf};
 ghost use Rattle.jobrecords.specs.declared.Record.the-variants.{Pg, Ly, Sz, Bw};
 ghost use Rattle.jobrecords.specs.Records.{b, encode};
-ghost use Rattle.jobrecords.specs.Refusal.{oneSequence};
+ghost use Rattle.jobrecords.specs.Refusal.{mixed, oneSequence};
 ghost use Rattle.jobrecords.specs.Reader.{buffers, readAnswer, lentRead};
-ghost use Rattle.jobfile.specs.lemmas.Puts.{Puts, bytesOf};
+ghost use Rattle.jobfile.specs.lemmas.Puts.{Puts, recordsBytes};
 ghost use Rattle.jobfile.specs.Writer.{runs, layerRecord, overrideRecord, runRecord, jobFile, writeAnswer, fileWritten};
 ghost use Rattle.jobfile.specs.lemmas.Runs.{runEnd};
 use job::Programme;
@@ -22,8 +23,9 @@ pub enum Written {
     Refused(u8),
 }
 
-// Reads a job file in one sequence into the lent sizes, SZs and forecast. Refusals: 9, then record by record, 17 between 4 and the ranges, at
-// EN 3, 4, 6, 18, 7; then 11 where a buffer is shorter than the job's sizes, SZs or slots. On a refusal every buffer stays as it is.
+// Reads a job file in one sequence into the lent sizes, SZs and forecast. Refusals: 9, then record
+// by record, 17 between 4 and the ranges, at EN 3, 4, 6, 18, 7; then 11 where a buffer is shorter
+// than the job's sizes, SZs or slots. On a refusal every buffer stays as it is.
 pub fn read_job(
     file: &[u8],
     sizes: &mut [u32],
@@ -48,6 +50,17 @@ pub fn read_job(
         size_bytes,
         forecast,
     )
+}
+
+// Reads a mixed job file, which has no SZ, into the lent sizes and forecast. Refusals: 9, then
+// record by record, at EN 3, 4, 6, 7; then 11 where a buffer is shorter than the job's sizes or
+// slots. On a refusal both buffers stay as they are.
+pub fn read_mixed_job(file: &[u8], sizes: &mut [u32], forecast: &mut [u32]) -> JobRead
+    ensures answer { λ r. ⌜ r ≡ readAnswer mixed (now (file .entry)) (buffers (now (sizes .entry)) [] [] [] (now (forecast .entry))) ⌝ }
+    ensures sizes { λ r. ⌜ now (sizes .exit) ≡ lentRead mixed (now (file .entry)) (buffers (now (sizes .entry)) [] [] [] (now (forecast .entry))) .sizes ⌝ }
+    ensures forecast { λ r. ⌜ now (forecast .exit) ≡ lentRead mixed (now (file .entry)) (buffers (now (sizes .entry)) [] [] [] (now (forecast .entry))) .forecast ⌝ }
+{
+    jobrecords::read_job(false, file, sizes, &mut [], &mut [], &mut [], forecast)
 }
 
 // Bytes go to a place of a buffer; the answer is the place after them.
@@ -164,8 +177,8 @@ fn count_runs(forecast: &[u32]) -> usize
 
 // The LYs.
 fn put_layers(out: &mut [u8], at: usize, sizes: &[u32]) -> usize
-    requires { ⌜ at + length (bytesOf (map layerRecord (now sizes))) ≤ length (now out) ⌝ }
-    ensures { λ r. ⌜ Puts (now (out .entry)) at (bytesOf (map layerRecord (now (sizes .entry)))) (now (out .exit)) r ⌝ }
+    requires { ⌜ at + length (recordsBytes (map layerRecord (now sizes))) ≤ length (now out) ⌝ }
+    ensures { λ r. ⌜ Puts (now (out .entry)) at (recordsBytes (map layerRecord (now (sizes .entry)))) (now (out .exit)) r ⌝ }
 {
     let mut next = at;
     let mut i: usize = 0;
@@ -179,8 +192,8 @@ fn put_layers(out: &mut [u8], at: usize, sizes: &[u32]) -> usize
 // The SZs, handed whole.
 fn put_overrides(out: &mut [u8], at: usize, cs: &[u16], ls: &[u8], bs: &[u32]) -> usize
     requires { ⌜ WholeSizes (now cs) (now ls) (now bs) ⌝ }
-    requires { ⌜ at + length (bytesOf (map overrideRecord (overridesOf (now cs) (now ls) (now bs)))) ≤ length (now out) ⌝ }
-    ensures { λ r. ⌜ Puts (now (out .entry)) at (bytesOf (map overrideRecord (overridesOf (now (cs .entry)) (now (ls .entry)) (now (bs .entry))))) (now (out .exit)) r ⌝ }
+    requires { ⌜ at + length (recordsBytes (map overrideRecord (overridesOf (now cs) (now ls) (now bs)))) ≤ length (now out) ⌝ }
+    ensures { λ r. ⌜ Puts (now (out .entry)) at (recordsBytes (map overrideRecord (overridesOf (now (cs .entry)) (now (ls .entry)) (now (bs .entry))))) (now (out .exit)) r ⌝ }
 {
     let mut next = at;
     let mut i: usize = 0;
@@ -193,9 +206,9 @@ fn put_overrides(out: &mut [u8], at: usize, cs: &[u16], ls: &[u8], bs: &[u32]) -
 
 // One BW per longest run.
 fn put_runs(out: &mut [u8], at: usize, forecast: &[u32]) -> usize
-    requires { ⌜ at + length (bytesOf (map runRecord (runs (now forecast)))) ≤ length (now out) ⌝ }
+    requires { ⌜ at + length (recordsBytes (map runRecord (runs (now forecast)))) ≤ length (now out) ⌝ }
     requires { ⌜ length (now forecast) < 65536 ⌝ }
-    ensures { λ r. ⌜ Puts (now (out .entry)) at (bytesOf (map runRecord (runs (now (forecast .entry))))) (now (out .exit)) r ⌝ }
+    ensures { λ r. ⌜ Puts (now (out .entry)) at (recordsBytes (map runRecord (runs (now (forecast .entry))))) (now (out .exit)) r ⌝ }
 {
     let mut next = at;
     let mut i: usize = 0;
@@ -219,9 +232,9 @@ fn put_job(
     out: &mut [u8],
 ) -> usize
     requires { ⌜ WholeSizes (now «size_chunks») (now «size_layers») (now «size_bytes») ⌝ }
-    requires { ⌜ length (jobFile (jobIn (handed p (now sizes) (now «size_chunks») (now «size_layers») (now «size_bytes») (now forecast)))) ≤ length (now out) ⌝ }
+    requires { ⌜ length (jobFile (jobIn (jobInput p (now sizes) (now «size_chunks») (now «size_layers») (now «size_bytes») (now forecast)))) ≤ length (now out) ⌝ }
     requires { ⌜ length (now forecast) < 65536 ⌝ }
-    ensures { λ r. ⌜ Puts (now (out .entry)) 0 (jobFile (jobIn (handed p (now (sizes .entry)) (now («size_chunks» .entry)) (now («size_layers» .entry)) (now («size_bytes» .entry)) (now (forecast .entry))))) (now (out .exit)) r ⌝ }
+    ensures { λ r. ⌜ Puts (now (out .entry)) 0 (jobFile (jobIn (jobInput p (now (sizes .entry)) (now («size_chunks» .entry)) (now («size_layers» .entry)) (now («size_bytes» .entry)) (now (forecast .entry))))) (now (out .exit)) r ⌝ }
 {
     let layers = put_programme(out, 0, p);
     let overrides = put_layers(out, layers, sizes);
@@ -230,8 +243,9 @@ fn put_job(
     put_bytes(out, end, b"EN")
 }
 
-// Writes the file of a job into a lent buffer. Refusals: 5, 6, 18, 7, then 11 where the buffer is shorter than the file; 9 can't happen to
-// an accepted job, whose file has at most 46,800 bytes. On a refusal the buffer stays as it is.
+// Writes the file of a job into a lent buffer. Refusals: 5, 6, 18, 7, then 11 where the buffer is
+// shorter than the file; 9 can't happen to an accepted job, whose file has at most 46,800 bytes. On
+// a refusal the buffer stays as it is.
 pub fn write_job(
     p: Programme,
     sizes: &[u32],
@@ -241,8 +255,8 @@ pub fn write_job(
     forecast: &[u32],
     out: &mut [u8],
 ) -> Written
-    ensures answer { λ r. ⌜ r ≡ writeAnswer (handed p (now (sizes .entry)) (now («size_chunks» .entry)) (now («size_layers» .entry)) (now («size_bytes» .entry)) (now (forecast .entry))) (length (now (out .entry))) ⌝ }
-    ensures buffer { λ r. ⌜ now (out .exit) ≡ fileWritten (handed p (now (sizes .entry)) (now («size_chunks» .entry)) (now («size_layers» .entry)) (now («size_bytes» .entry)) (now (forecast .entry))) (now (out .entry)) ⌝ }
+    ensures answer { λ r. ⌜ r ≡ writeAnswer (jobInput p (now (sizes .entry)) (now («size_chunks» .entry)) (now («size_layers» .entry)) (now («size_bytes» .entry)) (now (forecast .entry))) (length (now (out .entry))) ⌝ }
+    ensures buffer { λ r. ⌜ now (out .exit) ≡ fileWritten (jobInput p (now (sizes .entry)) (now («size_chunks» .entry)) (now («size_layers» .entry)) (now («size_bytes» .entry)) (now (forecast .entry))) (now (out .entry)) ⌝ }
 {
     let n = job::refusal(p, sizes, size_chunks, size_layers, size_bytes, forecast);
     if n != 0 {

@@ -1,4 +1,5 @@
--- Lemmas. The answer of the reader and the lent buffers afterwards, by what the loop found. Assumes nothing.
+-- Lemmas. The answer of the reader and the lent buffers afterwards, by what the loop found. Assumes
+-- nothing.
 use Prim.Native.Nat.{ℕ, _+_, _*_, _-_, _≤_, _<_}
 use mathlib.Core.Path.{_≡_, sym, ap, _∙_}
 use mathlib.Core.Bool.{Bool, _&&_}
@@ -8,21 +9,21 @@ use lib.ListN.{length, take}
 use lib.Seq.{length-take-le}
 use lib.Dec.{leb}
 use borrow.Author.Tests.{ne-eqb, le-leb, lt-leb}
-use Rattle.basics.specs.Lent.{over}
-use Rattle.basics.specs.Refusals.{unless}
-use Rattle.basics.specs.lemmas.Tests.{and-T, leb-iff}
-use Rattle.basics.specs.lemmas.Refusals.{unless-iff, orElse-none, orElse-some}
+use Rattle.theory_basics.specs.Lent.{over}
+use Rattle.theory_basics.specs.Refusals.{unless}
+use Rattle.theory_basics.specs.lemmas.Tests.{and-T, leb-iff}
+use Rattle.theory_basics.specs.lemmas.Refusals.{unless-iff, orElse-none, orElse-some}
 use Rattle.records.specs.File.{recordsRefusal, fileRefusal}
 use Rattle.job.specs.Job.{Job}
-use Rattle.job.specs.Handed.{chunksOf, layersOf, bytesOf}
+use Rattle.job.specs.Input.{overrideChunks, overrideLayers, overrideBytes}
 use Rattle.jobrecords.specs.declared.JobRead.{JobRead}
 use Rattle.jobrecords.specs.declared.JobRead.the-variants as jobRead
-use Rattle.jobrecords.specs.declared.Sofar.{Sofar}
+use Rattle.jobrecords.specs.declared.Progress.{Progress}
 use Rattle.jobrecords.specs.declared.Ending.{Ending}
 use Rattle.jobrecords.specs.declared.Ending.the-variants.{Whole, Broken}
 use Rattle.jobrecords.specs.Refusal.{format, refusalOf, jobOfFile}
-use Rattle.jobrecords.specs.Reader.{Buffers, buffers, roomRefusal, jobAnswer, lentBy, readRefusal, readAnswer, lentRead}
-use Rattle.jobrecords.specs.lemmas.Reading.{counted, jobFrom, Inside, Complete, Refuses, Ended, roomBy}
+use Rattle.jobrecords.specs.Reader.{Buffers, buffers, roomRefusal, jobAnswer, lentBy, jobReadRefusal, readAnswer, lentRead}
+use Rattle.jobrecords.specs.lemmas.Reading.{counted, jobFrom, Inside, Complete, Refuses, ReadAllPost, roomBy}
 use Rattle.jobrecords.proofs.Uneven.{how-many}
 
 -- The lengths of lent buffers hold a job.
@@ -63,7 +64,7 @@ module _ (q : Bool) (s : List ℕ) (lent : Buffers) where
         forecast = ap (λ (b : Buffers). b .forecast) e;
       }
 
-  refused : (n : ℕ) → readRefusal q s lent ≡ n → (n ≡ 0 → ⊥) → ReadInto (jobRead.Refused n) lent
+  refused : (n : ℕ) → jobReadRefusal q s lent ≡ n → (n ≡ 0 → ⊥) → ReadInto (jobRead.Refused n) lent
   unfolding readAnswer lentRead
   refused n e some = read-into (jobRead.Refused n) lent (rw (e, ne-eqb n 0 some)) (rw (e, ne-eqb n 0 some))
 
@@ -75,7 +76,7 @@ module _ (q : Bool) (s : List ℕ) (lent : Buffers) where
   unfolding fileRefusal
   read-long l = by-file 9 (rw (lt-leb (length s) 65536 l)) (λ e. omega arith)
 
-  module _ (short : length s ≤ 65536) (x : Ending) (z f : List ℕ) (h : Ended q s z f x) where
+  module _ (short : length s ≤ 65536) (x : Ending) (z f : List ℕ) (h : ReadAllPost q s z f x) where
     by-records : refusalOf q s ≡ recordsRefusal (format q) s
     unfolding fileRefusal
     by-records = rw (le-leb (length s) 65536 short)
@@ -84,7 +85,7 @@ module _ (q : Bool) (s : List ℕ) (lent : Buffers) where
     read-broken n e = let u : Refuses q s n = rw e at h in by-file n (by-records ∙ u .is) (u .some)
 
     -- A whole job, with sizes and slots in the tables and the SZs in the file.
-    module _ (j : Sofar) (e : x ≡ Whole j) where
+    module _ (j : Progress) (e : x ≡ Whole j) where
       complete : Complete q s j z f
       complete = rw e at h
 
@@ -99,7 +100,7 @@ module _ (q : Bool) (s : List ℕ) (lent : Buffers) where
 
       -- By how much there is, 11 or none.
       module _ (n : ℕ) (is : n ≡ roomBy (j .layers) (j .overrides) (j .slots) (length (lent .sizes)) (length (lent .size-chunks)) (length (lent .size-layers)) (length (lent .size-bytes)) (length (lent .forecast))) where
-        room-is : readRefusal q s lent ≡ n
+        room-is : jobReadRefusal q s lent ≡ n
         room-is =
             orElse-none (refusalOf q s) (roomRefusal (jobOfFile q s) lent) (by-records ∙ complete .none)
             ∙ ap (λ (k : Job). roomRefusal k lent) (sym (complete .job-is))
@@ -113,8 +114,8 @@ module _ (q : Bool) (s : List ℕ) (lent : Buffers) where
           read-holds = holds (j .layers) (j .overrides) (j .slots) (length (lent .sizes)) (length (lent .size-chunks)) (length (lent .size-layers)) (length (lent .size-bytes)) (length (lent .forecast)) (sym is ∙ none)
 
           pub read-job :
-              (a b c d e : List ℕ) → a ≡ over (take (j .layers) z) (lent .sizes) → b ≡ over (chunksOf (counted s j)) (lent .size-chunks) → c ≡ over (layersOf (counted s j)) (lent .size-layers) →
-              d ≡ over (bytesOf (counted s j)) (lent .size-bytes) → e ≡ over (take (j .slots) f) (lent .forecast) →
+              (a b c d e : List ℕ) → a ≡ over (take (j .layers) z) (lent .sizes) → b ≡ over (overrideChunks (counted s j)) (lent .size-chunks) → c ≡ over (overrideLayers (counted s j)) (lent .size-layers) →
+              d ≡ over (overrideBytes (counted s j)) (lent .size-bytes) → e ≡ over (take (j .slots) f) (lent .forecast) →
               ReadInto (jobRead.Job (j .programme) (j .layers) (j .overrides) (j .slots)) (buffers a b c d e)
           unfolding readAnswer lentRead
           read-job a b c d e ea eb ec ed ee =

@@ -5,9 +5,9 @@ use mathlib.Core.List.{List, [], _∷_, _++_, map}
 use native.Mathlib.Nat.{not-suc-le-zero, le-of-suc-le-suc}
 use native.Mathlib.Numerals.{add-one}
 use lib.ListN.{length, take, drop, set, getD, length-set}
-use Rattle.basics.specs.Lent.{over}
-use Rattle.basics.specs.lemmas.Lent.{stored}
-use Rattle.basics.specs.lemmas.Lists.{length-upTo}
+use Rattle.theory_basics.specs.Lent.{over}
+use Rattle.theory_basics.specs.lemmas.Lent.{stored}
+use Rattle.theory_basics.specs.lemmas.Lists.{length-upTo}
 use Rattle.job.specs.Job.{Override}
 use Rattle.jobrecords.specs.lemmas.Reading.{overrideOn, overridesOn}
 

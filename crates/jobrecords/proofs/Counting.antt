@@ -1,4 +1,5 @@
--- Lemmas. The SZs that the loop counts, a record more: they stand in the file one after the other. Assumes nothing.
+-- Lemmas. The SZs that the loop counts, a record more: they stand in the file one after the other.
+-- Assumes nothing.
 use Prim.Native.Nat.{ℕ, _+_, _*_, _-_, _≤_, _<_}
 use mathlib.Core.Path.{_≡_, refl, sym, ap, _∙_}
 use mathlib.Core.Bool.{Bool, true, false, not, _&&_, _||_}
@@ -9,10 +10,10 @@ use native.Mathlib.Numerals.{add-one}
 use lib.ListN.{length, getD, drop}
 use lib.Seq.{getD-drop}
 use lib.Dec.{T, leb, eqb→eq}
-use Rattle.basics.specs.Lists.{upTo}
-use Rattle.basics.specs.lemmas.Lists.{length-upTo}
-use Rattle.basics.specs.lemmas.Tests.{by-cond, last}
-use Rattle.basics.specs.lemmas.Refusals.{unless-iff}
+use Rattle.theory_basics.specs.Lists.{upTo}
+use Rattle.theory_basics.specs.lemmas.Lists.{length-upTo}
+use Rattle.theory_basics.specs.lemmas.Tests.{by-cond, last}
+use Rattle.theory_basics.specs.lemmas.Refusals.{unless-iff}
 use Rattle.records.specs.Fields.{hAt, wAt, marked}
 use Rattle.records.specs.File.{Front, got, none}
 use Rattle.records.specs.lemmas.Reading.{Reads}
@@ -20,7 +21,7 @@ use Rattle.job.specs.Job.{Override}
 use Rattle.job.specs.Refusal.{within-iff}
 use Rattle.jobrecords.specs.declared.Record.{Record}
 use Rattle.jobrecords.specs.declared.Record.the-variants.{Pg, Ly, Sz, Bw, En}
-use Rattle.jobrecords.specs.declared.Sofar.{Sofar}
+use Rattle.jobrecords.specs.declared.Progress.{Progress}
 use Rattle.jobrecords.specs.Records.{PG, LY, SZ, BW, EN, whole, programmeAt, layerAt, overrideAt, runAt, front, isEnd}
 use Rattle.jobrecords.specs.Says.{overridesIn}
 use Rattle.jobrecords.specs.Refusal.{mixed, previous, place, follows, sequenceRefusal, fault, format}
@@ -72,7 +73,7 @@ counts-start s = record { are = refl; room = omega arith; inside = omega arith; 
 
 -- ---- a record more
 
-module _ (s : List ℕ) (at : ℕ) (j : Sofar) (rs : List Record) (i : Counts s at j rs) where
+module _ (s : List ℕ) (at : ℕ) (j : Progress) (rs : List Record) (i : Counts s at j rs) where
   -- How many there are.
   many : j .overrides ≡ length (overridesIn rs)
   many = sym (ap length (i .are) ∙ length-upTo (λ k. overrideOn s (j .ends - 9 * j .overrides + 9 * k)) (j .overrides))
@@ -81,7 +82,7 @@ module _ (s : List ℕ) (at : ℕ) (j : Sofar) (rs : List Record) (i : Counts s 
   none-left e = many ∙ ap length e
 
   -- A record other than an SZ.
-  kept : (r : Record) (n : ℕ) (j′ : Sofar) → overridesIn (r ∷ []) ≡ [] → j′ .overrides ≡ j .overrides → j′ .ends ≡ j .ends → (place r ≤ 2 → j .overrides ≡ 0) → (place r ≡ 3 → ⊥) → Counts s (at + n) j′ (rs ++ (r ∷ []))
+  kept : (r : Record) (n : ℕ) (j′ : Progress) → overridesIn (r ∷ []) ≡ [] → j′ .overrides ≡ j .overrides → j′ .ends ≡ j .ends → (place r ≤ 2 → j .overrides ≡ 0) → (place r ≡ 3 → ⊥) → Counts s (at + n) j′ (rs ++ (r ∷ []))
   kept r n j′ e eo ee early never =
       let place-is = ap place (previous-snoc rs r) in
       record {
@@ -93,7 +94,7 @@ module _ (s : List ℕ) (at : ℕ) (j : Sofar) (rs : List Record) (i : Counts s 
       }
 
   -- An SZ, the first or straight after another.
-  one-more : (o : Override) (j′ : Sofar) (rs′ : List Record) → overridesIn rs′ ≡ overridesIn rs ++ (o ∷ []) → o ≡ overrideOn s at → j′ .overrides ≡ j .overrides + 1 → j′ .ends ≡ at + 9 → place (previous rs′) ≡ 3 → (j .overrides ≡ 0) ⊎ (j .ends ≡ at) → Counts s (at + 9) j′ rs′
+  one-more : (o : Override) (j′ : Progress) (rs′ : List Record) → overridesIn rs′ ≡ overridesIn rs ++ (o ∷ []) → o ≡ overrideOn s at → j′ .overrides ≡ j .overrides + 1 → j′ .ends ≡ at + 9 → place (previous rs′) ≡ 3 → (j .overrides ≡ 0) ⊎ (j .ends ≡ at) → Counts s (at + 9) j′ rs′
   one-more o j′ rs′ e eo es en p here =
       let k = j .overrides in
       let fits : 9 * k ≤ at = omega (arith, i .room, i .inside) in
@@ -120,7 +121,7 @@ module _ (s : List ℕ) (at : ℕ) (j : Sofar) (rs : List Record) (i : Counts s 
         ⊎-elim (λ h. inl (i .none-yet h)) (λ h. inr (i .behind h)) (last (place (previous rs)) 2 (w .high))
     here false chunk layer bytes e turn = inl (none-left (free e))
 
-    pub counts-more : (r : Record) (n : ℕ) (j′ : Sofar) → front q (drop at s) ≡ got r n → isEnd r ≡ false → fault q rs r ≡ 0 → j′ .overrides ≡ moreOverrides (j .overrides) r → j′ .ends ≡ endsAfter (j .ends) (at + n) r → Counts s (at + n) j′ (rs ++ (r ∷ []))
+    pub counts-more : (r : Record) (n : ℕ) (j′ : Progress) → front q (drop at s) ≡ got r n → isEnd r ≡ false → fault q rs r ≡ 0 → j′ .overrides ≡ moreOverrides (j .overrides) r → j′ .ends ≡ endsAfter (j .ends) (at + n) r → Counts s (at + n) j′ (rs ++ (r ∷ []))
     counts-more (Pg p) n j′ f b clean eo ee =
         kept (Pg p) n j′ refl eo ee (λ h. early q (Pg p) refl (parts q rs (Pg p) clean .turn) (λ t. omega (arith, eqb→eq (place (previous rs)) 0 t))) (λ h. omega arith)
     counts-more (Ly size) n j′ f b clean eo ee =

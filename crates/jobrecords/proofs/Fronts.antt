@@ -1,4 +1,5 @@
--- Lemmas. What stands in front of some bytes, by its mark, as the record reader answers it. Assumes nothing.
+-- Lemmas. What stands in front of some bytes, by its mark, as the record reader answers it. Assumes
+-- nothing.
 use Prim.Native.Nat.{ℕ, _-_, _≤_, _<_}
 use mathlib.Core.Path.{_≡_, refl, sym, _∙_}
 use mathlib.Core.Bool.{Bool, true, false}

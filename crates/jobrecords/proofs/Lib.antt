@@ -1,7 +1,7 @@
 mod Fronts
-mod Turns
+mod Records
 mod Counting
-mod Turned
+mod Steps
 mod Copies
 mod Uneven
 mod Answers

@@ -1,16 +1,17 @@
--- Meaning. What the record reader and the reader of a job file of either form answer, and the lent buffers afterwards: document 01, "reader
--- answers an enum, record with next cursor or refusal" and "11. A lent buffer is shorter than the whole result, after all input refusals. In
--- a longer one the bytes past the result stay unchanged".
+-- Meaning. What the record reader and the reader of a job file of either form answer, and the lent
+-- buffers afterwards: document 01, "reader answers an enum, record with next cursor or refusal" and
+-- "11. A lent buffer is shorter than the whole result, after all input refusals. In a longer one
+-- the bytes past the result stay unchanged".
 use Prim.Native.Nat.{ℕ, _+_}
 use mathlib.Core.Bool.{Bool, cond, _&&_}
 use mathlib.Core.List.{List}
 use lib.ListN.{length, drop}
 use lib.Dec.{leb, eqb}
-use Rattle.basics.specs.Lent.{lentAfter}
+use Rattle.theory_basics.specs.Lent.{lentAfter}
 use Rattle.records.specs.File.{Front, got, none}
-use Rattle.basics.specs.Refusals.{unless, _orElse_}
+use Rattle.theory_basics.specs.Refusals.{unless, _orElse_}
 use Rattle.job.specs.Job.{Job, layers}
-use Rattle.job.specs.Handed.{chunksOf, layersOf, bytesOf}
+use Rattle.job.specs.Input.{overrideChunks, overrideLayers, overrideBytes}
 use Rattle.jobrecords.specs.declared.JobRead.{JobRead}
 use Rattle.jobrecords.specs.declared.JobRead.the-variants as jobRead
 use Rattle.jobrecords.specs.declared.Record.{Record}
@@ -27,7 +28,8 @@ readFront at (none n) = Refused n
 abbrev pub readAt : Bool → List ℕ → ℕ → Read
 readAt sequenced s at = readFront at (front sequenced (drop at s))
 
--- The lent buffers: for the sizes, for the chunks, layers and sizes of the SZs, and for the forecast.
+-- The lent buffers: for the sizes, for the chunks, layers and sizes of the SZs, and for the
+-- forecast.
 pub record Buffers : Type 0 where
   pub sizes : List ℕ
   pub size-chunks : List ℕ
@@ -57,21 +59,21 @@ abbrev pub lentBy : ℕ → Job → Buffers → Buffers
 lentBy refused j lent =
     record {
       sizes = lentAfter refused (j .sizes) (lent .sizes);
-      size-chunks = lentAfter refused (chunksOf (j .overrides)) (lent .size-chunks);
-      size-layers = lentAfter refused (layersOf (j .overrides)) (lent .size-layers);
-      size-bytes = lentAfter refused (bytesOf (j .overrides)) (lent .size-bytes);
+      size-chunks = lentAfter refused (overrideChunks (j .overrides)) (lent .size-chunks);
+      size-layers = lentAfter refused (overrideLayers (j .overrides)) (lent .size-layers);
+      size-bytes = lentAfter refused (overrideBytes (j .overrides)) (lent .size-bytes);
       forecast = lentAfter refused (j .forecast) (lent .forecast);
     }
 
 module _ (sequenced : Bool) (s : List ℕ) (lent : Buffers) where
   -- The refusal of a file read into some buffers: 11 after all input refusals.
-  abbrev pub readRefusal : ℕ
-  readRefusal = refusalOf sequenced s orElse roomRefusal (jobOfFile sequenced s) lent
+  abbrev pub jobReadRefusal : ℕ
+  jobReadRefusal = refusalOf sequenced s orElse roomRefusal (jobOfFile sequenced s) lent
 
   -- The answer.
   unfoldable pub readAnswer : JobRead
-  readAnswer = cond (eqb readRefusal 0) (jobAnswer (jobOfFile sequenced s)) (jobRead.Refused readRefusal)
+  readAnswer = cond (eqb jobReadRefusal 0) (jobAnswer (jobOfFile sequenced s)) (jobRead.Refused jobReadRefusal)
 
   -- The lent buffers afterwards.
   unfoldable pub lentRead : Buffers
-  lentRead = lentBy readRefusal (jobOfFile sequenced s) lent
+  lentRead = lentBy jobReadRefusal (jobOfFile sequenced s) lent

@@ -1,6 +1,7 @@
--- Meaning. The records of a job file: document 01, "Job: `PG` C h, L h, s h, limit h; `LY` size w, base first; `BW` count h, bytes w,
--- a run of equal slots; `EN`" and "Each record is taken only if its mark and its whole body are there"; document 02, "A new record `SZ`,
--- with chunk h, layer b and size w". A mixed file knows no SZ.
+-- Meaning. The records of a job file: document 01, "Job: `PG` C h, L h, s h, limit h; `LY` size w,
+-- base first; `BW` count h, bytes w, a run of equal slots; `EN`" and "Each record is taken only if
+-- its mark and its whole body are there"; document 02, "A new record `SZ`, with chunk h, layer b
+-- and size w". A mixed file knows no SZ.
 use Prim.Native.Nat.{ℕ, _%_}
 use mathlib.Core.Bool.{Bool, true, false, cond, _&&_}
 use mathlib.Core.List.{List, [], _∷_, _++_}
@@ -43,7 +44,8 @@ encode En = EN
 abbrev pub whole : List ℕ → ℕ → Record → Front Record
 whole s n r = cond (leb n (length s)) (got r n) (none 1)
 
--- The programme, the layer size, the chunk's size of a layer and the run whose mark stands in front of some bytes.
+-- The programme, the layer size, the chunk's size of a layer and the run whose mark stands in front
+-- of some bytes.
 abbrev pub programmeAt : List ℕ → Record
 programmeAt s = Pg (record { chunks = hAt s 2; span = hAt s 4; delay = hAt s 6; limit = hAt s 8 })
 

@@ -1,13 +1,14 @@
--- Meaning. The refusals of a job file, a definition a number: 4 to 7 of document 01, 17 and 18 of document 02, record by record and at EN. 9,
--- 1, 2 and 3 are those of any file of records. Order: 4, "17 .. after 4 and before ranges", then 5 to 7; at EN 3, 4, 6, "18 .. found at
--- `EN` .. after 6 and before 7", 7. Both forms of a job file are here: document 02's, in one sequence, and document 01's mixed ones, which
--- know no SZ and of which 17 is not asked.
+-- Meaning. The refusals of a job file, a definition a number: 4 to 7 of document 01, 17 and 18 of
+-- document 02, record by record and at EN. 9, 1, 2 and 3 are those of any file of records. Order:
+-- 4, "17 .. after 4 and before ranges", then 5 to 7; at EN 3, 4, 6, "18 .. found at `EN` .. after 6
+-- and before 7", 7. Both forms of a job file are here: document 02's, in one sequence, and document
+-- 01's mixed ones, which know no SZ and of which 17 is not asked.
 use Prim.Native.Nat.{ℕ, _+_}
 use mathlib.Core.Bool.{Bool, true, false, not, _&&_, _||_}
 use mathlib.Core.List.{List, [], _∷_}
 use lib.ListN.{length}
 use lib.Dec.{leb, eqb}
-use Rattle.basics.specs.Refusals.{unless, _orElse_}
+use Rattle.theory_basics.specs.Refusals.{unless, _orElse_}
 use Rattle.records.specs.File.{Format, split, fileRefusal}
 use Rattle.job.specs.declared.Programme.{Programme}
 use Rattle.job.specs.Job.{Job}
@@ -19,8 +20,9 @@ use Rattle.jobrecords.specs.Says.{hasProgramme, programmeIn, sizesIn, ov
 
 -- ---- the two forms
 
--- Whether a file is to be in one sequence, "`PG`, all `LY`, all `BW`, `EN`" with the SZs "between the `LY` and the `BW` ones", or may be
--- mixed, "`PG` may stand anywhere before `EN`, and `LY` and `BW` may mix".
+-- Whether a file is to be in one sequence, "`PG`, all `LY`, all `BW`, `EN`" with the SZs "between
+-- the `LY` and the `BW` ones", or may be mixed, "`PG` may stand anywhere before `EN`, and `LY` and
+-- `BW` may mix".
 abbrev pub oneSequence : Bool
 oneSequence = true
 
@@ -63,8 +65,9 @@ isRunOf bytes (Sz chunk layer size) = false
 isRunOf bytes (Bw count same) = eqb same bytes
 isRunOf bytes En = false
 
--- Whether a record may stand after the record q before it: PG first and only first; LY after PG or LY; SZ after these or an SZ; BW after
--- any of them, but not after a run of the same bytes. EN is never out of sequence: what is lacking there has its own number.
+-- Whether a record may stand after the record q before it: PG first and only first; LY after PG or
+-- LY; SZ after these or an SZ; BW after any of them, but not after a run of the same bytes. EN is
+-- never out of sequence: what is lacking there has its own number.
 abbrev pub follows : Record → Record → Bool
 follows q (Pg p) = eqb (place q) 0
 follows q (Ly size) = within 1 2 (place q)

@@ -1,5 +1,5 @@
--- Meaning. What the records of a job file say: the PG's fields, the LY sizes in order, the SZs in order, the runs spread out one
--- after the other.
+-- Meaning. What the records of a job file say: the PG's fields, the LY sizes in order, the SZs in
+-- order, the runs spread out one after the other.
 use Prim.Native.Nat.{ℕ}
 use mathlib.Core.Bool.{Bool, true, false}
 use mathlib.Core.List.{List, [], _∷_, _++_}

@@ -1,6 +1,7 @@
--- Theorems. Files of either form say accepted jobs. A file in one sequence without SZ is a mixed file that says the same job, and one with an
--- SZ is refused as a mixed file by 2: document 02, "a small program that still reads both" reads by document 01's reader alone, and "The
--- program of request 6 stays as it is". `refusalOf` and `jobOfFile` are what both readers' contracts cite.
+-- Theorems. Files of either form say accepted jobs. A file in one sequence without SZ is a mixed
+-- file that says the same job, and one with an SZ is refused as a mixed file by 2: document 02, "a
+-- small program that still reads both" reads by document 01's reader alone, and "The program of
+-- request 6 stays as it is". `refusalOf` and `jobOfFile` are what both readers' contracts cite.
 use Prim.Native.Nat.{ℕ}
 use mathlib.Core.Path.{_≡_, ap}
 use mathlib.Core.Bool.{Bool}
@@ -13,7 +14,8 @@ use Rattle.jobrecords.specs.Refusal.{oneSequence, mixed, format, refusal
 use Rattle.jobrecords.specs.lemmas.Clean.{taken, file-clean}
 use Rattle.jobrecords.specs.lemmas.Mixed.{mixed-faults, same-split, breaks-off, none-mixed}
 
--- "A job is accepted if no refusal that comes from the input applies to it": a file that is not refused says an accepted job.
+-- "A job is accepted if no refusal that comes from the input applies to it": a file that is not
+-- refused says an accepted job.
 pub file-accepted : (sequenced : Bool) (s : List ℕ) → refusalOf sequenced s ≡ 0 → Accepted (jobOfFile sequenced s)
 file-accepted sequenced s e = file-clean sequenced s e
 

@@ -1,20 +1,26 @@
-// Records of job files, and the reading of a file of either form into lent buffers that a refusal leaves as they are: document 02's files,
-// in one sequence, and document 01's mixed ones. A record is read, judged and taken a turn; sizes and slots stand in tables until every
-// refusal has been ruled out. The SZs stand in the file one after the other, so only their number and the place after them are kept.
+// Records of job files, and the reading of a file of either form into lent buffers that a refusal
+// leaves as they are: document 02's files, in one sequence, and document 01's mixed ones. A record
+// is read, judged and taken a turn; sizes and slots stand in tables until every refusal has been
+// ruled out. The SZs stand in the file one after the other, so only their number and the place
+// after them are kept.
 ghost use mathlib.Core.Path.{_≡_};
 ghost use Prim.Native.Nat.{_+_, _*_, _≤_, _<_};
 ghost use lib.ListN.{length, replicate, take};
 ghost use lib.Seq.{paste};
 ghost use mathlib.Core.Bool.{not, _||_};
-ghost use Rattle.basics.specs.Lent.{over};
-ghost use Rattle.basics.specs.Refusals.{unless};
+ghost use Rattle.theory_basics.specs.Lent.{over};
+ghost use Rattle.theory_basics.specs.Refusals.{unless};
 ghost use Rattle.job.specs.Refusal.{within, overridesRefusal};
-ghost use Rattle.job.specs.Handed.{chunksOf, layersOf, bytesOf};
+ghost use Rattle.job.specs.Input.{overrideChunks, overrideLayers, overrideBytes};
 ghost use Rattle.jobrecords.specs.Records.{front, isEnd};
 ghost use Rattle.jobrecords.specs.Refusal.{layerFault, runFault};
-ghost use Rattle.jobrecords.specs.lemmas.Reading.{noRecords, readWhole, lastMark, runFollows, faultAfter, overridesOn, endRefusal, endedBy, readRefusalOf, endRefusalOf, Inside, Sized, Room, Fine, Takes, Going, Turned, Ended, roomBy};
+ghost use Rattle.jobrecords.specs.lemmas.Reading.{noRecords, readWhole, lastMark, runFollows, faultAfter, overridesOn, endRefusal, endedBy, readRefusalOf, endRefusalOf, Inside, Sized, Room, Fine, TakeRecordPost, OneStepPre, OneStepPost, ReadAllPost, roomBy};
 ghost use Rattle.jobrecords.specs.Reader.{readFront, readAt, buffers, readAnswer, lentRead};
+use job::MOST_BYTES;
+use job::OVERRIDES;
 use job::Programme;
+use job::SLOTS;
+use records::FILE_BYTES;
 
 // A record of a job file, without its mark.
 pub enum Record {
@@ -31,7 +37,8 @@ enum Read {
     Refused(u8),
 }
 
-// What reading a job file gives: the job, whose sizes, SZs and forecast are in the lent buffers, or a refusal.
+// What reading a job file gives: the job, whose sizes, SZs and forecast are in the lent buffers, or
+// a refusal.
 pub enum JobRead {
     Job {
         programme: Programme,
@@ -42,9 +49,10 @@ pub enum JobRead {
     Refused(u8),
 }
 
-// What the records so far say beside the sizes and the forecast, which stand in tables; of the last record its place in the sequence, 0 if
-// there is none, and its bytes, if it is a run; of the SZs how many there are and the place in the file after the last.
-struct Sofar {
+// What the records so far say beside the sizes and the forecast, which stand in tables; of the last
+// record its place in the sequence, 0 if there is none, and its bytes, if it is a run; of the SZs
+// how many there are and the place in the file after the last.
+struct Progress {
     place: u8,
     bytes: u32,
     seen: bool,
@@ -57,14 +65,14 @@ struct Sofar {
 
 // Where the records end: a whole job, or a refusal.
 enum Ending {
-    Whole(Sofar),
+    Whole(Progress),
     Broken(u8),
 }
 
 // What a record does: on from a place, a whole job, or a refusal.
-enum Turn {
-    On(Sofar, usize),
-    Done(Sofar),
+enum Step {
+    On(Progress, usize),
+    Done(Progress),
     Stop(u8),
 }
 
@@ -143,8 +151,8 @@ fn record_at(sequenced: bool, file: &[u8], at: usize) -> Read
     record_in(sequenced, &file[at..], at)
 }
 
-// Whether an LY, an SZ, and a run of some bytes may stand after a record of that place in the sequence and, if it is a run, of those last
-// bytes.
+// Whether an LY, an SZ, and a run of some bytes may stand after a record of that place in the
+// sequence and, if it is a run, of those last bytes.
 fn layer_follows(place: u8) -> bool
     ensures { λ r. ⌜ r ≡ within 1 2 place ⌝ }
 {
@@ -154,6 +162,7 @@ fn layer_follows(place: u8) -> bool
     place <= 2
 }
 
+// An SZ may stand after a PG, an LY or an SZ: places 1 to 3 of the sequence.
 fn override_follows(place: u8) -> bool
     ensures { λ r. ⌜ r ≡ within 1 3 place ⌝ }
 {
@@ -163,6 +172,7 @@ fn override_follows(place: u8) -> bool
     place <= 3
 }
 
+// A BW may stand after a PG, an LY or an SZ, and after a run of other bytes.
 fn run_follows(place: u8, last: u32, bytes: u32) -> bool
     ensures { λ r. ⌜ r ≡ runFollows place last bytes ⌝ }
 {
@@ -192,7 +202,7 @@ fn layer_fault(layers: usize, size: u32) -> u8
     if size < 1 {
         return 6;
     }
-    if 16777216 < size {
+    if MOST_BYTES < size {
         return 6;
     }
     if layers < 4 {
@@ -208,25 +218,25 @@ fn run_fault(slots: usize, count: u16, bytes: u32) -> u8
     if count < 1 {
         return 7;
     }
-    if 3600 < slots {
+    if SLOTS < slots {
         return 7;
     }
-    if 3600 - slots < (count as usize) {
+    if SLOTS - slots < (count as usize) {
         return 7;
     }
-    if 16777216 < bytes {
+    if MOST_BYTES < bytes {
         return 7;
     }
     0
 }
 
-// So many SZs that stand in a file from a place on go to the start of three buffers.
+// The n SZs that stand in a file from a place on go to the start of three buffers.
 fn gather(file: &[u8], from: usize, n: usize, cs: &mut [u16], ls: &mut [u8], bs: &mut [u32])
     requires { ⌜ from + 9 * n ≤ length (now file) ⌝ }
     requires { ⌜ (n ≤ length (now cs)) × (n ≤ length (now ls)) × (n ≤ length (now bs)) ⌝ }
-    ensures chunks { λ _. ⌜ now (cs .exit) ≡ over (chunksOf (overridesOn (now (file .entry)) from n)) (now (cs .entry)) ⌝ }
-    ensures layers { λ _. ⌜ now (ls .exit) ≡ over (layersOf (overridesOn (now (file .entry)) from n)) (now (ls .entry)) ⌝ }
-    ensures bytes { λ _. ⌜ now (bs .exit) ≡ over (bytesOf (overridesOn (now (file .entry)) from n)) (now (bs .entry)) ⌝ }
+    ensures chunks { λ _. ⌜ now (cs .exit) ≡ over (overrideChunks (overridesOn (now (file .entry)) from n)) (now (cs .entry)) ⌝ }
+    ensures layers { λ _. ⌜ now (ls .exit) ≡ over (overrideLayers (overridesOn (now (file .entry)) from n)) (now (ls .entry)) ⌝ }
+    ensures bytes { λ _. ⌜ now (bs .exit) ≡ over (overrideBytes (overridesOn (now (file .entry)) from n)) (now (bs .entry)) ⌝ }
 {
     let mut i: usize = 0;
     while i < n {
@@ -241,7 +251,8 @@ fn gather(file: &[u8], from: usize, n: usize, cs: &mut [u16], ls: &mut [u8], bs:
     }
 }
 
-// 18 of so many SZs that stand in a file from a place on. A file can hold more of them than a job can have, which is 1,996.
+// 18 of so many SZs that stand in a file from a place on. A file can hold more of them than a job
+// can have, which is 1,996.
 fn uneven_refusal(file: &[u8], p: Programme, sizes: &[u32], from: usize, n: usize) -> u8
     requires { ⌜ from + 9 * n ≤ length (now file) ⌝ }
     requires { ⌜ (p .chunks ≤ 500) × (length (now sizes) ≤ 4) ⌝ }
@@ -250,18 +261,18 @@ fn uneven_refusal(file: &[u8], p: Programme, sizes: &[u32], from: usize, n: usiz
     if n == 0 {
         return 0;
     }
-    if 1996 < n {
+    if OVERRIDES < n {
         return 18;
     }
-    let mut cs = [0u16; 1996];
-    let mut ls = [0u8; 1996];
-    let mut bs = [0u32; 1996];
+    let mut cs = [0u16; OVERRIDES];
+    let mut ls = [0u8; OVERRIDES];
+    let mut bs = [0u32; OVERRIDES];
     gather(file, from, n, &mut cs, &mut ls, &mut bs);
     job::overrides_refusal(p, sizes, &cs[..n], &ls[..n], &bs[..n])
 }
 
 // 4, 6, 18, 7 at EN, with the sizes in a table.
-fn end_refusal(file: &[u8], j: Sofar, sizes: &[u32]) -> u8
+fn end_refusal(file: &[u8], j: Progress, sizes: &[u32]) -> u8
     requires { ⌜ Inside (now file) j × Sized j (now sizes) ⌝ }
     ensures { λ r. ⌜ r ≡ endRefusal (now (file .entry)) j (now (sizes .entry)) ⌝ }
 {
@@ -278,7 +289,7 @@ fn end_refusal(file: &[u8], j: Sofar, sizes: &[u32]) -> u8
 }
 
 // 4, 17, 5 of a PG after the records that the state stands for.
-fn programme_refusal(sequenced: bool, j: Sofar, p: Programme) -> u8
+fn programme_refusal(sequenced: bool, j: Progress, p: Programme) -> u8
     ensures { λ r. ⌜ r ≡ faultAfter sequenced j (Record.Pg p) ⌝ }
 {
     let second = job::refuse_unless(4, !j.seen);
@@ -288,7 +299,7 @@ fn programme_refusal(sequenced: bool, j: Sofar, p: Programme) -> u8
 }
 
 // 17, 6 of an LY.
-fn layer_refusal(sequenced: bool, j: Sofar, size: u32) -> u8
+fn layer_refusal(sequenced: bool, j: Progress, size: u32) -> u8
     ensures { λ r. ⌜ r ≡ faultAfter sequenced j (Record.Ly size) ⌝ }
 {
     let sequence = out_of_sequence(sequenced, layer_follows(j.place));
@@ -297,14 +308,15 @@ fn layer_refusal(sequenced: bool, j: Sofar, size: u32) -> u8
 }
 
 // 17 of an SZ.
-fn override_refusal(sequenced: bool, j: Sofar) -> u8
+fn override_refusal(sequenced: bool, j: Progress) -> u8
     ensures { λ r. ⌜ r ≡ unless 17 (not sequenced || within 1 3 (j .place)) ⌝ }
 {
     out_of_sequence(sequenced, override_follows(j.place))
 }
 
-// 17, 7 of a BW. By branches and not by `or_else`, which costs 20 instructions more for each of up to 3,600 runs.
-fn run_refusal(sequenced: bool, j: Sofar, count: u16, bytes: u32) -> u8
+// 17, 7 of a BW. By branches and not by `or_else`, which costs 20 instructions more for each of up
+// to 3,600 runs.
+fn run_refusal(sequenced: bool, j: Progress, count: u16, bytes: u32) -> u8
     ensures { λ r. ⌜ r ≡ faultAfter sequenced j (Record.Bw count bytes) ⌝ }
 {
     let sequence = out_of_sequence(sequenced, run_follows(j.place, j.bytes, bytes));
@@ -315,7 +327,7 @@ fn run_refusal(sequenced: bool, j: Sofar, count: u16, bytes: u32) -> u8
 }
 
 // The fault of a record after those that the state stands for.
-fn fault_of(sequenced: bool, j: Sofar, record: Record) -> u8
+fn fault_of(sequenced: bool, j: Progress, record: Record) -> u8
     ensures { λ r. ⌜ r ≡ faultAfter sequenced j «record» ⌝ }
 {
     match record {
@@ -331,6 +343,7 @@ fn fault_of(sequenced: bool, j: Sofar, record: Record) -> u8
     }
 }
 
+// The record is EN.
 fn is_end(record: Record) -> bool
     ensures { λ r. ⌜ r ≡ isEnd «record» ⌝ }
 {
@@ -348,19 +361,19 @@ fn is_end(record: Record) -> bool
 }
 
 // EN with so many bytes after it.
-fn ended(file: &[u8], j: Sofar, after: usize, sizes: &[u32]) -> Turn
+fn ended(file: &[u8], j: Progress, after: usize, sizes: &[u32]) -> Step
     requires { ⌜ Inside (now file) j × Sized j (now sizes) ⌝ }
     ensures { λ r. ⌜ r ≡ endedBy (now (file .entry)) j after (now (sizes .entry)) ⌝ }
 {
     let lacking = end_refusal(file, j, sizes);
     let n = job::or_else(job::refuse_unless(3, after == 0), lacking);
     if n == 0 {
-        return Turn::Done(j);
+        return Step::Done(j);
     }
-    Turn::Stop(n)
+    Step::Stop(n)
 }
 
-// So many numbers from a place on become v.
+// The slots `from` to `from` + count - 1 get v bytes.
 fn fill(slots: &mut [u32], from: usize, count: usize, v: u32)
     requires { ⌜ from + count ≤ length (now slots) ⌝ }
     ensures { λ _. ⌜ now (slots .exit) ≡ paste (now (slots .entry)) from (replicate count v) count ⌝ }
@@ -373,11 +386,17 @@ fn fill(slots: &mut [u32], from: usize, count: usize, v: u32)
 }
 
 // A record without a fault that ends at a place goes into the state and the tables.
-fn take_record(j: Sofar, record: Record, next: usize, sizes: &mut [u32], slots: &mut [u32]) -> Sofar
+fn take_record(
+    j: Progress,
+    record: Record,
+    next: usize,
+    sizes: &mut [u32],
+    slots: &mut [u32],
+) -> Progress
     requires { ⌜ Room j (now sizes) (now slots) ⌝ }
     requires { ⌜ 9 * j .overrides ≤ j .ends ⌝ }
     requires { ⌜ Fine j «record» ⌝ }
-    ensures { λ r. ⌜ Takes j (now (sizes .entry)) (now (slots .entry)) «record» next r (now (sizes .exit)) (now (slots .exit)) ⌝ }
+    ensures { λ r. ⌜ TakeRecordPost j (now (sizes .entry)) (now (slots .entry)) «record» next r (now (sizes .exit)) (now (slots .exit)) ⌝ }
 {
     let n = j.layers;
     let overrides = j.overrides;
@@ -386,7 +405,7 @@ fn take_record(j: Sofar, record: Record, next: usize, sizes: &mut [u32], slots: 
     let seen = j.seen;
     let p = j.programme;
     match record {
-        Record::Pg(programme) => Sofar {
+        Record::Pg(programme) => Progress {
             place: 1,
             bytes: 0,
             seen: true,
@@ -399,7 +418,7 @@ fn take_record(j: Sofar, record: Record, next: usize, sizes: &mut [u32], slots: 
         Record::Ly(size) => {
             let layers = n + 1;
             sizes[n] = size;
-            Sofar {
+            Progress {
                 place: 2,
                 bytes: 0,
                 seen,
@@ -416,7 +435,7 @@ fn take_record(j: Sofar, record: Record, next: usize, sizes: &mut [u32], slots: 
             bytes: _,
         } => {
             let counted = overrides + 1;
-            Sofar {
+            Progress {
                 place: 3,
                 bytes: 0,
                 seen,
@@ -431,7 +450,7 @@ fn take_record(j: Sofar, record: Record, next: usize, sizes: &mut [u32], slots: 
             let more = count as usize;
             let end = from + more;
             fill(slots, from, more, bytes);
-            Sofar {
+            Progress {
                 place: 4,
                 bytes,
                 seen,
@@ -442,7 +461,7 @@ fn take_record(j: Sofar, record: Record, next: usize, sizes: &mut [u32], slots: 
                 slots: end,
             }
         }
-        Record::En => Sofar {
+        Record::En => Progress {
             place: 0,
             bytes: 0,
             seen,
@@ -455,6 +474,7 @@ fn take_record(j: Sofar, record: Record, next: usize, sizes: &mut [u32], slots: 
     }
 }
 
+// The refusal of a record that was not read, 0 for one that was.
 fn refusal_of(read: Read) -> u8
     ensures { λ r. ⌜ r ≡ readRefusalOf read ⌝ }
 {
@@ -465,20 +485,20 @@ fn refusal_of(read: Read) -> u8
 }
 
 // One record read, judged and taken.
-fn one_turn(
+fn one_step(
     sequenced: bool,
     file: &[u8],
     at: usize,
-    j: Sofar,
+    j: Progress,
     sizes: &mut [u32],
     slots: &mut [u32],
-) -> Turn
-    requires { ⌜ Going sequenced (now file) at j (now sizes) (now slots) ⌝ }
-    ensures { λ r. ⌜ Turned sequenced (now (file .entry)) at (now (sizes .exit)) (now (slots .exit)) r ⌝ }
+) -> Step
+    requires { ⌜ OneStepPre sequenced (now file) at j (now sizes) (now slots) ⌝ }
+    ensures { λ r. ⌜ OneStepPost sequenced (now (file .entry)) at (now (sizes .exit)) (now (slots .exit)) r ⌝ }
 {
     let read = record_at(sequenced, file, at);
     let Read::Got(record, next) = read else {
-        return Turn::Stop(refusal_of(read));
+        return Step::Stop(refusal_of(read));
     };
     if is_end(record) {
         let after = file.len() - next;
@@ -486,13 +506,13 @@ fn one_turn(
     }
     let n = fault_of(sequenced, j, record);
     if n != 0 {
-        return Turn::Stop(n);
+        return Step::Stop(n);
     }
-    Turn::On(take_record(j, record, next, sizes, slots), next)
+    Step::On(take_record(j, record, next, sizes, slots), next)
 }
 
 // The state before any record.
-fn nothing() -> Sofar
+fn nothing() -> Progress
     ensures { λ r. ⌜ r ≡ noRecords ⌝ }
 {
     let programme = Programme {
@@ -501,7 +521,7 @@ fn nothing() -> Sofar
         delay: 0,
         limit: 0,
     };
-    Sofar {
+    Progress {
         place: 0,
         bytes: 0,
         seen: false,
@@ -516,18 +536,18 @@ fn nothing() -> Sofar
 // Every record, one a turn.
 fn read_all(sequenced: bool, file: &[u8], sizes: &mut [u32], slots: &mut [u32]) -> Ending
     requires { ⌜ (length (now sizes) ≡ 4) × (length (now slots) ≡ 3600) ⌝ }
-    ensures { λ r. ⌜ Ended sequenced (now (file .entry)) (now (sizes .exit)) (now (slots .exit)) r ⌝ }
+    ensures { λ r. ⌜ ReadAllPost sequenced (now (file .entry)) (now (sizes .exit)) (now (slots .exit)) r ⌝ }
 {
     let mut j = nothing();
     let mut at: usize = 0;
     loop {
-        match one_turn(sequenced, file, at, j, sizes, slots) {
-            Turn::On(more, next) => {
+        match one_step(sequenced, file, at, j, sizes, slots) {
+            Step::On(more, next) => {
                 j = more;
                 at = next;
             }
-            Turn::Done(whole) => return Ending::Whole(whole),
-            Turn::Stop(n) => return Ending::Broken(n),
+            Step::Done(whole) => return Ending::Whole(whole),
+            Step::Stop(n) => return Ending::Broken(n),
         }
     }
 }
@@ -544,6 +564,7 @@ fn copy(from: &[u32], to: &mut [u32], n: usize)
     }
 }
 
+// The refusal with which the file ends, 0 for a whole job.
 fn refusal_at(end: Ending) -> u8
     ensures { λ r. ⌜ r ≡ endRefusalOf end ⌝ }
 {
@@ -584,9 +605,9 @@ fn room_refusal(
     0
 }
 
-// Reads a job file, in one sequence or mixed, into the lent sizes, SZs and forecast. Refusals: 9, then record by record, 17 where one
-// sequence is asked, at EN 3, 4, 6, 18, 7; then 11 where a buffer is shorter than the job's sizes, SZs or slots. On a refusal every buffer
-// stays as it is.
+// Reads a job file, in one sequence or mixed, into the lent sizes, SZs and forecast. Refusals: 9,
+// then record by record, 17 where one sequence is asked, at EN 3, 4, 6, 18, 7; then 11 where a
+// buffer is shorter than the job's sizes, SZs or slots. On a refusal every buffer stays as it is.
 pub fn read_job(
     sequenced: bool,
     file: &[u8],
@@ -603,11 +624,11 @@ pub fn read_job(
     ensures bytes { λ r. ⌜ now («size_bytes» .exit) ≡ lentRead sequenced (now (file .entry)) (buffers (now (sizes .entry)) (now («size_chunks» .entry)) (now («size_layers» .entry)) (now («size_bytes» .entry)) (now (forecast .entry))) .size-bytes ⌝ }
     ensures forecast { λ r. ⌜ now (forecast .exit) ≡ lentRead sequenced (now (file .entry)) (buffers (now (sizes .entry)) (now («size_chunks» .entry)) (now («size_layers» .entry)) (now («size_bytes» .entry)) (now (forecast .entry))) .forecast ⌝ }
 {
-    if 65536 < file.len() {
+    if FILE_BYTES < file.len() {
         return JobRead::Refused(9);
     }
     let mut layer_table = [0u32; 4];
-    let mut slot_table = [0u32; 3600];
+    let mut slot_table = [0u32; SLOTS];
     let end = read_all(sequenced, file, &mut layer_table, &mut slot_table);
     let Ending::Whole(j) = end else {
         return JobRead::Refused(refusal_at(end));

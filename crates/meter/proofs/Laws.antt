@@ -1,4 +1,5 @@
--- Laws that the functions' proofs cite: samples looked at one by one, and the cells of a meter after a sample. Assumes nothing.
+-- Laws that the functions' proofs cite: samples looked at one by one, and the cells of a meter
+-- after a sample. Assumes nothing.
 use Prim.Native.Nat.{ℕ, zero, suc, _+_, _-_, min, _≤_, _<_}
 use mathlib.Core.Path.{_≡_, refl, sym, _∙_}
 use mathlib.Core.Bool.{Bool, true, false, not}
@@ -9,12 +10,12 @@ use lib.ListN.{length, getD, take, drop, length-append, length-drop, drop-of-len
 use lib.Seq.{drop-cons, take-suc, set-split}
 use lib.Dec.{T-not, ltb, ltb→lt, nltb→le}
 use borrow.Author.Tests.{lt-ltb, le-ltb}
-use Rattle.basics.specs.lemmas.Tests.{by-cond, true-T}
-use Rattle.basics.specs.Lists.{upTo}
-use Rattle.basics.specs.lemmas.Lists.{length-upTo}
+use Rattle.theory_basics.specs.lemmas.Tests.{by-cond, true-T}
+use Rattle.theory_basics.specs.Lists.{upTo}
+use Rattle.theory_basics.specs.lemmas.Lists.{length-upTo}
 use Rattle.meter.specs.declared.Meter.{Meter}
 use Rattle.meter.specs.declared.Taken.{Taken}
-use Rattle.meter.specs.Meter.{Sample, sample, samplesOf, storing, InRange, inRange, lastSlot, InOrder, inOrder, with-sample, taken}
+use Rattle.meter.specs.Meter.{Sample, sample, samplesOf, storing, SampleInRange, inRange, lastSampleSlot, InOrder, inOrder, with-sample, taken}
 use Rattle.meter.specs.lemmas.Cells.{nextCells}
 use Rattle.meter.specs.Promises.{few-kept}
 use Rattle.meter.specs.lemmas.Order.{in-order-iff, in-range-iff, test-false, test-true, Fine, fine-snoc, fine-before, last-slot-snoc}
@@ -38,19 +39,19 @@ answer-false false b e f = sym e
 -- The first i samples are looked at, and the last of them is of the slot `before`.
 pub record Looked (m : Meter) (before i : ℕ) : Type 0 where
   pub fine : Fine (upTo (cell m) i)
-  pub last : before ≡ lastSlot 0 (upTo (cell m) i)
+  pub last : before ≡ lastSampleSlot 0 (upTo (cell m) i)
 
 -- What the answer r of the range test says of a sample.
-pub found-in : (x : Sample) (r : Bool) → r ≡ inRange x → not r ≡ false → InRange x
+pub found-in : (x : Sample) (r : Bool) → r ≡ inRange x → not r ≡ false → SampleInRange x
 found-in x r e f = in-range-iff x .0 (true-T (inRange x) (answer-true r (inRange x) e f))
 
-pub found-out : (x : Sample) (r : Bool) → r ≡ inRange x → not r ≡ true → InRange x → ⊥
+pub found-out : (x : Sample) (r : Bool) → r ≡ inRange x → not r ≡ true → SampleInRange x → ⊥
 found-out x r e f w = T-not (inRange x) (rw (answer-false r (inRange x) e f) tt) (in-range-iff x .1 w)
 
 pub looked-start : (m : Meter) → Looked m 0 0
 looked-start m = record { fine = record { each = tt; rises = tt }; last = refl }
 
-pub looked-more : (m : Meter) (before i : ℕ) → Looked m before i → InRange (cell m i) → before < getD (m .slots) i 0
+pub looked-more : (m : Meter) (before i : ℕ) → Looked m before i → SampleInRange (cell m i) → before < getD (m .slots) i 0
     → Looked m (getD (m .slots) i 0) (i + 1)
 looked-more m before i w r h = rw (add-one i) record {
   fine = fine-snoc (upTo (cell m) i) (cell m i) .1 (w .fine, (r, rw (← w .last) h));
@@ -63,7 +64,7 @@ looked-all m before h w =
     record { few = omega (arith, length-upTo (cell m) (m .kept)); each = w .fine .each; rises = w .fine .rises }
 
 -- A kept sample is out of range, or its slot is not above the one before.
-pub looked-broken : (m : Meter) (i : ℕ) → i < m .kept → (InRange (cell m i) → lastSlot 0 (upTo (cell m) i) < getD (m .slots) i 0 → ⊥)
+pub looked-broken : (m : Meter) (i : ℕ) → i < m .kept → (SampleInRange (cell m i) → lastSampleSlot 0 (upTo (cell m) i) < getD (m .slots) i 0 → ⊥)
     → inOrder (samplesOf m) ≡ false
 looked-broken m i h n =
     test-false (inOrder (samplesOf m)) (in-order-iff (samplesOf m)) (λ o.
@@ -80,7 +81,7 @@ in-order-kept m o = omega (arith, o .few, length-upTo (cell m) (m .kept))
 pub passed-kept : (m : Meter) → inOrder (samplesOf m) ≡ true → m .kept ≤ 10
 passed-kept m e = in-order-kept m (in-order-iff (samplesOf m) .0 (true-T (inOrder (samplesOf m)) e))
 
-pub last-slot-at : (m : Meter) (n : ℕ) → 0 < n → getD (m .slots) (n - 1) 0 ≡ lastSlot 0 (upTo (cell m) n)
+pub last-slot-at : (m : Meter) (n : ℕ) → 0 < n → getD (m .slots) (n - 1) 0 ≡ lastSampleSlot 0 (upTo (cell m) n)
 last-slot-at m zero h = absurd (omega arith)
 last-slot-at m (suc n) h =
     let e : suc n - 1 ≡ n = omega arith in
@@ -115,7 +116,8 @@ module _ (g : Sample → ℕ) (f : ℕ → Sample) (cells : List ℕ) (held : (k
       map-append g (upTo f n) (f n ∷ [])
       ∙ rw (kept-cells n (omega arith), held n) (sym (take-suc cells n 0 (omega arith)))
 
-  -- Fewer than ten are kept: the next cell takes the sample, and the others stay. Ten: all move by one, and it comes last.
+  -- Fewer than ten are kept: the next cell takes the sample, and the others stay. Ten: all move by
+  -- one, and it comes last.
   pub next-cells : (x : Sample) (n : ℕ) → length cells ≡ 10 → n ≤ 10
       → nextCells cells n (g x) ≡ map g (with-sample (upTo f n) x) ++ drop (length (with-sample (upTo f n) x)) cells
   next-cells x n full h =
@@ -157,11 +159,11 @@ module _ (m : Meter) (slot bytes : ℕ) where
     answers-disorder e = rw (ranged, e)
 
     module _ (ordered : inOrder (samplesOf m) ≡ true) where
-      pub answers-late : slot ≤ lastSlot 0 (samplesOf m) → _≡_ {A = Taken} (record { code = 13; meter = m }) (taken m slot bytes)
+      pub answers-late : slot ≤ lastSampleSlot 0 (samplesOf m) → _≡_ {A = Taken} (record { code = 13; meter = m }) (taken m slot bytes)
       unfolding taken
-      answers-late h = rw (ranged, ordered, le-ltb (lastSlot 0 (samplesOf m)) slot h)
+      answers-late h = rw (ranged, ordered, le-ltb (lastSampleSlot 0 (samplesOf m)) slot h)
 
-      pub answers-taken : lastSlot 0 (samplesOf m) < slot
+      pub answers-taken : lastSampleSlot 0 (samplesOf m) < slot
           → _≡_ {A = Taken} (record { code = 0; meter = storing (with-sample (samplesOf m) x) m }) (taken m slot bytes)
       unfolding taken
-      answers-taken h = rw (ranged, ordered, lt-ltb (lastSlot 0 (samplesOf m)) slot h)
+      answers-taken h = rw (ranged, ordered, lt-ltb (lastSampleSlot 0 (samplesOf m)) slot h)

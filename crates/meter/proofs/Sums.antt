@@ -1,4 +1,5 @@
--- Laws of the forecast's loop: the shares of the first samples summed, none of which is 0. Assumes nothing.
+-- Laws of the forecast's loop: the shares of the first samples summed, none of which is 0. Assumes
+-- nothing.
 use Prim.Native.Nat.{ℕ, zero, suc, _+_, _*_, _/_, _^_, _≤_, _<_}
 use mathlib.Core.Path.{_≡_, refl, _∙_}
 use mathlib.Core.Bool.{Bool, true, false, _||_}
@@ -9,10 +10,10 @@ use native.Mathlib.Numerals.{add-one}
 use lib.ListN.{length, getD, length-map}
 use lib.Dec.{T}
 use borrow.Author.Tests.{ne-eqb, le-ltb, lt-ltb}
-use Rattle.basics.specs.Tests.{All, any}
-use Rattle.basics.specs.lemmas.Tests.{last, T-true, T-or-iff}
-use Rattle.basics.specs.Lists.{upTo}
-use Rattle.basics.specs.lemmas.Lists.{length-upTo}
+use Rattle.theory_basics.specs.Tests.{All, any}
+use Rattle.theory_basics.specs.lemmas.Tests.{last, T-true, T-or-iff}
+use Rattle.theory_basics.specs.Lists.{upTo}
+use Rattle.theory_basics.specs.lemmas.Lists.{length-upTo}
 use Rattle.meter.specs.declared.Meter.{Meter}
 use Rattle.meter.specs.declared.Answer.the-variants.{Bytes, Refused}
 use Rattle.meter.specs.Meter.{Sample, samplesOf, InOrder, inOrder}

@@ -1,4 +1,5 @@
--- Theorems. The refusals and the forecast of the meter at their edges, by computation on the definitions that the public contracts cite.
+-- Theorems. The refusals and the forecast of the meter at their edges, by computation on the
+-- definitions that the public contracts cite.
 use Prim.Native.Nat.{ℕ}
 use mathlib.Core.Path.{_≡_, refl}
 use mathlib.Core.List.{[], _∷_, _++_}
@@ -28,7 +29,8 @@ pub late-edge : (taken one 5 9 .code ≡ 13) × ((taken one 5 9 .meter ≡ one) 
 unfolding taken
 late-edge = (refl, (refl, refl))
 
--- Kept slots that do not rise, eleven samples, kept bytes out of range: 10 from a sample and from a forecast.
+-- Kept slots that do not rise, eleven samples, kept bytes out of range: 10 from a sample and from a
+-- forecast.
 abbrev pub level : Meter
 level = record { slots = 5 ∷ 5 ∷ replicate 8 0; bytes = 9 ∷ 9 ∷ replicate 8 0; kept = 2 }
 
@@ -88,7 +90,8 @@ far-apart-forecast = refl
 
 -- ---- one byte above the mean
 
--- Of 15,000,000 and 10,000,100 bytes the exact mean is a little below 12,000,072, which shares rounded down would forecast.
+-- Of 15,000,000 and 10,000,100 bytes the exact mean is a little below 12,000,072, which shares
+-- rounded down would forecast.
 pub just-below : (forecastOf (15000000 ∷ 10000100 ∷ []) ≡ 12000071) × (NotAbove 12000072 (15000000 ∷ 10000100 ∷ []) → ⊥)
 unfolding forecastOf
 just-below = (refl, λ h. omega (arith, h))

@@ -1,12 +1,13 @@
--- Meaning. The forecast of a meter: document 01, "Link meter", as request 3 of document 02 rounds it; refusals 10 and 12.
+-- Meaning. The forecast of a meter: document 01, "Link meter", as request 3 of document 02 rounds
+-- it; refusals 10 and 12.
 use Prim.Native.Nat.{ℕ, _+_, _*_, _/_, _^_}
 use mathlib.Core.Bool.{Bool, cond}
 use mathlib.Core.List.{List, [], _∷_, map}
 use lib.ListN.{length}
 use lib.Dec.{ltb, eqb}
-use Rattle.basics.specs.Division.{dividedUp}
-use Rattle.basics.specs.Tests.{any}
-use Rattle.basics.specs.Refusals.{unless, _orElse_}
+use Rattle.theory_basics.specs.Division.{dividedUp}
+use Rattle.theory_basics.specs.Tests.{any}
+use Rattle.theory_basics.specs.Refusals.{unless, _orElse_}
 use Rattle.meter.specs.declared.Meter.{Meter}
 use Rattle.meter.specs.declared.Answer.{Answer}
 use Rattle.meter.specs.declared.Answer.the-variants.{Bytes, Refused}
@@ -35,12 +36,12 @@ unfoldable pub forecastOf : List ℕ → ℕ
 forecastOf bs = cond (any isZero bs) 0 (meanOf bs)
 
 -- 12: a forecast from a meter without samples; 10 comes first.
-abbrev pub forecastRefusal : List Sample → ℕ
-forecastRefusal l = meterRefusal l orElse unless 12 (ltb 0 (length l))
+abbrev pub meterForecastRefusal : List Sample → ℕ
+meterForecastRefusal l = meterRefusal l orElse unless 12 (ltb 0 (length l))
 
 -- The forecast that a call answers.
 unfoldable pub answerOf : Meter → Answer
 answerOf m =
     let l = samplesOf m in
-    let n = forecastRefusal l in
+    let n = meterForecastRefusal l in
     cond (eqb n 0) (Bytes (forecastOf (bytesOf l))) (Refused n)

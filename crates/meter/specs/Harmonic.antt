@@ -1,5 +1,5 @@
--- Meaning. The exact harmonic mean of document 01, "Link meter", in whole numbers: of k byte counts with the product P it is
--- k × P / Σ (P / bytes), and P / bytes is the product of the others.
+-- Meaning. The exact harmonic mean of document 01, "Link meter", in whole numbers: of k byte counts
+-- with the product P it is k × P / Σ (P / bytes), and P / bytes is the product of the others.
 use Prim.Native.Nat.{ℕ, _+_, _*_, _≤_, _<_}
 use mathlib.Core.List.{List, [], _∷_}
 use lib.ListN.{length}
@@ -9,7 +9,8 @@ abbrev pub product : List ℕ → ℕ
 product [] = 1
 product (b ∷ bs) = b * product bs
 
--- Σ (P / bytes): for each of them the product of the others, summed. The lemma `others-quotients` has the sum of quotients.
+-- Σ (P / bytes): for each of them the product of the others, summed. The lemma `others-quotients`
+-- has the sum of quotients.
 abbrev pub others : List ℕ → ℕ
 others [] = 0
 others (b ∷ bs) = product bs + b * others bs

@@ -1,13 +1,14 @@
--- Meaning. What a meter is and what a sample does to it: document 01, "Link meter", refusals 10 and 13.
--- A meter means a list of samples, the newest last. The struct stores that list in its first cells.
+-- Meaning. What a meter is and what a sample does to it: document 01, "Link meter", refusals 10 and
+-- 13. A meter means a list of samples, the newest last. The struct stores that list in its first
+-- cells.
 use Prim.Native.Nat.{ℕ, _-_, _≤_, _<_}
 use mathlib.Core.Bool.{Bool, true, _&&_, cond}
 use mathlib.Core.List.{List, [], _∷_, _++_, map}
 use lib.ListN.{length, getD, drop, replicate}
 use lib.Dec.{leb, ltb, eqb}
-use Rattle.basics.specs.Tests.{All, all}
-use Rattle.basics.specs.Lists.{upTo}
-use Rattle.basics.specs.Refusals.{unless, _orElse_}
+use Rattle.theory_basics.specs.Tests.{All, all}
+use Rattle.theory_basics.specs.Lists.{upTo}
+use Rattle.theory_basics.specs.Refusals.{unless, _orElse_}
 use Rattle.meter.specs.declared.Meter.{Meter}
 use Rattle.meter.specs.declared.Taken.{Taken}
 
@@ -25,7 +26,8 @@ sample slot bytes = record { slot = slot; bytes = bytes }
 abbrev pub samplesOf : Meter → List Sample
 samplesOf m = upTo (λ k. sample (getD (m .slots) k 0) (getD (m .bytes) k 0)) (m .kept)
 
--- The samples l stored over m: they stand in the first cells, the cells past them are those of m, and as many are kept.
+-- The samples l stored over m: they stand in the first cells, the cells past them are those of m,
+-- and as many are kept.
 abbrev pub storing : List Sample → Meter → Meter
 storing l m = record {
   slots = map (λ x. x .slot) l ++ drop (length l) (m .slots);
@@ -39,7 +41,7 @@ empty = record { slots = replicate 10 0; bytes = replicate 10 0; kept = 0 }
 
 -- ---- "It keeps the last ten samples, each a slot (1 to 65,535) and its bytes (0 to 16,777,216)."
 
-pub record InRange (x : Sample) : Type 0 where
+pub record SampleInRange (x : Sample) : Type 0 where
   pub slot-low : 1 ≤ x .slot
   pub slot-high : x .slot ≤ 65535
   pub bytes-high : x .bytes ≤ 16777216
@@ -57,14 +59,15 @@ rising s [] = true
 rising s (x ∷ l) = ltb s (x .slot) && rising (x .slot) l
 
 -- The slot of the last sample; s if there is none.
-abbrev pub lastSlot : ℕ → List Sample → ℕ
-lastSlot s [] = s
-lastSlot s (x ∷ l) = lastSlot (x .slot) l
+abbrev pub lastSampleSlot : ℕ → List Sample → ℕ
+lastSampleSlot s [] = s
+lastSampleSlot s (x ∷ l) = lastSampleSlot (x .slot) l
 
--- What refusal 10 asks of the kept samples. Slots are counted from 1, so that the first one is above 0.
+-- What refusal 10 asks of the kept samples. Slots are counted from 1, so that the first one is
+-- above 0.
 pub record InOrder (l : List Sample) : Type 0 where
   pub few : length l ≤ 10
-  pub each : All InRange l
+  pub each : All SampleInRange l
   pub rises : Rising 0 l
 
 abbrev pub inOrder : List Sample → Bool
@@ -86,7 +89,7 @@ meterRefusal l = unless 10 (inOrder l)
 
 -- 13: a slot that is not above the last one's.
 abbrev pub lateRefusal : List Sample → Sample → ℕ
-lateRefusal l x = unless 13 (ltb (lastSlot 0 l) (x .slot))
+lateRefusal l x = unless 13 (ltb (lastSampleSlot 0 l) (x .slot))
 
 -- "13 .. after 10."
 abbrev pub takeRefusal : List Sample → Sample → ℕ
@@ -96,7 +99,8 @@ takeRefusal l x = sampleRefusal x orElse meterRefusal l orElse lateRefusal l x
 abbrev pub with-sample : List Sample → Sample → List Sample
 with-sample l x = lastTen (l ++ (x ∷ []))
 
--- A sample handed to m: 0 and m with the samples after it; or the refusal, and m as it was handed, every cell.
+-- A sample handed to m: 0 and m with the samples after it; or the refusal, and m as it was handed,
+-- every cell.
 unfoldable pub taken : Meter → ℕ → ℕ → Taken
 taken m slot bytes =
     let l = samplesOf m in

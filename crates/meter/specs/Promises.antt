@@ -1,4 +1,5 @@
--- Theorems. What the definitions of the meter promise: document 01, "Link meter", refusals 10, 12 and 13.
+-- Theorems. What the definitions of the meter promise: document 01, "Link meter", refusals 10, 12
+-- and 13.
 use Prim.Native.Nat.{ℕ, _+_, _*_, _-_, _/_, _^_, _≤_, _<_}
 use mathlib.Core.Path.{_≡_, refl, sym, ap, subst}
 use mathlib.Core.Bool.{true}
@@ -8,14 +9,14 @@ use native.Mathlib.Omega.{arith}
 use lib.ListN.{length, replicate, length-append, length-drop, length-map}
 use lib.Dec.{T-not, ltb, eqb, eqb→eq}
 use borrow.Author.Tests.{eq-eqb, ne-eqb}
-use Rattle.basics.specs.lemmas.Tests.{T-true, not-T-false, eqb-iff, test, ltb-iff, by-cond, any-row}
-use Rattle.basics.specs.Tests.{In, any}
-use Rattle.basics.specs.Refusals.{unless, _orElse_}
-use Rattle.basics.specs.lemmas.Refusals.{unless-as, orElse-as}
+use Rattle.theory_basics.specs.lemmas.Tests.{T-true, not-T-false, eqb-iff, test, ltb-iff, by-cond, any-row}
+use Rattle.theory_basics.specs.Tests.{In, any}
+use Rattle.theory_basics.specs.Refusals.{unless, _orElse_}
+use Rattle.theory_basics.specs.lemmas.Refusals.{unless-as, orElse-as}
 use Rattle.meter.specs.declared.Meter.{Meter}
 use Rattle.meter.specs.declared.Answer.the-variants.{Bytes, Refused}
-use Rattle.meter.specs.Meter.{Sample, sample, samplesOf, empty, InRange, inRange, lastSlot, InOrder, inOrder, lastTen, sampleRefusal, meterRefusal, lateRefusal, takeRefusal, with-sample, taken}
-use Rattle.meter.specs.Forecast.{bytesOf, isZero, meanOf, forecastOf, forecastRefusal, answerOf}
+use Rattle.meter.specs.Meter.{Sample, sample, samplesOf, empty, SampleInRange, inRange, lastSampleSlot, InOrder, inOrder, lastTen, sampleRefusal, meterRefusal, lateRefusal, takeRefusal, with-sample, taken}
+use Rattle.meter.specs.Forecast.{bytesOf, isZero, meanOf, forecastOf, meterForecastRefusal, answerOf}
 use Rattle.meter.specs.Harmonic.{product, others, NotAbove, WholePart}
 use Rattle.meter.specs.lemmas.Mean.{mean-high, mean-some, mean-not-above, mean-near, whole-part, others-pos, zero-in, counts, one-less-at-most}
 use Rattle.meter.specs.lemmas.Steady.{power-steady, other-steady}
@@ -23,37 +24,39 @@ use Rattle.meter.specs.lemmas.Order.{in-range-iff, in-order-iff, ten-fir
 
 -- ---- "gets a result or, exactly in the cases that document 01 lists, a refusal number"
 
--- "10. A sample's slot or bytes out of range, handed or kept; a meter with more than ten samples or slots not rising."
-pub ten-iff : (l : List Sample) (x : Sample) → (takeRefusal l x ≡ 10) ↔ ((InRange x × InOrder l) → ⊥)
-ten-iff l x = ten-first 13 (inRange x) (inOrder l) (ltb (lastSlot 0 l) (x .slot)) (omega arith) (in-range-iff x) (in-order-iff l)
+-- "10. A sample's slot or bytes out of range, handed or kept; a meter with more than ten samples or
+-- slots not rising."
+pub ten-iff : (l : List Sample) (x : Sample) → (takeRefusal l x ≡ 10) ↔ ((SampleInRange x × InOrder l) → ⊥)
+ten-iff l x = ten-first 13 (inRange x) (inOrder l) (ltb (lastSampleSlot 0 l) (x .slot)) (omega arith) (in-range-iff x) (in-order-iff l)
 
 -- "13. A sample whose slot is not above the last one's, after 10."
-pub thirteen-iff : (l : List Sample) (x : Sample) → (takeRefusal l x ≡ 13) ↔ (InRange x × (InOrder l × ((lastSlot 0 l < x .slot) → ⊥)))
+pub thirteen-iff : (l : List Sample) (x : Sample) → (takeRefusal l x ≡ 13) ↔ (SampleInRange x × (InOrder l × ((lastSampleSlot 0 l < x .slot) → ⊥)))
 thirteen-iff l x =
-    then-after 13 (inRange x) (inOrder l) (ltb (lastSlot 0 l) (x .slot)) (omega arith) (in-range-iff x) (in-order-iff l) (ltb-iff (lastSlot 0 l) (x .slot))
+    then-after 13 (inRange x) (inOrder l) (ltb (lastSampleSlot 0 l) (x .slot)) (omega arith) (in-range-iff x) (in-order-iff l) (ltb-iff (lastSampleSlot 0 l) (x .slot))
 
--- A sample is taken exactly if it is in range, the meter is in order and the slot is above the last one's.
-pub taken-iff : (l : List Sample) (x : Sample) → (takeRefusal l x ≡ 0) ↔ (InRange x × (InOrder l × (lastSlot 0 l < x .slot)))
+-- A sample is taken exactly if it is in range, the meter is in order and the slot is above the last
+-- one's.
+pub taken-iff : (l : List Sample) (x : Sample) → (takeRefusal l x ≡ 0) ↔ (SampleInRange x × (InOrder l × (lastSampleSlot 0 l < x .slot)))
 taken-iff l x =
     orElse-as (sampleRefusal x) (meterRefusal l orElse lateRefusal l x)
     (unless-as 10 (inRange x) (omega arith) (in-range-iff x))
     (orElse-as (meterRefusal l) (lateRefusal l x)
     (unless-as 10 (inOrder l) (omega arith) (in-order-iff l))
-    (unless-as 13 (ltb (lastSlot 0 l) (x .slot)) (omega arith) (ltb-iff (lastSlot 0 l) (x .slot))))
+    (unless-as 13 (ltb (lastSampleSlot 0 l) (x .slot)) (omega arith) (ltb-iff (lastSampleSlot 0 l) (x .slot))))
 
 -- A forecast is refused by 10 exactly if the meter is not in order ..
-pub forecast-ten-iff : (l : List Sample) → (forecastRefusal l ≡ 10) ↔ (InOrder l → ⊥)
+pub forecast-ten-iff : (l : List Sample) → (meterForecastRefusal l ≡ 10) ↔ (InOrder l → ⊥)
 forecast-ten-iff l =
     let p = ten-first 12 true (inOrder l) (ltb 0 (length l)) {A = Unit {0}} (omega arith) (λ t. t, λ t. t) (in-order-iff l) in
     (λ e o. p .0 e (tt, o), λ n. p .1 (λ o. n (o .1)))
 
 -- .. and else, "12. A forecast from a meter without samples."
-pub forecast-twelve-iff : (l : List Sample) → (forecastRefusal l ≡ 12) ↔ (InOrder l × ((0 < length l) → ⊥))
+pub forecast-twelve-iff : (l : List Sample) → (meterForecastRefusal l ≡ 12) ↔ (InOrder l × ((0 < length l) → ⊥))
 forecast-twelve-iff l =
     let p = then-after 12 true (inOrder l) (ltb 0 (length l)) {A = Unit {0}} (omega arith) (λ t. t, λ t. t) (in-order-iff l) (ltb-iff 0 (length l)) in
     (λ e. p .0 e .1, λ o. p .1 (tt, o))
 
-pub forecast-iff : (l : List Sample) → (forecastRefusal l ≡ 0) ↔ (InOrder l × (0 < length l))
+pub forecast-iff : (l : List Sample) → (meterForecastRefusal l ≡ 0) ↔ (InOrder l × (0 < length l))
 forecast-iff l =
     orElse-as (meterRefusal l) (unless 12 (ltb 0 (length l)))
     (unless-as 10 (inOrder l) (omega arith) (in-order-iff l))
@@ -112,13 +115,13 @@ module _ (m : Meter) (slot bytes : ℕ) where
       let some : 0 < length after =
       subst (λ (k : List Sample). 0 < length k) (sym (taken-samples e))
       (omega (arith, length-drop (length l - 10) l, length-append (samplesOf m) (sample slot bytes ∷ []))) in
-      rw (eq-eqb (forecastRefusal after) 0 (forecast-iff after .1 (taken-in-order e, some)))
+      rw (eq-eqb (meterForecastRefusal after) 0 (forecast-iff after .1 (taken-in-order e, some)))
       (ap (λ (k : List Sample). Bytes (forecastOf (bytesOf k))) (taken-samples e))
 
 -- ---- "the meter's forecast" is that of document 01, rounded as request 3 of document 02 says
 
--- "Its forecast is 0 if one of them is 0." "The meter's promise becomes the whole part of the exact harmonic mean or one less, and never
--- more." A forecast is itself within the range of a job's.
+-- "Its forecast is 0 if one of them is 0." "The meter's promise becomes the whole part of the exact
+-- harmonic mean or one less, and never more." A forecast is itself within the range of a job's.
 pub record Forecasts (bs : List ℕ) (f : ℕ) : Type 0 where
   pub zero-if : In 0 bs → f ≡ 0
   pub mean-or-one-less : (In 0 bs → ⊥) → (h : ℕ) → WholePart bs h → (f ≡ h) ⊎ (f + 1 ≡ h)
@@ -157,7 +160,7 @@ pub answer-says : (m : Meter) (f : ℕ) → answerOf m ≡ Bytes f → Forecasts
 unfolding answerOf
 answer-says m f e =
     let l = samplesOf m in
-    let n = forecastRefusal l in
+    let n = meterForecastRefusal l in
     ⊎-elim
     (λ t.
     let o = forecast-iff l .0 (eqb→eq n 0 t) in

@@ -1,11 +1,12 @@
-// The link meter of document 01: the last ten samples of the link by value, a forecast from them, and one thin function
-// that brings a lent meter up to date in its own storage. Refusals 10, 12 and 13.
+// The link meter of document 01: the last ten samples of the link by value, a forecast from them,
+// and one thin function that brings a lent meter up to date in its own storage. Refusals 10, 12 and
+// 13.
 ghost use mathlib.Core.Path.{_≡_};
 ghost use Prim.Native.Nat.{_≤_, _<_};
 ghost use lib.ListN.{length};
 ghost use Rattle.meter.specs.lemmas.Cells.{nextCells};
 ghost use Rattle.meter.specs.Forecast.{share, bytesOf, forecastOf, answerOf};
-ghost use Rattle.meter.specs.Meter.{sample, samplesOf, storing, empty, inRange, inOrder, lastSlot, with-sample, taken, InOrder};
+ghost use Rattle.meter.specs.Meter.{sample, samplesOf, storing, empty, inRange, inOrder, lastSampleSlot, with-sample, taken, InOrder};
 
 // Ten cells, the first `kept` of which hold a sample each, a slot and its bytes, the newest last.
 pub struct Meter {
@@ -64,7 +65,7 @@ fn in_order(m: Meter) -> bool
 // The slot of the last sample, 0 without samples.
 fn last_slot(m: Meter) -> u16
     requires { ⌜ m .kept ≤ 10 ⌝ }
-    ensures { λ r. ⌜ r ≡ lastSlot 0 (samplesOf m) ⌝ }
+    ensures { λ r. ⌜ r ≡ lastSampleSlot 0 (samplesOf m) ⌝ }
 {
     let kept = m.kept as usize;
     if kept == 0 {
@@ -74,7 +75,8 @@ fn last_slot(m: Meter) -> u16
     m.slots[at]
 }
 
-// The ten slots with one more: it goes into the cell `at`; where all ten are kept, each moves by one and it comes last.
+// The ten slots with one more: it goes into the cell `at`; where all ten are kept, each moves by
+// one and it comes last.
 fn next_slots(a: [u16; 10], at: usize, v: u16) -> [u16; 10]
     requires { ⌜ at ≤ 10 ⌝ }
     ensures { λ r. ⌜ (r ≡ nextCells a at v) × (length a ≡ 10) ⌝ }
@@ -87,7 +89,7 @@ fn next_slots(a: [u16; 10], at: usize, v: u16) -> [u16; 10]
     [a[1], a[2], a[3], a[4], a[5], a[6], a[7], a[8], a[9], v]
 }
 
-// The same of the bytes.
+// The bytes of ten samples with one more, which goes where its slot goes in next_slots.
 fn next_bytes(b: [u32; 10], at: usize, v: u32) -> [u32; 10]
     requires { ⌜ at ≤ 10 ⌝ }
     ensures { λ r. ⌜ (r ≡ nextCells b at v) × (length b ≡ 10) ⌝ }
@@ -193,8 +195,8 @@ pub fn forecast(m: Meter) -> Answer
     Answer::Bytes(mean(m))
 }
 
-// "The meter lent by the link reader is brought up to date in its own storage." The lent meter is then the one that `take`
-// answers: on a refusal the meter as it was.
+// "The meter lent by the link reader is brought up to date in its own storage." The lent meter is
+// then the one that `take` answers: on a refusal the meter as it was.
 pub fn update(m: &mut Meter, slot: u16, bytes: u32) -> u8
     ensures { λ r. ⌜ (r ≡ taken (now (m .entry)) slot bytes .code) × (now (m .exit) ≡ taken (now (m .entry)) slot bytes .meter) ⌝ }
 {

@@ -1,4 +1,5 @@
--- Lemmas. What the record reader answers at a place of a file, by the mark that stands there. Assumes nothing.
+-- Lemmas. What the record reader answers at a place of a file, by the mark that stands there.
+-- Assumes nothing.
 use Prim.Native.Nat.{ℕ, _+_, _-_, _≤_, _<_}
 use mathlib.Core.Path.{_≡_, sym, ap, _∙_}
 use mathlib.Core.Bool.{Bool, true, false}

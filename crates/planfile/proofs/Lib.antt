@@ -1,4 +1,4 @@
 mod Front
-mod Turns
+mod Steps
 mod Reader
 mod Writer

@@ -1,4 +1,5 @@
--- What the plan reader hands over, by where it stops: the job's refusal, the file's, 11, or the plan. Assumes nothing.
+-- What the plan reader hands over, by where it stops: the job's refusal, the file's, 11, or the
+-- plan. Assumes nothing.
 use Prim.Native.Nat.{ℕ, _+_, _*_, _≤_}
 use mathlib.Core.Path.{_≡_, sym, ap, _∙_}
 use mathlib.Core.Bool.{Bool, true, false}
@@ -8,18 +9,18 @@ use native.Mathlib.Omega.{arith}
 use lib.ListN.{length, drop}
 use lib.Dec.{eqb, eqb→eq}
 use borrow.Author.Tests.{eq-eqb, ne-eqb}
-use Rattle.basics.specs.lemmas.Tests.{test, not-T-false, T-true, true-T, tests}
-use Rattle.basics.specs.Lists.{upTo}
-use Rattle.basics.specs.lemmas.Lists.{length-upTo}
-use Rattle.basics.specs.Refusals.{unless, _orElse_}
-use Rattle.basics.specs.lemmas.Refusals.{orElse-some}
+use Rattle.theory_basics.specs.lemmas.Tests.{test, not-T-false, T-true, true-T, tests}
+use Rattle.theory_basics.specs.Lists.{upTo}
+use Rattle.theory_basics.specs.lemmas.Lists.{length-upTo}
+use Rattle.theory_basics.specs.Refusals.{unless, _orElse_}
+use Rattle.theory_basics.specs.lemmas.Refusals.{orElse-some}
 use Rattle.records.specs.File.{fileRefusal}
 use Rattle.job.specs.Job.{chunks}
-use Rattle.job.specs.Handed.{HandedJob, jobIn, jobRefusal}
+use Rattle.job.specs.Input.{JobInput, jobIn, jobRefusal}
 use Rattle.fetch.specs.Rows.{Row}
 use Rattle.planfile.specs.PlanFile.{format, planIn}
-use Rattle.planfile.specs.Calls.{Slices, slicesOf, room, readRefusal, readAnswer, readLent}
-use Rattle.planfile.specs.lemmas.Scan.{answerOf, markOn, rowOn, Laid, Done, filled}
+use Rattle.planfile.specs.Calls.{ListSlices, slicesOf, room, planReadRefusal, readAnswer, readLent}
+use Rattle.planfile.specs.lemmas.Scan.{answerOf, markOn, rowOn, Laid, FileRowsPost, filled}
 use Rattle.planfile.specs.lemmas.Writing.{map-upTo}
 use Rattle.planfile.specs.declared.PlanRead.{PlanRead}
 use Rattle.planfile.specs.declared.PlanRead.the-variants.{Rows, Refused}
@@ -49,7 +50,7 @@ pub same-slices : {a b c d e a′ b′ c′ d′ e′ : List ℕ} → a ≡ a′
 same-slices p q r s t = cc
 
 -- The slices after a plan of so many rows is read.
-abbrev pub filledAll : ℕ → List ℕ → ℕ → Slices → Slices
+abbrev pub filledAll : ℕ → List ℕ → ℕ → ListSlices → ListSlices
 filledAll count file rows lent =
     slicesOf
     (filled (markOn file) count (lent .marks))
@@ -59,7 +60,7 @@ filledAll count file rows lent =
     (filled (λ i. rowOn file count i .bytes) rows (lent .bytes))
 
 -- What holds where the slices are filled.
-pub record MayCopy (count rows : ℕ) (file : List ℕ) (lent : Slices) : Type 0 where
+pub record MayCopy (count rows : ℕ) (file : List ℕ) (lent : ListSlices) : Type 0 where
   pub for-marks : count ≤ length (lent .marks)
   pub for-slots : rows ≤ length (lent .slots)
   pub for-chunks : rows ≤ length (lent .chunks)
@@ -67,26 +68,26 @@ pub record MayCopy (count rows : ℕ) (file : List ℕ) (lent : Slices) : Type 0
   pub for-bytes : rows ≤ length (lent .bytes)
   pub inside : 5 * count + 11 * rows ≤ length file
 
-abbrev pub HandsOver : HandedJob → List ℕ → Slices → PlanRead → Slices → Type 0
-HandsOver h file lent a after = (a ≡ readAnswer h file lent) × (after ≡ readLent h file lent)
+abbrev pub PlanReadOutput : JobInput → List ℕ → ListSlices → PlanRead → ListSlices → Type 0
+PlanReadOutput h file lent a after = (a ≡ readAnswer h file lent) × (after ≡ readLent h file lent)
 
-module _ (h : HandedJob) (file : List ℕ) (lent : Slices) (r : ℕ) (e : r ≡ jobRefusal h) where
+module _ (h : JobInput) (file : List ℕ) (lent : ListSlices) (r : ℕ) (e : r ≡ jobRefusal h) where
   abbrev count : ℕ
   count = chunks (jobIn h)
 
-  refuses : (n : ℕ) → (n ≡ 0 → ⊥) → readRefusal h file lent ≡ n → HandsOver h file lent (Refused n) lent
+  refuses : (n : ℕ) → (n ≡ 0 → ⊥) → planReadRefusal h file lent ≡ n → PlanReadOutput h file lent (Refused n) lent
   refuses n p q = (rw (q, ne-eqb n 0 p), rw (q, ne-eqb n 0 p))
 
-  pub job-refused : (r ≡ 0 → ⊥) → HandsOver h file lent (Refused r) lent
-  unfolding readRefusal
+  pub job-refused : (r ≡ 0 → ⊥) → PlanReadOutput h file lent (Refused r) lent
+  unfolding planReadRefusal
   job-refused n = refuses r n (rw (← e) (orElse-some r (fileRefusal (format count) file orElse unless 11 (room lent count (length (planIn count file .rows)))) n))
 
-  module _ (z : r ≡ 0) (a : PlanRead) (d : Done count file (fileRefusal (format count) file) a) where
-    from-file : readRefusal h file lent ≡ fileRefusal (format count) file orElse unless 11 (room lent count (length (planIn count file .rows)))
-    unfolding readRefusal
+  module _ (z : r ≡ 0) (a : PlanRead) (d : FileRowsPost count file (fileRefusal (format count) file) a) where
+    from-file : planReadRefusal h file lent ≡ fileRefusal (format count) file orElse unless 11 (room lent count (length (planIn count file .rows)))
+    unfolding planReadRefusal
     from-file = rw (← e, z)
 
-    pub file-refused : (n : ℕ) → a ≡ Refused n → HandsOver h file lent a lent
+    pub file-refused : (n : ℕ) → a ≡ Refused n → PlanReadOutput h file lent a lent
     file-refused n q =
         let f = fileRefusal (format count) file in
         let u = answer-refused f (length (planIn count file .rows)) n (sym q ∙ d .answer) in
@@ -96,7 +97,7 @@ module _ (h : HandedJob) (file : List ℕ) (lent : Slices) (r : ℕ) (e : r ≡ 
       accepted : (fileRefusal (format count) file ≡ 0) × (n ≡ length (planIn count file .rows))
       accepted = answer-rows (fileRefusal (format count) file) (length (planIn count file .rows)) n (sym q ∙ d .answer)
 
-      only-room : readRefusal h file lent ≡ unless 11 (room lent count n)
+      only-room : planReadRefusal h file lent ≡ unless 11 (room lent count n)
       only-room = from-file ∙ rw (accepted .0, ← accepted .1)
 
       laid : Laid count file
@@ -116,12 +117,12 @@ module _ (h : HandedJob) (file : List ℕ) (lent : Slices) (r : ℕ) (e : r ≡ 
               inside = rw (accepted .1) (laid .inside);
             }
 
-        pub short : b ≡ false → HandsOver h file lent (Refused 11) lent
+        pub short : b ≡ false → PlanReadOutput h file lent (Refused 11) lent
         short t = refuses 11 (λ w. omega arith) (only-room ∙ rw (sym s ∙ t))
 
-        pub whole : b ≡ true → (after : Slices) → after ≡ filledAll count file n lent → HandsOver h file lent (Rows n) after
+        pub whole : b ≡ true → (after : ListSlices) → after ≡ filledAll count file n lent → PlanReadOutput h file lent (Rows n) after
         whole t after filled-is =
-            let none : readRefusal h file lent ≡ 0 = only-room ∙ rw (sym s ∙ t) in
+            let none : planReadRefusal h file lent ≡ 0 = only-room ∙ rw (sym s ∙ t) in
             let plan = planIn count file in
             let rows : plan .rows ≡ upTo (rowOn file count) n = rw (accepted .1) (laid .rows-are) in (
               rw (none, ← accepted .1),

@@ -1,4 +1,5 @@
--- What the plan writer hands over, by where it stops: an input's refusal, 11, or the file. Assumes nothing.
+-- What the plan writer hands over, by where it stops: an input's refusal, 11, or the file. Assumes
+-- nothing.
 use Prim.Native.Nat.{ℕ, _+_, _*_, _≤_, _<_}
 use mathlib.Core.Path.{_≡_, sym, ap, _∙_}
 use mathlib.Core.List.{List, _++_, map}
@@ -6,40 +7,40 @@ use native.Mathlib.Omega.{arith}
 use lib.ListN.{length, drop, length-append}
 use lib.Dec.{leb}
 use borrow.Author.Tests.{ne-eqb, le-leb, lt-leb}
-use Rattle.basics.specs.lemmas.Lists.{length-upTo}
-use Rattle.basics.specs.Lent.{lentAfter}
-use Rattle.basics.specs.Refusals.{unless, _orElse_}
-use Rattle.basics.specs.lemmas.Refusals.{orElse-some, orElse-none}
+use Rattle.theory_basics.specs.lemmas.Lists.{length-upTo}
+use Rattle.theory_basics.specs.Lent.{lentAfter}
+use Rattle.theory_basics.specs.Refusals.{unless, _orElse_}
+use Rattle.theory_basics.specs.lemmas.Refusals.{orElse-some, orElse-none}
 use Rattle.records.specs.Fields.{written}
 use Rattle.job.specs.Job.{chunks}
-use Rattle.job.specs.Handed.{HandedJob, jobIn, jobRefusal}
+use Rattle.job.specs.Input.{JobInput, jobIn, jobRefusal}
 use Rattle.fetch.specs.Rows.{rowAt, rowsOf}
-use Rattle.fetch.specs.Handed.{Whole, handedRefusal, handed-iff}
+use Rattle.fetch.specs.Input.{Whole, listRefusal, whole-iff}
 use Rattle.planfile.specs.Records.{en}
 use Rattle.planfile.specs.PlanFile.{kps, ftOf, fileOf}
-use Rattle.planfile.specs.Calls.{Slices, planOf, writeRest, writeRefusal, writtenBy}
-use Rattle.planfile.specs.lemmas.Writing.{bytesOf, file-parts, length-file, length-kps, length-fts, two-puts}
+use Rattle.planfile.specs.Calls.{ListSlices, planOf, writeRest, writeRefusal, writtenBy}
+use Rattle.planfile.specs.lemmas.Writing.{planRecordsBytes, file-parts, length-file, length-kps, length-fts, two-puts}
 use Rattle.records.specs.lemmas.Puts.{written-whole}
 use Rattle.planfile.specs.declared.Written.{Written}
 use Rattle.planfile.specs.declared.Written.the-variants.{Bytes, Refused}
 
 -- The length of the file by the handed slices.
-abbrev pub sizeOf : Slices → ℕ
+abbrev pub sizeOf : ListSlices → ℕ
 sizeOf s = 5 * length (s .marks) + 11 * length (s .slots) + 2
 
-length-planOf : (s : Slices) → length (fileOf (planOf s)) ≡ sizeOf s
+length-planOf : (s : ListSlices) → length (fileOf (planOf s)) ≡ sizeOf s
 length-planOf s = omega (arith, length-file (planOf s), length-upTo (rowAt (s .slots) (s .chunks) (s .layers) (s .bytes)) (length (s .slots)))
 
 -- The answer and the buffer afterwards, by the refusal.
-abbrev pub Writes : ℕ → Slices → List ℕ → Written → List ℕ → Type 0
+abbrev pub Writes : ℕ → ListSlices → List ℕ → Written → List ℕ → Type 0
 Writes refused s out a after = (a ≡ writtenBy refused s) × (after ≡ lentAfter refused (fileOf (planOf s)) out)
 
-refuses : (s : Slices) (out : List ℕ) (refused r : ℕ) → (r ≡ 0 → ⊥) → refused ≡ r → Writes refused s out (Refused r) out
+refuses : (s : ListSlices) (out : List ℕ) (refused r : ℕ) → (r ≡ 0 → ⊥) → refused ≡ r → Writes refused s out (Refused r) out
 refuses s out refused r n e = (rw (e, ne-eqb r 0 n), rw (e, ne-eqb r 0 n))
 
 -- ---- for so many chunks
 
-module _ (count : ℕ) (s : Slices) (out : List ℕ) (r : ℕ) (e : r ≡ handedRefusal count (s .marks) (s .slots) (s .chunks) (s .layers) (s .bytes)) where
+module _ (count : ℕ) (s : ListSlices) (out : List ℕ) (r : ℕ) (e : r ≡ listRefusal count (s .marks) (s .slots) (s .chunks) (s .layers) (s .bytes)) where
   abbrev refused : ℕ
   refused = writeRest count s out
 
@@ -52,7 +53,7 @@ module _ (count : ℕ) (s : Slices) (out : List ℕ) (r : ℕ) (e : r ≡ handed
 
   module _ (z : r ≡ 0) where
     pub whole-rows : Whole count (s .marks) (s .slots) (s .chunks) (s .layers) (s .bytes)
-    whole-rows = handed-iff count (s .marks) (s .slots) (s .chunks) (s .layers) (s .bytes) .0 (sym e ∙ z)
+    whole-rows = whole-iff count (s .marks) (s .slots) (s .chunks) (s .layers) (s .bytes) .0 (sym e ∙ z)
 
     pub too-large : 65536 < sizeOf s → Writes refused s out (Refused 9) out
     too-large l = refuses s out refused 9 (λ w. omega arith) (in-three ∙ rw (z, lt-leb (sizeOf s) 65536 l))
@@ -63,10 +64,10 @@ module _ (count : ℕ) (s : Slices) (out : List ℕ) (r : ℕ) (e : r ≡ handed
     pub short : sizeOf s ≤ 65536 → length out < sizeOf s → Writes refused s out (Refused 11) out
     short f l = refuses s out refused 11 (λ w. omega arith) (only-room f ∙ rw (lt-leb (sizeOf s) (length out) l))
 
-    pub wrote : sizeOf s ≤ 65536 → sizeOf s ≤ length out → (a b c : List ℕ) → a ≡ written out 0 (bytesOf (kps (s .marks))) → b ≡ written a (5 * length (s .marks)) (bytesOf (map ftOf (rowsOf (s .slots) (s .chunks) (s .layers) (s .bytes)))) → c ≡ written b (5 * length (s .marks) + 11 * length (s .slots)) en → Writes refused s out (Bytes (sizeOf s)) c
+    pub wrote : sizeOf s ≤ 65536 → sizeOf s ≤ length out → (a b c : List ℕ) → a ≡ written out 0 (planRecordsBytes (kps (s .marks))) → b ≡ written a (5 * length (s .marks)) (planRecordsBytes (map ftOf (rowsOf (s .slots) (s .chunks) (s .layers) (s .bytes)))) → c ≡ written b (5 * length (s .marks) + 11 * length (s .slots)) en → Writes refused s out (Bytes (sizeOf s)) c
     wrote m l a b c p q t =
-        let k = bytesOf (kps (s .marks)) in
-        let f = bytesOf (map ftOf (planOf s .rows)) in
+        let k = planRecordsBytes (kps (s .marks)) in
+        let f = planRecordsBytes (map ftOf (planOf s .rows)) in
         let file = fileOf (planOf s) in
         let size = length-planOf s in
         let rows = length-upTo (rowAt (s .slots) (s .chunks) (s .layers) (s .bytes)) (length (s .slots)) in
@@ -80,7 +81,7 @@ module _ (count : ℕ) (s : Slices) (out : List ℕ) (r : ℕ) (e : r ≡ handed
 
 -- ---- for a handed job
 
-module _ (h : HandedJob) (s : Slices) (out : List ℕ) (r : ℕ) (e : r ≡ jobRefusal h) where
+module _ (h : JobInput) (s : ListSlices) (out : List ℕ) (r : ℕ) (e : r ≡ jobRefusal h) where
   pub job-refused : (r ≡ 0 → ⊥) → Writes (writeRefusal h s out) s out (Refused r) out
   unfolding writeRefusal
   job-refused n = refuses s out (writeRefusal h s out) r n (rw (← e) (orElse-some r (writeRest (chunks (jobIn h)) s out) n))

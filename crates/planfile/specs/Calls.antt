@@ -1,18 +1,19 @@
--- Meaning. The two calls: the refusal of each in document 01's order, its answer, and the lent slices afterwards.
--- "A plan reader checks the job it is handed by 5, 6, 7 before its file"; "Direct calls without files check 5, 6, 7, then 8 .. and a
--- writer then 9"; 18 "after 6 and before 7"; "11. A lent buffer is shorter than the whole result, after all input refusals".
+-- Meaning. The two calls: the refusal of each in document 01's order, its answer, and the lent
+-- slices afterwards. "A plan reader checks the job it is handed by 5, 6, 7 before its file";
+-- "Direct calls without files check 5, 6, 7, then 8 .. and a writer then 9"; 18 "after 6 and before
+-- 7"; "11. A lent buffer is shorter than the whole result, after all input refusals".
 use Prim.Native.Nat.{ℕ}
 use mathlib.Core.Bool.{Bool, cond, _&&_}
 use mathlib.Core.List.{List, map}
 use lib.ListN.{length}
 use lib.Dec.{leb, eqb}
-use Rattle.basics.specs.Lent.{lentAfter}
-use Rattle.basics.specs.Refusals.{unless, _orElse_}
+use Rattle.theory_basics.specs.Lent.{lentAfter}
+use Rattle.theory_basics.specs.Refusals.{unless, _orElse_}
 use Rattle.records.specs.File.{fileRefusal}
 use Rattle.job.specs.Job.{chunks}
-use Rattle.job.specs.Handed.{HandedJob, jobIn, jobRefusal}
+use Rattle.job.specs.Input.{JobInput, jobIn, jobRefusal}
 use Rattle.fetch.specs.Rows.{rowsOf}
-use Rattle.fetch.specs.Handed.{handedRefusal}
+use Rattle.fetch.specs.Input.{listRefusal}
 use Rattle.planfile.specs.PlanFile.{format, Plan, planIn, fileOf}
 use Rattle.planfile.specs.declared.PlanRead.{PlanRead}
 use Rattle.planfile.specs.declared.Written.{Written}
@@ -20,40 +21,40 @@ use Rattle.planfile.specs.declared.PlanRead.the-variants as planRead
 use Rattle.planfile.specs.declared.Written.the-variants as written
 
 -- The five slices of a plan, handed or lent: the marks, and the rows field by field.
-pub record Slices : Type 0 where
+pub record ListSlices : Type 0 where
   pub marks : List ℕ
   pub slots : List ℕ
   pub chunks : List ℕ
   pub layers : List ℕ
   pub bytes : List ℕ
 
-abbrev pub slicesOf : List ℕ → List ℕ → List ℕ → List ℕ → List ℕ → Slices
+abbrev pub slicesOf : List ℕ → List ℕ → List ℕ → List ℕ → List ℕ → ListSlices
 slicesOf marks slots chunks layers bytes = record { marks = marks; slots = slots; chunks = chunks; layers = layers; bytes = bytes }
 
 -- ---- reading
 
 -- The slices hold so many marks and so many rows.
-abbrev pub room : Slices → ℕ → ℕ → Bool
+abbrev pub room : ListSlices → ℕ → ℕ → Bool
 room lent marks rows =
     leb marks (length (lent .marks)) && (leb rows (length (lent .slots)) && (leb rows (length (lent .chunks)) && (leb rows (length (lent .layers)) && leb rows (length (lent .bytes)))))
 
 -- The handed job's 5, 6, 18, 7, then the file's refusal, then 11.
-unfoldable pub readRefusal : HandedJob → List ℕ → Slices → ℕ
-readRefusal h file lent =
+unfoldable pub planReadRefusal : JobInput → List ℕ → ListSlices → ℕ
+planReadRefusal h file lent =
     jobRefusal h
     orElse fileRefusal (format (chunks (jobIn h))) file
     orElse unless 11 (room lent (chunks (jobIn h)) (length (planIn (chunks (jobIn h)) file .rows)))
 
 -- The number of rows, or the refusal.
-abbrev pub readAnswer : HandedJob → List ℕ → Slices → PlanRead
+abbrev pub readAnswer : JobInput → List ℕ → ListSlices → PlanRead
 readAnswer h file lent =
-    cond (eqb (readRefusal h file lent) 0) (planRead.Rows (length (planIn (chunks (jobIn h)) file .rows))) (planRead.Refused (readRefusal h file lent))
+    cond (eqb (planReadRefusal h file lent) 0) (planRead.Rows (length (planIn (chunks (jobIn h)) file .rows))) (planRead.Refused (planReadRefusal h file lent))
 
 -- The plan's marks and rows at the front of the lent slices.
-abbrev pub readLent : HandedJob → List ℕ → Slices → Slices
+abbrev pub readLent : JobInput → List ℕ → ListSlices → ListSlices
 readLent h file lent =
     let plan = planIn (chunks (jobIn h)) file in
-    let refused = readRefusal h file lent in
+    let refused = planReadRefusal h file lent in
     record {
       marks = lentAfter refused (plan .marks) (lent .marks);
       slots = lentAfter refused (map (λ x. x .slot) (plan .rows)) (lent .slots);
@@ -65,27 +66,27 @@ readLent h file lent =
 -- ---- writing
 
 -- The plan that five slices hand over.
-abbrev pub planOf : Slices → Plan
+abbrev pub planOf : ListSlices → Plan
 planOf s = record { marks = s .marks; rows = rowsOf (s .slots) (s .chunks) (s .layers) (s .bytes) }
 
 -- After the job's: 8, then 9 for a file above 65,536 bytes, then 11.
-unfoldable pub writeRest : ℕ → Slices → List ℕ → ℕ
+unfoldable pub writeRest : ℕ → ListSlices → List ℕ → ℕ
 writeRest count s out =
-    handedRefusal count (s .marks) (s .slots) (s .chunks) (s .layers) (s .bytes)
+    listRefusal count (s .marks) (s .slots) (s .chunks) (s .layers) (s .bytes)
     orElse unless 9 (leb (length (fileOf (planOf s))) 65536)
     orElse unless 11 (leb (length (fileOf (planOf s))) (length out))
 
 -- The handed job's 5, 6, 18, 7 before them.
-unfoldable pub writeRefusal : HandedJob → Slices → List ℕ → ℕ
+unfoldable pub writeRefusal : JobInput → ListSlices → List ℕ → ℕ
 writeRefusal h s out = jobRefusal h orElse writeRest (chunks (jobIn h)) s out
 
 -- The number of bytes, or the refusal.
-abbrev pub writtenBy : ℕ → Slices → Written
+abbrev pub writtenBy : ℕ → ListSlices → Written
 writtenBy refused s = cond (eqb refused 0) (written.Bytes (length (fileOf (planOf s)))) (written.Refused refused)
 
-abbrev pub writeAnswer : HandedJob → Slices → List ℕ → Written
+abbrev pub writeAnswer : JobInput → ListSlices → List ℕ → Written
 writeAnswer h s out = writtenBy (writeRefusal h s out) s
 
 -- The plan's file at the front of the lent buffer.
-abbrev pub writeLent : HandedJob → Slices → List ℕ → List ℕ
+abbrev pub writeLent : JobInput → ListSlices → List ℕ → List ℕ
 writeLent h s out = lentAfter (writeRefusal h s out) (fileOf (planOf s)) out

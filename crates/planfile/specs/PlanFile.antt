@@ -1,15 +1,16 @@
--- Meaning. A plan file: what its records say, the refusal of each, and the file of a plan. Document 01, "KP chunk h, marks b, for
--- chunk 1 to C; then FT ..; EN", refusal 8 "KP records not for 1 to C in turn, before every FT, and complete by EN", and "The plan
--- writer keeps the rows as handed". C comes from the job.
+-- Meaning. A plan file: what its records say, the refusal of each, and the file of a plan. Document
+-- 01, "KP chunk h, marks b, for chunk 1 to C; then FT ..; EN", refusal 8 "KP records not for 1 to C
+-- in turn, before every FT, and complete by EN", and "The plan writer keeps the rows as handed". C
+-- comes from the job.
 use Prim.Native.Nat.{ℕ, _+_, _<_}
 use mathlib.Core.Path.{_≡_}
 use mathlib.Core.Bool.{_&&_}
 use mathlib.Core.List.{List, [], _∷_, _++_, map, flatMap}
 use lib.ListN.{length, getD}
 use lib.Dec.{leb, eqb}
-use Rattle.basics.specs.Tests.{All}
-use Rattle.basics.specs.Lists.{upTo}
-use Rattle.basics.specs.Refusals.{unless}
+use Rattle.theory_basics.specs.Tests.{All}
+use Rattle.theory_basics.specs.Lists.{upTo}
+use Rattle.theory_basics.specs.Refusals.{unless}
 use Rattle.records.specs.File.{Format, split}
 use Rattle.fetch.specs.Rows.{Row}
 use Rattle.planfile.specs.Records.{encode, front, isEnd}
@@ -30,7 +31,8 @@ rowsIn (Kp chunk marks ∷ rs) = rowsIn rs
 rowsIn (Ft slot chunk layer bytes ∷ rs) = record { slot = slot; chunk = chunk; layer = layer; bytes = bytes } ∷ rowsIn rs
 rowsIn (En ∷ rs) = rowsIn rs
 
--- The refusal of a record after those before it: a KP is for the next chunk, up to C, and stands before every FT.
+-- The refusal of a record after those before it: a KP is for the next chunk, up to C, and stands
+-- before every FT.
 abbrev pub fault : ℕ → List Record → Record → ℕ
 fault count before (Kp chunk marks) =
     unless 8 (eqb chunk (length (marksIn before) + 1) && (leb chunk count && eqb (length (rowsIn before)) 0))

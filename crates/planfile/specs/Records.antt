@@ -1,5 +1,6 @@
--- Meaning. One record of a plan file: document 01, "KP chunk h, marks b, for chunk 1 to C; then FT slot h, chunk h, layer b, bytes w;
--- EN" and "Each record is taken only if its mark and its whole body are there".
+-- Meaning. One record of a plan file: document 01, "KP chunk h, marks b, for chunk 1 to C; then FT
+-- slot h, chunk h, layer b, bytes w; EN" and "Each record is taken only if its mark and its whole
+-- body are there".
 use Prim.Native.Nat.{ℕ, _+_}
 use mathlib.Core.Bool.{Bool, true, false, cond}
 use mathlib.Core.List.{List, [], _∷_, _++_}
@@ -32,7 +33,8 @@ encode En = en
 abbrev pub whole : List ℕ → ℕ → Record → Front Record
 whole s n r = cond (leb n (length s)) (got r n) (none 1)
 
--- What stands in front of some bytes: 1 if they end within the mark or the body, 2 for an unknown mark.
+-- What stands in front of some bytes: 1 if they end within the mark or the body, 2 for an unknown
+-- mark.
 unfoldable pub front : List ℕ → Front Record
 front s =
     cond (leb 2 (length s))
@@ -47,7 +49,8 @@ isEnd (Kp chunk marks) = false
 isEnd (Ft slot chunk layer bytes) = false
 isEnd En = true
 
--- The same as the record reader's answer: at a place, a record with the place after it, or a refusal.
+-- The same as the record reader's answer: at a place, a record with the place after it, or a
+-- refusal.
 abbrev pub readOf : ℕ → Front Record → Read
 readOf at (got r n) = Got r (at + n)
 readOf at (none n) = Refused n

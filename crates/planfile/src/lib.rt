@@ -5,17 +5,18 @@ ghost use mathlib.Core.List.{map};
 ghost use Prim.Native.Nat.{_+_, _*_, _≤_, _<_};
 ghost use lib.ListN.{length};
 ghost use lib.Dec.{leb};
-ghost use Rattle.job.specs.Handed.{handed};
+ghost use Rattle.job.specs.Input.{jobInput};
 ghost use Rattle.records.specs.File.{fileRefusal};
-ghost use Rattle.basics.specs.Lent.{lentAfter};
+ghost use Rattle.theory_basics.specs.Lent.{lentAfter};
 ghost use Rattle.records.specs.Fields.{written};
 ghost use Rattle.fetch.specs.Rows.{rowsOf};
 ghost use Rattle.planfile.specs.Records.{encode, readAt};
 ghost use Rattle.planfile.specs.PlanFile.{format, kps, ftOf, fileOf};
 ghost use Rattle.planfile.specs.Calls.{slicesOf, readAnswer, readLent, planOf, writeRest, writtenBy, writeAnswer, writeLent};
-ghost use Rattle.planfile.specs.lemmas.Writing.{bytesOf};
-ghost use Rattle.planfile.specs.lemmas.Scan.{refusalOf, inTurn, Done, markOn, rowOn, filled};
+ghost use Rattle.planfile.specs.lemmas.Writing.{planRecordsBytes};
+ghost use Rattle.planfile.specs.lemmas.Scan.{refusalOf, inTurn, FileRowsPost, markOn, rowOn, filled};
 use job::Programme;
+use records::FILE_BYTES;
 
 // A record without its mark.
 pub enum Record {
@@ -94,6 +95,7 @@ fn record_at(file: &[u8], at: usize) -> Read
     Read::Refused(2)
 }
 
+// The refusal of a record that was not read, 0 for one that was.
 fn refusal_of(read: Read) -> u8
     ensures { λ r. ⌜ r ≡ refusalOf read ⌝ }
 {
@@ -121,9 +123,9 @@ fn in_turn(count: u16, kept: u16, rows: usize, chunk: u16) -> bool
 
 // The rows of a file, or its refusal: 9 first, then record by record.
 fn file_rows(count: u16, file: &[u8]) -> PlanRead
-    ensures { λ r. ⌜ Done count (now (file .entry)) (fileRefusal (format count) (now (file .entry))) r ⌝ }
+    ensures { λ r. ⌜ FileRowsPost count (now (file .entry)) (fileRefusal (format count) (now (file .entry))) r ⌝ }
 {
-    if 65536 < file.len() {
+    if FILE_BYTES < file.len() {
         return PlanRead::Refused(9);
     }
     let mut at: usize = 0;
@@ -251,8 +253,8 @@ pub fn read_plan(
     layers: &mut [u8],
     bytes: &mut [u32],
 ) -> PlanRead
-    ensures answer { λ r. ⌜ r ≡ readAnswer (handed p (now (sizes .entry)) (now («size_chunks» .entry)) (now («size_layers» .entry)) (now («size_bytes» .entry)) (now (forecast .entry))) (now (file .entry)) (slicesOf (now (marks .entry)) (now (slots .entry)) (now (chunks .entry)) (now (layers .entry)) (now (bytes .entry))) ⌝ }
-    ensures lent { λ _. ⌜ slicesOf (now (marks .exit)) (now (slots .exit)) (now (chunks .exit)) (now (layers .exit)) (now (bytes .exit)) ≡ readLent (handed p (now (sizes .entry)) (now («size_chunks» .entry)) (now («size_layers» .entry)) (now («size_bytes» .entry)) (now (forecast .entry))) (now (file .entry)) (slicesOf (now (marks .entry)) (now (slots .entry)) (now (chunks .entry)) (now (layers .entry)) (now (bytes .entry))) ⌝ }
+    ensures answer { λ r. ⌜ r ≡ readAnswer (jobInput p (now (sizes .entry)) (now («size_chunks» .entry)) (now («size_layers» .entry)) (now («size_bytes» .entry)) (now (forecast .entry))) (now (file .entry)) (slicesOf (now (marks .entry)) (now (slots .entry)) (now (chunks .entry)) (now (layers .entry)) (now (bytes .entry))) ⌝ }
+    ensures lent { λ _. ⌜ slicesOf (now (marks .exit)) (now (slots .exit)) (now (chunks .exit)) (now (layers .exit)) (now (bytes .exit)) ≡ readLent (jobInput p (now (sizes .entry)) (now («size_chunks» .entry)) (now («size_layers» .entry)) (now («size_bytes» .entry)) (now (forecast .entry))) (now (file .entry)) (slicesOf (now (marks .entry)) (now (slots .entry)) (now (chunks .entry)) (now (layers .entry)) (now (bytes .entry))) ⌝ }
 {
     let refused = job::refusal(p, sizes, size_chunks, size_layers, size_bytes, forecast);
     if refused != 0 {
@@ -279,6 +281,7 @@ pub fn read_plan(
     PlanRead::Refused(11)
 }
 
+// A KP record: chunk and marks.
 fn put_kp(out: &mut [u8], at: usize, chunk: u16, marks: u8)
     requires { ⌜ at + 5 ≤ length (now out) ⌝ }
     ensures { λ _. ⌜ now (out .exit) ≡ written (now (out .entry)) at (encode (Record.Kp chunk marks)) ⌝ }
@@ -289,6 +292,7 @@ fn put_kp(out: &mut [u8], at: usize, chunk: u16, marks: u8)
     records::put(out, next, &body);
 }
 
+// An FT record: slot, chunk, layer and bytes.
 fn put_ft(out: &mut [u8], at: usize, slot: u16, chunk: u16, layer: u8, bytes: u32)
     requires { ⌜ at + 11 ≤ length (now out) ⌝ }
     ensures { λ _. ⌜ now (out .exit) ≡ written (now (out .entry)) at (encode (Record.Ft slot chunk layer bytes)) ⌝ }
@@ -312,7 +316,7 @@ fn put_ft(out: &mut [u8], at: usize, slot: u16, chunk: u16, layer: u8, bytes: u3
 // KP for every chunk.
 fn put_kps(out: &mut [u8], marks: &[u8])
     requires { ⌜ (5 * length (now marks) ≤ length (now out)) × (length (now marks) < 65536) ⌝ }
-    ensures { λ _. ⌜ now (out .exit) ≡ written (now (out .entry)) 0 (bytesOf (kps (now (marks .entry)))) ⌝ }
+    ensures { λ _. ⌜ now (out .exit) ≡ written (now (out .entry)) 0 (planRecordsBytes (kps (now (marks .entry)))) ⌝ }
 {
     let mut i: usize = 0;
     while i < marks.len() {
@@ -326,7 +330,7 @@ fn put_kps(out: &mut [u8], marks: &[u8])
 // FT for every row, from a place on.
 fn put_fts(out: &mut [u8], from: usize, slots: &[u16], chunks: &[u16], layers: &[u8], bytes: &[u32])
     requires { ⌜ (length (now slots) ≡ length (now chunks)) × (length (now slots) ≡ length (now layers)) × (length (now slots) ≡ length (now bytes)) × (from + 11 * length (now slots) ≤ length (now out)) ⌝ }
-    ensures { λ _. ⌜ now (out .exit) ≡ written (now (out .entry)) from (bytesOf (map ftOf (rowsOf (now (slots .entry)) (now (chunks .entry)) (now (layers .entry)) (now (bytes .entry))))) ⌝ }
+    ensures { λ _. ⌜ now (out .exit) ≡ written (now (out .entry)) from (planRecordsBytes (map ftOf (rowsOf (now (slots .entry)) (now (chunks .entry)) (now (layers .entry)) (now (bytes .entry))))) ⌝ }
 {
     let mut i: usize = 0;
     while i < slots.len() {
@@ -336,8 +340,8 @@ fn put_fts(out: &mut [u8], from: usize, slots: &[u16], chunks: &[u16], layers: &
     }
 }
 
-// The file of a plan for a job with count chunks, into the lent buffer: 8, 9, then 11. So many rows are too many for any file, so that
-// its size doesn't wrap.
+// The file of a plan for a job with count chunks, into the lent buffer: 8, 9, then 11. So many rows
+// are too many for any file, so that its size doesn't wrap.
 fn write_file(
     count: u16,
     marks: &[u8],
@@ -350,7 +354,7 @@ fn write_file(
     ensures answer { λ r. ⌜ r ≡ writtenBy (writeRest count (slicesOf (now (marks .entry)) (now (slots .entry)) (now (chunks .entry)) (now (layers .entry)) (now (bytes .entry))) (now (out .entry))) (slicesOf (now (marks .entry)) (now (slots .entry)) (now (chunks .entry)) (now (layers .entry)) (now (bytes .entry))) ⌝ }
     ensures lent { λ _. ⌜ now (out .exit) ≡ lentAfter (writeRest count (slicesOf (now (marks .entry)) (now (slots .entry)) (now (chunks .entry)) (now (layers .entry)) (now (bytes .entry))) (now (out .entry))) (fileOf (planOf (slicesOf (now (marks .entry)) (now (slots .entry)) (now (chunks .entry)) (now (layers .entry)) (now (bytes .entry))))) (now (out .entry)) ⌝ }
 {
-    let refused = fetch::handed_refusal(count, marks, slots, chunks, layers, bytes);
+    let refused = fetch::list_refusal(count, marks, slots, chunks, layers, bytes);
     if refused != 0 {
         return Written::Refused(refused);
     }
@@ -361,7 +365,7 @@ fn write_file(
     let from = 5 * marks.len();
     let last = from + 11 * rows;
     let end = last + 2;
-    if 65536 < end {
+    if FILE_BYTES < end {
         return Written::Refused(9);
     }
     if out.len() < end {
@@ -388,8 +392,8 @@ pub fn write_plan(
     bytes: &[u32],
     out: &mut [u8],
 ) -> Written
-    ensures answer { λ r. ⌜ r ≡ writeAnswer (handed p (now (sizes .entry)) (now («size_chunks» .entry)) (now («size_layers» .entry)) (now («size_bytes» .entry)) (now (forecast .entry))) (slicesOf (now (marks .entry)) (now (slots .entry)) (now (chunks .entry)) (now (layers .entry)) (now (bytes .entry))) (now (out .entry)) ⌝ }
-    ensures lent { λ _. ⌜ now (out .exit) ≡ writeLent (handed p (now (sizes .entry)) (now («size_chunks» .entry)) (now («size_layers» .entry)) (now («size_bytes» .entry)) (now (forecast .entry))) (slicesOf (now (marks .entry)) (now (slots .entry)) (now (chunks .entry)) (now (layers .entry)) (now (bytes .entry))) (now (out .entry)) ⌝ }
+    ensures answer { λ r. ⌜ r ≡ writeAnswer (jobInput p (now (sizes .entry)) (now («size_chunks» .entry)) (now («size_layers» .entry)) (now («size_bytes» .entry)) (now (forecast .entry))) (slicesOf (now (marks .entry)) (now (slots .entry)) (now (chunks .entry)) (now (layers .entry)) (now (bytes .entry))) (now (out .entry)) ⌝ }
+    ensures lent { λ _. ⌜ now (out .exit) ≡ writeLent (jobInput p (now (sizes .entry)) (now («size_chunks» .entry)) (now («size_layers» .entry)) (now («size_bytes» .entry)) (now (forecast .entry))) (slicesOf (now (marks .entry)) (now (slots .entry)) (now (chunks .entry)) (now (layers .entry)) (now (bytes .entry))) (now (out .entry)) ⌝ }
 {
     let job = job::refusal(p, sizes, size_chunks, size_layers, size_bytes, forecast);
     if job != 0 {

@@ -5,7 +5,7 @@ use mathlib.Core.List.{List}
 use Prim.Native.Nat.{ℕ, _+_, _≤_, _<_}
 use lib.ListN.{length, getD, drop, drop-of-length-le}
 use lib.Dec.{ltb}
-use Rattle.basics.specs.lemmas.Tables.{drop-next}
+use Rattle.theory_basics.specs.lemmas.Tables.{drop-next}
 use Rattle.planner.specs.declared.Order.the-variants.{Less, Same, More}
 use Rattle.planner.specs.Answer.{compared}
 

@@ -1,2 +1,2 @@
 pub mod Compared
-pub mod Handing
+pub mod Outputs

@@ -1,13 +1,15 @@
 // The planner: marks, rows and counts of a job's plan, as document 01 decides and lists them.
+use core_output::Output;
+use job::CHUNKS;
 use job::Programme;
-use laying::Laid;
+use job::SIZES;
 ghost use mathlib.Core.Path.{_≡_};
 ghost use mathlib.Core.List.{[], _∷_};
 ghost use Prim.Native.Nat.{_≤_};
 ghost use lib.ListN.{length};
 ghost use mathlib.Core.Bool.{cond};
-ghost use Rattle.job.specs.Handed.{handed, jobRefusal};
-ghost use Rattle.planner.specs.Answer.{Handed, DecidedByLists, PicturesOfLists, BestOfLists, SteadyBases, compared};
+ghost use Rattle.job.specs.Input.{jobInput, jobRefusal};
+ghost use Rattle.planner.specs.Answer.{PlanOutput, DecidedByLists, PicturesOfLists, BestOfLists, SteadyBases, compared};
 
 // How many rows the plan has, or the refusal's number.
 pub enum Answer {
@@ -28,6 +30,7 @@ pub enum Order {
     More,
 }
 
+// Counts are compared entry by entry from the base.
 pub fn compare(a: [u16; 4], b: [u16; 4]) -> Order
     ensures { λ r. ⌜ r ≡ compared a b ⌝ }
 {
@@ -55,7 +58,7 @@ pub fn refused(n: u8) -> Planned
 }
 
 // The answer for what was laid: its rows and counts where the slices hold it whole, else 11.
-fn answered(made: Laid) -> Planned
+fn answered(made: Output) -> Planned
     ensures { λ r. ⌜ (r .answer ≡ cond (made .whole) (Answer.Rows (made .rows)) (Answer.Refused 11)) × (r .counts ≡ cond (made .whole) (made .counts) (0 ∷ 0 ∷ 0 ∷ 0 ∷ [])) ⌝ }
 {
     if made.whole {
@@ -69,7 +72,7 @@ fn answered(made: Laid) -> Planned
 }
 
 // The plan of an accepted job, decided and handed over.
-fn lay_plan(
+fn write_decided(
     p: Programme,
     sizes: &[u32],
     size_chunks: &[u16],
@@ -82,18 +85,19 @@ fn lay_plan(
     layers: &mut [u8],
     bytes: &mut [u32],
 ) -> Planned
-    requires { ⌜ (jobRefusal (handed p (now sizes) (now «size_chunks») (now «size_layers») (now «size_bytes») (now forecast)) ≡ 0) × (p .chunks ≤ length (now marks)) ⌝ }
-    ensures { λ r. ⌜ Handed (handed p (now (sizes .entry)) (now («size_chunks» .entry)) (now («size_layers» .entry)) (now («size_bytes» .entry)) (now (forecast .entry))) (now (marks .entry)) (now (slots .entry)) (now (chunks .entry)) (now (layers .entry)) (now (bytes .entry)) r (now (marks .exit)) (now (slots .exit)) (now (chunks .exit)) (now (layers .exit)) (now (bytes .exit)) ⌝ }
+    requires { ⌜ (jobRefusal (jobInput p (now sizes) (now «size_chunks») (now «size_layers») (now «size_bytes») (now forecast)) ≡ 0) × (p .chunks ≤ length (now marks)) ⌝ }
+    ensures { λ r. ⌜ PlanOutput (jobInput p (now (sizes .entry)) (now («size_chunks» .entry)) (now («size_layers» .entry)) (now («size_bytes» .entry)) (now (forecast .entry))) (now (marks .entry)) (now (slots .entry)) (now (chunks .entry)) (now (layers .entry)) (now (bytes .entry)) r (now (marks .exit)) (now (slots .exit)) (now (chunks .exit)) (now (layers .exit)) (now (bytes .exit)) ⌝ }
 {
-    // Filled with no constant, as in decide.
+    // Every place is written before it is read. A filling that is no constant is stored in wide
+    // words, faster than cleared.
     let unset = p.chunks as u32;
-    let mut table = [unset; 2000];
+    let mut table = [unset; SIZES];
     job::fill_sizes(sizes, size_chunks, size_layers, size_bytes, &mut table);
-    let mut ids = [0u16; 500];
-    let mut ready = [0u16; 500];
-    let mut mark = [1u8; 500];
+    let mut ids = [0u16; CHUNKS];
+    let mut ready = [0u16; CHUNKS];
+    let mut mark = [1u8; CHUNKS];
     let count = p.chunks as usize;
-    let first = settle::decide(
+    let first = core_decide::decide(
         p,
         sizes.len(),
         &table,
@@ -103,7 +107,7 @@ fn lay_plan(
         &mut ready,
         &mut mark,
     );
-    let made = laying::lay(
+    let made = core_output::write_plan(
         count,
         forecast,
         &table,
@@ -120,8 +124,8 @@ fn lay_plan(
     answered(made)
 }
 
-// The plan of a job into lent marks, one a chunk, and rows: by slot, chunk, layer. Refusals 5, 6, 18, 7, then 11 where a slice is shorter than
-// the plan; a refusal writes nothing.
+// The plan of a job into lent marks, one a chunk, and rows: by slot, chunk, layer. Refusals 5, 6,
+// 18, 7, then 11 where a slice is shorter than the plan; a refusal writes nothing.
 pub fn plan(
     p: Programme,
     sizes: &[u32],
@@ -135,11 +139,11 @@ pub fn plan(
     layers: &mut [u8],
     bytes: &mut [u32],
 ) -> Planned
-    ensures handed { λ r. ⌜ Handed (handed p (now (sizes .entry)) (now («size_chunks» .entry)) (now («size_layers» .entry)) (now («size_bytes» .entry)) (now (forecast .entry))) (now (marks .entry)) (now (slots .entry)) (now (chunks .entry)) (now (layers .entry)) (now (bytes .entry)) r (now (marks .exit)) (now (slots .exit)) (now (chunks .exit)) (now (layers .exit)) (now (bytes .exit)) ⌝ }
-    ensures decided { λ _. ⌜ DecidedByLists (handed p (now (sizes .entry)) (now («size_chunks» .entry)) (now («size_layers» .entry)) (now («size_bytes» .entry)) (now (forecast .entry))) ⌝ }
-    ensures pictures { λ _. ⌜ PicturesOfLists (handed p (now (sizes .entry)) (now («size_chunks» .entry)) (now («size_layers» .entry)) (now («size_bytes» .entry)) (now (forecast .entry))) ⌝ }
-    ensures best { λ _. ⌜ BestOfLists (handed p (now (sizes .entry)) (now («size_chunks» .entry)) (now («size_layers» .entry)) (now («size_bytes» .entry)) (now (forecast .entry))) ⌝ }
-    ensures steady { λ _. ⌜ SteadyBases (handed p (now (sizes .entry)) (now («size_chunks» .entry)) (now («size_layers» .entry)) (now («size_bytes» .entry)) (now (forecast .entry))) ⌝ }
+    ensures output { λ r. ⌜ PlanOutput (jobInput p (now (sizes .entry)) (now («size_chunks» .entry)) (now («size_layers» .entry)) (now («size_bytes» .entry)) (now (forecast .entry))) (now (marks .entry)) (now (slots .entry)) (now (chunks .entry)) (now (layers .entry)) (now (bytes .entry)) r (now (marks .exit)) (now (slots .exit)) (now (chunks .exit)) (now (layers .exit)) (now (bytes .exit)) ⌝ }
+    ensures decided { λ _. ⌜ DecidedByLists (jobInput p (now (sizes .entry)) (now («size_chunks» .entry)) (now («size_layers» .entry)) (now («size_bytes» .entry)) (now (forecast .entry))) ⌝ }
+    ensures pictures { λ _. ⌜ PicturesOfLists (jobInput p (now (sizes .entry)) (now («size_chunks» .entry)) (now («size_layers» .entry)) (now («size_bytes» .entry)) (now (forecast .entry))) ⌝ }
+    ensures best { λ _. ⌜ BestOfLists (jobInput p (now (sizes .entry)) (now («size_chunks» .entry)) (now («size_layers» .entry)) (now («size_bytes» .entry)) (now (forecast .entry))) ⌝ }
+    ensures steady { λ _. ⌜ SteadyBases (jobInput p (now (sizes .entry)) (now («size_chunks» .entry)) (now («size_layers» .entry)) (now («size_bytes» .entry)) (now (forecast .entry))) ⌝ }
 {
     let no = job::refusal(p, sizes, size_chunks, size_layers, size_bytes, forecast);
     if 0 < no {
@@ -148,7 +152,7 @@ pub fn plan(
     if marks.len() < p.chunks as usize {
         return refused(11);
     }
-    lay_plan(
+    write_decided(
         p,
         sizes,
         size_chunks,

@@ -1,4 +1,5 @@
--- Laws on the refusals: asked one after the other, and what they say if there is none. Assumes nothing.
+-- Laws on the refusals: asked one after the other, and what they say if there is none. Assumes
+-- nothing.
 use Prim.Native.Nat.{ℕ, zero, suc, _-_, _≤_, _<_}
 use mathlib.Core.Path.{_≡_, refl, sym, _∙_, ap}
 use mathlib.Core.Bool.{Bool, _&&_}
@@ -8,18 +9,18 @@ use native.Mathlib.Omega.{arith}
 use lib.Dec.{T-not, eqb, eqb-refl, eqb→eq, ltb}
 use lib.ListN.{getD, length, take}
 use lib.Seq.{take-length, take-suc}
-use Rattle.basics.specs.Lists.{upTo}
-use Rattle.basics.specs.Refusals.{_orElse_, unless}
-use Rattle.basics.specs.Tests.{All, all}
-use Rattle.basics.specs.lemmas.Refusals.{orElse-iff, orElse-none, orElse-some}
-use Rattle.basics.specs.lemmas.Tests.{all-snoc, test}
-use Rattle.job.specs.Handed.{HandedJob, jobIn, jobRefusal}
+use Rattle.theory_basics.specs.Lists.{upTo}
+use Rattle.theory_basics.specs.Refusals.{_orElse_, unless}
+use Rattle.theory_basics.specs.Tests.{All, all}
+use Rattle.theory_basics.specs.lemmas.Refusals.{orElse-iff, orElse-none, orElse-some}
+use Rattle.theory_basics.specs.lemmas.Tests.{all-snoc, test}
+use Rattle.job.specs.Input.{JobInput, jobIn, jobRefusal}
 use Rattle.job.specs.Job.{Within, lastDue}
-use Rattle.fetch.specs.Handed.{Whole, handed-iff, handedRefusal}
+use Rattle.fetch.specs.Input.{Whole, whole-iff, listRefusal}
 use Rattle.fetch.specs.Rows.{rowAt}
 use Rattle.fetch.specs.VerdictFrom.{slot-iff, slotRefusal}
-use Rattle.afresh.specs.Refusal.{before-iff, beforeRefusal, handedKept, onward-iff, replanRefusal}
-use Rattle.replan.specs.Answer.{HandedOn, fetched, inputRefusal, jobOn}
+use Rattle.theory_replan.specs.Refusal.{before-iff, beforeRefusal, fetchedKept, onward-iff, replanRefusal}
+use Rattle.replan.specs.Answer.{ReplanInput, fetched, inputRefusal, jobOn}
 use Rattle.replan.specs.lemmas.Asked.{askedRefusal, partRefusal}
 
 -- The first refuses,
@@ -55,26 +56,26 @@ rows-before p ss cs ls bs (suc n) h =
     ∙ ap (λ (b : Bool). b && ltb (getD ss n 0) p) (rows-before p ss cs ls bs n (omega arith))
     ∙ sym (ap (all (λ s. ltb s p)) (take-suc ss n 0 (omega arith)) ∙ all-snoc (λ s. ltb s p) (take n ss) (getD ss n 0))
 
-module _ (h : HandedJob) (o : HandedOn) where
+module _ (h : JobInput) (o : ReplanInput) where
   before-is : beforeRefusal (o .from) (fetched o) ≡ unless 21 (all (λ s. ltb s (o .from)) (o .slots))
   before-is =
       ap (λ (b : Bool). unless 21 b)
       (rows-before (o .from) (o .slots) (o .chunks) (o .layers) (o .bytes) (length (o .slots)) (omega arith) ∙ ap (all (λ s. ltb s (o .from))) (take-length (o .slots)))
 
   -- The refusals that come from the input: those asked first, then 22.
-  pub input-is : inputRefusal h o ≡ (askedRefusal h o orElse unless 22 (handedKept (jobOn h o) (fetched o)))
+  pub input-is : inputRefusal h o ≡ (askedRefusal h o orElse unless 22 (fetchedKept (jobOn h o) (fetched o)))
   unfolding replanRefusal
   input-is =
       let job = jobRefusal h in
-      let whole = handedRefusal 0 [] (o .slots) (o .chunks) (o .layers) (o .bytes) in
+      let whole = listRefusal 0 [] (o .slots) (o .chunks) (o .layers) (o .bytes) in
       let slot = slotRefusal (h .programme) (o .from) in
       let part = partRefusal (h .programme) (o .from) (o .onward) in
-      let kept = unless 22 (handedKept (jobOn h o) (fetched o)) in
+      let kept = unless 22 (fetchedKept (jobOn h o) (fetched o)) in
       ap (λ (b : ℕ). job orElse whole orElse slot orElse b orElse part orElse kept) before-is
       ∙ sym (after-five job whole slot (unless 21 (all (λ s. ltb s (o .from)) (o .slots))) part kept)
 
 -- What none of the first says.
-pub record Asked (h : HandedJob) (o : HandedOn) : Type 0 where
+pub record Asked (h : JobInput) (o : ReplanInput) : Type 0 where
   pub job : jobRefusal h ≡ 0
   pub whole : Whole 0 [] (o .slots) (o .chunks) (o .layers) (o .bytes)
   pub slot-in : Within 1 (lastDue (h .programme)) (o .from)
@@ -82,10 +83,10 @@ pub record Asked (h : HandedJob) (o : HandedOn) : Type 0 where
   pub onward-in : All (Within 0 16777216) (o .onward)
   pub slots-in : length (o .onward) ≡ suc (lastDue (h .programme)) - o .from
 
-pub asked-none : (h : HandedJob) (o : HandedOn) → askedRefusal h o ≡ 0 → Asked h o
+pub asked-none : (h : JobInput) (o : ReplanInput) → askedRefusal h o ≡ 0 → Asked h o
 asked-none h o z =
     let job = jobRefusal h in
-    let whole = handedRefusal 0 [] (o .slots) (o .chunks) (o .layers) (o .bytes) in
+    let whole = listRefusal 0 [] (o .slots) (o .chunks) (o .layers) (o .bytes) in
     let slot = slotRefusal (h .programme) (o .from) in
     let row = unless 21 (all (λ s. ltb s (o .from)) (o .slots)) in
     let part = partRefusal (h .programme) (o .from) (o .onward) in
@@ -96,7 +97,7 @@ asked-none h o z =
     let seven = onward-iff (jobIn h) (o .from) (o .onward) .0 (d .1) in
     record {
       job = a .0;
-      whole = handed-iff 0 [] (o .slots) (o .chunks) (o .layers) (o .bytes) .0 (b .0);
+      whole = whole-iff 0 [] (o .slots) (o .chunks) (o .layers) (o .bytes) .0 (b .0);
       slot-in = slot-iff (h .programme) (o .from) .0 (c .0);
       before = before-iff (o .from) (fetched o) .0 (before-is h o ∙ d .0);
       onward-in = seven .0;

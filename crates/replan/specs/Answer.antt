@@ -1,34 +1,35 @@
--- Meaning. What planning afresh hands over: document 02, request 12, "The result is the marks, the counts and only the rows from p on", or a
--- refusal's number. The plan made afresh, its rows and its refusals are stated in afresh: Statement, Own, Refusal.
+-- Meaning. What planning afresh hands over: document 02, request 12, "The result is the marks, the
+-- counts and only the rows from p on", or a refusal's number. The plan made afresh, its rows and
+-- its refusals are stated in theory_replan: Statement, Own, Refusal.
 use Prim.Native.Nat.{ℕ, _-_, _≤_}
 use mathlib.Core.Path.{_≡_}
 use mathlib.Core.Bool.{Bool, cond, _&&_}
 use mathlib.Core.List.{List, [], _∷_, _++_, map}
 use lib.ListN.{length, drop}
 use lib.Dec.{leb, eqb}
-use Rattle.basics.specs.Lent.{lentAfter}
-use Rattle.basics.specs.Refusals.{_orElse_, unless}
-use Rattle.job.specs.Handed.{HandedJob, jobIn, jobRefusal}
+use Rattle.theory_basics.specs.Lent.{lentAfter}
+use Rattle.theory_basics.specs.Refusals.{_orElse_, unless}
+use Rattle.job.specs.Input.{JobInput, jobIn, jobRefusal}
 use Rattle.job.specs.Job.{Job, chunks, lastSlot}
-use Rattle.fetch.specs.Handed.{handedRefusal}
+use Rattle.fetch.specs.Input.{listRefusal}
 use Rattle.fetch.specs.Rows.{Permuted, Row, rowBytes, rowChunk, rowLayer, rowSlot, rowsOf}
 use Rattle.fetch.specs.VerdictFrom.{verdictFrom}
-use Rattle.schedule.specs.Own.{ownList}
-use Rattle.schedule.specs.Statement.{Same, SettledByTrials, countsOf, marksOf}
+use Rattle.theory_plan.specs.Own.{ownList}
+use Rattle.theory_plan.specs.Statement.{Same, SettledByTrials, countsOf, marksOf}
 use Rattle.planner.specs.Answer.{Lent, lentOf}
 use Rattle.planner.specs.declared.Answer.the-variants.{Refused, Rows}
 use Rattle.planner.specs.declared.Answer.{Answer}
 use Rattle.planner.specs.declared.Planned.{Planned}
-use Rattle.afresh.specs.Desk.{Replans}
-use Rattle.afresh.specs.Own.{ownRest}
-use Rattle.afresh.specs.Plan.{replan}
-use Rattle.afresh.specs.Refusal.{replanRefusal}
-use Rattle.afresh.specs.Statement.{joined, rowsBefore, rowsFrom}
+use Rattle.theory_replan.specs.Desk.{Replans}
+use Rattle.theory_replan.specs.Own.{ownRest}
+use Rattle.theory_replan.specs.Plan.{replan}
+use Rattle.theory_replan.specs.Refusal.{replanRefusal}
+use Rattle.theory_replan.specs.Statement.{joined, rowsBefore, rowsFrom}
 
 -- ---- what is handed on
 
 -- "It hands on the rows fetched before p and the forecast from the replanning slot onward".
-pub record HandedOn : Type 0 where
+pub record ReplanInput : Type 0 where
   pub from : ℕ
   pub slots : List ℕ
   pub chunks : List ℕ
@@ -36,57 +37,59 @@ pub record HandedOn : Type 0 where
   pub bytes : List ℕ
   pub onward : List ℕ
 
-abbrev pub handedOn : ℕ → (slots chunks layers bytes onward : List ℕ) → HandedOn
-handedOn from slots chunks layers bytes onward =
+abbrev pub replanInput : ℕ → (slots chunks layers bytes onward : List ℕ) → ReplanInput
+replanInput from slots chunks layers bytes onward =
     record { from = from; slots = slots; chunks = chunks; layers = layers; bytes = bytes; onward = onward }
 
 -- The rows fetched.
-abbrev pub fetched : HandedOn → List Row
+abbrev pub fetched : ReplanInput → List Row
 fetched o = rowsOf (o .slots) (o .chunks) (o .layers) (o .bytes)
 
 -- The job on the joined forecast, the plan made afresh of it, and its rows from p on.
-abbrev pub jobOn : HandedJob → HandedOn → Job
+abbrev pub jobOn : JobInput → ReplanInput → Job
 jobOn h o = joined (jobIn h) (o .from) (o .onward)
 
-abbrev pub planOn : HandedJob → HandedOn → ℕ → ℕ
-planOn h o = replan (jobOn h o) (o .from) (fetched o)
+abbrev pub planAfresh : JobInput → ReplanInput → ℕ → ℕ
+planAfresh h o = replan (jobOn h o) (o .from) (fetched o)
 
-abbrev pub rowsOn : HandedJob → HandedOn → List Row
-rowsOn h o = ownRest (jobOn h o) (o .from) (fetched o) (planOn h o)
+abbrev pub rowsOn : JobInput → ReplanInput → List Row
+rowsOn h o = ownRest (jobOn h o) (o .from) (fetched o) (planAfresh h o)
 
 -- ---- the refusals
 
--- 5, 6, 18, 7 by the job; 8 for a row not handed whole, of rows alone: no marks are handed; then 21, 7 and 22.
-abbrev pub inputRefusal : HandedJob → HandedOn → ℕ
+-- 5, 6, 18, 7 by the job; 8 for a row not handed whole, of rows alone: no marks are handed; then
+-- 21, 7 and 22.
+abbrev pub inputRefusal : JobInput → ReplanInput → ℕ
 inputRefusal h o =
     jobRefusal h
-    orElse handedRefusal 0 [] (o .slots) (o .chunks) (o .layers) (o .bytes)
+    orElse listRefusal 0 [] (o .slots) (o .chunks) (o .layers) (o .bytes)
     orElse replanRefusal (jobIn h) (o .from) (fetched o) (o .onward)
 
 -- 11: "A lent buffer is shorter than the whole result".
-abbrev pub holdsOn : HandedJob → HandedOn → Lent → Bool
+abbrev pub holdsOn : JobInput → ReplanInput → Lent → Bool
 holdsOn h o l =
     let n = length (rowsOn h o) in
     leb (chunks (jobIn h)) (l .marks) && (leb n (l .slots) && (leb n (l .chunks) && (leb n (l .layers) && leb n (l .bytes))))
 
-abbrev pub refusalOn : HandedJob → HandedOn → Lent → ℕ
+abbrev pub refusalOn : JobInput → ReplanInput → Lent → ℕ
 refusalOn h o l = inputRefusal h o orElse unless 11 (holdsOn h o l)
 
 -- ---- what is handed over
 
 -- How many rows, or the refusal's number.
-abbrev pub answerOn : HandedJob → HandedOn → Lent → Answer
+abbrev pub answerOn : JobInput → ReplanInput → Lent → Answer
 answerOn h o l = cond (eqb (refusalOn h o l) 0) (Rows (length (rowsOn h o))) (Refused (refusalOn h o l))
 
 -- The four counts; zeros beside a refusal.
-abbrev pub countsOn : HandedJob → HandedOn → Lent → List ℕ
-countsOn h o l = cond (eqb (refusalOn h o l) 0) (countsOf (jobOn h o) (planOn h o)) (0 ∷ 0 ∷ 0 ∷ 0 ∷ [])
+abbrev pub countsOn : JobInput → ReplanInput → Lent → List ℕ
+countsOn h o l = cond (eqb (refusalOn h o l) 0) (countsOf (jobOn h o) (planAfresh h o)) (0 ∷ 0 ∷ 0 ∷ 0 ∷ [])
 
--- And what stands in the lent slices: the result, then the old contents; on a refusal the old contents alone.
-pub record Handed (h : HandedJob) (o : HandedOn) (marks slots chunks layers bytes : List ℕ) (r : Planned) (marks' slots' chunks' layers' bytes' : List ℕ) : Type 0 where
+-- And what stands in the lent slices: the result, then the old contents; on a refusal the old
+-- contents alone.
+pub record ReplanOutput (h : JobInput) (o : ReplanInput) (marks slots chunks layers bytes : List ℕ) (r : Planned) (marks' slots' chunks' layers' bytes' : List ℕ) : Type 0 where
   pub answer : r .answer ≡ answerOn h o (lentOf marks slots chunks layers bytes)
   pub counts : r .counts ≡ countsOn h o (lentOf marks slots chunks layers bytes)
-  pub marks-are : marks' ≡ lentAfter (refusalOn h o (lentOf marks slots chunks layers bytes)) (marksOf (jobOn h o) (planOn h o)) marks
+  pub marks-are : marks' ≡ lentAfter (refusalOn h o (lentOf marks slots chunks layers bytes)) (marksOf (jobOn h o) (planAfresh h o)) marks
   pub slots-are : slots' ≡ lentAfter (refusalOn h o (lentOf marks slots chunks layers bytes)) (map rowSlot (rowsOn h o)) slots
   pub chunks-are : chunks' ≡ lentAfter (refusalOn h o (lentOf marks slots chunks layers bytes)) (map rowChunk (rowsOn h o)) chunks
   pub layers-are : layers' ≡ lentAfter (refusalOn h o (lentOf marks slots chunks layers bytes)) (map rowLayer (rowsOn h o)) layers
@@ -94,23 +97,24 @@ pub record Handed (h : HandedJob) (o : HandedOn) (marks slots chunks layers byte
 
 -- ---- what holds of it
 
--- The plan made afresh is settled by lists that begin with the rows fetched, and there is no other (afresh, Desk); "together with the handed
--- rows they pass that call".
-pub record Settled (h : HandedJob) (o : HandedOn) : Type 0 where
-  pub replans : Replans (jobOn h o) (o .from) (fetched o) (planOn h o)
-  pub passes : verdictFrom (jobOn h o) (o .from) (marksOf (jobOn h o) (planOn h o)) (fetched o ++ rowsOn h o) ≡ 0
+-- The plan made afresh is settled by lists that begin with the rows fetched, and there is no other
+-- (theory_replan, Desk); "together with the handed rows they pass that call".
+pub record Settled (h : JobInput) (o : ReplanInput) : Type 0 where
+  pub replans : Replans (jobOn h o) (o .from) (fetched o) (planAfresh h o)
+  pub passes : verdictFrom (jobOn h o) (o .from) (marksOf (jobOn h o) (planAfresh h o)) (fetched o ++ rowsOn h o) ≡ 0
 
-abbrev pub SettledAfresh : HandedJob → HandedOn → Type 0
+abbrev pub SettledAfresh : JobInput → ReplanInput → Type 0
 SettledAfresh h o = inputRefusal h o ≡ 0 → Settled h o
 
--- "If the standing plan was settled for the whole job in document 01's way, bases too, the rows are all its own before p and the forecast
--- hasn't changed, the new rows are exactly the rest of that plan": whoever it is settled by, in whatever order its rows are handed.
-pub record GoesOn (h : HandedJob) (o : HandedOn) (q : ℕ → ℕ) : Type 0 where
+-- "If the standing plan was settled for the whole job in document 01's way, bases too, the rows are
+-- all its own before p and the forecast hasn't changed, the new rows are exactly the rest of that
+-- plan": whoever it is settled by, in whatever order its rows are handed.
+pub record GoesOn (h : JobInput) (o : ReplanInput) (q : ℕ → ℕ) : Type 0 where
   pub accepted : replanRefusal (jobIn h) (o .from) (fetched o) (o .onward) ≡ 0
-  pub same : Same (jobIn h) (planOn h o) q
+  pub same : Same (jobIn h) (planAfresh h o) q
   pub rest : rowsOn h o ≡ rowsFrom (o .from) (ownList (jobIn h) q)
 
-abbrev pub StandingGoesOn : HandedJob → HandedOn → Type 0
+abbrev pub StandingGoesOn : JobInput → ReplanInput → Type 0
 StandingGoesOn h o =
     jobRefusal h ≡ 0 → (q : ℕ → ℕ) → SettledByTrials (jobIn h) q → 1 ≤ o .from → o .from ≤ lastSlot (jobIn h) →
     Permuted (fetched o) (rowsBefore (o .from) (ownList (jobIn h) q)) → o .onward ≡ drop (o .from - 1) (h .forecast) → GoesOn h o q

@@ -1,5 +1,5 @@
--- Theorems. What holds of planning afresh as the desk calls it: the clauses `settled` and `standing` of the call, and that the handed rows may
--- come in any order.
+-- Theorems. What holds of planning afresh as the desk calls it: the clauses `settled` and
+-- `standing` of the call, and that the handed rows may come in any order.
 use Prim.Native.Nat.{ℕ}
 use mathlib.Core.Path.{_≡_, sym, _∙_, ap, subst}
 use mathlib.Core.Bool.{cond, _&&_}
@@ -7,62 +7,63 @@ use mathlib.Core.List.{List, [], _∷_, map}
 use mathlib.Core.Logic.{⊎-elim}
 use lib.Dec.{eqb, eqb→eq, leb}
 use lib.ListN.{length}
-use Rattle.basics.specs.Lent.{lentAfter, over}
-use Rattle.basics.specs.Refusals.{_orElse_, unless}
-use Rattle.basics.specs.lemmas.Refusals.{orElse-iff}
-use Rattle.basics.specs.lemmas.Tests.{not-T-false, test}
-use Rattle.job.specs.Handed.{HandedJob, handed-iff, jobIn, jobRefusal}
+use Rattle.theory_basics.specs.Lent.{lentAfter, over}
+use Rattle.theory_basics.specs.Refusals.{_orElse_, unless}
+use Rattle.theory_basics.specs.lemmas.Refusals.{orElse-iff}
+use Rattle.theory_basics.specs.lemmas.Tests.{not-T-false, test}
+use Rattle.job.specs.Input.{JobInput, input-iff, jobIn, jobRefusal}
 use Rattle.job.specs.Job.{Accepted, Job, chunks}
-use Rattle.fetch.specs.Handed.{handedRefusal}
+use Rattle.fetch.specs.Input.{listRefusal}
 use Rattle.fetch.specs.Rows.{Permuted, Row, rowBytes, rowChunk, rowLayer, rowSlot, rowsOf}
 use Rattle.fetch.specs.VerdictFrom.{verdict-from-iff}
-use Rattle.schedule.specs.Statement.{Same, countsOf, marksOf}
-use Rattle.schedule.specs.Theorems.{same-counts, same-marks}
+use Rattle.theory_plan.specs.Statement.{Same, countsOf, marksOf}
+use Rattle.theory_plan.specs.Theorems.{same-counts, same-marks}
 use Rattle.planner.specs.Answer.{Lent, lentOf}
 use Rattle.planner.specs.declared.Answer.the-variants.{Refused, Rows}
 use Rattle.planner.specs.declared.Planned.{Planned}
-use Rattle.afresh.specs.Desk.{Continues, replans, standing-continues}
-use Rattle.afresh.specs.Refusal.{replanRefusal}
-use Rattle.afresh.specs.Theorems.{order-free}
-use Rattle.afresh.specs.lemmas.Standing.{own-rest-cong}
-use Rattle.replan.specs.Answer.{Handed, HandedOn, SettledAfresh, StandingGoesOn, fetched, handedOn, inputRefusal, jobOn, planOn, refusalOn, rowsOn}
+use Rattle.theory_replan.specs.Desk.{Continues, replans, standing-continues}
+use Rattle.theory_replan.specs.Refusal.{replanRefusal}
+use Rattle.theory_replan.specs.Theorems.{order-free}
+use Rattle.theory_replan.specs.lemmas.Standing.{own-rest-cong}
+use Rattle.replan.specs.Answer.{ReplanOutput, ReplanInput, SettledAfresh, StandingGoesOn, fetched, replanInput, inputRefusal, jobOn, planAfresh, refusalOn, rowsOn}
 
 -- ---- the clauses
 
 -- The refusals of planning afresh are among those from the input.
-pub afresh-none : (h : HandedJob) (o : HandedOn) → inputRefusal h o ≡ 0 → (jobRefusal h ≡ 0) × (replanRefusal (jobIn h) (o .from) (fetched o) (o .onward) ≡ 0)
+pub afresh-none : (h : JobInput) (o : ReplanInput) → inputRefusal h o ≡ 0 → (jobRefusal h ≡ 0) × (replanRefusal (jobIn h) (o .from) (fetched o) (o .onward) ≡ 0)
 afresh-none h o z =
-    let whole = handedRefusal 0 [] (o .slots) (o .chunks) (o .layers) (o .bytes) in
+    let whole = listRefusal 0 [] (o .slots) (o .chunks) (o .layers) (o .bytes) in
     let afresh = replanRefusal (jobIn h) (o .from) (fetched o) (o .onward) in
     let a = orElse-iff (jobRefusal h) (whole orElse afresh) .0 z in
     (a .0, orElse-iff whole afresh .0 (a .1) .1)
 
-pub settled-afresh : (h : HandedJob) (o : HandedOn) → SettledAfresh h o
+pub settled-afresh : (h : JobInput) (o : ReplanInput) → SettledAfresh h o
 settled-afresh h o z =
     let n = afresh-none h o z in
-    let r = replans (jobIn h) (handed-iff h .0 (n .0) .1) (o .from) (fetched o) (o .onward) (n .1) in
+    let r = replans (jobIn h) (input-iff h .0 (n .0) .1) (o .from) (fetched o) (o .onward) (n .1) in
     record { replans = r; passes = verdict-from-iff (jobOn h o) (o .from) _ _ .1 (r .carries .keeps) }
 
-pub standing-goes-on : (h : HandedJob) (o : HandedOn) → StandingGoesOn h o
+pub standing-goes-on : (h : JobInput) (o : ReplanInput) → StandingGoesOn h o
 standing-goes-on h o z q is lo hi same unchanged =
     let j = jobIn h in
-    let a : Accepted j = handed-iff h .0 z .1 in
+    let a : Accepted j = input-iff h .0 z .1 in
     let on : Continues j q (o .from) (fetched o) (o .onward) =
     subst (Continues j q (o .from) (fetched o)) (sym unchanged) (standing-continues j a q is (o .from) lo hi (fetched o) same) in
     let d = replans j a (o .from) (fetched o) (o .onward) (on .accepted) .settled in
-    record { accepted = on .accepted; same = on .same (planOn h o) d; rest = on .rest (planOn h o) d }
+    record { accepted = on .accepted; same = on .same (planAfresh h o) d; rest = on .rest (planAfresh h o) d }
 
 -- ---- the handed rows in any order
 
--- The same answer to every call: the refusal, 11 too, the plan, the rows, and so whatever is handed over.
-pub record SameAnswer (h : HandedJob) (a b : HandedOn) : Type 0 where
+-- The same answer to every call: the refusal, 11 too, the plan, the rows, and so whatever is handed
+-- over.
+pub record SameAnswer (h : JobInput) (a b : ReplanInput) : Type 0 where
   pub refused : (l : Lent) → refusalOn h a l ≡ refusalOn h b l
-  pub plan : inputRefusal h a ≡ 0 → Same (jobOn h b) (planOn h a) (planOn h b)
+  pub plan : inputRefusal h a ≡ 0 → Same (jobOn h b) (planAfresh h a) (planAfresh h b)
   pub rows : inputRefusal h a ≡ 0 → rowsOn h a ≡ rowsOn h b
-  pub handed :
+  pub output :
       {marks slots chunks layers bytes : List ℕ} {r : Planned} {marks' slots' chunks' layers' bytes' : List ℕ} →
-      Handed h a marks slots chunks layers bytes r marks' slots' chunks' layers' bytes' →
-      Handed h b marks slots chunks layers bytes r marks' slots' chunks' layers' bytes'
+      ReplanOutput h a marks slots chunks layers bytes r marks' slots' chunks' layers' bytes' →
+      ReplanOutput h b marks slots chunks layers bytes r marks' slots' chunks' layers' bytes'
 
 -- What is given only if there is no refusal.
 given-alike : {A : Type 0} (n : ℕ) (x y other : A) → (n ≡ 0 → x ≡ y) → cond (eqb n 0) x other ≡ cond (eqb n 0) y other
@@ -74,13 +75,13 @@ given-alike n x y other f =
 
 -- Rows handed whole, and the same in another order, with the same job, slot and forecast.
 module _
-    (h : HandedJob) (from : ℕ) (onward ss cs ls bs ss′ cs′ ls′ bs′ : List ℕ)
-    (whole : handedRefusal 0 [] ss cs ls bs ≡ 0) (whole′ : handedRefusal 0 [] ss′ cs′ ls′ bs′ ≡ 0) (same : Permuted (rowsOf ss cs ls bs) (rowsOf ss′ cs′ ls′ bs′)) where
-  abbrev a : HandedOn
-  a = handedOn from ss cs ls bs onward
+    (h : JobInput) (from : ℕ) (onward ss cs ls bs ss′ cs′ ls′ bs′ : List ℕ)
+    (whole : listRefusal 0 [] ss cs ls bs ≡ 0) (whole′ : listRefusal 0 [] ss′ cs′ ls′ bs′ ≡ 0) (same : Permuted (rowsOf ss cs ls bs) (rowsOf ss′ cs′ ls′ bs′)) where
+  abbrev a : ReplanInput
+  a = replanInput from ss cs ls bs onward
 
-  abbrev b : HandedOn
-  b = handedOn from ss′ cs′ ls′ bs′ onward
+  abbrev b : ReplanInput
+  b = replanInput from ss′ cs′ ls′ bs′ onward
 
   abbrev k : Job
   k = jobOn h a
@@ -88,17 +89,17 @@ module _
   inputs : inputRefusal h a ≡ inputRefusal h b
   inputs =
       ap (λ (w : ℕ). jobRefusal h orElse w orElse replanRefusal (jobIn h) from (fetched a) onward) (whole ∙ sym whole′)
-      ∙ ap (λ (r : ℕ). jobRefusal h orElse handedRefusal 0 [] ss′ cs′ ls′ bs′ orElse r) (order-free (jobIn h) from (fetched a) (fetched b) same .refused onward)
+      ∙ ap (λ (r : ℕ). jobRefusal h orElse listRefusal 0 [] ss′ cs′ ls′ bs′ orElse r) (order-free (jobIn h) from (fetched a) (fetched b) same .refused onward)
 
-  plans : inputRefusal h a ≡ 0 → Same k (planOn h a) (planOn h b)
+  plans : inputRefusal h a ≡ 0 → Same k (planAfresh h a) (planAfresh h b)
   plans z =
-      settled-afresh h b (sym inputs ∙ z) .replans .only (planOn h a)
-      (order-free k from (fetched a) (fetched b) same .plan (planOn h a) (settled-afresh h a z .replans .settled))
+      settled-afresh h b (sym inputs ∙ z) .replans .only (planAfresh h a)
+      (order-free k from (fetched a) (fetched b) same .plan (planAfresh h a) (settled-afresh h a z .replans .settled))
 
   rows-alike : inputRefusal h a ≡ 0 → rowsOn h a ≡ rowsOn h b
   rows-alike z =
-      order-free k from (fetched a) (fetched b) same .rows (planOn h a)
-      ∙ own-rest-cong k from (fetched b) (planOn h a) (planOn h b) (plans z)
+      order-free k from (fetched a) (fetched b) same .rows (planAfresh h a)
+      ∙ own-rest-cong k from (fetched b) (planAfresh h a) (planAfresh h b) (plans z)
 
   abbrev short : List Row → Lent → ℕ
   short rows l =
@@ -122,13 +123,13 @@ module _
   column l g old = slice l (map g (rowsOn h a)) (map g (rowsOn h b)) old (λ z. ap (map g) (rows-alike z))
 
   -- "Rows may repeat and come in any order."
-  pub any-order : SameAnswer h (handedOn from ss cs ls bs onward) (handedOn from ss′ cs′ ls′ bs′ onward)
+  pub any-order : SameAnswer h (replanInput from ss cs ls bs onward) (replanInput from ss′ cs′ ls′ bs′ onward)
   any-order =
       record {
         refused = refusals;
         plan = plans;
         rows = rows-alike;
-        handed = λ {marks} {slots} {chunks = chs} {layers} {bytes} x.
+        output = λ {marks} {slots} {chunks = chs} {layers} {bytes} x.
             let l = lentOf marks slots chs layers bytes in
             let n = refusalOn h a l in
             record {
@@ -138,9 +139,9 @@ module _
                   ∙ ap (λ (m : ℕ). cond (eqb m 0) (Rows (length (rowsOn h b))) (Refused m)) (refusals l);
               counts =
                   x .counts
-                  ∙ given-alike n (countsOf k (planOn h a)) (countsOf k (planOn h b)) (0 ∷ 0 ∷ 0 ∷ 0 ∷ []) (λ z. same-counts k (planOn h a) (planOn h b) (plans (none l z)))
-                  ∙ ap (λ (m : ℕ). cond (eqb m 0) (countsOf k (planOn h b)) (0 ∷ 0 ∷ 0 ∷ 0 ∷ [])) (refusals l);
-              marks-are = x .marks-are ∙ slice l (marksOf k (planOn h a)) (marksOf k (planOn h b)) marks (λ z. same-marks k (planOn h a) (planOn h b) (plans z));
+                  ∙ given-alike n (countsOf k (planAfresh h a)) (countsOf k (planAfresh h b)) (0 ∷ 0 ∷ 0 ∷ 0 ∷ []) (λ z. same-counts k (planAfresh h a) (planAfresh h b) (plans (none l z)))
+                  ∙ ap (λ (m : ℕ). cond (eqb m 0) (countsOf k (planAfresh h b)) (0 ∷ 0 ∷ 0 ∷ 0 ∷ [])) (refusals l);
+              marks-are = x .marks-are ∙ slice l (marksOf k (planAfresh h a)) (marksOf k (planAfresh h b)) marks (λ z. same-marks k (planAfresh h a) (planAfresh h b) (plans z));
               slots-are = x .slots-are ∙ column l rowSlot slots;
               chunks-are = x .chunks-are ∙ column l rowChunk chs;
               layers-are = x .layers-are ∙ column l rowLayer layers;

@@ -1,15 +1,18 @@
-// Planning afresh during the act: from the slot of replanning on, over the rows fetched before it and the forecast from it on. Marks, counts
-// and only the rows from that slot on, as document 02 settles and document 01 lists them.
+// Planning afresh during the act: from the slot of replanning on, over the rows fetched before it
+// and the forecast from it on. Marks, counts and only the rows from that slot on, as document 02
+// settles and document 01 lists them.
+use job::CHUNKS;
 use job::Programme;
+use job::SIZES;
 use planner::Planned;
 ghost use mathlib.Core.Path.{_≡_};
 ghost use Prim.Native.Nat.{_≤_};
 ghost use lib.Dec.{ltb};
-ghost use Rattle.basics.specs.Refusals.{unless};
-ghost use Rattle.basics.specs.Tests.{all};
-ghost use Rattle.job.specs.Handed.{handed};
+ghost use Rattle.theory_basics.specs.Refusals.{unless};
+ghost use Rattle.theory_basics.specs.Tests.{all};
+ghost use Rattle.job.specs.Input.{jobInput};
 ghost use Rattle.job.specs.Job.{lastDue};
-ghost use Rattle.replan.specs.Answer.{handedOn, Handed, SettledAfresh, StandingGoesOn};
+ghost use Rattle.replan.specs.Answer.{replanInput, ReplanOutput, SettledAfresh, StandingGoesOn};
 ghost use Rattle.replan.specs.lemmas.Asked.{partRefusal, askedRefusal};
 
 // 21: a handed row not before the slot.
@@ -53,13 +56,13 @@ fn asked_refusal(
     fetched_bytes: &[u32],
     onward: &[u32],
 ) -> u8
-    ensures { λ r. ⌜ r ≡ askedRefusal (handed p (now (sizes .entry)) (now («size_chunks» .entry)) (now («size_layers» .entry)) (now («size_bytes» .entry)) (now (forecast .entry))) (handedOn from (now («fetched_slots» .entry)) (now («fetched_chunks» .entry)) (now («fetched_layers» .entry)) (now («fetched_bytes» .entry)) (now (onward .entry))) ⌝ }
+    ensures { λ r. ⌜ r ≡ askedRefusal (jobInput p (now (sizes .entry)) (now («size_chunks» .entry)) (now («size_layers» .entry)) (now («size_bytes» .entry)) (now (forecast .entry))) (replanInput from (now («fetched_slots» .entry)) (now («fetched_chunks» .entry)) (now («fetched_layers» .entry)) (now («fetched_bytes» .entry)) (now (onward .entry))) ⌝ }
 {
     let job = job::refusal(p, sizes, size_chunks, size_layers, size_bytes, forecast);
     if job != 0 {
         return job;
     }
-    let list = fetch::handed_refusal(
+    let list = fetch::list_refusal(
         0,
         &[],
         fetched_slots,
@@ -81,9 +84,10 @@ fn asked_refusal(
     part_refusal(p, from, onward)
 }
 
-// The plan made afresh at a slot, from the rows fetched before it and the forecast from it on, into lent marks, one a chunk, and rows: only
-// those from the slot on, by slot, chunk, layer. Refusals 5, 6, 18, 7, 8, 21, 7 of the handed forecast, 22, then 11 where a slice is shorter
-// than the result; a refusal writes nothing.
+// The plan made afresh at a slot, from the rows fetched before it and the forecast from it on, into
+// lent marks, one a chunk, and rows: only those from the slot on, by slot, chunk, layer. Refusals
+// 5, 6, 18, 7, 8, 21, 7 of the handed forecast, 22, then 11 where a slice is shorter than the
+// result; a refusal writes nothing.
 pub fn replan(
     p: Programme,
     sizes: &[u32],
@@ -103,9 +107,9 @@ pub fn replan(
     layers: &mut [u8],
     bytes: &mut [u32],
 ) -> Planned
-    ensures handed { λ r. ⌜ Handed (handed p (now (sizes .entry)) (now («size_chunks» .entry)) (now («size_layers» .entry)) (now («size_bytes» .entry)) (now (forecast .entry))) (handedOn from (now («fetched_slots» .entry)) (now («fetched_chunks» .entry)) (now («fetched_layers» .entry)) (now («fetched_bytes» .entry)) (now (onward .entry))) (now (marks .entry)) (now (slots .entry)) (now (chunks .entry)) (now (layers .entry)) (now (bytes .entry)) r (now (marks .exit)) (now (slots .exit)) (now (chunks .exit)) (now (layers .exit)) (now (bytes .exit)) ⌝ }
-    ensures settled { λ _. ⌜ SettledAfresh (handed p (now (sizes .entry)) (now («size_chunks» .entry)) (now («size_layers» .entry)) (now («size_bytes» .entry)) (now (forecast .entry))) (handedOn from (now («fetched_slots» .entry)) (now («fetched_chunks» .entry)) (now («fetched_layers» .entry)) (now («fetched_bytes» .entry)) (now (onward .entry))) ⌝ }
-    ensures standing { λ _. ⌜ StandingGoesOn (handed p (now (sizes .entry)) (now («size_chunks» .entry)) (now («size_layers» .entry)) (now («size_bytes» .entry)) (now (forecast .entry))) (handedOn from (now («fetched_slots» .entry)) (now («fetched_chunks» .entry)) (now («fetched_layers» .entry)) (now («fetched_bytes» .entry)) (now (onward .entry))) ⌝ }
+    ensures output { λ r. ⌜ ReplanOutput (jobInput p (now (sizes .entry)) (now («size_chunks» .entry)) (now («size_layers» .entry)) (now («size_bytes» .entry)) (now (forecast .entry))) (replanInput from (now («fetched_slots» .entry)) (now («fetched_chunks» .entry)) (now («fetched_layers» .entry)) (now («fetched_bytes» .entry)) (now (onward .entry))) (now (marks .entry)) (now (slots .entry)) (now (chunks .entry)) (now (layers .entry)) (now (bytes .entry)) r (now (marks .exit)) (now (slots .exit)) (now (chunks .exit)) (now (layers .exit)) (now (bytes .exit)) ⌝ }
+    ensures settled { λ _. ⌜ SettledAfresh (jobInput p (now (sizes .entry)) (now («size_chunks» .entry)) (now («size_layers» .entry)) (now («size_bytes» .entry)) (now (forecast .entry))) (replanInput from (now («fetched_slots» .entry)) (now («fetched_chunks» .entry)) (now («fetched_layers» .entry)) (now («fetched_bytes» .entry)) (now (onward .entry))) ⌝ }
+    ensures standing { λ _. ⌜ StandingGoesOn (jobInput p (now (sizes .entry)) (now («size_chunks» .entry)) (now («size_layers» .entry)) (now («size_bytes» .entry)) (now (forecast .entry))) (replanInput from (now («fetched_slots» .entry)) (now («fetched_chunks» .entry)) (now («fetched_layers» .entry)) (now («fetched_bytes» .entry)) (now (onward .entry))) ⌝ }
 {
     let no = asked_refusal(
         p,
@@ -126,14 +130,15 @@ pub fn replan(
     }
     let depth = sizes.len();
     let start = from as usize;
-    // Filled with no constant, as in the planner.
+    // Every place is written before it is read. A filling that is no constant is stored in wide
+    // words, faster than cleared.
     let unset = p.chunks as u32;
-    let mut table = [unset; 2000];
-    let mut left = [unset; 2000];
-    let mut begun = [0u8; 500];
-    let mut whole = [0u8; 500];
+    let mut table = [unset; SIZES];
+    let mut left = [unset; SIZES];
+    let mut begun = [0u8; CHUNKS];
+    let mut whole = [0u8; CHUNKS];
     job::fill_sizes(sizes, size_chunks, size_layers, size_bytes, &mut table);
-    let kept = gather::gather(
+    let kept = core_replan_input::gather(
         p,
         &table,
         depth,
@@ -152,7 +157,7 @@ pub fn replan(
     if marks.len() < p.chunks as usize {
         return planner::refused(11);
     }
-    relay::lay(
+    core_replan_output::write_plan(
         p,
         depth,
         onward,

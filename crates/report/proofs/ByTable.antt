@@ -1,5 +1,5 @@
--- The lines by the table are the report's: each number that is read from the table is the sum over rows that the report's meaning
--- names. Assumes nothing.
+-- The lines by the table are the report's: each number that is read from the table is the sum over
+-- rows that the report's meaning names. Assumes nothing.
 use Prim.Native.Nat.{ℕ, zero, suc, _+_, _-_, _≤_, _<_}
 use mathlib.Core.Path.{_≡_, refl, sym, ap, ap₂, _∙_}
 use mathlib.Core.Bool.{Bool, true, cond}
@@ -7,17 +7,17 @@ use mathlib.Core.List.{List}
 use native.Mathlib.Omega.{arith}
 use lib.ListN.{length, getD}
 use lib.Dec.{eqb}
-use Rattle.basics.specs.Lists.{upTo}
-use Rattle.basics.specs.lemmas.Lists.{upTo-cong}
-use Rattle.basics.specs.Sums.{pre, sum}
+use Rattle.theory_basics.specs.Lists.{upTo}
+use Rattle.theory_basics.specs.lemmas.Lists.{upTo-cong}
+use Rattle.theory_basics.specs.Sums.{pre, sum}
 use Rattle.job.specs.Job.{Accepted, Job, chunks, layers, lastSlot, forecast}
 use Rattle.job.specs.Table.{sizesTable}
 use Rattle.job.specs.lemmas.Table.{table-says}
-use Rattle.fetch.specs.Rows.{Row, rowAt, rowsOf, carried, layerCount}
+use Rattle.fetch.specs.Rows.{Row, rowAt, rowsOf, carried, layerCount, layersCarried}
 use Rattle.fetch.specs.lemmas.Rows.{bytes-snoc}
-use Rattle.basics.specs.lemmas.Ranges.{pre-cong, sum-cong}
-use Rattle.basics.specs.Text.{digits}
-use Rattle.report.specs.Report.{layersCarried, bytesCarried, chunkLine, bytesInRows, forecastSum, left, switchSum, differences, reportOf}
+use Rattle.theory_basics.specs.lemmas.Ranges.{pre-cong, sum-cong}
+use Rattle.theory_basics.specs.Text.{digits}
+use Rattle.report.specs.Report.{bytesCarried, chunkLine, bytesInRows, forecastSum, left, switchSum, differences, reportOf}
 use Rattle.report.specs.lemmas.Tables.{Summed, carriedBy, layersBy, bytesBy, chunkLineBy, countBy, switchBy, linesBy}
 use Rattle.report.specs.lemmas.Switches.{those-cong}
 

@@ -1,4 +1,5 @@
--- What a call of the planner with room for any plan leaves in the slices: the plan's own list, in front. Assumes nothing.
+-- What a call of the planner with room for any plan leaves in the slices: the plan's own list, in
+-- front. Assumes nothing.
 use Prim.Native.Nat.{ℕ, _≤_}
 use mathlib.Core.Path.{_≡_, sym, ap, subst, _∙_}
 use mathlib.Core.Bool.{Bool, true, false, cond}
@@ -9,15 +10,15 @@ use lib.Dec.{T, T-not, eqb, eqb→eq}
 use lib.ListN.{length, getD, take, drop, length-append, length-map, replicate, length-replicate}
 use lib.Seq.{take-at, length-take-le}
 use borrow.Author.Tests.{eq-eqb, le-leb, ne-eqb}
-use Rattle.basics.specs.Lent.{over}
-use Rattle.basics.specs.Sums.{sum}
-use Rattle.basics.specs.lemmas.Refusals.{orElse-some}
-use Rattle.basics.specs.lemmas.Tests.{eqb-iff, test}
-use Rattle.basics.specs.Refusals.{unless}
-use Rattle.job.specs.Handed.{HandedJob, handed-iff, jobIn, jobRefusal}
+use Rattle.theory_basics.specs.Lent.{over}
+use Rattle.theory_basics.specs.Sums.{sum}
+use Rattle.theory_basics.specs.lemmas.Refusals.{orElse-some}
+use Rattle.theory_basics.specs.lemmas.Tests.{eqb-iff, test}
+use Rattle.theory_basics.specs.Refusals.{unless}
+use Rattle.job.specs.Input.{JobInput, input-iff, jobIn, jobRefusal}
 use Rattle.job.specs.Job.{Accepted, chunks}
 use Rattle.fetch.specs.Rows.{Row, rowsOf, rowSlot, rowChunk, rowLayer, rowBytes}
-use Rattle.planner.specs.Answer.{Handed, Lent, answerOf, given, holds, lentOf, planRefusal, planRows, sliceAfter}
+use Rattle.planner.specs.Answer.{PlanOutput, Lent, answerOf, given, holds, lentOf, planRefusal, planRows, sliceAfter}
 use Rattle.planner.specs.declared.Answer.the-variants.{Rows as made, Refused as refused}
 use Rattle.planner.specs.declared.Planned.{Planned}
 use Rattle.report.specs.declared.table.Spent.the-variants.{Bytes as sent, Refused as unsent}
@@ -34,11 +35,11 @@ room = lentOf (zeros 500) (zeros 5599) (zeros 5599) (zeros 5599) (zeros 5599)
 
 -- ---- what the call answers: the rows, or the job's refusal
 
-module _ (h : HandedJob) where
+module _ (h : JobInput) where
   -- They have room for any plan.
   is-given : jobRefusal h ≡ 0 → given h room ≡ true
   is-given ok =
-      let a : Accepted (jobIn h) = handed-iff h .0 ok .1 in
+      let a : Accepted (jobIn h) = input-iff h .0 ok .1 in
       let n = length (planRows (jobIn h)) in
       let rows = le-leb n (length (zeros 5599)) (omega (arith, few a, length-replicate {A = ℕ} 5599 0)) in
       rw (ok, le-leb (chunks (jobIn h)) (length (zeros 500)) (omega (arith, a .chunks-in .high, length-replicate {A = ℕ} 500 0)), rows)
@@ -61,7 +62,7 @@ module _ (h : HandedJob) where
   refused-case true n e = let z : _≡_ {A = ℕ} 0 1 = cc in absurd (omega arith)
   refused-case false n e = (cc, cc)
 
-module _ {h : HandedJob} {r : Planned} {m s c l b : List ℕ} (p : Handed h (zeros 500) (zeros 5599) (zeros 5599) (zeros 5599) (zeros 5599) r m s c l b) where
+module _ {h : JobInput} {r : Planned} {m s c l b : List ℕ} (p : PlanOutput h (zeros 500) (zeros 5599) (zeros 5599) (zeros 5599) (zeros 5599) r m s c l b) where
   pub answered-rows : {n : ℕ} → r .answer ≡ made n → (jobRefusal h ≡ 0) × (n ≡ length (planRows (jobIn h)))
   answered-rows {n} e =
       let u = rows-case h (eqb (jobRefusal h) 0) n (sym (p .answer ∙ answers h) ∙ e) in
@@ -90,7 +91,7 @@ front result old n s e f = record {
 }
 
 -- The four columns of an accepted job's plan.
-pub record Made (h : HandedJob) (n : ℕ) (slots cs layers bytes : List ℕ) : Type 0 where
+pub record Made (h : JobInput) (n : ℕ) (slots cs layers bytes : List ℕ) : Type 0 where
   pub none : jobRefusal h ≡ 0
   pub slots-are : Column (map rowSlot (planRows (jobIn h))) n slots
   pub chunks-are : Column (map rowChunk (planRows (jobIn h))) n cs
@@ -98,7 +99,7 @@ pub record Made (h : HandedJob) (n : ℕ) (slots cs layers bytes : List ℕ) : T
   pub bytes-are : Column (map rowBytes (planRows (jobIn h))) n bytes
 
 pub made-columns :
-    {h : HandedJob} {r : Planned} {m s c l b : List ℕ} → Handed h (zeros 500) (zeros 5599) (zeros 5599) (zeros 5599) (zeros 5599) r m s c l b →
+    {h : JobInput} {r : Planned} {m s c l b : List ℕ} → PlanOutput h (zeros 500) (zeros 5599) (zeros 5599) (zeros 5599) (zeros 5599) r m s c l b →
     {n : ℕ} → r .answer ≡ made n → Made h n s c l b
 made-columns {h} p {n} e =
     let rows = planRows (jobIn h) in
@@ -112,9 +113,9 @@ made-columns {h} p {n} e =
       bytes-are = front (map rowBytes rows) (zeros 5599) n _ (u .1 ∙ sym (length-map rows rowBytes)) (p .bytes-are ∙ over-it (map rowBytes rows) (zeros 5599));
     }
 
-module _ {h : HandedJob} {n : ℕ} {ss cs ls bs : List ℕ} (c : Made h n ss cs ls bs) where
+module _ {h : JobInput} {n : ℕ} {ss cs ls bs : List ℕ} (c : Made h n ss cs ls bs) where
   pub made-rows : Rows (take n ss) (take n cs) (take n ls) (take n bs)
-  made-rows = rw (c .slots-are .is, c .chunks-are .is, c .layers-are .is, c .bytes-are .is) (own-rows (handed-iff h .0 (c .none) .1))
+  made-rows = rw (c .slots-are .is, c .chunks-are .is, c .layers-are .is, c .bytes-are .is) (own-rows (input-iff h .0 (c .none) .1))
 
   pub made-few : length (take n bs) ≤ 5599
   made-few = omega (arith, made-rows .few, made-rows .bytes-each)

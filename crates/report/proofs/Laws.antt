@@ -9,11 +9,11 @@ use lib.ListN.{length, getD, set, length-set, replicate, length-replicate, getD-
 use lib.Seq.{getD-set-same, getD-set-other}
 use lib.Dec.{eqb}
 use borrow.Author.Tests.{eqb-true, eqb-false}
-use Rattle.basics.specs.Lists.{upTo}
+use Rattle.theory_basics.specs.Lists.{upTo}
 use Rattle.job.specs.Table.{tableAt}
 use Rattle.fetch.specs.Rows.{Row, rowAt, rowsOf, bytesIf, bytesOfLayer}
 use Rattle.fetch.specs.lemmas.Rows.{bytes-snoc}
-use Rattle.basics.specs.lemmas.Ranges.{sum-most, cond-most}
+use Rattle.theory_basics.specs.lemmas.Ranges.{sum-most, cond-most}
 use Rattle.report.specs.lemmas.Bounds.{equal-most}
 use Rattle.report.specs.lemmas.Switches.{differences-more, differences-most, last-more}
 use Rattle.report.specs.lemmas.Tables.{SizesIn, bytesAt, Summed, carriedBy, bytesBy, bytesTo, switchBy, pictureBy, changeOf, heldOf, lastOf}

@@ -1,18 +1,19 @@
--- The plan's own list as four slices: its rows again, their bytes, and that each row has a place in the table. Assumes nothing.
+-- The plan's own list as four slices: its rows again, their bytes, and that each row has a place in
+-- the table. Assumes nothing.
 use Prim.Native.Nat.{ℕ, zero, suc, _≤_, _<_}
 use mathlib.Core.Path.{_≡_, sym, ap, _∙_}
 use mathlib.Core.List.{List, [], _∷_, map}
 use native.Mathlib.Omega.{arith}
 use lib.ListN.{length, getD, length-map, List·getD-map}
-use Rattle.basics.specs.Tests.{All}
-use Rattle.basics.specs.Sums.{sum}
+use Rattle.theory_basics.specs.Tests.{All}
+use Rattle.theory_basics.specs.Sums.{sum}
 use Rattle.job.specs.Job.{Job, Accepted}
 use Rattle.fetch.specs.Rows.{Row, rowSlot, rowChunk, rowLayer, rowBytes}
-use Rattle.fetch.specs.Rules.{InRange, Keeps}
-use Rattle.schedule.specs.Plan.{plan}
-use Rattle.schedule.specs.Theorems.{own-list-rows, plan-exists, plan-carried}
-use Rattle.schedule.specs.Statement.{marksOf}
-use Rattle.schedule.specs.lemmas.Words.{accepted-sized}
+use Rattle.fetch.specs.Rules.{RowInRange, Keeps}
+use Rattle.theory_plan.specs.Plan.{plan}
+use Rattle.theory_plan.specs.Theorems.{own-list-rows, plan-exists, plan-carried}
+use Rattle.theory_plan.specs.Statement.{marksOf}
+use Rattle.theory_plan.specs.lemmas.Words.{accepted-sized}
 use Rattle.planner.specs.Answer.{planRows}
 use Rattle.report.specs.Report.{bytesInRows}
 use Rattle.report.specs.lemmas.Again.{rows-again}
@@ -44,7 +45,7 @@ module _ {j : Job} (a : Accepted j) where
   pub own-rows : Rows (map rowSlot (planRows j)) (map rowChunk (planRows j)) (map rowLayer (planRows j)) (map rowBytes (planRows j))
   own-rows =
       let l = planRows j in
-      let at : (k : ℕ) → k < length (map rowSlot l) → InRange j (getD l k none) = λ k h. row-at (InRange j) l k (keeps .in-range) (omega (arith, length-map l rowSlot)) in
+      let at : (k : ℕ) → k < length (map rowSlot l) → RowInRange j (getD l k none) = λ k h. row-at (RowInRange j) l k (keeps .in-range) (omega (arith, length-map l rowSlot)) in
       record {
         chunk-each = length-map l rowSlot ∙ sym (length-map l rowChunk);
         layer-each = length-map l rowSlot ∙ sym (length-map l rowLayer);

@@ -1,4 +1,5 @@
--- From the plan's table and the bytes spent to the report that is handed over, or the job's refusal. Assumes nothing.
+-- From the plan's table and the bytes spent to the report that is handed over, or the job's
+-- refusal. Assumes nothing.
 use Prim.Native.Nat.{ℕ, _-_, _≤_}
 use mathlib.Core.Path.{_≡_, sym, subst, _∙_}
 use mathlib.Core.Bool.{Bool, true, false, cond}
@@ -6,9 +7,9 @@ use mathlib.Core.List.{List}
 use native.Mathlib.Omega.{arith}
 use lib.Dec.{T, eqb, eqb→eq}
 use lib.ListN.{length, getD}
-use Rattle.basics.specs.Sums.{sum}
-use Rattle.basics.specs.lemmas.Refusals.{orElse-none, orElse-some}
-use Rattle.job.specs.Handed.{HandedJob, handed-iff, jobIn, jobRefusal}
+use Rattle.theory_basics.specs.Sums.{sum}
+use Rattle.theory_basics.specs.lemmas.Refusals.{orElse-none, orElse-some}
+use Rattle.job.specs.Input.{JobInput, input-iff, jobIn, jobRefusal}
 use Rattle.job.specs.Job.{Accepted}
 use Rattle.job.specs.Table.{sizesTable}
 use Rattle.job.specs.lemmas.Table.{table-says}
@@ -23,15 +24,15 @@ use Rattle.report.specs.declared.table.Spent.the-variants.{Bytes as sent
 use Rattle.report.specs.lemmas.Tables.{SizesIn, Tabled, linesBy}
 use Rattle.report.proofs.ByTable.{forecast-is, lines-are}
 
-sent-case : (h : HandedJob) (b : Bool) (n : ℕ) → cond b (sent (bytesInRows (planRows (jobIn h)))) (unsent (jobRefusal h)) ≡ sent n → (b ≡ true) × (n ≡ bytesInRows (planRows (jobIn h)))
+sent-case : (h : JobInput) (b : Bool) (n : ℕ) → cond b (sent (bytesInRows (planRows (jobIn h)))) (unsent (jobRefusal h)) ≡ sent n → (b ≡ true) × (n ≡ bytesInRows (planRows (jobIn h)))
 sent-case h true n e = (cc, cc)
 sent-case h false n e = let z : _≡_ {A = ℕ} 0 1 = cc in absurd (omega arith)
 
-unsent-case : (h : HandedJob) (b : Bool) (n : ℕ) → cond b (sent (bytesInRows (planRows (jobIn h)))) (unsent (jobRefusal h)) ≡ unsent n → (b ≡ false) × (n ≡ jobRefusal h)
+unsent-case : (h : JobInput) (b : Bool) (n : ℕ) → cond b (sent (bytesInRows (planRows (jobIn h)))) (unsent (jobRefusal h)) ≡ unsent n → (b ≡ false) × (n ≡ jobRefusal h)
 unsent-case h true n e = let z : _≡_ {A = ℕ} 0 1 = cc in absurd (omega arith)
 unsent-case h false n e = (cc, cc)
 
-module _ {h : HandedJob} {table : List ℕ} {r : Spent} (t : Tabled h table r) where
+module _ {h : JobInput} {table : List ℕ} {r : Spent} (t : Tabled h table r) where
   pub refused : {no : ℕ} {out : List ℕ} → r ≡ unsent no → Reported h out out (Refused no)
   refused {no} {out} e =
       let u = unsent-case h (eqb (jobRefusal h) 0) no (sym (t .spent) ∙ e) in
@@ -47,7 +48,7 @@ module _ {h : HandedJob} {table : List ℕ} {r : Spent} (t : Tabled h table r) w
     none = eqb→eq (jobRefusal h) 0 (subst T (sym (case .0)) tt)
 
     accepted : Accepted (jobIn h)
-    accepted = handed-iff h .0 none .1
+    accepted = input-iff h .0 none .1
 
     pub forecast-few : length (h .forecast) ≤ 5599
     forecast-few = omega (arith, accepted .slots-in, accepted .last-in)

@@ -1,20 +1,22 @@
--- Meaning, then its theorems. What the report call answers, and the lent buffer afterwards: document 01, "Direct calls without files
--- check 5, 6, 7", with document 02's 18 before 7, then 11 where "a lent buffer is shorter than the whole result. In a longer one the bytes past the result stay unchanged."
+-- Meaning, then its theorems. What the report call answers, and the lent buffer afterwards:
+-- document 01, "Direct calls without files check 5, 6, 7", with document 02's 18 before 7, then 11
+-- where "a lent buffer is shorter than the whole result. In a longer one the bytes past the result
+-- stay unchanged."
 use Prim.Native.Nat.{ℕ, _≤_}
 use mathlib.Core.Path.{_≡_, ap}
 use mathlib.Core.Bool.{cond}
 use mathlib.Core.List.{List}
 use lib.ListN.{length}
 use lib.Dec.{leb, eqb}
-use Rattle.basics.specs.Lent.{lentAfter}
-use Rattle.basics.specs.Refusals.{unless, _orElse_}
+use Rattle.theory_basics.specs.Lent.{lentAfter}
+use Rattle.theory_basics.specs.Refusals.{unless, _orElse_}
 use Rattle.job.specs.Job.{Job, Accepted}
-use Rattle.job.specs.Handed.{HandedJob, jobIn, jobRefusal}
-use Rattle.schedule.specs.Own.{ownList}
-use Rattle.schedule.specs.Plan.{plan}
-use Rattle.schedule.specs.Statement.{IsPlan}
-use Rattle.schedule.specs.Theorems.{plan-carried, plan-exists, plan-rows-unique}
-use Rattle.schedule.specs.lemmas.Words.{accepted-sized}
+use Rattle.job.specs.Input.{JobInput, jobIn, jobRefusal}
+use Rattle.theory_plan.specs.Own.{ownList}
+use Rattle.theory_plan.specs.Plan.{plan}
+use Rattle.theory_plan.specs.Statement.{IsPlan}
+use Rattle.theory_plan.specs.Theorems.{plan-carried, plan-exists, plan-rows-unique}
+use Rattle.theory_plan.specs.lemmas.Words.{accepted-sized}
 use Rattle.report.specs.Report.{reportOf}
 use Rattle.report.specs.Theorems.{report-fits}
 use Rattle.report.specs.declared.Written.{Written}
@@ -38,11 +40,11 @@ pub record Answered (t old now : List ℕ) (r : Written) : Type 0 where
   pub buffer : now ≡ lentAfter (roomRefusal t old) t old
 
 -- The refusal of the call: 5, 6, 18, 7 by the job, then 11.
-abbrev pub reportRefusal : HandedJob → List ℕ → ℕ
+abbrev pub reportRefusal : JobInput → List ℕ → ℕ
 reportRefusal h out = jobRefusal h orElse roomRefusal (planReport (jobIn h)) out
 
 -- What the call hands over for a job as handed, and what it leaves in the lent buffer.
-pub record Reported (h : HandedJob) (old now : List ℕ) (r : Written) : Type 0 where
+pub record Reported (h : JobInput) (old now : List ℕ) (r : Written) : Type 0 where
   pub result : r ≡ answer (reportRefusal h old) (length (planReport (jobIn h)))
   pub buffer : now ≡ lentAfter (reportRefusal h old) (planReport (jobIn h)) old
 

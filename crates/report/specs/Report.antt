@@ -1,22 +1,19 @@
--- Meaning. The report of a job and a fetch list: document 01, "The report program reads a job on standard input. For A it prints ..",
--- with the last line of document 02's request 1 and the switch sum of its request 2.
--- A report is lines; a line is words and numbers; a number of the list is a sum over its rows.
+-- Meaning. The report of a job and a fetch list: document 01, "The report program reads a job on
+-- standard input. For A it prints ..", with the last line of document 02's request 1 and the switch
+-- sum of its request 2. A report is lines; a line is words and numbers; a number of the list is a
+-- sum over its rows.
 use Prim.Native.Nat.{ℕ, zero, suc, _+_, _*_, _-_, _/_, _%_}
 use mathlib.Core.Bool.{Bool, cond, true}
 use mathlib.Core.List.{List, [], _∷_, _++_}
-use Rattle.basics.specs.Lists.{upTo}
-use Rattle.basics.specs.Sums.{pre, sum}
+use Rattle.theory_basics.specs.Lists.{upTo}
+use Rattle.theory_basics.specs.Sums.{pre, sum}
 use Rattle.job.specs.Job.{Job, chunks, layers, forecast, lastSlot, heldMost}
-use Rattle.fetch.specs.Rows.{Row, bytesIf, bytesOfLayer, carried, layerCount}
-use Rattle.basics.specs.Text.{ascii, digits, line, text}
+use Rattle.fetch.specs.Rows.{Row, bytesIf, bytesOfLayer, carried, layerCount, layersCarried}
+use Rattle.theory_basics.specs.Text.{ascii, digits, line, text}
 
 -- "Line 1: d(C), C, H." H itself, also above C.
 abbrev pub slotsLine : Job → List ℕ
 slotsLine j = line (ascii "slots") (digits (lastSlot j) ∷ ascii "chunks" ∷ digits (chunks j) ∷ ascii "held" ∷ digits (heldMost j) ∷ [])
-
--- The layers that chunk i carries, and the bytes of their rows.
-abbrev pub layersCarried : Job → List Row → ℕ → ℕ
-layersCarried j rows i = sum (λ n. cond (carried j rows i n) 1 0) (layers j)
 
 abbrev pub bytesCarried : Job → List Row → ℕ → ℕ
 bytesCarried j rows i = sum (λ n. cond (carried j rows i n) (bytesOfLayer rows i n) 0) (layers j)
@@ -32,7 +29,8 @@ chunkLines j rows = text (upTo (λ k. chunkLine j rows (k + 1)) (chunks j))
 abbrev pub layersLine : Job → List Row → List ℕ
 layersLine j rows = line (ascii "layers") (upTo (λ n. digits (layerCount j rows n)) (layers j))
 
--- "bytes in rows and forecast bytes unspent": the sum over all rows, and the forecast's sum less it.
+-- "bytes in rows and forecast bytes unspent": the sum over all rows, and the forecast's sum less
+-- it.
 abbrev pub bytesInRows : List Row → ℕ
 bytesInRows rows = bytesIf (λ x. true) rows
 
@@ -63,7 +61,8 @@ those p f (suc n) = those p f n ++ cond (p (suc n)) (f (suc n) ∷ []) []
 abbrev pub carriedBytes : Job → List Row → List ℕ
 carriedBytes j rows = those (λ i. carried j rows i 0) (bytesCarried j rows) (chunks j)
 
--- "The switch sum now compares each carried chunk with the next carried one, however many skipped ones are between".
+-- "The switch sum now compares each carried chunk with the next carried one, however many skipped
+-- ones are between".
 abbrev pub switchSum : Job → List Row → ℕ
 switchSum j rows = differences (carriedBytes j rows)
 
@@ -74,7 +73,8 @@ switchLine j rows = line (ascii "switch") (digits (switchSum j rows) ∷ [])
 abbrev pub filmSlots : Job → ℕ
 filmSlots j = chunks j * j .programme .span
 
--- "a last line, `rate q r`, with the whole quotient and the exact remainder" of the switch sum by C × L.
+-- "a last line, `rate q r`, with the whole quotient and the exact remainder" of the switch sum by C
+-- × L.
 abbrev pub rateLine : Job → List Row → List ℕ
 rateLine j rows = line (ascii "rate") (digits (switchSum j rows / filmSlots j) ∷ digits (switchSum j rows % filmSlots j) ∷ [])
 

@@ -8,13 +8,13 @@ use native.Mathlib.Omega.{arith}
 use native.Mathlib.Nat.{div-add-mod', mod-lt, mod-eq-of-lt, div-eq-of-lt, mul-add-div-right, mul-add-mod-self-right}
 use lib.ListN.{length, length-append}
 use borrow.Author.Tests.{eq-eqb}
-use Rattle.basics.specs.Tests.{All}
-use Rattle.basics.specs.lemmas.Tests.{by-cond}
-use Rattle.basics.specs.Sums.{pre, sum}
+use Rattle.theory_basics.specs.Tests.{All}
+use Rattle.theory_basics.specs.lemmas.Tests.{by-cond}
+use Rattle.theory_basics.specs.Sums.{pre, sum}
 use Rattle.job.specs.Job.{Job, Layer, Accepted, chunks, layers, size}
 use Rattle.fetch.specs.Rows.{Row, bytesOfLayer, Carried, carried, layerCount}
-use Rattle.fetch.specs.Rules.{InRange, WholeLayers, WithinForecast}
-use Rattle.basics.specs.lemmas.Ranges.{pre-cong, sum-cong}
+use Rattle.fetch.specs.Rules.{RowInRange, WholeLayers, WithinForecast}
+use Rattle.theory_basics.specs.lemmas.Ranges.{pre-cong, sum-cong}
 use Rattle.report.specs.lemmas.Bounds.{rows-within, layers-sum}
 use Rattle.report.specs.lemmas.Switches.{those-length, differences-few, differences-all}
 use Rattle.report.specs.lemmas.Widths.{slots-width, chunks-width, layers-width, bytes-width, switch-width, film-some, rate-width}
@@ -23,13 +23,13 @@ use Rattle.report.specs.Report.{slotsLine, bytesCarried, chunkLines, lay
 -- ---- "bytes in rows and forecast bytes unspent"
 
 -- The two sum to the forecast's sum exactly, for a list that keeps rules 1 and 4.
-pub bytes-and-left : (j : Job) (rows : List Row) → All (InRange j) rows → WithinForecast j rows → bytesInRows rows + left j rows ≡ forecastSum j
+pub bytes-and-left : (j : Job) (rows : List Row) → All (RowInRange j) rows → WithinForecast j rows → bytesInRows rows + left j rows ≡ forecastSum j
 bytes-and-left j rows a w = omega (arith, rows-within j rows a w)
 
 -- ---- "per chunk: number, layers carried, bytes carried"
 
 -- The chunks' bytes sum to the bytes in rows, for a list that keeps rules 1 and 2.
-pub chunks-and-bytes : (j : Job) (rows : List Row) → All (InRange j) rows → WholeLayers j rows → pre (bytesCarried j rows) (chunks j) ≡ bytesInRows rows
+pub chunks-and-bytes : (j : Job) (rows : List Row) → All (RowInRange j) rows → WholeLayers j rows → pre (bytesCarried j rows) (chunks j) ≡ bytesInRows rows
 chunks-and-bytes j rows a w =
     pre-cong (bytesCarried j rows) (λ i. sum (bytesOfLayer rows i) (layers j)) (chunks j)
     (λ i u v. sum-cong _ (bytesOfLayer rows i) (layers j) (λ n h. whole i n (record { chunk-low = u; chunk-high = v; layer-in = h })))
@@ -82,9 +82,10 @@ rate-only j rows q r k =
 
 -- ---- how long the text is
 
--- The report of an accepted job and a list that keeps rules 1 and 4 has at most 7,633 bytes, so a local buffer holds it: 33 in line 1,
--- 15 for each of 500 chunks, 23 for the counts, 35 for bytes and left, 19 for the switch sum, 23 for the rate.
-pub report-fits : (j : Job) (rows : List Row) → Accepted j → All (InRange j) rows → WithinForecast j rows → length (reportOf j rows) ≤ 7633
+-- The report of an accepted job and a list that keeps rules 1 and 4 has at most 7,633 bytes, so a
+-- local buffer holds it: 33 in line 1, 15 for each of 500 chunks, 23 for the counts, 35 for bytes
+-- and left, 19 for the switch sum, 23 for the rate.
+pub report-fits : (j : Job) (rows : List Row) → Accepted j → All (RowInRange j) rows → WithinForecast j rows → length (reportOf j rows) ≤ 7633
 unfolding reportOf
 report-fits j rows ok a w =
     omega (

@@ -1,6 +1,11 @@
-// The report: document 01's lines for a job and its plan, as text in a lent buffer. One pass over the rows fills a table of the bytes
-// of each layer of each chunk; every number of the lines is read from it or is a sum over rows.
+// The report: document 01's lines for a job and its plan, as text in a lent buffer. One pass over
+// the rows fills a table of the bytes of each layer of each chunk; every number of the lines is
+// read from it or is a sum over rows.
+use job::CHUNKS;
 use job::Programme;
+use job::ROWS;
+use job::SIZES;
+use job::SizeTable;
 use planner::Answer;
 
 mod lines;
@@ -10,11 +15,11 @@ ghost use mathlib.Core.Path.{_≡_};
 ghost use mathlib.Core.List.{_∷_};
 ghost use Prim.Native.Nat.{_+_, _*_, _-_, _≤_};
 ghost use lib.ListN.{length, replicate};
-ghost use Rattle.basics.specs.Lists.{upTo};
-ghost use Rattle.job.specs.Handed.{handed};
-ghost use Rattle.basics.specs.Text.{ascii, digits, line, text};
+ghost use Rattle.theory_basics.specs.Lists.{upTo};
+ghost use Rattle.job.specs.Input.{jobInput};
+ghost use Rattle.theory_basics.specs.Text.{ascii, digits, line, text};
 ghost use Rattle.report.specs.Answer.{Answered, Reported};
-ghost use Rattle.text.specs.lemmas.Places.{Put};
+ghost use Rattle.core_text.specs.lemmas.Places.{Put};
 ghost use Rattle.report.specs.lemmas.Tables.{SizesIn, Tabled, chunkLineBy, countBy, linesBy};
 
 // The number of bytes written, or the number of a refusal.
@@ -23,12 +28,13 @@ pub enum Written {
     Refused(u8),
 }
 
+// A line for each chunk: number, layers carried, bytes carried.
 fn chunk_lines(
     out: &mut [u8],
     at: usize,
-    sizes: &[u32; 2000],
+    sizes: &SizeTable,
     depth: usize,
-    table: &[u64; 2000],
+    table: &[u64; SIZES],
     count: u16,
 ) -> usize
     requires { ⌜ (depth ≤ 4) × (count ≤ 500) × (at + length (text (upTo (λ k. chunkLineBy (now sizes) (now table) depth (k + 1)) count)) ≤ length (now out)) × SizesIn (now sizes) ⌝ }
@@ -49,9 +55,9 @@ fn chunk_lines(
 fn layer_counts(
     out: &mut [u8],
     at: usize,
-    sizes: &[u32; 2000],
+    sizes: &SizeTable,
     depth: usize,
-    table: &[u64; 2000],
+    table: &[u64; SIZES],
     count: u16,
 ) -> usize
     requires { ⌜ (depth ≤ 4) × (count ≤ 500) × (at + length (text (upTo (λ n. 32 ∷ digits (countBy (now sizes) (now table) count n)) depth)) ≤ length (now out)) ⌝ }
@@ -67,12 +73,13 @@ fn layer_counts(
     next
 }
 
+// The line `layers`: the counts of the job's layers.
 fn layers_line(
     out: &mut [u8],
     at: usize,
-    sizes: &[u32; 2000],
+    sizes: &SizeTable,
     depth: usize,
-    table: &[u64; 2000],
+    table: &[u64; SIZES],
     count: u16,
 ) -> usize
     requires { ⌜ (depth ≤ 4) × (count ≤ 500) × (at + length (line (ascii "layers") (upTo (λ n. digits (countBy (now sizes) (now table) count n)) depth)) ≤ length (now out)) ⌝ }
@@ -106,9 +113,9 @@ fn film_slots(p: Programme) -> u64
 // The lines, by the table and the sums.
 fn put_lines(
     p: Programme,
-    sizes: &[u32; 2000],
+    sizes: &SizeTable,
     depth: usize,
-    table: &[u64; 2000],
+    table: &[u64; SIZES],
     spent: u64,
     left: u64,
     out: &mut [u8],
@@ -129,7 +136,7 @@ fn put_lines(
 }
 
 // The text over the front of the buffer, if it fits.
-fn hand_over(text: &[u8], out: &mut [u8]) -> Written
+fn copy_out(text: &[u8], out: &mut [u8]) -> Written
     ensures { λ r. ⌜ Answered (now (text .entry)) (now (out .entry)) (now (out .exit)) r ⌝ }
 {
     if out.len() < text.len() {
@@ -139,12 +146,13 @@ fn hand_over(text: &[u8], out: &mut [u8]) -> Written
     Written::Bytes(text.len())
 }
 
-// The lines, made in a local buffer that holds any report, over the front of the lent one, if they fit.
-fn hand_lines(
+// The lines, made in a local buffer that holds any report, over the front of the lent one, if they
+// fit.
+fn write_lines(
     p: Programme,
-    sizes: &[u32; 2000],
+    sizes: &SizeTable,
     depth: usize,
-    table: &[u64; 2000],
+    table: &[u64; SIZES],
     spent: u64,
     left: u64,
     out: &mut [u8],
@@ -154,11 +162,11 @@ fn hand_lines(
 {
     let mut text = [0u8; 7633];
     let n = put_lines(p, sizes, depth, table, spent, left, &mut text);
-    hand_over(&text[..n], out)
+    copy_out(&text[..n], out)
 }
 
-// The plan's rows, made into local slices with room for any plan, so that the planner refuses by the job alone. Their bytes go into the
-// table; the answer is the sum of them, or that refusal.
+// The plan's rows, made into local slices with room for any plan, so that the planner refuses by
+// the job alone. Their bytes go into the table; the answer is the sum of them, or that refusal.
 fn plan_table(
     p: Programme,
     sizes: &[u32],
@@ -166,16 +174,16 @@ fn plan_table(
     size_layers: &[u8],
     size_bytes: &[u32],
     forecast: &[u32],
-    table: &mut [u64; 2000],
+    table: &mut [u64; SIZES],
 ) -> table::Spent
     requires { ⌜ now table ≡ replicate 2000 0 ⌝ }
-    ensures { λ r. ⌜ Tabled (handed p (now (sizes .entry)) (now («size_chunks» .entry)) (now («size_layers» .entry)) (now («size_bytes» .entry)) (now (forecast .entry))) (now (table .exit)) r ⌝ }
+    ensures { λ r. ⌜ Tabled (jobInput p (now (sizes .entry)) (now («size_chunks» .entry)) (now («size_layers» .entry)) (now («size_bytes» .entry)) (now (forecast .entry))) (now (table .exit)) r ⌝ }
 {
-    let mut marks = [0u8; 500];
-    let mut slots = [0u16; 5599];
-    let mut chunks = [0u16; 5599];
-    let mut layers = [0u8; 5599];
-    let mut bytes = [0u32; 5599];
+    let mut marks = [0u8; CHUNKS];
+    let mut slots = [0u16; ROWS];
+    let mut chunks = [0u16; ROWS];
+    let mut layers = [0u8; ROWS];
+    let mut bytes = [0u32; ROWS];
     let made = planner::plan(
         p,
         sizes,
@@ -200,7 +208,8 @@ fn plan_table(
     }
 }
 
-// The report of a job's plan. Refused: 5, 6, 18, 7 by the job, then 11 exactly if out is shorter than the text.
+// The report of a job's plan. Refused: 5, 6, 18, 7 by the job, then 11 exactly if out is shorter
+// than the text.
 pub fn report(
     p: Programme,
     sizes: &[u32],
@@ -210,9 +219,9 @@ pub fn report(
     forecast: &[u32],
     out: &mut [u8],
 ) -> Written
-    ensures { λ r. ⌜ Reported (handed p (now (sizes .entry)) (now («size_chunks» .entry)) (now («size_layers» .entry)) (now («size_bytes» .entry)) (now (forecast .entry))) (now (out .entry)) (now (out .exit)) r ⌝ }
+    ensures { λ r. ⌜ Reported (jobInput p (now (sizes .entry)) (now («size_chunks» .entry)) (now («size_layers» .entry)) (now («size_bytes» .entry)) (now (forecast .entry))) (now (out .entry)) (now (out .exit)) r ⌝ }
 {
-    let mut table = [0u64; 2000];
+    let mut table = [0u64; SIZES];
     let made = plan_table(
         p,
         sizes,
@@ -227,9 +236,9 @@ pub fn report(
         table::Spent::Bytes(spent) => {
             let left = less(table::sum_of(forecast), spent);
             let unset = p.chunks as u32;
-            let mut stored = [unset; 2000];
+            let mut stored = [unset; SIZES];
             job::fill_sizes(sizes, size_chunks, size_layers, size_bytes, &mut stored);
-            hand_lines(p, &stored, sizes.len(), &table, spent, left, out)
+            write_lines(p, &stored, sizes.len(), &table, spent, left, out)
         }
     }
 }

@@ -1,10 +1,12 @@
 // The table of the bytes of each layer of each chunk, and the numbers that are read from it.
+use job::SIZES;
+use job::SizeTable;
 ghost use mathlib.Core.Path.{_≡_};
 ghost use mathlib.Core.Bool.{cond};
 ghost use Prim.Native.Nat.{_+_, _*_, _-_, _≤_, _<_};
 ghost use lib.ListN.{length, getD, set, replicate};
 ghost use lib.Dec.{eqb};
-ghost use Rattle.basics.specs.Sums.{sum};
+ghost use Rattle.theory_basics.specs.Sums.{sum};
 ghost use Rattle.fetch.specs.Rows.{rowsOf};
 ghost use Rattle.report.specs.Report.{apart};
 ghost use Rattle.report.specs.lemmas.Tables.{Rows, SizesIn, Summed, bytesAt, carriedBy, ChunkBy, countBy, pictureBy, changeOf, heldOf, switchBy};
@@ -35,6 +37,7 @@ fn add(total: u64, more: u32) -> u64
     total + (more as u64)
 }
 
+// The sum of a slice. Sums in 64 bits: 3,600 slots need 36.
 pub(crate) fn sum_of(s: &[u32]) -> u64
     requires { ⌜ length (now s) ≤ 5599 ⌝ }
     ensures { λ r. ⌜ r ≡ sum (λ k. getD (now (s .entry)) k 0) (length (now (s .entry))) ⌝ }
@@ -49,7 +52,7 @@ pub(crate) fn sum_of(s: &[u32]) -> u64
 }
 
 // A row's bytes go to those of its layer of its chunk.
-fn add_row(table: &mut [u64; 2000], c: u16, l: u8, b: u32)
+fn add_row(table: &mut [u64; SIZES], c: u16, l: u8, b: u32)
     requires { ⌜ (1 ≤ c) × (c ≤ 500) × (l < 4) × (bytesAt (now table) c l ≤ 35184372088832) ⌝ }
     ensures { λ _. ⌜ now (table .exit) ≡ set (now (table .entry)) (4 * (c - 1) + l) (bytesAt (now (table .entry)) c l + b) ⌝ }
 {
@@ -63,7 +66,7 @@ pub(crate) fn add_rows(
     chunks: &[u16],
     layers: &[u8],
     bytes: &[u32],
-    table: &mut [u64; 2000],
+    table: &mut [u64; SIZES],
 )
     requires { ⌜ Rows (now slots) (now chunks) (now layers) (now bytes) × (now table ≡ replicate 2000 0) ⌝ }
     ensures { λ _. ⌜ Summed (rowsOf (now (slots .entry)) (now (chunks .entry)) (now (layers .entry)) (now (bytes .entry))) (now (table .exit)) ⌝ }
@@ -76,7 +79,7 @@ pub(crate) fn add_rows(
 }
 
 // The bytes of layer n of chunk i.
-fn bytes_at(table: &[u64; 2000], i: u16, n: usize) -> u64
+fn bytes_at(table: &[u64; SIZES], i: u16, n: usize) -> u64
     requires { ⌜ (1 ≤ i) × (i ≤ 500) × (n < 4) ⌝ }
     ensures { λ r. ⌜ r ≡ bytesAt (now (table .entry)) i n ⌝ }
 {
@@ -84,14 +87,16 @@ fn bytes_at(table: &[u64; 2000], i: u16, n: usize) -> u64
     table[at]
 }
 
+// The bytes fetched of a layer are its size: the layer is carried.
 fn same(sum: u64, size: u32) -> bool
     ensures { λ r. ⌜ r ≡ eqb sum size ⌝ }
 {
     sum == (size as u64)
 }
 
-// Whether layer n of chunk i is carried: its rows sum to its size, which the table of all sizes has.
-fn is_carried(sizes: &[u32; 2000], table: &[u64; 2000], i: u16, n: usize) -> bool
+// Whether layer n of chunk i is carried: its rows sum to its size, which the table of all sizes
+// has.
+fn is_carried(sizes: &SizeTable, table: &[u64; SIZES], i: u16, n: usize) -> bool
     requires { ⌜ (1 ≤ i) × (i ≤ 500) × (n < 4) ⌝ }
     ensures { λ r. ⌜ r ≡ carriedBy (now (sizes .entry)) (now (table .entry)) i n ⌝ }
 {
@@ -99,6 +104,7 @@ fn is_carried(sizes: &[u32; 2000], table: &[u64; 2000], i: u16, n: usize) -> boo
     same(sum, job::size_at(sizes, i, n))
 }
 
+// A number, or 0 for a layer that is not carried.
 fn only_if(carried: bool, x: u64) -> u64
     ensures { λ r. ⌜ r ≡ cond carried x 0 ⌝ }
 {
@@ -109,7 +115,7 @@ fn only_if(carried: bool, x: u64) -> u64
 }
 
 // The layers and bytes that chunk i carries.
-pub(crate) fn chunk_of(sizes: &[u32; 2000], depth: usize, table: &[u64; 2000], i: u16) -> Chunk
+pub(crate) fn chunk_of(sizes: &SizeTable, depth: usize, table: &[u64; SIZES], i: u16) -> Chunk
     requires { ⌜ (depth ≤ 4) × (1 ≤ i) × (i ≤ 500) × SizesIn (now sizes) ⌝ }
     ensures { λ r. ⌜ ChunkBy (now (sizes .entry)) (now (table .entry)) depth i r ⌝ }
 {
@@ -126,7 +132,7 @@ pub(crate) fn chunk_of(sizes: &[u32; 2000], depth: usize, table: &[u64; 2000], i
 }
 
 // How many of the chunks carry layer n.
-pub(crate) fn layer_count(sizes: &[u32; 2000], table: &[u64; 2000], count: u16, n: usize) -> u64
+pub(crate) fn layer_count(sizes: &SizeTable, table: &[u64; SIZES], count: u16, n: usize) -> u64
     requires { ⌜ (count ≤ 500) × (n < 4) ⌝ }
     ensures { λ r. ⌜ r ≡ countBy (now (sizes .entry)) (now (table .entry)) count n ⌝ }
 {
@@ -140,6 +146,7 @@ pub(crate) fn layer_count(sizes: &[u32; 2000], table: &[u64; 2000], count: u16, 
     carry
 }
 
+// The difference of two numbers.
 fn distance(a: u64, b: u64) -> u64
     ensures { λ r. ⌜ r ≡ apart a b ⌝ }
 {
@@ -150,7 +157,7 @@ fn distance(a: u64, b: u64) -> u64
 }
 
 // A chunk on the screen: its bytes, or nothing new if it is skipped.
-fn picture_of(sizes: &[u32; 2000], depth: usize, table: &[u64; 2000], i: u16) -> Picture
+fn picture_of(sizes: &SizeTable, depth: usize, table: &[u64; SIZES], i: u16) -> Picture
     requires { ⌜ (depth ≤ 4) × (1 ≤ i) × (i ≤ 500) × SizesIn (now sizes) ⌝ }
     ensures { λ r. ⌜ r ≡ pictureBy (now (sizes .entry)) (now (table .entry)) depth i ⌝ }
 {
@@ -185,7 +192,8 @@ fn held(last: Picture, here: Picture) -> Picture
     }
 }
 
-pub(crate) fn switch_sum(sizes: &[u32; 2000], depth: usize, table: &[u64; 2000], count: u16) -> u64
+// The sum of the differences in bytes between each carried chunk and the next carried one.
+pub(crate) fn switch_sum(sizes: &SizeTable, depth: usize, table: &[u64; SIZES], count: u16) -> u64
     requires { ⌜ (depth ≤ 4) × (count ≤ 500) × SizesIn (now sizes) ⌝ }
     ensures { λ r. ⌜ r ≡ switchBy (now (sizes .entry)) (now (table .entry)) depth count ⌝ }
 {

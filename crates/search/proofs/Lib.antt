@@ -1,2 +1,2 @@
 pub mod Deciding
-pub mod Handing
+pub mod Outputs

@@ -1,31 +1,33 @@
--- Meaning. What the search within a budget hands over: document 02, request 13, "The result is the best set met .., the steps .. actually taken,
--- whether the walk ended .., and a shortfall", with the plan over that set, or a refusal's number. The walk, the plan over a set and what is
--- claimed of both are stated in budget: Statement; they are computed in budget: Search.
+-- Meaning. What the search within a budget hands over: document 02, request 13, "The result is the
+-- best set met .., the steps .. actually taken, whether the walk ended .., and a shortfall", with
+-- the plan over that set, or a refusal's number. The walk, the plan over a set and what is claimed
+-- of both are stated in theory_search: Statement; they are computed in theory_search: Search.
 use Prim.Native.Nat.{ℕ, suc, _+_, _*_, _-_, _≤_}
 use mathlib.Core.Path.{_≡_}
 use mathlib.Core.Bool.{Bool, false, cond, _&&_}
 use mathlib.Core.List.{List, [], _∷_, map}
 use lib.ListN.{length, getD}
 use lib.Dec.{leb, eqb}
-use Rattle.basics.specs.Lent.{lentAfter}
-use Rattle.basics.specs.Lists.{has}
-use Rattle.basics.specs.Refusals.{unless, _orElse_}
+use Rattle.theory_basics.specs.Lent.{lentAfter}
+use Rattle.theory_basics.specs.Lists.{has}
+use Rattle.theory_basics.specs.Refusals.{unless, _orElse_}
 use Rattle.job.specs.Job.{EqualChunks, Job, chunks}
-use Rattle.job.specs.Handed.{HandedJob, jobIn, jobRefusal}
+use Rattle.job.specs.Input.{JobInput, jobIn, jobRefusal}
 use Rattle.fetch.specs.Marks.{bit}
 use Rattle.fetch.specs.Rows.{Row, rowSlot, rowChunk, rowLayer, rowBytes}
-use Rattle.schedule.specs.Own.{ownList}
-use Rattle.schedule.specs.Statement.{Same, SettledByTrials, countOf, countsOf, marksOf}
+use Rattle.theory_plan.specs.Own.{ownList}
+use Rattle.theory_plan.specs.Statement.{Same, SettledByTrials, countOf, countsOf, marksOf}
 use Rattle.planner.specs.Answer.{Lent, lentOf}
 use Rattle.planner.specs.declared.Answer.{Answer}
 use Rattle.planner.specs.declared.Answer.the-variants.{Rows, Refused}
-use Rattle.budget.specs.Statement.{Found, GoodEnough, IsFound, IsPlanOver}
-use Rattle.budget.specs.Search.{found, planOver}
+use Rattle.theory_search.specs.Statement.{Found, GoodEnough, IsFound, IsPlanOver}
+use Rattle.theory_search.specs.Search.{found, planOver}
 use Rattle.search.specs.declared.Searched.{Searched}
 
 -- ---- the plan that is handed over
 
--- "The upper layers, rows and counts then follow document 01's way, and that plan is handed over too."
+-- "The upper layers, rows and counts then follow document 01's way, and that plan is handed over
+-- too."
 abbrev pub planFound : Job → ℕ → ℕ → ℕ
 planFound j budget = planOver j (found j budget .kept)
 
@@ -41,29 +43,30 @@ holdsFound j budget l =
     leb (chunks j) (l .marks) && (leb n (l .slots) && (leb n (l .chunks) && (leb n (l .layers) && leb n (l .bytes))))
 
 -- 5, 6, 18, 7, then 11; 0 for none.
-abbrev pub searchRefusal : HandedJob → ℕ → Lent → ℕ
+abbrev pub searchRefusal : JobInput → ℕ → Lent → ℕ
 searchRefusal h budget l = jobRefusal h orElse unless 11 (holdsFound (jobIn h) budget l)
 
 -- ---- what is handed over
 
--- Where nothing is refused; a refusal carries only its number: beside it counts, steps and shortfall are 0, and the walk has not ended.
-abbrev pub given : HandedJob → ℕ → Lent → Bool
+-- Where nothing is refused; a refusal carries only its number: beside it counts, steps and
+-- shortfall are 0, and the walk has not ended.
+abbrev pub given : JobInput → ℕ → Lent → Bool
 given h budget l = eqb (searchRefusal h budget l) 0
 
 -- How many rows, or the refusal's number.
-abbrev pub answerOf : HandedJob → ℕ → Lent → Answer
+abbrev pub answerOf : JobInput → ℕ → Lent → Answer
 answerOf h budget l = cond (given h budget l) (Rows (length (rowsFound (jobIn h) budget))) (Refused (searchRefusal h budget l))
 
-abbrev pub countsHanded : HandedJob → ℕ → Lent → List ℕ
-countsHanded h budget l = cond (given h budget l) (countsOf (jobIn h) (planFound (jobIn h) budget)) (0 ∷ 0 ∷ 0 ∷ 0 ∷ [])
+abbrev pub searchCounts : JobInput → ℕ → Lent → List ℕ
+searchCounts h budget l = cond (given h budget l) (countsOf (jobIn h) (planFound (jobIn h) budget)) (0 ∷ 0 ∷ 0 ∷ 0 ∷ [])
 
 -- A lent slice at exit: the result, then the old contents; on a refusal the old contents alone.
-abbrev pub sliceAfter : HandedJob → ℕ → Lent → List ℕ → List ℕ → List ℕ
+abbrev pub sliceAfter : JobInput → ℕ → Lent → List ℕ → List ℕ → List ℕ
 sliceAfter h budget l result old = lentAfter (searchRefusal h budget l) result old
 
-pub record Handed (h : HandedJob) (budget : ℕ) (marks slots chunks layers bytes : List ℕ) (r : Searched) (marks' slots' chunks' layers' bytes' : List ℕ) : Type 0 where
+pub record SearchOutput (h : JobInput) (budget : ℕ) (marks slots chunks layers bytes : List ℕ) (r : Searched) (marks' slots' chunks' layers' bytes' : List ℕ) : Type 0 where
   pub answer : r .answer ≡ answerOf h budget (lentOf marks slots chunks layers bytes)
-  pub counts : r .counts ≡ countsHanded h budget (lentOf marks slots chunks layers bytes)
+  pub counts : r .counts ≡ searchCounts h budget (lentOf marks slots chunks layers bytes)
   pub steps : r .steps ≡ cond (given h budget (lentOf marks slots chunks layers bytes)) (found (jobIn h) budget .steps) 0
   pub ended : r .ended ≡ cond (given h budget (lentOf marks slots chunks layers bytes)) (found (jobIn h) budget .ended) false
   pub shortfall : r .shortfall ≡ cond (given h budget (lentOf marks slots chunks layers bytes)) (found (jobIn h) budget .shortfall) 0
@@ -75,8 +78,8 @@ pub record Handed (h : HandedJob) (budget : ℕ) (marks slots chunks layers byte
 
 -- ---- what holds of it
 
--- What is found is what the walk cut at the budget says, and nothing else is; the plan is the one over that set, and there is no other; and
--- the set stands in bit 0 of the marks.
+-- What is found is what the walk cut at the budget says, and nothing else is; the plan is the one
+-- over that set, and there is no other; and the set stands in bit 0 of the marks.
 pub record Walks (j : Job) (budget : ℕ) : Type 0 where
   pub is-found : IsFound j budget (found j budget)
   pub only-found : (other : Found) → IsFound j budget other → other ≡ found j budget
@@ -84,20 +87,20 @@ pub record Walks (j : Job) (budget : ℕ) : Type 0 where
   pub only-over : (other : ℕ → ℕ) → IsPlanOver j (found j budget .kept) other → Same j other (planFound j budget)
   pub in-marks : (i : ℕ) → 1 ≤ i → i ≤ chunks j → bit (getD (marksOf j (planFound j budget)) (i - 1) 0) 0 ≡ has (found j budget .kept) i
 
-abbrev pub FoundByWalk : HandedJob → ℕ → Type 0
+abbrev pub FoundByWalk : JobInput → ℕ → Type 0
 FoundByWalk h budget = jobRefusal h ≡ 0 → Walks (jobIn h) budget
 
 -- The plan passes and is in playing order, and none is better by more than the shortfall.
-abbrev pub GoodEnoughFound : HandedJob → ℕ → Type 0
+abbrev pub GoodEnoughFound : JobInput → ℕ → Type 0
 GoodEnoughFound h budget =
     jobRefusal h ≡ 0 → GoodEnough (jobIn h) budget (found (jobIn h) budget) (planFound (jobIn h) budget) (rowsFound (jobIn h) budget)
 
--- "A larger budget never finds fewer." With two steps a chunk as many bases are found as document 01's way carries, and for equal chunks its
--- own plan is handed over.
+-- "A larger budget never finds fewer." With two steps a chunk as many bases are found as document
+-- 01's way carries, and for equal chunks its own plan is handed over.
 pub record Steps (j : Job) (budget : ℕ) : Type 0 where
   pub larger : (more : ℕ) → budget ≤ more → length (found j budget .kept) ≤ length (found j more .kept)
   pub two-a-chunk : 2 * chunks j ≤ budget → (p : ℕ → ℕ) → SettledByTrials j p → countOf j p 0 ≤ length (found j budget .kept)
   pub equal-chunks : EqualChunks j → 2 * chunks j ≤ budget → (p : ℕ → ℕ) → SettledByTrials j p → Same j p (planFound j budget)
 
-abbrev pub MoreSteps : HandedJob → ℕ → Type 0
+abbrev pub MoreSteps : JobInput → ℕ → Type 0
 MoreSteps h budget = jobRefusal h ≡ 0 → Steps (jobIn h) budget

@@ -1,22 +1,28 @@
-// Request 13, "Good enough before the curtain": the best set of bases met within a budget of steps, and the plan over it. The search itself is
-// walk's; this crate adds the shortfall, the layers above the bases, and the hand-over.
+// Request 13, "Good enough before the curtain": the best set of bases met within a budget of steps,
+// and the plan over it. The search itself is core_search's; this crate adds the shortfall, the
+// layers above the bases, and the hand-over.
+use core_output::Output;
+use job::CHUNKS;
 use job::Programme;
-use laying::Laid;
+use job::SIZES;
+use job::SUMS;
+use job::SizeTable;
+use job::SlotSums;
 use planner::Answer;
 ghost use mathlib.Core.Path.{_≡_};
 ghost use mathlib.Core.Bool.{cond};
 ghost use Prim.Native.Nat.{_-_, _≤_};
 ghost use lib.ListN.{length};
-ghost use Rattle.job.specs.Handed.{handed, jobRefusal};
+ghost use Rattle.job.specs.Input.{jobInput, jobRefusal};
 ghost use Rattle.job.specs.Table.{tableAt};
-ghost use Rattle.schedule.specs.lemmas.Parts.{at};
-ghost use Rattle.pictures.specs.lemmas.Walking.{walkedIn};
-ghost use Rattle.settle.specs.lemmas.Decision.{DecideFrom};
-ghost use Rattle.search.specs.Answer.{Handed, FoundByWalk, GoodEnoughFound, MoreSteps};
-ghost use Rattle.search.specs.lemmas.Deciding.{Answers, EachFound, OnlyNumber, ShortFrom};
+ghost use Rattle.theory_plan.specs.lemmas.Parts.{at};
+ghost use Rattle.core_moore_hodgson.specs.lemmas.Tables.{mooreHodgsonIn};
+ghost use Rattle.core_decide.specs.lemmas.Decision.{DecidePre};
+ghost use Rattle.search.specs.Answer.{SearchOutput, FoundByWalk, GoodEnoughFound, MoreSteps};
+ghost use Rattle.search.specs.lemmas.Deciding.{AnsweredPost, DecidePost, OnlyNumber, ShortfallPre};
 
-// The number of rows or the refusal's number, how many chunks carry each layer, the steps taken, whether the walk ended, and by how many
-// bases at most another list in playing order is better.
+// The number of rows or the refusal's number, how many chunks carry each layer, the steps taken,
+// whether the walk ended, and by how many bases at most another list in playing order is better.
 pub struct Searched {
     pub answer: Answer,
     pub counts: [u16; 4],
@@ -47,24 +53,19 @@ fn refused(n: u8) -> Searched
 }
 
 // The count of request 9 without the limit, less the count found; 0 if the walk ended.
-fn shortfall(
-    p: Programme,
-    table: &[u32; 2000],
-    after: &[u64; 3601],
-    first: usize,
-    ended: bool,
-) -> u16
-    requires { ⌜ ShortFrom p (tableAt (now table)) (now after) first ⌝ }
-    ensures { λ r. ⌜ r ≡ cond ended 0 (length (walkedIn p (tableAt (now (table .entry))) (at (now (after .entry)))) - (500 - first)) ⌝ }
+fn shortfall(p: Programme, table: &SizeTable, after: &SlotSums, first: usize, ended: bool) -> u16
+    requires { ⌜ ShortfallPre p (tableAt (now table)) (now after) first ⌝ }
+    ensures { λ r. ⌜ r ≡ cond ended 0 (length (mooreHodgsonIn p (tableAt (now (table .entry))) (at (now (after .entry)))) - (500 - first)) ⌝ }
 {
     if ended {
         return 0;
     }
-    let mut ids = [0u16; 500];
-    let mut dues = [0u16; 500];
-    let mut bytes = [0u32; 500];
-    let most = pictures::keep_most(p, table, after, &mut ids, &mut dues, &mut bytes);
-    // Both sets stand at the end of 500 places. The first is never the smaller one; the proof needs no such thing here.
+    let mut ids = [0u16; CHUNKS];
+    let mut dues = [0u16; CHUNKS];
+    let mut bytes = [0u32; CHUNKS];
+    let most = core_moore_hodgson::keep_most(p, table, after, &mut ids, &mut dues, &mut bytes);
+    // Both sets stand at the end of 500 places. The first is never the smaller one; the proof needs
+    // no such thing here.
     if first < most {
         return 0;
     }
@@ -76,27 +77,27 @@ fn shortfall(
 fn decide(
     p: Programme,
     layers: usize,
-    table: &[u32; 2000],
+    table: &SizeTable,
     forecast: &[u32],
     budget: u32,
-    ids: &mut [u16; 500],
-    ready: &mut [u16; 500],
-    mark: &mut [u8; 500],
+    ids: &mut [u16; CHUNKS],
+    ready: &mut [u16; CHUNKS],
+    mark: &mut [u8; CHUNKS],
 ) -> Decision
-    requires { ⌜ DecideFrom p layers (tableAt (now table)) 1 (now forecast) (now ids) (now ready) (now mark) ⌝ }
-    ensures { λ r. ⌜ EachFound p layers (tableAt (now (table .entry))) (now (forecast .entry)) budget r (now (ids .exit)) (now (ready .exit)) (now (mark .exit)) ⌝ }
+    requires { ⌜ DecidePre p layers (tableAt (now table)) 1 (now forecast) (now ids) (now ready) (now mark) ⌝ }
+    ensures { λ r. ⌜ DecidePost p layers (tableAt (now (table .entry))) (now (forecast .entry)) budget r (now (ids .exit)) (now (ready .exit)) (now (mark .exit)) ⌝ }
 {
-    let mut after = [0u64; 3601];
-    let mut room = [0u64; 500];
-    let mut dues = [0u16; 500];
-    let mut bytes = [0u32; 500];
-    settle::sum_after(forecast, 1, &mut after);
-    let out = walk::find(p, table, &after, budget, ids, &mut dues, &mut bytes);
+    let mut after = [0u64; SUMS];
+    let mut room = [0u64; CHUNKS];
+    let mut dues = [0u16; CHUNKS];
+    let mut bytes = [0u32; CHUNKS];
+    core_decide::sum_after(forecast, 1, &mut after);
+    let out = core_search::best_within(p, table, &after, budget, ids, &mut dues, &mut bytes);
     let first = out.first;
     let steps = out.steps;
     let ended = out.ended;
     let short = shortfall(p, table, &after, first, ended);
-    settle::settle_kept(
+    core_decide::settle_kept(
         p,
         layers,
         table,
@@ -118,8 +119,8 @@ fn decide(
 }
 
 // The answer for what was laid: all of it where the slices hold it whole, else 11.
-fn answered(made: Laid, steps: u32, ended: bool, short: u16) -> Searched
-    ensures { λ r. ⌜ Answers made steps ended short r ⌝ }
+fn answered(made: Output, steps: u32, ended: bool, short: u16) -> Searched
+    ensures { λ r. ⌜ AnsweredPost made steps ended short r ⌝ }
 {
     if made.whole {
         let counts = made.counts;
@@ -135,7 +136,7 @@ fn answered(made: Laid, steps: u32, ended: bool, short: u16) -> Searched
 }
 
 // The set found of an accepted job and the plan over it, handed over.
-fn lay_found(
+fn write_found(
     p: Programme,
     sizes: &[u32],
     size_chunks: &[u16],
@@ -149,14 +150,14 @@ fn lay_found(
     layers: &mut [u8],
     bytes: &mut [u32],
 ) -> Searched
-    requires { ⌜ (jobRefusal (handed p (now sizes) (now «size_chunks») (now «size_layers») (now «size_bytes») (now forecast)) ≡ 0) × (p .chunks ≤ length (now marks)) ⌝ }
-    ensures { λ r. ⌜ Handed (handed p (now (sizes .entry)) (now («size_chunks» .entry)) (now («size_layers» .entry)) (now («size_bytes» .entry)) (now (forecast .entry))) budget (now (marks .entry)) (now (slots .entry)) (now (chunks .entry)) (now (layers .entry)) (now (bytes .entry)) r (now (marks .exit)) (now (slots .exit)) (now (chunks .exit)) (now (layers .exit)) (now (bytes .exit)) ⌝ }
+    requires { ⌜ (jobRefusal (jobInput p (now sizes) (now «size_chunks») (now «size_layers») (now «size_bytes») (now forecast)) ≡ 0) × (p .chunks ≤ length (now marks)) ⌝ }
+    ensures { λ r. ⌜ SearchOutput (jobInput p (now (sizes .entry)) (now («size_chunks» .entry)) (now («size_layers» .entry)) (now («size_bytes» .entry)) (now (forecast .entry))) budget (now (marks .entry)) (now (slots .entry)) (now (chunks .entry)) (now (layers .entry)) (now (bytes .entry)) r (now (marks .exit)) (now (slots .exit)) (now (chunks .exit)) (now (layers .exit)) (now (bytes .exit)) ⌝ }
 {
-    let mut table = [0u32; 2000];
+    let mut table = [0u32; SIZES];
     job::fill_sizes(sizes, size_chunks, size_layers, size_bytes, &mut table);
-    let mut ids = [0u16; 500];
-    let mut ready = [0u16; 500];
-    let mut mark = [1u8; 500];
+    let mut ids = [0u16; CHUNKS];
+    let mut ready = [0u16; CHUNKS];
+    let mut mark = [1u8; CHUNKS];
     let count = p.chunks as usize;
     let out = decide(
         p,
@@ -169,7 +170,7 @@ fn lay_found(
         &mut mark,
     );
     let first = out.first;
-    let made = laying::lay(
+    let made = core_output::write_plan(
         count,
         forecast,
         &table,
@@ -186,8 +187,9 @@ fn lay_found(
     answered(made, out.steps, out.ended, out.shortfall)
 }
 
-// The best set of bases met within the budget and the plan over it, into lent marks, one a chunk, and rows: by slot, chunk, layer; the set is
-// bit 0 of the marks. Refusals 5, 6, 18, 7, then 11 where a slice is shorter than the plan; a refusal writes nothing.
+// The best set of bases met within the budget and the plan over it, into lent marks, one a chunk,
+// and rows: by slot, chunk, layer; the set is bit 0 of the marks. Refusals 5, 6, 18, 7, then 11
+// where a slice is shorter than the plan; a refusal writes nothing.
 pub fn search(
     p: Programme,
     sizes: &[u32],
@@ -202,10 +204,10 @@ pub fn search(
     layers: &mut [u8],
     bytes: &mut [u32],
 ) -> Searched
-    ensures handed { λ r. ⌜ Handed (handed p (now (sizes .entry)) (now («size_chunks» .entry)) (now («size_layers» .entry)) (now («size_bytes» .entry)) (now (forecast .entry))) budget (now (marks .entry)) (now (slots .entry)) (now (chunks .entry)) (now (layers .entry)) (now (bytes .entry)) r (now (marks .exit)) (now (slots .exit)) (now (chunks .exit)) (now (layers .exit)) (now (bytes .exit)) ⌝ }
-    ensures found { λ _. ⌜ FoundByWalk (handed p (now (sizes .entry)) (now («size_chunks» .entry)) (now («size_layers» .entry)) (now («size_bytes» .entry)) (now (forecast .entry))) budget ⌝ }
-    ensures enough { λ _. ⌜ GoodEnoughFound (handed p (now (sizes .entry)) (now («size_chunks» .entry)) (now («size_layers» .entry)) (now («size_bytes» .entry)) (now (forecast .entry))) budget ⌝ }
-    ensures steps { λ _. ⌜ MoreSteps (handed p (now (sizes .entry)) (now («size_chunks» .entry)) (now («size_layers» .entry)) (now («size_bytes» .entry)) (now (forecast .entry))) budget ⌝ }
+    ensures output { λ r. ⌜ SearchOutput (jobInput p (now (sizes .entry)) (now («size_chunks» .entry)) (now («size_layers» .entry)) (now («size_bytes» .entry)) (now (forecast .entry))) budget (now (marks .entry)) (now (slots .entry)) (now (chunks .entry)) (now (layers .entry)) (now (bytes .entry)) r (now (marks .exit)) (now (slots .exit)) (now (chunks .exit)) (now (layers .exit)) (now (bytes .exit)) ⌝ }
+    ensures found { λ _. ⌜ FoundByWalk (jobInput p (now (sizes .entry)) (now («size_chunks» .entry)) (now («size_layers» .entry)) (now («size_bytes» .entry)) (now (forecast .entry))) budget ⌝ }
+    ensures enough { λ _. ⌜ GoodEnoughFound (jobInput p (now (sizes .entry)) (now («size_chunks» .entry)) (now («size_layers» .entry)) (now («size_bytes» .entry)) (now (forecast .entry))) budget ⌝ }
+    ensures steps { λ _. ⌜ MoreSteps (jobInput p (now (sizes .entry)) (now («size_chunks» .entry)) (now («size_layers» .entry)) (now («size_bytes» .entry)) (now (forecast .entry))) budget ⌝ }
 {
     let no = job::refusal(p, sizes, size_chunks, size_layers, size_bytes, forecast);
     if 0 < no {
@@ -214,7 +216,7 @@ pub fn search(
     if marks.len() < p.chunks as usize {
         return refused(11);
     }
-    lay_found(
+    write_found(
         p,
         sizes,
         size_chunks,

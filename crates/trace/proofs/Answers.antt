@@ -1,4 +1,5 @@
--- Laws on what the reader answers: tests and forecast by the counts are those of the meaning. Assumes nothing.
+-- Laws on what the reader answers: tests and forecast by the counts are those of the meaning.
+-- Assumes nothing.
 use Prim.Native.Nat.{ℕ, _+_, _*_, _≤_, _<_, min}
 use mathlib.Core.Path.{_≡_, refl, sym, ap, _∙_}
 use mathlib.Core.Bool.{Bool, true, false, and-false}
@@ -8,16 +9,16 @@ use native.Mathlib.Omega.{arith}
 use lib.ListN.{length, getD, take, replicate}
 use lib.Dec.{T, leb, leb→le, nleb→lt}
 use borrow.Author.Tests.{ne-eqb, le-leb, lt-leb}
-use Rattle.basics.specs.Lent.{over}
-use Rattle.basics.specs.Lists.{upTo}
-use Rattle.basics.specs.lemmas.Lists.{getD-upTo, upTo-cong}
-use Rattle.basics.specs.Refusals.{unless, _orElse_}
-use Rattle.basics.specs.lemmas.Refusals.{unless-iff, orElse-iff, orElse-none, orElse-some}
-use Rattle.basics.specs.Tests.{all}
-use Rattle.basics.specs.lemmas.Tests.{T-true, test}
+use Rattle.theory_basics.specs.Lent.{over}
+use Rattle.theory_basics.specs.Lists.{upTo}
+use Rattle.theory_basics.specs.lemmas.Lists.{getD-upTo, upTo-cong}
+use Rattle.theory_basics.specs.Refusals.{unless, _orElse_}
+use Rattle.theory_basics.specs.lemmas.Refusals.{unless-iff, orElse-iff, orElse-none, orElse-some}
+use Rattle.theory_basics.specs.Tests.{all}
+use Rattle.theory_basics.specs.lemmas.Tests.{T-true, test}
 use Rattle.job.specs.Refusal.{within}
 use Rattle.trace.specs.declared.TraceRead.the-variants.{Slots, Refused}
-use Rattle.trace.specs.Answer.{Read, readRefusal}
+use Rattle.trace.specs.Answer.{Read, traceReadRefusal}
 use Rattle.trace.specs.Trace.{forecastOf, howMany, inSlot, times, traceRefusal}
 use Rattle.trace.specs.lemmas.Lists.{all-upTo, map-upTo, take-upTo}
 use Rattle.trace.specs.lemmas.Passes.{Counted, fewLines, linesForecast}
@@ -36,7 +37,7 @@ few-same h =
 -- ---- what is handed
 
 module _ (trace : List ℕ) (slots : ℕ) (old : List ℕ) where
-  refused : (n : ℕ) → readRefusal trace slots (length old) ≡ n → (n ≡ 0 → ⊥) → Read trace slots old old (Refused n)
+  refused : (n : ℕ) → traceReadRefusal trace slots (length old) ≡ n → (n ≡ 0 → ⊥) → Read trace slots old old (Refused n)
   refused n e o = record { answer = rw (e, ne-eqb n 0 o); buffer = rw (e, ne-eqb n 0 o) }
 
   by-input : (n : ℕ) → traceRefusal slots trace ≡ n → (n ≡ 0 → ⊥) → Read trace slots old old (Refused n)
@@ -70,7 +71,8 @@ module _ (trace : List ℕ) (slots : ℕ) (old : List ℕ) where
         ∙ all-upTo (λ n. leb n 11184) (within 0 16777216) count (λ k. 1500 * howMany (inSlot (k + 1)) (times trace)) slots
         (λ k. few-same (howMany (inSlot (k + 1)) (times trace)))
 
-    -- 14 and 15 by what the passes say. What the counts are worth where 14 is found does not matter.
+    -- 14 and 15 by what the passes say. What the counts are worth where 14 is found does not
+    -- matter.
     input : traceRefusal slots trace ≡ unless 14 r orElse unless 15 (fewLines (take slots counts))
     unfolding traceRefusal
     input = rw (le-leb 1 slots low, le-leb slots 3600 high) (rw (sym (scan-fine trace), sym (c .fine)) (past r few-is))
@@ -91,7 +93,7 @@ module _ (trace : List ℕ) (slots : ℕ) (old : List ℕ) where
       pub read-few : fewLines (take slots counts) ≡ true
       read-few = T-true (fewLines (take slots counts)) (both .1)
 
-      room-only : readRefusal trace slots (length old) ≡ unless 11 (leb slots (length old))
+      room-only : traceReadRefusal trace slots (length old) ≡ unless 11 (leb slots (length old))
       room-only = orElse-none (traceRefusal slots trace) (unless 11 (leb slots (length old))) (input ∙ none)
 
       pub read-short : length old < slots → Read trace slots old old (Refused 11)
@@ -109,5 +111,5 @@ module _ (trace : List ℕ) (slots : ℕ) (old : List ℕ) where
 
       pub read-done : (new : List ℕ) → slots ≤ length old → new ≡ over (linesForecast (take slots counts)) old → Read trace slots old new (Slots slots)
       read-done new h x =
-          let z : readRefusal trace slots (length old) ≡ 0 = room-only ∙ rw (le-leb slots (length old) h) in
+          let z : traceReadRefusal trace slots (length old) ≡ 0 = room-only ∙ rw (le-leb slots (length old) h) in
           record { answer = rw z; buffer = rw z (x ∙ ap (λ (l : List ℕ). over l old) forecast-is) }

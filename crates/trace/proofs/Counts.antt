@@ -1,4 +1,5 @@
--- Laws on the table of counts: a line in no slot, the test of its first places, the forecast made of them. Assumes nothing.
+-- Laws on the table of counts: a line in no slot, the test of its first places, the forecast made
+-- of them. Assumes nothing.
 use Prim.Native.Nat.{ℕ, suc, _+_, _*_, _-_, _/_, _≤_, _<_, min}
 use mathlib.Core.Path.{_≡_, refl, sym, ap, _∙_}
 use mathlib.Core.Bool.{true, false}
@@ -9,10 +10,10 @@ use lib.ListN.{length, getD, set, take, drop, length-set, length-map}
 use lib.Seq.{drop-cons, getD-take, length-take-le, set-out, take-suc}
 use lib.Dec.{leb, leb→le}
 use borrow.Author.Tests.{le-leb, lt-leb}
-use Rattle.basics.specs.Lent.{over}
-use Rattle.basics.specs.lemmas.Lent.{map-snoc, over-next}
-use Rattle.basics.specs.lemmas.Tables.{all-at}
-use Rattle.basics.specs.lemmas.Tests.{all-All, true-T}
+use Rattle.theory_basics.specs.Lent.{over}
+use Rattle.theory_basics.specs.lemmas.Lent.{map-snoc, over-next}
+use Rattle.theory_basics.specs.lemmas.Tables.{all-at}
+use Rattle.theory_basics.specs.lemmas.Tests.{all-All, true-T}
 use Rattle.trace.specs.lemmas.Tally.{bump}
 use Rattle.trace.specs.lemmas.Passes.{fewLines, linesForecast}
 

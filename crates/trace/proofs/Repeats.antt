@@ -1,4 +1,5 @@
--- Laws on lines in a buffer: a copy behind itself, and lines of one time that double. Assumes nothing.
+-- Laws on lines in a buffer: a copy behind itself, and lines of one time that double. Assumes
+-- nothing.
 use Prim.Native.Nat.{ℕ, zero, suc, _+_, _*_, _-_, _≤_, _<_, min}
 use mathlib.Core.Path.{_≡_, refl, sym, ap, _∙_}
 use mathlib.Core.List.{List, [], _∷_, _++_, append-assoc}
@@ -7,9 +8,9 @@ use native.Mathlib.Nat.{mul-le-mul-right}
 use native.Mathlib.Numerals.{add-one}
 use lib.ListN.{length, getD, take, drop, set, replicate, length-append, length-set, length-drop, replicate-append-replicate, List·getD-append}
 use lib.Seq.{take-length, paste, paste-zero, paste-suc, length-take-le, getD-take, getD-drop, take-at, drop-at, drop-append-add, drop-drop}
-use Rattle.trace.specs.Trace.{bytesOf}
+use Rattle.trace.specs.Trace.{linesBytes}
 use Rattle.records.specs.lemmas.Puts.{written-fits}
-use Rattle.text.specs.lemmas.Places.{Put, put-between, put-length, put-none, put-then}
+use Rattle.core_text.specs.lemmas.Places.{Put, put-between, put-length, put-none, put-then}
 
 -- ---- a copy
 
@@ -58,18 +59,18 @@ module _ (old : List ℕ) (from to n : ℕ) (apart : from + n ≤ to) (room : to
 
 -- ---- lines of one time
 
-pub bytes-append : (a b : List (List ℕ)) → bytesOf (a ++ b) ≡ bytesOf a ++ bytesOf b
+pub bytes-append : (a b : List (List ℕ)) → linesBytes (a ++ b) ≡ linesBytes a ++ linesBytes b
 bytes-append [] b = refl
-bytes-append (l ∷ a) b = ap (λ (t : List ℕ). l ++ (10 ∷ t)) (bytes-append a b) ∙ sym (append-assoc l (10 ∷ bytesOf a) (bytesOf b))
+bytes-append (l ∷ a) b = ap (λ (t : List ℕ). l ++ (10 ∷ t)) (bytes-append a b) ∙ sym (append-assoc l (10 ∷ linesBytes a) (linesBytes b))
 
-pub bytes-many : (m n : ℕ) (l : List ℕ) → bytesOf (replicate (m + n) l) ≡ bytesOf (replicate m l) ++ bytesOf (replicate n l)
-bytes-many m n l = ap bytesOf (sym (replicate-append-replicate m n l)) ∙ bytes-append (replicate m l) (replicate n l)
+pub bytes-many : (m n : ℕ) (l : List ℕ) → linesBytes (replicate (m + n) l) ≡ linesBytes (replicate m l) ++ linesBytes (replicate n l)
+bytes-many m n l = ap linesBytes (sym (replicate-append-replicate m n l)) ∙ bytes-append (replicate m l) (replicate n l)
 
-pub bytes-long : (n : ℕ) (l : List ℕ) → length (bytesOf (replicate n l)) ≡ n * (length l + 1)
+pub bytes-long : (n : ℕ) (l : List ℕ) → length (linesBytes (replicate n l)) ≡ n * (length l + 1)
 bytes-long zero l = omega arith
-bytes-long (suc n) l = omega (arith, length-append l (10 ∷ bytesOf (replicate n l)), bytes-long n l)
+bytes-long (suc n) l = omega (arith, length-append l (10 ∷ linesBytes (replicate n l)), bytes-long n l)
 
--- What stands before and after a bytesOf is the old.
+-- What stands before and after a linesBytes is the old.
 module _ {old mid s : List ℕ} {at k : ℕ} (r : at + length s ≤ length old) (p : Put old at s mid k) where
   before : length (take at old) ≡ at
   before = length-take-le at old (omega arith)
@@ -87,7 +88,7 @@ module _ {old mid s : List ℕ} {at k : ℕ} (r : at + length s ≤ length old) 
       let f : at + length s + (m - (at + length s)) ≡ m = omega arith in
       ap (drop m) a ∙ ap (λ (n : ℕ). drop n (x ++ y)) d ∙ drop-append-add x y (m - (at + length s)) ∙ drop-drop (m - (at + length s)) (at + length s) old ∙ ap (λ (n : ℕ). drop n old) f
 
-  -- The bytesOf over itself.
+  -- The linesBytes over itself.
   put-self : Put mid at s mid k
   put-self =
       let long : length mid ≡ length old = put-length p in
@@ -96,7 +97,7 @@ module _ {old mid s : List ℕ} {at k : ℕ} (r : at + length s ≤ length old) 
         place = p .place;
       }
 
-  -- A longer bytesOf over it.
+  -- A longer linesBytes over it.
   put-again : {t out : List ℕ} {next : ℕ} → length s ≤ length t → at + length t ≤ length old → Put mid at t out next → Put old at t out next
   put-again {t} h fits q =
       let long : length mid ≡ length old = put-length p in
@@ -106,16 +107,16 @@ module _ {old mid s : List ℕ} {at k : ℕ} (r : at + length s ≤ length old) 
       }
 
 -- No line.
-pub none-put : (old : List ℕ) (at : ℕ) (l : List ℕ) (count : ℕ) → count < 1 → Put old at (bytesOf (replicate count l)) old at
+pub none-put : (old : List ℕ) (at : ℕ) (l : List ℕ) (count : ℕ) → count < 1 → Put old at (linesBytes (replicate count l)) old at
 none-put old at l count h = let e : count ≡ 0 = omega arith in rw e (put-none old at)
 
 pub record Doubling (old : List ℕ) (at : ℕ) (l : List ℕ) (count : ℕ) (out : List ℕ) (next made : ℕ) : Type 0 where
   pub some : 1 ≤ made
   pub inside : made ≤ count
-  pub put : Put old at (bytesOf (replicate made l)) out next
+  pub put : Put old at (linesBytes (replicate made l)) out next
 
-module _ (old : List ℕ) (at : ℕ) (l : List ℕ) (count : ℕ) (room : at + length (bytesOf (replicate count l)) ≤ length old) where
-  fits : (m : ℕ) → m ≤ count → at + length (bytesOf (replicate m l)) ≤ length old
+module _ (old : List ℕ) (at : ℕ) (l : List ℕ) (count : ℕ) (room : at + length (linesBytes (replicate count l)) ≤ length old) where
+  fits : (m : ℕ) → m ≤ count → at + length (linesBytes (replicate m l)) ≤ length old
   fits m h = omega (arith, bytes-long m l, bytes-long count l, mul-le-mul-right (length l + 1) h)
 
   pub first-fits : 1 ≤ count → at + length (l ++ (10 ∷ [])) ≤ length old
@@ -132,7 +133,7 @@ module _ (old : List ℕ) (at : ℕ) (l : List ℕ) (count : ℕ) (room : at + l
     doubling-start = record { some = omega arith; inside = some; put = put-self (first-fits some) p }
 
     module _ (out : List ℕ) (next made : ℕ) (d : Doubling mid at l count out next made) where
-      made-fits : at + length (bytesOf (replicate made l)) ≤ length mid
+      made-fits : at + length (linesBytes (replicate made l)) ≤ length mid
       made-fits = omega (arith, fits made (d .inside), mid-long)
 
       pub out-long : length out ≡ length old
@@ -148,25 +149,25 @@ module _ (old : List ℕ) (at : ℕ) (l : List ℕ) (count : ℕ) (room : at + l
             least : (a b : ℕ) → min a b ≤ a
             least a b = omega arith
 
-        sum-fits : at + length (bytesOf (replicate (made + more) l)) ≤ length mid
+        sum-fits : at + length (linesBytes (replicate (made + more) l)) ≤ length mid
         sum-fits = omega (arith, fits (made + more) (omega (arith, d .inside)), mid-long)
 
         pub copy-fits : next + more * (first - at) ≤ length out
-        copy-fits = rw width-is (omega (arith, d .put .place, bytes-long made l, bytes-long more l, sum-fits, out-long, mid-long, ap length (bytes-many made more l), length-append (bytesOf (replicate made l)) (bytesOf (replicate more l))))
+        copy-fits = rw width-is (omega (arith, d .put .place, bytes-long made l, bytes-long more l, sum-fits, out-long, mid-long, ap length (bytes-many made more l), length-append (linesBytes (replicate made l)) (linesBytes (replicate more l))))
 
         -- What is copied is lines.
-        lines-are : take (more * (first - at)) (drop at out) ≡ bytesOf (replicate more l)
+        lines-are : take (more * (first - at)) (drop at out) ≡ linesBytes (replicate more l)
         lines-are =
-            let t : List ℕ = bytesOf (replicate made l) in
+            let t : List ℕ = linesBytes (replicate made l) in
             let rest : List ℕ = drop (at + length t) mid in
             let k : length (take at mid) ≡ at = length-take-le at mid (omega (arith, made-fits)) in
             let e : drop at out ≡ t ++ rest = rw (put-between made-fits (d .put)) (drop-at (take at mid) (t ++ rest) at k) in
             let s : more + (made - more) ≡ made = omega arith in
-            let f : t ≡ bytesOf (replicate more l) ++ bytesOf (replicate (made - more) l) = rw s at (bytes-many more (made - more) l) in
-            let g : drop at out ≡ bytesOf (replicate more l) ++ (bytesOf (replicate (made - more) l) ++ rest) =
-            e ∙ ap (λ (x : List ℕ). x ++ rest) f ∙ append-assoc (bytesOf (replicate more l)) (bytesOf (replicate (made - more) l)) rest in
+            let f : t ≡ linesBytes (replicate more l) ++ linesBytes (replicate (made - more) l) = rw s at (bytes-many more (made - more) l) in
+            let g : drop at out ≡ linesBytes (replicate more l) ++ (linesBytes (replicate (made - more) l) ++ rest) =
+            e ∙ ap (λ (x : List ℕ). x ++ rest) f ∙ append-assoc (linesBytes (replicate more l)) (linesBytes (replicate (made - more) l)) rest in
             ap (take (more * (first - at))) g
-            ∙ take-at (bytesOf (replicate more l)) (bytesOf (replicate (made - more) l) ++ rest) (more * (first - at)) (bytes-long more l ∙ rw width-is)
+            ∙ take-at (linesBytes (replicate more l)) (linesBytes (replicate (made - more) l) ++ rest) (more * (first - at)) (bytes-long more l ∙ rw width-is)
 
         pub doubling-more : (out' : List ℕ) (next' : ℕ) → Put out next (take (more * (first - at)) (drop at out)) out' next' → Doubling mid at l count out' next' (made + more)
         doubling-more out' next' q =
@@ -174,10 +175,10 @@ module _ (old : List ℕ) (at : ℕ) (l : List ℕ) (count : ℕ) (room : at + l
             record {
               some = omega (arith, d .some);
               inside = omega (arith, d .inside);
-              put = rw e (put-then (bytesOf (replicate made l)) (bytesOf (replicate more l)) (rw e at sum-fits) (d .put) (rw lines-are at q));
+              put = rw e (put-then (linesBytes (replicate made l)) (linesBytes (replicate more l)) (rw e at sum-fits) (d .put) (rw lines-are at q));
             }
 
-      pub doubling-end : count ≤ made → Put old at (bytesOf (replicate count l)) out next
+      pub doubling-end : count ≤ made → Put old at (linesBytes (replicate count l)) out next
       doubling-end h =
           let e : made ≡ count = omega (arith, d .inside) in
           put-again (first-fits some) p (omega (arith, bytes-long count l, length-append l (10 ∷ []), mul-le-mul-right (length l + 1) some)) room (rw e at (d .put))

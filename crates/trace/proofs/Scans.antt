@@ -1,4 +1,5 @@
--- Laws on the pass over the trace: what is read and counted so far, and the rest of the bytes, give the whole. Assumes nothing.
+-- Laws on the pass over the trace: what is read and counted so far, and the rest of the bytes, give
+-- the whole. Assumes nothing.
 use Prim.Native.Nat.{ℕ, _+_, _*_, _-_, _/_, _^_, _≤_, _<_, min}
 use mathlib.Core.Path.{_≡_, refl, sym, ap, _∙_}
 use mathlib.Core.Bool.{Bool, true, false, not, _&&_, and-false}
@@ -10,8 +11,8 @@ use native.Mathlib.Numerals.{add-one}
 use lib.ListN.{length, getD, drop, length-set, drop-of-length-le}
 use lib.Dec.{T-not, ltb, eqb, eqb→eq, eqb-refl, ltb→lt, nltb→le}
 use borrow.Author.Tests.{le-leb, lt-leb, ne-eqb, not-true, not-false}
-use Rattle.basics.specs.lemmas.Tables.{drop-next}
-use Rattle.basics.specs.lemmas.Tests.{T-true, not-T-false, test, true-T, tests}
+use Rattle.theory_basics.specs.lemmas.Tables.{drop-next}
+use Rattle.theory_basics.specs.lemmas.Tests.{T-true, not-T-false, test, true-T, tests}
 use Rattle.trace.specs.lemmas.Scan.{Scanned, scan, scan-bad, scan-long}
 use Rattle.trace.specs.lemmas.Tally.{bump, tally}
 use Rattle.job.specs.Refusal.{within}

@@ -1,4 +1,5 @@
--- Laws on a forecast to be written: whole lines, the bytes of a line, of all lines. Assumes nothing.
+-- Laws on a forecast to be written: whole lines, the bytes of a line, of all lines. Assumes
+-- nothing.
 use Prim.Native.Nat.{ℕ, _+_, _*_, _/_, _≤_, _<_}
 use mathlib.Core.Path.{_≡_, refl, sym, ap, _∙_}
 use mathlib.Core.Bool.{Bool, true, false, not}
@@ -9,11 +10,11 @@ use native.Mathlib.Numerals.{add-one}
 use lib.ListN.{length, getD, drop, drop-of-length-le}
 use lib.Seq.{drop-cons}
 use borrow.Author.Tests.{not-true, not-false}
-use Rattle.basics.specs.Tests.{all}
-use Rattle.basics.specs.lemmas.Tables.{drop-next}
-use Rattle.basics.specs.lemmas.Digits.{digits-one, digits-length}
+use Rattle.theory_basics.specs.Tests.{all}
+use Rattle.theory_basics.specs.lemmas.Tables.{drop-next}
+use Rattle.theory_basics.specs.lemmas.Digits.{digits-one, digits-length}
 use Rattle.trace.specs.lemmas.Tally.{widthFrom}
-use Rattle.basics.specs.Text.{digits}
+use Rattle.theory_basics.specs.Text.{digits}
 use Rattle.trace.specs.Trace.{writable}
 
 -- ---- whole lines
@@ -73,7 +74,8 @@ width-four t h k = omega (arith, thousands t (omega arith), digits-length t (ome
 
 -- ---- the bytes of all lines
 
--- So many bytes, and those of the slots from t on. A slot has at most 2,863,311 lines, whatever its 32 bits say.
+-- So many bytes, and those of the slots from t on. A slot has at most 2,863,311 lines, whatever its
+-- 32 bits say.
 pub record Widening (f : List ℕ) (sum t : ℕ) : Type 0 where
   pub inside : t ≤ length f
   pub says : widthFrom 0 f ≡ sum + widthFrom t (drop t f)

@@ -9,16 +9,16 @@ use lib.ListN.{length, getD, drop, replicate, length-append, drop-of-length-le}
 use lib.Seq.{drop-cons}
 use lib.Dec.{leb}
 use borrow.Author.Tests.{ne-eqb, le-leb, lt-leb, not-true, not-false}
-use Rattle.basics.specs.Refusals.{unless}
-use Rattle.basics.specs.lemmas.Refusals.{orElse-none, orElse-some}
-use Rattle.basics.specs.Tests.{all}
+use Rattle.theory_basics.specs.Refusals.{unless}
+use Rattle.theory_basics.specs.lemmas.Refusals.{orElse-none, orElse-some}
+use Rattle.theory_basics.specs.Tests.{all}
 use Rattle.trace.specs.lemmas.Tally.{widthFrom, written-length}
-use Rattle.basics.specs.Text.{digits}
-use Rattle.trace.specs.Trace.{linesFrom, writable, bytesOf, forecastRefusal, traceOf}
+use Rattle.theory_basics.specs.Text.{digits}
+use Rattle.trace.specs.Trace.{linesFrom, writable, linesBytes, unwritableRefusal, traceOf}
 use Rattle.job.specs.Refusal.{within}
 use Rattle.trace.specs.declared.Written.the-variants.{Bytes, Refused}
 use Rattle.trace.specs.Answer.{Wrote, writeRefusal}
-use Rattle.text.specs.lemmas.Places.{Put, put-length, put-none, put-room, put-then, put-whole}
+use Rattle.core_text.specs.lemmas.Places.{Put, put-length, put-none, put-room, put-then, put-whole}
 use Rattle.trace.proofs.Repeats.{bytes-append}
 
 -- ---- slot by slot
@@ -27,7 +27,7 @@ pub record Writing (f old out : List ℕ) (next t : ℕ) : Type 0 where
   pub inside : t ≤ length f
   pub made : List ℕ
   pub put : Put old 0 made out next
-  pub whole : traceOf f ≡ made ++ bytesOf (linesFrom t (drop t f))
+  pub whole : traceOf f ≡ made ++ linesBytes (linesFrom t (drop t f))
 
 pub writing-start : (f old : List ℕ) → Writing f old old 0 0
 unfolding traceOf
@@ -39,24 +39,24 @@ module _ (f old : List ℕ) (room : length (traceOf f) ≤ length old) (out : Li
 
   pub writing-end : length f ≤ t → Put old 0 (traceOf f) out next
   writing-end h =
-      let e : traceOf f ≡ w .made = w .whole ∙ ap (λ (l : List ℕ). w .made ++ bytesOf (linesFrom t l)) (drop-of-length-le f {i = t} h) ∙ append-nil (w .made) in
+      let e : traceOf f ≡ w .made = w .whole ∙ ap (λ (l : List ℕ). w .made ++ linesBytes (linesFrom t l)) (drop-of-length-le f {i = t} h) ∙ append-nil (w .made) in
       rw e (w .put)
 
   module _ (here : t < length f) where
     abbrev slot : List ℕ
-    slot = bytesOf (replicate (getD f t 0 / 1500) (digits (t * 1000)))
+    slot = linesBytes (replicate (getD f t 0 / 1500) (digits (t * 1000)))
 
-    rest : bytesOf (linesFrom t (drop t f)) ≡ slot ++ bytesOf (linesFrom (t + 1) (drop (t + 1) f))
+    rest : linesBytes (linesFrom t (drop t f)) ≡ slot ++ linesBytes (linesFrom (t + 1) (drop (t + 1) f))
     rest =
-        ap (λ (l : List ℕ). bytesOf (linesFrom t l)) (drop-cons f t 0 here)
+        ap (λ (l : List ℕ). linesBytes (linesFrom t l)) (drop-cons f t 0 here)
         ∙ bytes-append (replicate (getD f t 0 / 1500) (digits (t * 1000))) (linesFrom (suc t) (drop (suc t) f))
-        ∙ ap (λ (n : ℕ). slot ++ bytesOf (linesFrom n (drop n f))) (sym (add-one t))
+        ∙ ap (λ (n : ℕ). slot ++ linesBytes (linesFrom n (drop n f))) (sym (add-one t))
 
-    onward : traceOf f ≡ (w .made ++ slot) ++ bytesOf (linesFrom (t + 1) (drop (t + 1) f))
-    onward = w .whole ∙ ap (λ (l : List ℕ). w .made ++ l) rest ∙ sym (append-assoc (w .made) slot (bytesOf (linesFrom (t + 1) (drop (t + 1) f))))
+    onward : traceOf f ≡ (w .made ++ slot) ++ linesBytes (linesFrom (t + 1) (drop (t + 1) f))
+    onward = w .whole ∙ ap (λ (l : List ℕ). w .made ++ l) rest ∙ sym (append-assoc (w .made) slot (linesBytes (linesFrom (t + 1) (drop (t + 1) f))))
 
     more-fits : 0 + length (w .made ++ slot) ≤ length old
-    more-fits = omega (arith, ap length onward, length-append (w .made ++ slot) (bytesOf (linesFrom (t + 1) (drop (t + 1) f))))
+    more-fits = omega (arith, ap length onward, length-append (w .made ++ slot) (linesBytes (linesFrom (t + 1) (drop (t + 1) f))))
 
     pub writing-room : next + length slot ≤ length out
     writing-room = put-room (w .made) slot more-fits (w .put)
@@ -70,11 +70,11 @@ module _ (f old : List ℕ) where
   refused : (n : ℕ) → writeRefusal f (length old) ≡ n → (n ≡ 0 → ⊥) → Wrote f old old (Refused n)
   refused n e o = record { answer = rw (e, ne-eqb n 0 o); buffer = rw (e, ne-eqb n 0 o) }
 
-  by-forecast : (n : ℕ) → forecastRefusal f ≡ n → (n ≡ 0 → ⊥) → Wrote f old old (Refused n)
-  by-forecast n e o = refused n (orElse-some (forecastRefusal f) (unless 11 (leb (length (traceOf f)) (length old))) (λ z. o (sym e ∙ z)) ∙ e) o
+  by-forecast : (n : ℕ) → unwritableRefusal f ≡ n → (n ≡ 0 → ⊥) → Wrote f old old (Refused n)
+  by-forecast n e o = refused n (orElse-some (unwritableRefusal f) (unless 11 (leb (length (traceOf f)) (length old))) (λ z. o (sym e ∙ z)) ∙ e) o
 
-  by-seven : within 1 3600 (length f) ≡ false → forecastRefusal f ≡ 7
-  unfolding forecastRefusal
+  by-seven : within 1 3600 (length f) ≡ false → unwritableRefusal f ≡ 7
+  unfolding unwritableRefusal
   by-seven e = rw e
 
   pub wrote-none : length f < 1 → Wrote f old old (Refused 7)
@@ -84,8 +84,8 @@ module _ (f old : List ℕ) where
   wrote-many h = by-forecast 7 (by-seven (rw (lt-leb (length f) 3600 h) (and-false (leb 1 (length f))))) (λ e. omega arith)
 
   module _ (low : 1 ≤ length f) (high : length f ≤ 3600) (r : Bool) (is : r ≡ all writable f) where
-    past-seven : forecastRefusal f ≡ unless 15 r
-    unfolding forecastRefusal
+    past-seven : unwritableRefusal f ≡ unless 15 r
+    unfolding unwritableRefusal
     past-seven = rw (le-leb 1 (length f) low, le-leb (length f) 3600 high, is)
 
     pub wrote-odd : not r ≡ true → Wrote f old old (Refused 15)
@@ -99,7 +99,7 @@ module _ (f old : List ℕ) where
       fine = not-false r on
 
       no : writeRefusal f (length old) ≡ unless 11 (leb (length (traceOf f)) (length old))
-      no = orElse-none (forecastRefusal f) (unless 11 (leb (length (traceOf f)) (length old))) (past-seven ∙ rw fine)
+      no = orElse-none (unwritableRefusal f) (unless 11 (leb (length (traceOf f)) (length old))) (past-seven ∙ rw fine)
 
       pub wrote-short : length old < n → Wrote f old old (Refused 11)
       wrote-short h = refused 11 (no ∙ rw (lt-leb (length (traceOf f)) (length old) (omega (arith, width-all)))) (λ z. omega arith)

@@ -1,34 +1,35 @@
--- Meaning. What the two calls answer, and the lent slice afterwards: the refusals of Trace, then document 01's 11, "A lent buffer is
--- shorter than the whole result, after all input refusals. In a longer one the bytes past the result stay unchanged."
+-- Meaning. What the two calls answer, and the lent slice afterwards: the refusals of Trace, then
+-- document 01's 11, "A lent buffer is shorter than the whole result, after all input refusals. In a
+-- longer one the bytes past the result stay unchanged."
 use Prim.Native.Nat.{ℕ}
 use mathlib.Core.Path.{_≡_}
 use mathlib.Core.Bool.{cond}
 use mathlib.Core.List.{List}
 use lib.ListN.{length}
 use lib.Dec.{leb, eqb}
-use Rattle.basics.specs.Lent.{lentAfter}
-use Rattle.basics.specs.Refusals.{unless, _orElse_}
-use Rattle.trace.specs.Trace.{forecastOf, traceRefusal, forecastRefusal, traceOf}
+use Rattle.theory_basics.specs.Lent.{lentAfter}
+use Rattle.theory_basics.specs.Refusals.{unless, _orElse_}
+use Rattle.trace.specs.Trace.{forecastOf, traceRefusal, unwritableRefusal, traceOf}
 use Rattle.trace.specs.declared.TraceRead.{TraceRead}
 use Rattle.trace.specs.declared.TraceRead.the-variants as read
 use Rattle.trace.specs.declared.Written.{Written}
 use Rattle.trace.specs.declared.Written.the-variants as wrote
 
 -- 7, 14, 15, then 11: fewer places lent than slots are asked for.
-abbrev pub readRefusal : List ℕ → ℕ → ℕ → ℕ
-readRefusal trace slots room = traceRefusal slots trace orElse unless 11 (leb slots room)
+abbrev pub traceReadRefusal : List ℕ → ℕ → ℕ → ℕ
+traceReadRefusal trace slots room = traceRefusal slots trace orElse unless 11 (leb slots room)
 
 abbrev pub readAnswer : ℕ → ℕ → TraceRead
 readAnswer refused slots = cond (eqb refused 0) (read.Slots slots) (read.Refused refused)
 
 -- The answer, and the lent forecast afterwards.
 pub record Read (trace : List ℕ) (slots : ℕ) (old new : List ℕ) (r : TraceRead) : Type 0 where
-  pub answer : r ≡ readAnswer (readRefusal trace slots (length old)) slots
-  pub buffer : new ≡ lentAfter (readRefusal trace slots (length old)) (forecastOf slots trace) old
+  pub answer : r ≡ readAnswer (traceReadRefusal trace slots (length old)) slots
+  pub buffer : new ≡ lentAfter (traceReadRefusal trace slots (length old)) (forecastOf slots trace) old
 
 -- 7, 15, then 11: a lent buffer shorter than the trace.
 abbrev pub writeRefusal : List ℕ → ℕ → ℕ
-writeRefusal forecast room = forecastRefusal forecast orElse unless 11 (leb (length (traceOf forecast)) room)
+writeRefusal forecast room = unwritableRefusal forecast orElse unless 11 (leb (length (traceOf forecast)) room)
 
 abbrev pub writeAnswer : ℕ → ℕ → Written
 writeAnswer refused n = cond (eqb refused 0) (wrote.Bytes n) (wrote.Refused refused)

@@ -1,4 +1,5 @@
--- Theorems. The two calls one after the other: what write_trace wrote, read_trace reads back, whatever buffers are lent.
+-- Theorems. The two calls one after the other: what write_trace wrote, read_trace reads back,
+-- whatever buffers are lent.
 use Prim.Native.Nat.{ℕ, _≤_}
 use mathlib.Core.Path.{_≡_, sym, ap, _∙_, subst}
 use mathlib.Core.Bool.{Bool, true, false, cond}
@@ -8,15 +9,15 @@ use lib.ListN.{length, drop, take}
 use lib.Seq.{take-at}
 use lib.Dec.{T, eqb, eqb→eq, leb}
 use borrow.Author.Tests.{le-leb}
-use Rattle.basics.specs.Lent.{over}
-use Rattle.basics.specs.Refusals.{unless}
-use Rattle.basics.specs.lemmas.Refusals.{orElse-iff, orElse-none}
+use Rattle.theory_basics.specs.Lent.{over}
+use Rattle.theory_basics.specs.Refusals.{unless}
+use Rattle.theory_basics.specs.lemmas.Refusals.{orElse-iff, orElse-none}
 use Rattle.trace.specs.declared.TraceRead.{TraceRead}
 use Rattle.trace.specs.declared.TraceRead.the-variants as read
 use Rattle.trace.specs.declared.Written.the-variants as wrote
-use Rattle.trace.specs.Answer.{Read, Wrote, readRefusal, writeRefusal}
+use Rattle.trace.specs.Answer.{Read, Wrote, traceReadRefusal, writeRefusal}
 use Rattle.trace.specs.Theorems.{reads-back, never-refused}
-use Rattle.trace.specs.Trace.{forecastRefusal, traceOf, traceRefusal}
+use Rattle.trace.specs.Trace.{unwritableRefusal, traceOf, traceRefusal}
 
 module _ (f old new : List ℕ) (n : ℕ) (w : Wrote f old new (wrote.Bytes n)) where
   by-test :
@@ -42,8 +43,8 @@ module _ (f old new : List ℕ) (n : ℕ) (w : Wrote f old new (wrote.Bytes n)) 
       (lent after : List ℕ) (r : TraceRead) → length f ≤ length lent → Read (take n new) (length f) lent after r →
       (r ≡ read.Slots (length f)) × (after ≡ over f lent)
   round-trip lent after r room q =
-      let a : forecastRefusal f ≡ 0 = orElse-iff (forecastRefusal f) (unless 11 (leb (length (traceOf f)) (length old))) .0 none .0 in
-      let z : readRefusal (traceOf f) (length f) (length lent) ≡ 0 =
+      let a : unwritableRefusal f ≡ 0 = orElse-iff (unwritableRefusal f) (unless 11 (leb (length (traceOf f)) (length old))) .0 none .0 in
+      let z : traceReadRefusal (traceOf f) (length f) (length lent) ≡ 0 =
       orElse-none (traceRefusal (length f) (traceOf f)) (unless 11 (leb (length f) (length lent))) (never-refused f a) ∙ rw (le-leb (length f) (length lent) room) in
       let p : Read (traceOf f) (length f) lent after r = rw written-front at q in
       (p .answer ∙ rw z, p .buffer ∙ rw z (ap (λ (l : List ℕ). over l lent) (reads-back f a)))

@@ -1,4 +1,5 @@
--- Theorems. Document 02, request 4: what is refused, what a trace gives, and that what is written reads back.
+-- Theorems. Document 02, request 4: what is refused, what a trace gives, and that what is written
+-- reads back.
 use Prim.Native.Nat.{ℕ, zero, suc, _+_, _*_, _-_, _/_, _%_, _≤_, _<_}
 use mathlib.Core.Path.{_≡_, refl, sym, ap, _∙_, subst}
 use mathlib.Core.List.{List, [], _∷_, map}
@@ -7,18 +8,18 @@ use native.Mathlib.Omega.{arith}
 use lib.ListN.{length, getD, replicate, length-replicate, getD-replicate}
 use lib.Seq.{ext-getD}
 use lib.Dec.{T, eqb}
-use Rattle.basics.specs.Lists.{upTo}
-use Rattle.basics.specs.lemmas.Lists.{length-upTo, getD-upTo}
-use Rattle.basics.specs.Refusals.{unless, _orElse_}
-use Rattle.basics.specs.lemmas.Refusals.{and-as, orElse-as, unless-as}
-use Rattle.basics.specs.Tests.{All, all}
-use Rattle.basics.specs.Text.{digits}
-use Rattle.basics.specs.lemmas.Digits.{digits-first, digits-one}
-use Rattle.basics.specs.lemmas.Tables.{all-at}
-use Rattle.basics.specs.lemmas.Tests.{all-append, all-iff, all-map, eqb-iff}
+use Rattle.theory_basics.specs.Lists.{upTo}
+use Rattle.theory_basics.specs.lemmas.Lists.{length-upTo, getD-upTo}
+use Rattle.theory_basics.specs.Refusals.{unless, _orElse_}
+use Rattle.theory_basics.specs.lemmas.Refusals.{and-as, orElse-as, unless-as}
+use Rattle.theory_basics.specs.Tests.{All, all}
+use Rattle.theory_basics.specs.Text.{digits}
+use Rattle.theory_basics.specs.lemmas.Digits.{digits-first, digits-one}
+use Rattle.theory_basics.specs.lemmas.Tables.{all-at}
+use Rattle.theory_basics.specs.lemmas.Tests.{all-append, all-iff, all-map, eqb-iff}
 use Rattle.job.specs.Job.{Within}
 use Rattle.job.specs.Refusal.{within, within-iff}
-use Rattle.trace.specs.Trace.{Means, NotBelow, aboveRefusal, forecastOf, forecastRefusal, found, howMany, inSlot, linesFrom, linesRefusal, slotBytes, slotsRefusal, time, times, traceOf, traceRefusal, writable}
+use Rattle.trace.specs.Trace.{Means, NotBelow, aboveRefusal, forecastOf, unwritableRefusal, found, howMany, inSlot, linesFrom, linesRefusal, slotBytes, slotsRefusal, time, times, traceOf, traceRefusal, writable}
 use Rattle.trace.specs.lemmas.Lines.{lines-found, means-found}
 use Rattle.trace.specs.lemmas.Lists.{All-replicate}
 use Rattle.trace.specs.lemmas.Times.{bytes-few, lines-are, lines-few, many-at, times-are, times-rise, timesFrom}
@@ -79,8 +80,8 @@ whole-iff b =
     let r = and-as (within 0 16777216 b) (eqb (b % 1500) 0) (within-iff 0 16777216 b) (eqb-iff (b % 1500) 0) in
     (λ t. let u = r .0 t in record { high = u .0 .high; multiple = u .1 }, λ l. r .1 (record { low = omega arith; high = l .high }, l .multiple))
 
-pub write-iff : (f : List ℕ) → (forecastRefusal f ≡ 0) ↔ Writable f
-unfolding forecastRefusal
+pub write-iff : (f : List ℕ) → (unwritableRefusal f ≡ 0) ↔ Writable f
+unfolding unwritableRefusal
 write-iff f =
     let r =
     orElse-as (slotsRefusal (length f)) (unless 15 (all writable f)) (slots-iff (length f))
@@ -144,14 +145,14 @@ no-leading-zeros t (b ∷ f) =
     first (suc t) = inr (digits-first (suc t * 1000) (omega arith))
 
 -- It has at most 322,099,200 bytes: 11,184 lines of 8 bytes for each of 3,600 slots.
-pub trace-fits : (f : List ℕ) → forecastRefusal f ≡ 0 → length (traceOf f) ≤ 322099200
+pub trace-fits : (f : List ℕ) → unwritableRefusal f ≡ 0 → length (traceOf f) ≤ 322099200
 unfolding traceOf
 trace-fits f e =
     let u = write-iff f .0 e in
     omega (arith, bytes-few (linesFrom 0 f) (lines-are 0 f (omega (arith, u .slots-in .high))), lines-few 0 f (all-map WholeLines (λ b. b ≤ 16777216) f (λ b l. l .high) (u .each)), u .slots-in .high)
 
 -- "reading it restores the forecast".
-pub reads-back : (f : List ℕ) → forecastRefusal f ≡ 0 → forecastOf (length f) (traceOf f) ≡ f
+pub reads-back : (f : List ℕ) → unwritableRefusal f ≡ 0 → forecastOf (length f) (traceOf f) ≡ f
 reads-back f e =
     let u = write-iff f .0 e in
     let m = written-means f (u .slots-in .high) in
@@ -166,7 +167,7 @@ reads-back f e =
     omega (arith, c, b, all-at WholeLines f i l (u .each) .multiple))
 
 -- What is written is never refused.
-pub never-refused : (f : List ℕ) → forecastRefusal f ≡ 0 → traceRefusal (length f) (traceOf f) ≡ 0
+pub never-refused : (f : List ℕ) → unwritableRefusal f ≡ 0 → traceRefusal (length f) (traceOf f) ≡ 0
 never-refused f e =
     let u = write-iff f .0 e in
     read-iff (length f) (traceOf f) .1 (record {

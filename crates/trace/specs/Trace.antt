@@ -1,24 +1,25 @@
--- Meaning. Link traces from the test van: document 02, request 4. "one line per 1,500 bytes that got through, holding the time in
--- milliseconds as digits, ended by a line feed". A trace is a list of lines and a line is its digits; bytes are ASCII.
+-- Meaning. Link traces from the test van: document 02, request 4. "one line per 1,500 bytes that
+-- got through, holding the time in milliseconds as digits, ended by a line feed". A trace is a list
+-- of lines and a line is its digits; bytes are ASCII.
 use Prim.Native.Nat.{ℕ, suc, _+_, _*_, _-_, _/_, _%_, _≤_}
 use mathlib.Core.Path.{_≡_}
 use mathlib.Core.Bool.{Bool, true, cond, _&&_}
 use mathlib.Core.List.{List, [], _∷_, _++_, map}
 use lib.ListN.{length, replicate}
 use lib.Dec.{leb, ltb, eqb}
-use Rattle.basics.specs.Lists.{upTo}
-use Rattle.basics.specs.Refusals.{unless, _orElse_}
-use Rattle.basics.specs.Tests.{All, all}
-use Rattle.basics.specs.Text.{digits, readOn}
+use Rattle.theory_basics.specs.Lists.{upTo}
+use Rattle.theory_basics.specs.Refusals.{unless, _orElse_}
+use Rattle.theory_basics.specs.Tests.{All, all}
+use Rattle.theory_basics.specs.Text.{digits, readOn}
 use Rattle.job.specs.Job.{Within}
 use Rattle.job.specs.Refusal.{within}
 
 -- ---- what a trace is
 
 -- The bytes of lines: each, then its line feed.
-abbrev pub bytesOf : List (List ℕ) → List ℕ
-bytesOf [] = []
-bytesOf (l ∷ ls) = l ++ (10 ∷ bytesOf ls)
+abbrev pub linesBytes : List (List ℕ) → List ℕ
+linesBytes [] = []
+linesBytes (l ∷ ls) = l ++ (10 ∷ linesBytes ls)
 
 -- A line is 1 to 7 digits.
 pub record Line (l : List ℕ) : Type 0 where
@@ -36,7 +37,7 @@ NotBelow t (x ∷ xs) = (t ≤ x) × NotBelow x xs
 
 -- The trace is these lines.
 pub record Means (trace : List ℕ) (lines : List (List ℕ)) : Type 0 where
-  pub bytes : trace ≡ bytesOf lines
+  pub bytes : trace ≡ linesBytes lines
   pub each : All Line lines
   pub rises : NotBelow 0 (map time lines)
 
@@ -83,15 +84,17 @@ forecastOf slots trace = upTo (λ k. slotBytes (times trace) (k + 1)) slots
 
 -- ---- the trace of a forecast
 
--- "each slot's lines at its first millisecond, without leading zeros". The first slot handed is slot t + 1.
+-- "each slot's lines at its first millisecond, without leading zeros". The first slot handed is
+-- slot t + 1.
 abbrev pub linesFrom : ℕ → List ℕ → List (List ℕ)
 linesFrom t [] = []
 linesFrom t (b ∷ bs) = replicate (b / 1500) (digits (t * 1000)) ++ linesFrom (suc t) bs
 
 unfoldable pub traceOf : List ℕ → List ℕ
-traceOf forecast = bytesOf (linesFrom 0 forecast)
+traceOf forecast = linesBytes (linesFrom 0 forecast)
 
--- ---- refusals that come from the input: "A slot count out of range is 7 and comes first, then 14, then 15."
+-- ---- refusals that come from the input: "A slot count out of range is 7 and comes first, then 14,
+-- then 15."
 
 abbrev pub slotsRefusal : ℕ → ℕ
 slotsRefusal slots = unless 7 (within 1 3600 slots)
@@ -120,5 +123,5 @@ traceRefusal slots trace = slotsRefusal slots orElse linesRefusal trace orElse a
 abbrev pub writable : ℕ → Bool
 writable b = within 0 16777216 b && eqb (b % 1500) 0
 
-unfoldable pub forecastRefusal : List ℕ → ℕ
-forecastRefusal forecast = slotsRefusal (length forecast) orElse unless 15 (all writable forecast)
+unfoldable pub unwritableRefusal : List ℕ → ℕ
+unwritableRefusal forecast = slotsRefusal (length forecast) orElse unless 15 (all writable forecast)

@@ -1,16 +1,20 @@
-// Link traces from the test van, read and written: document 02, request 4. The reader goes once over the trace, with a local table of
-// counts that stop at 11,185, one above what a slot may have; nothing is written before the last refusal.
+// Link traces from the test van, read and written: document 02, request 4. The reader goes once
+// over the trace, with a local table of counts that stop at 11,185, one above what a slot may have;
+// nothing is written before the last refusal.
+use job::MOST_BYTES;
+use job::SLOTS;
+
 mod repeated;
 
 ghost use mathlib.Core.Path.{_≡_};
 ghost use mathlib.Core.Bool.{true};
 ghost use Prim.Native.Nat.{_+_, _*_, _≤_, _<_, min};
 ghost use lib.ListN.{length, take};
-ghost use Rattle.basics.specs.Lent.{over};
-ghost use Rattle.basics.specs.Tests.{all};
-ghost use Rattle.basics.specs.Text.{digits};
+ghost use Rattle.theory_basics.specs.Lent.{over};
+ghost use Rattle.theory_basics.specs.Tests.{all};
+ghost use Rattle.theory_basics.specs.Text.{digits};
 ghost use Rattle.job.specs.Refusal.{within};
-ghost use Rattle.text.specs.lemmas.Places.{Put};
+ghost use Rattle.core_text.specs.lemmas.Places.{Put};
 ghost use Rattle.trace.specs.Answer.{Read, Wrote};
 ghost use Rattle.trace.specs.Trace.{traceOf, writable};
 ghost use Rattle.trace.specs.lemmas.Passes.{Counted, DigitsRead, fewLines, linesForecast};
@@ -34,6 +38,7 @@ struct Digits {
     pub next: usize,
 }
 
+// The byte is an ASCII digit.
 fn is_digit(b: u8) -> bool
     ensures { λ r. ⌜ r ≡ within 48 57 b ⌝ }
 {
@@ -54,12 +59,12 @@ fn one_more(n: u32) -> u32
 }
 
 // A line is counted in the slot of its time; a time after the last slot changes nothing.
-fn count_line(counts: &mut [u32; 3600], time: u32)
+fn count_line(counts: &mut [u32; SLOTS], time: u32)
     requires { ⌜ length (now counts) ≡ 3600 ⌝ }
     ensures { λ _. ⌜ now (counts .exit) ≡ bump 11185 (now (counts .entry)) time ⌝ }
 {
     let k = (time / 1000) as usize;
-    if k < 3600 {
+    if k < SLOTS {
         counts[k] = one_more(counts[k]);
     }
 }
@@ -83,7 +88,7 @@ fn digits_from(trace: &[u8], from: usize, end: usize) -> Digits
 }
 
 // The place after the seven bytes from i on, or the end of the trace.
-fn seven_on(i: usize, len: usize) -> usize
+fn number_end(i: usize, len: usize) -> usize
     requires { ⌜ i ≤ len ⌝ }
     ensures { λ r. ⌜ r ≡ min (i + 7) len ⌝ }
 {
@@ -93,16 +98,16 @@ fn seven_on(i: usize, len: usize) -> usize
     i + 7
 }
 
-// The whole trace, line by line, each in its slot; whether no line is refused. t is the time before. No more than seven digits are read,
-// so that an eighth stands where the line feed should.
-fn count_lines(trace: &[u8], counts: &mut [u32; 3600]) -> bool
+// The whole trace, line by line, each in its slot; whether no line is refused. t is the time
+// before. No more than seven digits are read, so that an eighth stands where the line feed should.
+fn count_lines(trace: &[u8], counts: &mut [u32; SLOTS]) -> bool
     requires { ⌜ length (now counts) ≡ 3600 ⌝ }
     ensures { λ r. ⌜ Counted (now (trace .entry)) (now (counts .entry)) (now (counts .exit)) r ⌝ }
 {
     let mut i: usize = 0;
     let mut t: u32 = 0;
     while i < trace.len() {
-        let end = seven_on(i, trace.len());
+        let end = number_end(i, trace.len());
         let read = digits_from(trace, i, end);
         let next = read.next;
         let time = read.value;
@@ -126,7 +131,7 @@ fn count_lines(trace: &[u8], counts: &mut [u32; 3600]) -> bool
 }
 
 // Whether the first so many counts are lines of at most 16,777,216 bytes.
-fn few_lines(counts: &[u32; 3600], slots: usize) -> bool
+fn few_lines(counts: &[u32; SLOTS], slots: usize) -> bool
     requires { ⌜ (slots ≤ 3600) × (length (now counts) ≡ 3600) ⌝ }
     ensures { λ r. ⌜ r ≡ fewLines (take slots (now (counts .entry))) ⌝ }
 {
@@ -141,7 +146,7 @@ fn few_lines(counts: &[u32; 3600], slots: usize) -> bool
 }
 
 // 1,500 bytes for each line.
-fn put_forecast(counts: &[u32; 3600], slots: usize, out: &mut [u32])
+fn put_forecast(counts: &[u32; SLOTS], slots: usize, out: &mut [u32])
     requires { ⌜ (slots ≤ 3600) × (slots ≤ length (now out)) × (length (now counts) ≡ 3600) × (fewLines (take slots (now counts)) ≡ true) ⌝ }
     ensures { λ _. ⌜ now (out .exit) ≡ over (linesForecast (take slots (now (counts .entry)))) (now (out .entry)) ⌝ }
 {
@@ -152,17 +157,18 @@ fn put_forecast(counts: &[u32; 3600], slots: usize, out: &mut [u32])
     }
 }
 
-// The forecast of so many slots that a trace gives. Refused: 7, 14, 15, then 11 exactly if out has fewer places than slots.
+// The forecast of so many slots that a trace gives. Refused: 7, 14, 15, then 11 exactly if out has
+// fewer places than slots.
 pub fn read_trace(trace: &[u8], slots: usize, out: &mut [u32]) -> TraceRead
     ensures { λ r. ⌜ Read (now (trace .entry)) slots (now (out .entry)) (now (out .exit)) r ⌝ }
 {
     if slots < 1 {
         return TraceRead::Refused(7);
     }
-    if 3600 < slots {
+    if SLOTS < slots {
         return TraceRead::Refused(7);
     }
-    let mut counts = [0u32; 3600];
+    let mut counts = [0u32; SLOTS];
     let fine = job::refuse_unless(14, count_lines(trace, &mut counts));
     let few = job::refuse_unless(15, few_lines(&counts, slots));
     let no = job::or_else(fine, few);
@@ -180,12 +186,13 @@ pub fn read_trace(trace: &[u8], slots: usize, out: &mut [u32]) -> TraceRead
 fn is_writable(b: u32) -> bool
     ensures { λ r. ⌜ r ≡ writable b ⌝ }
 {
-    if 16777216 < b {
+    if MOST_BYTES < b {
         return false;
     }
     b % 1500 == 0
 }
 
+// Every slot is a multiple of 1,500 bytes within range.
 fn all_writable(forecast: &[u32]) -> bool
     ensures { λ r. ⌜ r ≡ all writable (now (forecast .entry)) ⌝ }
 {
@@ -251,14 +258,15 @@ fn put_trace(forecast: &[u32], out: &mut [u8]) -> usize
     next
 }
 
-// The trace of a forecast, each slot's lines at its first millisecond. Refused: 7, 15, then 11 exactly if out is shorter than the trace.
+// The trace of a forecast, each slot's lines at its first millisecond. Refused: 7, 15, then 11
+// exactly if out is shorter than the trace.
 pub fn write_trace(forecast: &[u32], out: &mut [u8]) -> Written
     ensures { λ r. ⌜ Wrote (now (forecast .entry)) (now (out .entry)) (now (out .exit)) r ⌝ }
 {
     if forecast.len() < 1 {
         return Written::Refused(7);
     }
-    if 3600 < forecast.len() {
+    if SLOTS < forecast.len() {
         return Written::Refused(7);
     }
     if !all_writable(forecast) {

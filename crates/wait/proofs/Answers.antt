@@ -1,20 +1,21 @@
--- Laws on the public call: what it answers after its input is judged, and that the answer means what its contract says. Assumes nothing.
+-- Laws on the public call: what it answers after its input is judged, and that the answer means
+-- what its contract says. Assumes nothing.
 use Prim.Native.Nat.{ℕ, _≤_, _<_}
 use mathlib.Core.Path.{_≡_, sym, _∙_, ap, subst}
 use native.Mathlib.Omega.{arith}
 use borrow.Author.Tests.{le-ltb, lt-ltb}
-use Rattle.basics.specs.lemmas.Refusals.{orElse-none}
+use Rattle.theory_basics.specs.lemmas.Refusals.{orElse-none}
 use Rattle.wait.specs.declared.Answer.{Answer}
 use Rattle.wait.specs.declared.Answer.the-variants.{Delay, Refused}
-use Rattle.wait.specs.Answer.{DelayMeans, HandedFilm, SixteenMeans, answerOf, filmIn, inputRefusal, shortest, sixteenRefusal, waitRefusal}
+use Rattle.wait.specs.Answer.{DelayMeans, WaitInput, SixteenMeans, answerOf, filmIn, inputRefusal, shortest, sixteenRefusal, waitRefusal}
 use Rattle.wait.specs.Theorems.{answered-iff, input-first, input-iff, sixteen-iff}
-use Rattle.wait.specs.Wait.{InRange}
+use Rattle.wait.specs.Wait.{FilmInRange}
 
 -- The clauses of the contract.
-abbrev pub Clauses : HandedFilm → Answer → Type 0
+abbrev pub Clauses : WaitInput → Answer → Type 0
 Clauses h r = (r ≡ answerOf h) × (DelayMeans h r × SixteenMeans h r)
 
-module _ (h : HandedFilm) where
+module _ (h : WaitInput) where
   means : (r : Answer) → r ≡ answerOf h → Clauses h r
   means r is = (is, (subst (DelayMeans h) (sym is) (answered-iff h), subst (SixteenMeans h) (sym is) (sixteen-iff h)))
 
@@ -23,7 +24,7 @@ module _ (h : HandedFilm) where
     refused-input some = means (Refused no) (ap Refused is ∙ sym (input-first h (omega (arith, is))))
 
     module _ (none : no ≤ 0) where
-      pub in-range : InRange (filmIn h)
+      pub in-range : FilmInRange (filmIn h)
       in-range = input-iff h .0 (sym is ∙ (omega arith)) .1
 
       module _ (s : ℕ) (found : s ≡ shortest (filmIn h)) where

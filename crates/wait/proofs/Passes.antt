@@ -1,5 +1,5 @@
--- Laws on the pass over the chunks for one s: what stands in the table is the forecast's sum less the need of the theory's pass.
--- Assumes nothing.
+-- Laws on the pass over the chunks for one s: what stands in the table is the forecast's sum less
+-- the need of the theory's pass. Assumes nothing.
 use Prim.Native.Nat.{ℕ, zero, suc, _+_, _*_, _-_, _≤_, _<_, max, min}
 use mathlib.Core.Path.{_≡_, sym, _∙_}
 use mathlib.Core.Bool.{Bool, true, false, _&&_}
@@ -9,14 +9,15 @@ use native.Mathlib.Omega.{arith}
 use lib.ListN.{length, getD, set, length-set}
 use lib.Dec.{leb, leb→le, nleb→lt}
 use borrow.Author.Tests.{le-leb, lt-leb}
-use Rattle.basics.specs.lemmas.Tests.{test}
-use Rattle.schedule.specs.lemmas.Trials.{keeps}
-use Rattle.schedule.specs.lemmas.Words.{due-by}
+use Rattle.theory_basics.specs.lemmas.Tests.{test}
+use Rattle.theory_plan.specs.lemmas.Trials.{keeps}
+use Rattle.theory_plan.specs.lemmas.Words.{due-by}
 use Rattle.wait.specs.lemmas.Scan.{keepsAll, needsFrom}
-use Rattle.wait.specs.lemmas.Table.{Free, PassDone, PassFrom, dueAt, keptBy, leftAt, never, sizeAt}
-use Rattle.basics.specs.lemmas.Tables.{at-set}
+use Rattle.wait.specs.lemmas.Table.{Free, KeepsAllPost, KeepsAllPre, dueAt, keptBy, leftAt, never, sizeAt}
+use Rattle.theory_basics.specs.lemmas.Tables.{at-set}
 
--- To begin when the forecast has brought x at most is the same as to need n of what it brings after that, up to total.
+-- To begin when the forecast has brought x at most is the same as to need n of what it brings after
+-- that, up to total.
 abbrev pub Same : ℕ → ℕ → ℕ → Type 0
 Same total x n = (b : ℕ) → b ≤ total → leb b x ≡ leb n (total - b)
 
@@ -61,7 +62,7 @@ module _ (chunks span held s : ℕ) (bases sums : List ℕ) where
     pub free : Free chunks begins
     pub long : length begins ≡ 1000
 
-  pub passing-start : (begins : List ℕ) → PassFrom chunks span held s bases sums begins → Passing begins total chunks
+  pub passing-start : (begins : List ℕ) → KeepsAllPre chunks span held s bases sums begins → Passing begins total chunks
   passing-start begins o =
       let z : chunks - chunks ≡ 0 = omega arith in
       record {
@@ -73,8 +74,8 @@ module _ (chunks span held s : ℕ) (bases sums : List ℕ) where
         long = o .long;
       }
 
-  module _ (begins : List ℕ) (begin i : ℕ) (p : Passing begins begin i) (first : List ℕ) (o : PassFrom chunks span held s bases sums first) where
-    pub passing-end : i ≤ 0 → PassDone chunks span held s bases sums begins true
+  module _ (begins : List ℕ) (begin i : ℕ) (p : Passing begins begin i) (first : List ℕ) (o : KeepsAllPre chunks span held s bases sums first) where
+    pub passing-end : i ≤ 0 → KeepsAllPost chunks span held s bases sums begins true
     unfolding keptBy
     passing-end h =
         let e : i ≡ 0 = omega arith in
@@ -130,12 +131,12 @@ module _ (chunks span held s : ℕ) (bases sums : List ℕ) where
       kept-is : kept q ≡ fits
       kept-is = kept-step ∙ rw (p .all)
 
-      no : kept q ≡ false → (begins' : List ℕ) → Free chunks begins' → length begins' ≡ 1000 → PassDone chunks span held s bases sums begins' false
+      no : kept q ≡ false → (begins' : List ℕ) → Free chunks begins' → length begins' ≡ 1000 → KeepsAllPost chunks span held s bases sums begins' false
       unfolding keptBy
       no e begins' f l = record { answer = sym (fails (sizeAt bases) (dueAt span s) (leftAt sums last) held chunks q (chunks - q) (omega (arith, p .inside)) e); free = f; long = l }
 
       -- No room for its own bytes.
-      pub passing-large : by < size → PassDone chunks span held s bases sums begins false
+      pub passing-large : by < size → KeepsAllPost chunks span held s bases sums begins false
       passing-large h = no (kept-is ∙ rw (all-left, lt-leb cand total (cand-large h))) begins (p .free) (p .long)
 
       module _ (room : size ≤ by) where
@@ -172,7 +173,7 @@ module _ (chunks span held s : ℕ) (bases sums : List ℕ) where
         kept-tested : kept q ≡ leb (getD sums (due - 1) 0) (getD stored (q + held) 0)
         kept-tested = kept-is ∙ rw (all-left, le-leb cand total (omega (arith, cand-small room)), tested)
 
-        pub passing-held : getD stored (q + held) 0 < getD sums (due - 1) 0 → PassDone chunks span held s bases sums stored false
+        pub passing-held : getD stored (q + held) 0 < getD sums (due - 1) 0 → KeepsAllPost chunks span held s bases sums stored false
         passing-held h = no (kept-tested ∙ lt-leb (getD sums (due - 1) 0) (getD stored (q + held) 0) h) stored stored-free stored-long
 
         pub passing-more : getD sums (due - 1) 0 ≤ getD stored (q + held) 0 → Passing stored (by - size) q

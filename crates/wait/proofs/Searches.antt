@@ -1,4 +1,5 @@
--- Laws on the search: one s after the other; and by the tables it is the answer's definition. Assumes nothing.
+-- Laws on the search: one s after the other; and by the tables it is the answer's definition.
+-- Assumes nothing.
 use Prim.Native.Nat.{ℕ, zero, suc, _+_, _*_, _-_, _/_, _≤_, _<_, min}
 use mathlib.Core.Path.{_≡_, refl, sym, ap, _∙_}
 use mathlib.Core.Bool.{Bool, true, false, cond, _&&_}
@@ -8,25 +9,25 @@ use native.Mathlib.Omega.{arith}
 use native.Mathlib.Numerals.{add-one}
 use lib.ListN.{length, getD, replicate, getD-replicate, length-replicate, List·getD-eq-default}
 use lib.Dec.{leb, ltb, ltb→lt, nltb→le}
-use Rattle.basics.specs.lemmas.Ranges.{pre-mono, pre-most}
-use Rattle.basics.specs.lemmas.Tests.{same-test, test}
+use Rattle.theory_basics.specs.lemmas.Ranges.{pre-mono, pre-most}
+use Rattle.theory_basics.specs.lemmas.Tests.{same-test, test}
 use Rattle.job.specs.Job.{Override, sizeIn}
 use Rattle.job.specs.Table.{sizesTable}
 use Rattle.job.specs.lemmas.Table.{table-says}
 use Rattle.job.specs.lemmas.Within.{all-most}
-use Rattle.schedule.specs.Plan.{plan}
-use Rattle.schedule.specs.Theorems.{plan-exists}
-use Rattle.schedule.specs.lemmas.Parts.{Small}
-use Rattle.schedule.specs.lemmas.Trials.{candidate}
-use Rattle.schedule.specs.lemmas.Words.{accepted-sized}
+use Rattle.theory_plan.specs.Plan.{plan}
+use Rattle.theory_plan.specs.Theorems.{plan-exists}
+use Rattle.theory_plan.specs.lemmas.Parts.{Small}
+use Rattle.theory_plan.specs.lemmas.Trials.{candidate}
+use Rattle.theory_plan.specs.lemmas.Words.{accepted-sized}
 use Rattle.wait.specs.Answer.{firstFrom, shortest, skipsNone, tries}
 use Rattle.wait.specs.Theorems.{job-accepted, skips-none-iff, works-iff-plan}
-use Rattle.wait.specs.Wait.{Film, InRange, Tried, filmOf, jobAt}
+use Rattle.wait.specs.Wait.{Film, FilmInRange, Tried, filmOf, jobAt}
 use Rattle.wait.specs.lemmas.Bases.{no-skip-iff}
 use Rattle.wait.specs.lemmas.First.{first-below, first-same}
 use Rattle.wait.specs.lemmas.Scan.{keepsAll, kept-with-iff, keptWith, left, needsFrom}
 use Rattle.wait.proofs.Passes.{due-in}
-use Rattle.wait.specs.lemmas.Table.{BaseTable, Free, PassDone, SearchFrom, SumTable, dueAt, keptBy, leftAt, never, sizeAt}
+use Rattle.wait.specs.lemmas.Table.{BaseTable, Free, KeepsAllPost, FindDelayPre, SumTable, dueAt, keptBy, leftAt, never, sizeAt}
 
 -- ---- one s after the other
 
@@ -38,7 +39,7 @@ pub record Searching (chunks span held n : ℕ) (bases sums begins : List ℕ) (
   pub long : length begins ≡ 1000
 
 module _ (chunks span held n : ℕ) (bases sums : List ℕ) where
-  pub searching-start : (begins : List ℕ) → SearchFrom chunks span held n bases sums begins → Searching chunks span held n bases sums begins 1
+  pub searching-start : (begins : List ℕ) → FindDelayPre chunks span held n bases sums begins → Searching chunks span held n bases sums begins 1
   searching-start begins o =
       let e : n + 1 - 1 ≡ n = omega arith in
       record { low = omega arith; inside = omega arith; says = rw e; free = o .free; long = o .long }
@@ -47,7 +48,7 @@ module _ (chunks span held n : ℕ) (bases sums : List ℕ) where
     pub searching-end : n < s → 0 ≡ firstFrom (keptBy chunks span held bases sums) 1 n
     searching-end h = let e : n + 1 - s ≡ 0 = omega (arith, w .inside) in sym (w .says ∙ rw e)
 
-    module _ (here : s ≤ n) (begins' : List ℕ) (r : Bool) (d : PassDone chunks span held s bases sums begins' r) where
+    module _ (here : s ≤ n) (begins' : List ℕ) (r : Bool) (d : KeepsAllPost chunks span held s bases sums begins' r) where
       next :
           firstFrom (keptBy chunks span held bases sums) 1 n
           ≡ cond r s (firstFrom (keptBy chunks span held bases sums) (s + 1) (n + 1 - (s + 1)))
@@ -93,7 +94,7 @@ module _
 
 -- ---- of a film in range
 
-module _ (chunks span limit : ℕ) (sizes : List ℕ) (os : List Override) (f : List ℕ) (r : InRange (filmOf chunks span limit sizes os f)) where
+module _ (chunks span limit : ℕ) (sizes : List ℕ) (os : List Override) (f : List ℕ) (r : FilmInRange (filmOf chunks span limit sizes os f)) where
   abbrev film : Film
   film = filmOf chunks span limit sizes os f
 
@@ -113,7 +114,7 @@ module _ (chunks span limit : ℕ) (sizes : List ℕ) (os : List Override) (f : 
       same-test (skipsNone j) (keptWith film s) (λ x. k .1 (c .0 (b .0 (a .0 x)))) (λ x. a .1 (b .1 (c .1 (k .0 x))))
 
   module _ (bases sums : List ℕ) (table : SumTable f sums) where
-    pub search-from : (held : ℕ) → held ≤ 500 → SearchFrom chunks span held (tries film) bases sums (replicate 1000 never)
+    pub search-from : (held : ℕ) → held ≤ 500 → FindDelayPre chunks span held (tries film) bases sums (replicate 1000 never)
     search-from held in-held =
         record {
           each = λ s l h begins free long.

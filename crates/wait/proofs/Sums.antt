@@ -1,4 +1,5 @@
--- Laws on the tables that every s shares: what the forecast brings up to each slot, and the base of each chunk. Assumes nothing.
+-- Laws on the tables that every s shares: what the forecast brings up to each slot, and the base of
+-- each chunk. Assumes nothing.
 use Prim.Native.Nat.{ℕ, suc, _+_, _*_, _-_, _≤_, _<_}
 use mathlib.Core.Path.{_≡_, refl, _∙_, subst}
 use mathlib.Core.List.{List}
@@ -6,9 +7,9 @@ use native.Mathlib.Omega.{arith}
 use native.Mathlib.Numerals.{add-one}
 use lib.ListN.{length, getD, set, length-set}
 use lib.Seq.{getD-set-same}
-use Rattle.basics.specs.lemmas.Tables.{at-set, below-next}
+use Rattle.theory_basics.specs.lemmas.Tables.{at-set, below-next}
 use Rattle.job.specs.Table.{tableAt}
-use Rattle.schedule.specs.lemmas.Parts.{Small}
+use Rattle.theory_plan.specs.lemmas.Parts.{Small}
 use Rattle.wait.specs.lemmas.Scan.{brought}
 use Rattle.wait.specs.lemmas.Table.{BaseTable, SumTable}
 

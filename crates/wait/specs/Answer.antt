@@ -1,5 +1,6 @@
--- Meaning. What the call answers: the smallest s by trying one after the other, each with the plan of its job, or a refusal's number.
--- The call's contract says beside it, in the words of Wait, what a delay and what 16 mean.
+-- Meaning. What the call answers: the smallest s by trying one after the other, each with the plan
+-- of its job, or a refusal's number. The call's contract says beside it, in the words of Wait, what
+-- a delay and what 16 mean.
 use Prim.Native.Nat.{ℕ, zero, suc, _*_, _-_}
 use mathlib.Core.Path.{_≡_}
 use mathlib.Core.Bool.{Bool, cond}
@@ -7,15 +8,15 @@ use mathlib.Core.List.{List}
 use mathlib.Core.Logic.{_↔_}
 use lib.ListN.{length}
 use lib.Dec.{eqb, ltb}
-use Rattle.basics.specs.Tests.{allTo}
-use Rattle.basics.specs.Refusals.{unless, _orElse_}
-use Rattle.job.specs.Handed.{WholeSizes, overridesOf, wholeRefusal}
+use Rattle.theory_basics.specs.Tests.{allTo}
+use Rattle.theory_basics.specs.Refusals.{unless, _orElse_}
+use Rattle.job.specs.Input.{WholeSizes, overridesOf, wholeRefusal}
 use Rattle.job.specs.Job.{Accepted, Job, chunks}
 use Rattle.job.specs.Refusal.{bytesRefusal, filmRefusal, overridesRefusal, sizesRefusal, within}
-use Rattle.schedule.specs.Plan.{plan}
+use Rattle.theory_plan.specs.Plan.{plan}
 use Rattle.wait.specs.declared.Answer.{Answer}
 use Rattle.wait.specs.declared.Answer.the-variants.{Delay, Refused}
-use Rattle.wait.specs.Wait.{Film, InRange, NoneWorks, ShortestWait, filmOf, jobAt, programmeAt}
+use Rattle.wait.specs.Wait.{Film, FilmInRange, NoneWorks, ShortestWait, filmOf, jobAt, programmeAt}
 
 -- ---- the smallest s
 
@@ -39,7 +40,7 @@ shortest w = firstFrom (λ s. skipsNone (jobAt w s)) 1 (tries w)
 -- ---- the film as a call hands it over
 
 -- Its SZs in three slices.
-pub record HandedFilm : Type 0 where
+pub record WaitInput : Type 0 where
   pub chunks : ℕ
   pub span : ℕ
   pub limit : ℕ
@@ -49,18 +50,18 @@ pub record HandedFilm : Type 0 where
   pub size-bytes : List ℕ
   pub forecast : List ℕ
 
-abbrev pub handedFilm : (chunks span limit : ℕ) (sizes size-chunks size-layers size-bytes forecast : List ℕ) → HandedFilm
-handedFilm chunks span limit sizes cs ls bs forecast =
+abbrev pub waitInput : (chunks span limit : ℕ) (sizes size-chunks size-layers size-bytes forecast : List ℕ) → WaitInput
+waitInput chunks span limit sizes cs ls bs forecast =
     record { chunks = chunks; span = span; limit = limit; sizes = sizes; size-chunks = cs; size-layers = ls; size-bytes = bs; forecast = forecast }
 
 -- The film that it is.
-abbrev pub filmIn : HandedFilm → Film
+abbrev pub filmIn : WaitInput → Film
 filmIn h =
     filmOf (h .chunks) (h .span) (h .limit) (h .sizes) (overridesOf (h .size-chunks) (h .size-layers) (h .size-bytes)) (h .forecast)
 
 -- Every SZ is handed whole.
-abbrev pub HandedWhole : HandedFilm → Type 0
-HandedWhole h = WholeSizes (h .size-chunks) (h .size-layers) (h .size-bytes)
+abbrev pub WholeSizesIn : WaitInput → Type 0
+WholeSizesIn h = WholeSizes (h .size-chunks) (h .size-layers) (h .size-bytes)
 
 -- ---- the refusals
 
@@ -76,7 +77,7 @@ sixRefusal w = sizesRefusal (w .sizes)
 abbrev pub numbersRefusal : Film → ℕ
 numbersRefusal w = overridesRefusal (programmeAt w 1) (w .sizes) (w .overrides)
 
-abbrev pub eighteenRefusal : HandedFilm → ℕ
+abbrev pub eighteenRefusal : WaitInput → ℕ
 eighteenRefusal h = wholeRefusal (h .size-chunks) (h .size-layers) (h .size-bytes) orElse numbersRefusal (filmIn h)
 
 -- "7 for a forecast of no slot, above 3,600 slots
@@ -92,32 +93,33 @@ abbrev pub sixteenRefusal : Film → ℕ
 sixteenRefusal w = unless 16 (ltb 0 (shortest w))
 
 -- "It comes after 5 .., 6, and 7", and 18 "after 6 and before 7".
-unfoldable pub inputRefusal : HandedFilm → ℕ
+unfoldable pub inputRefusal : WaitInput → ℕ
 inputRefusal h = fiveRefusal (filmIn h) orElse sixRefusal (filmIn h) orElse eighteenRefusal h orElse sevenRefusal (filmIn h)
 
-unfoldable pub waitRefusal : HandedFilm → ℕ
+unfoldable pub waitRefusal : WaitInput → ℕ
 waitRefusal h = inputRefusal h orElse sixteenRefusal (filmIn h)
 
 -- ---- the call
 
 -- The smallest s, or the refusal's number.
-abbrev pub answerOf : HandedFilm → Answer
+abbrev pub answerOf : WaitInput → Answer
 answerOf h = cond (eqb (waitRefusal h) 0) (Delay (shortest (filmIn h))) (Refused (waitRefusal h))
 
 -- ---- what the answer means
 
--- s is the answer: every SZ is handed whole, the input is in range, the job with s is accepted, its plan skips no base, and with no smaller
--- s does it.
-pub record Answered (h : HandedFilm) (s : ℕ) : Type 0 where
-  pub whole : HandedWhole h
-  pub in-range : InRange (filmIn h)
+-- s is the answer: every SZ is handed whole, the input is in range, the job with s is accepted, its
+-- plan skips no base, and with no smaller s does it.
+pub record Answered (h : WaitInput) (s : ℕ) : Type 0 where
+  pub whole : WholeSizesIn h
+  pub in-range : FilmInRange (filmIn h)
   pub accepted : Accepted (jobAt (filmIn h) s)
   pub shortest : ShortestWait (filmIn h) s
 
 -- The call answers s exactly then,
-abbrev pub DelayMeans : HandedFilm → Answer → Type 0
+abbrev pub DelayMeans : WaitInput → Answer → Type 0
 DelayMeans h r = (s : ℕ) → (r ≡ Delay s) ↔ Answered h s
 
--- and 16 exactly if every SZ is handed whole, the input is in range and no s within the forecast works.
-abbrev pub SixteenMeans : HandedFilm → Answer → Type 0
-SixteenMeans h r = (r ≡ Refused 16) ↔ ((HandedWhole h × InRange (filmIn h)) × NoneWorks (filmIn h))
+-- and 16 exactly if every SZ is handed whole, the input is in range and no s within the forecast
+-- works.
+abbrev pub SixteenMeans : WaitInput → Answer → Type 0
+SixteenMeans h r = (r ≡ Refused 16) ↔ ((WholeSizesIn h × FilmInRange (filmIn h)) × NoneWorks (filmIn h))

@@ -1,5 +1,6 @@
--- Theorems. Document 02, request 5: the answer is the shortest wait, there is one at most, 16 says that there is none; and "the plan skips
--- no base" is the same as "some passing list carries every base", for lists in playing order, and for equal chunks in any order.
+-- Theorems. Document 02, request 5: the answer is the shortest wait, there is one at most, 16 says
+-- that there is none; and "the plan skips no base" is the same as "some passing list carries every
+-- base", for lists in playing order, and for equal chunks in any order.
 use Prim.Native.Nat.{ℕ, _+_, _≤_, _<_}
 use mathlib.Core.Path.{_≡_, refl, sym, _∙_, subst}
 use mathlib.Core.Bool.{Bool, true, false, cond, _&&_}
@@ -9,28 +10,28 @@ use lib.ListN.{length}
 use lib.Seq.{length-take-le}
 use lib.Dec.{T, T-not, eqb, ltb, eqb→eq, ltb→lt, lt→ltb, nltb→le}
 use borrow.Author.Tests.{ne-eqb}
-use Rattle.basics.specs.Refusals.{_orElse_, unless}
-use Rattle.basics.specs.Tests.{all}
-use Rattle.basics.specs.lemmas.Refusals.{orElse-as, orElse-none, orElse-some, unless-as}
-use Rattle.basics.specs.lemmas.Tables.{all-take}
-use Rattle.basics.specs.lemmas.Tests.{all-map, allTo-iff, by-cond, eqb-iff, ltb-iff, test}
-use Rattle.job.specs.Handed.{whole-iff, wholeRefusal}
+use Rattle.theory_basics.specs.Refusals.{_orElse_, unless}
+use Rattle.theory_basics.specs.Tests.{all}
+use Rattle.theory_basics.specs.lemmas.Refusals.{orElse-as, orElse-none, orElse-some, unless-as}
+use Rattle.theory_basics.specs.lemmas.Tables.{all-take}
+use Rattle.theory_basics.specs.lemmas.Tests.{all-map, allTo-iff, by-cond, eqb-iff, ltb-iff, test}
+use Rattle.job.specs.Input.{whole-iff, wholeRefusal}
 use Rattle.job.specs.Job.{Accepted, EqualChunks, Named, Within, chunks, lastDue}
 use Rattle.job.specs.Refusal.{bytes-iff, bytesRefusal, film-iff, named, overrides-iff, rising, sized, sizes-iff, within, within-iff}
-use Rattle.schedule.specs.Plan.{plan}
-use Rattle.schedule.specs.Statement.{CanCarry, IsPlan}
-use Rattle.schedule.specs.Theorems.{plan-exists, plan-unique}
-use Rattle.schedule.specs.lemmas.Words.{accepted-sized}
+use Rattle.theory_plan.specs.Plan.{plan}
+use Rattle.theory_plan.specs.Statement.{CanCarry, IsPlan}
+use Rattle.theory_plan.specs.Theorems.{plan-exists, plan-unique}
+use Rattle.theory_plan.specs.lemmas.Words.{accepted-sized}
 use Rattle.wait.specs.declared.Answer.the-variants.{Delay, Refused}
-use Rattle.wait.specs.Answer.{DelayMeans, HandedFilm, HandedWhole, SixteenMeans, answerOf, eighteenRefusal, filmIn, fiveRefusal, inputRefusal, numbersRefusal, sevenRefusal, shortest, sixRefusal, sixteenRefusal, skipsNone, slotsRefusal, tries, waitRefusal}
-use Rattle.wait.specs.Wait.{Film, InRange, NoSkip, NoneWorks, ShortestWait, SomeList, SomeOrdered, Tried, Works, jobAt, programmeAt}
+use Rattle.wait.specs.Answer.{DelayMeans, WaitInput, WholeSizesIn, SixteenMeans, answerOf, eighteenRefusal, filmIn, fiveRefusal, inputRefusal, numbersRefusal, sevenRefusal, shortest, sixRefusal, sixteenRefusal, skipsNone, slotsRefusal, tries, waitRefusal}
+use Rattle.wait.specs.Wait.{Film, FilmInRange, NoSkip, NoneWorks, ShortestWait, SomeList, SomeOrdered, Tried, Works, jobAt, programmeAt}
 use Rattle.wait.specs.lemmas.Bases.{basesAlone, no-skip-any, no-skip-can-carry, no-skip-ordered}
 use Rattle.wait.specs.lemmas.First.{first-none, first-some}
 
 -- ---- the input
 
 -- The job for a tried s is accepted.
-pub job-accepted : (w : Film) (s : ℕ) → InRange w → Tried w s → Accepted (jobAt w s)
+pub job-accepted : (w : Film) (s : ℕ) → FilmInRange w → Tried w s → Accepted (jobAt w s)
 job-accepted w s r t =
     record {
       chunks-in = r .chunks-in;
@@ -50,7 +51,7 @@ job-accepted w s r t =
     }
 
 -- None of 5, 6, 18 and 7 exactly if every SZ is handed whole and the input is in range.
-pub input-iff : (h : HandedFilm) → (inputRefusal h ≡ 0) ↔ (HandedWhole h × InRange (filmIn h))
+pub input-iff : (h : WaitInput) → (inputRefusal h ≡ 0) ↔ (WholeSizesIn h × FilmInRange (filmIn h))
 unfolding inputRefusal
 input-iff h =
     let w = filmIn h in
@@ -89,7 +90,7 @@ input-iff h =
 
 -- ---- one s
 
-module _ (w : Film) (s : ℕ) (r : InRange w) (t : Tried w s) where
+module _ (w : Film) (s : ℕ) (r : FilmInRange w) (t : Tried w s) where
   accepted : Accepted (jobAt w s)
   accepted = job-accepted w s r t
 
@@ -154,7 +155,7 @@ tried-within w s g h = record { low = g; reaches = omega arith }
 within-tried : (w : Film) (s : ℕ) → Tried w s → s < 1 + tries w
 within-tried w s t = omega (arith, t .low, t .reaches)
 
-module _ (w : Film) (r : InRange w) where
+module _ (w : Film) (r : FilmInRange w) where
   abbrev each : ℕ → Bool
   each s = skipsNone (jobAt w s)
 
@@ -195,14 +196,14 @@ module _ (w : Film) (r : InRange w) where
 -- ---- the refusals
 
 -- Not refused exactly if every SZ is handed whole, the input is in range and some s works.
-pub wait-iff : (h : HandedFilm) → (waitRefusal h ≡ 0) ↔ ((HandedWhole h × InRange (filmIn h)) × (0 < shortest (filmIn h)))
+pub wait-iff : (h : WaitInput) → (waitRefusal h ≡ 0) ↔ ((WholeSizesIn h × FilmInRange (filmIn h)) × (0 < shortest (filmIn h)))
 unfolding waitRefusal
 wait-iff h =
     let s : ℕ = shortest (filmIn h) in
     orElse-as (inputRefusal h) (sixteenRefusal (filmIn h)) (input-iff h) (unless-as 16 (ltb 0 s) (omega arith) (ltb-iff 0 s))
 
 -- A delay that is answered is within the forecast: at most 3,600.
-pub wait-few : (h : HandedFilm) → waitRefusal h ≡ 0 → shortest (filmIn h) ≤ 3600
+pub wait-few : (h : WaitInput) → waitRefusal h ≡ 0 → shortest (filmIn h) ≤ 3600
 wait-few h e =
     let u = wait-iff h .0 e in
     let t = shortest-iff (filmIn h) (u .0 .1) (shortest (filmIn h)) .0 (refl, u .1) .works .tried in
@@ -217,7 +218,7 @@ unless-other m n b p h = by-cond (λ (r : ℕ). r ≡ m → ⊥) b (λ t e. omeg
 orElse-other : (m a b : ℕ) → (a ≡ m → ⊥) → (b ≡ m → ⊥) → (a orElse b) ≡ m → ⊥
 orElse-other m a b g h = by-cond (λ (r : ℕ). r ≡ m → ⊥) (eqb a 0) (λ t. h) (λ t. g)
 
-module _ (h : HandedFilm) where
+module _ (h : WaitInput) where
   abbrev film : Film
   film = filmIn h
 
@@ -303,5 +304,5 @@ module _ (h : HandedFilm) where
   )
 
   -- a forecast too short for s = 1 included."
-  pub too-short : HandedWhole h → InRange film → length (film .forecast) < lastDue (programmeAt film 1) → answerOf h ≡ Refused 16
+  pub too-short : WholeSizesIn h → FilmInRange film → length (film .forecast) < lastDue (programmeAt film 1) → answerOf h ≡ Refused 16
   too-short whole r l = sixteen-iff .1 ((whole, r), λ s k. omega (arith, l, k .tried .low, k .tried .reaches))

@@ -1,15 +1,16 @@
--- Meaning. How long must the film wait: document 02, request 5. "From a job without s and a forecast of up to 3,600 slots, find the
--- smallest s for which the plan skips no base layer." What a plan is stands in schedule, Statement.
+-- Meaning. How long must the film wait: document 02, request 5. "From a job without s and a
+-- forecast of up to 3,600 slots, find the smallest s for which the plan skips no base layer." What
+-- a plan is stands in theory_plan, Statement.
 use Prim.Native.Nat.{ℕ, _≤_, _<_}
 use mathlib.Core.List.{List}
 use lib.ListN.{length, take}
-use Rattle.basics.specs.Tests.{All}
+use Rattle.theory_basics.specs.Tests.{All}
 use Rattle.job.specs.declared.Programme.{Programme}
 use Rattle.job.specs.Job.{Job, Named, Override, Rising, Within, chunks, jobOf, lastDue}
 use Rattle.fetch.specs.Rows.{Row, Carried}
 use Rattle.fetch.specs.Rules.{Passes, PlayingOrder}
-use Rattle.schedule.specs.Statement.{IsPlan}
-pub use Rattle.schedule.specs.Statement.{NoSkip}
+use Rattle.theory_plan.specs.Statement.{IsPlan}
+pub use Rattle.theory_plan.specs.Statement.{NoSkip}
 
 -- A job without s, and a forecast of any length.
 pub record Film : Type 0 where
@@ -58,9 +59,9 @@ NoneWorks w = (s : ℕ) → Works w s → ⊥
 
 -- ---- what is asked of the input
 
--- C, L and the limit as of a job, s and d(C) left out; layers, sizes and SZs as of a job, whatever s is; 1 to 3,600 slots, each of 0 to
--- 16,777,216 bytes.
-pub record InRange (w : Film) : Type 0 where
+-- C, L and the limit as of a job, s and d(C) left out; layers, sizes and SZs as of a job, whatever
+-- s is; 1 to 3,600 slots, each of 0 to 16,777,216 bytes.
+pub record FilmInRange (w : Film) : Type 0 where
   pub chunks-in : Within 1 500 (w .chunks)
   pub span-in : Within 1 60 (w .span)
   pub limit-in : Within 0 65535 (w .limit)

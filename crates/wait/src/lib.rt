@@ -1,15 +1,22 @@
-// How long must the film wait: document 02, request 5. The smallest s whose bases are all kept, by one table of forecast sums and a
-// pass over the chunks for each s; no plan is laid out. Nothing is monotone in s, so each is tried.
+// How long must the film wait: document 02, request 5. The smallest s whose bases are all kept, by
+// one table of forecast sums and a pass over the chunks for each s; no plan is laid out. Nothing is
+// monotone in s, so each is tried.
+use job::CHUNKS;
 use job::Programme;
+use job::SIZES;
+use job::SLOTS;
+use job::SUMS;
+use job::SizeTable;
+use job::SlotSums;
 ghost use mathlib.Core.Path.{_≡_};
 ghost use Prim.Native.Nat.{_*_, _-_, _/_, _≤_, min};
 ghost use lib.ListN.{length};
-ghost use Rattle.schedule.specs.lemmas.Parts.{Small};
-ghost use Rattle.job.specs.Handed.{overridesOf};
+ghost use Rattle.theory_plan.specs.lemmas.Parts.{Small};
+ghost use Rattle.job.specs.Input.{overridesOf};
 ghost use Rattle.job.specs.Table.{sizesTable};
-ghost use Rattle.wait.specs.Wait.{InRange};
-ghost use Rattle.wait.specs.Answer.{DelayMeans, SixteenMeans, answerOf, filmIn, firstFrom, handedFilm, inputRefusal, shortest, slotsRefusal};
-ghost use Rattle.wait.specs.lemmas.Table.{BaseTable, PassDone, PassFrom, SearchFrom, SumTable, keptBy};
+ghost use Rattle.wait.specs.Wait.{FilmInRange};
+ghost use Rattle.wait.specs.Answer.{DelayMeans, SixteenMeans, answerOf, filmIn, firstFrom, waitInput, inputRefusal, shortest, slotsRefusal};
+ghost use Rattle.wait.specs.lemmas.Table.{BaseTable, KeepsAllPost, KeepsAllPre, FindDelayPre, SumTable, keptBy};
 
 // The start delay, or the refusal's number.
 pub enum Answer {
@@ -33,7 +40,7 @@ fn smaller(a: u64, b: u64) -> u64
 }
 
 // What the forecast brings up to each slot, from 0 on. Sums in 64 bits: 3,600 slots need 36.
-fn add_up(forecast: &[u32], sums: &mut [u64; 3601])
+fn add_up(forecast: &[u32], sums: &mut SlotSums)
     requires { ⌜ (length (now forecast) ≤ 3600) × Small (now forecast) × (length (now sums) ≡ 3601) ⌝ }
     ensures { λ _. ⌜ SumTable (now (forecast .entry)) (now (sums .exit)) ⌝ }
 {
@@ -49,7 +56,7 @@ fn add_up(forecast: &[u32], sums: &mut [u64; 3601])
 }
 
 // The base's bytes of each chunk, out of the table of all sizes.
-fn read_bases(chunks: u16, table: &[u32; 2000], bases: &mut [u32; 500])
+fn read_bases(chunks: u16, table: &SizeTable, bases: &mut [u32; CHUNKS])
     requires { ⌜ (chunks ≤ 500) × (length (now bases) ≡ 500) ⌝ }
     ensures { λ _. ⌜ BaseTable chunks (now (table .entry)) (now (bases .exit)) ⌝ }
 {
@@ -62,38 +69,39 @@ fn read_bases(chunks: u16, table: &[u32; 2000], bases: &mut [u32; 500])
     }
 }
 
-// The same of a film as handed. Only here its sizes are read.
+// The base of each chunk of a film as handed. Only here its sizes are read.
 fn set_bases(
     chunks: u16,
     sizes: &[u32],
     size_chunks: &[u16],
     size_layers: &[u8],
     size_bytes: &[u32],
-    bases: &mut [u32; 500],
+    bases: &mut [u32; CHUNKS],
 )
     requires { ⌜ (chunks ≤ 500) × (length (now bases) ≡ 500) ⌝ }
     ensures { λ _. ⌜ BaseTable chunks (sizesTable (now (sizes .entry)) (overridesOf (now («size_chunks» .entry)) (now («size_layers» .entry)) (now («size_bytes» .entry)))) (now (bases .exit)) ⌝ }
 {
     let unset = chunks as u32;
-    let mut table = [unset; 2000];
+    let mut table = [unset; SIZES];
     job::fill_sizes(sizes, size_chunks, size_layers, size_bytes, &mut table);
     read_bases(chunks, &table, bases);
 }
 
-// Whether the job with s keeps every base. From the last chunk down, begins holds what the forecast may have brought at most when the
-// chunk begins: no more than at its due slot or when the next one begins, less its own bytes. It fails if that is below nothing, or if
-// the chunk that the buffer holds back until this one is due would have to begin before.
+// Whether the job with s keeps every base. From the last chunk down, begins holds what the forecast
+// may have brought at most when the chunk begins: no more than at its due slot or when the next one
+// begins, less its own bytes. It fails if that is below nothing, or if the chunk that the buffer
+// holds back until this one is due would have to begin before.
 fn keeps_all(
     chunks: usize,
     span: usize,
     held: usize,
     s: usize,
-    bases: &[u32; 500],
-    sums: &[u64; 3601],
+    bases: &[u32; CHUNKS],
+    sums: &SlotSums,
     begins: &mut [u64; 1000],
 ) -> bool
-    requires { ⌜ PassFrom chunks span held s (now bases) (now sums) (now begins) ⌝ }
-    ensures { λ r. ⌜ PassDone chunks span held s (now (bases .entry)) (now (sums .entry)) (now (begins .exit)) r ⌝ }
+    requires { ⌜ KeepsAllPre chunks span held s (now bases) (now sums) (now begins) ⌝ }
+    ensures { λ r. ⌜ KeepsAllPost chunks span held s (now (bases .entry)) (now (sums .entry)) (now (begins .exit)) r ⌝ }
 {
     let last = (chunks - 1) * span + s;
     let mut begin = sums[last];
@@ -118,17 +126,18 @@ fn keeps_all(
     true
 }
 
-// The first s that keeps every base, or 0. A pass writes only places below C, so one table serves every s.
+// The first s that keeps every base, or 0. A pass writes only places below C, so one table serves
+// every s.
 fn find_delay(
     chunks: usize,
     span: usize,
     held: usize,
     tries: usize,
-    bases: &[u32; 500],
-    sums: &[u64; 3601],
+    bases: &[u32; CHUNKS],
+    sums: &SlotSums,
     begins: &mut [u64; 1000],
 ) -> usize
-    requires { ⌜ SearchFrom chunks span held tries (now bases) (now sums) (now begins) ⌝ }
+    requires { ⌜ FindDelayPre chunks span held tries (now bases) (now sums) (now begins) ⌝ }
     ensures { λ r. ⌜ r ≡ firstFrom (keptBy chunks span held (now (bases .entry)) (now (sums .entry))) 1 tries ⌝ }
 {
     let mut s: usize = 1;
@@ -146,10 +155,10 @@ fn held_behind(p: Programme) -> usize
     ensures { λ r. ⌜ r ≡ min (p .limit / p .span) 500 ⌝ }
 {
     let held = job::held_most(p) as usize;
-    if held < 500 {
+    if held < CHUNKS {
         return held;
     }
-    500
+    CHUNKS
 }
 
 // How many s the forecast reaches, p being the programme with s = 1.
@@ -164,7 +173,8 @@ fn count_tries(p: Programme, slots: usize) -> usize
     slots - last + 1
 }
 
-// The shortest wait of a film in range, p being its programme with s = 1; 0 if no s within the forecast works.
+// The shortest wait of a film in range, p being its programme with s = 1; 0 if no s within the
+// forecast works.
 fn shortest_delay(
     p: Programme,
     sizes: &[u32],
@@ -173,12 +183,12 @@ fn shortest_delay(
     size_bytes: &[u32],
     forecast: &[u32],
 ) -> usize
-    requires { ⌜ (p .delay ≡ 1) × InRange (filmIn (handedFilm (p .chunks) (p .span) (p .limit) (now sizes) (now «size_chunks») (now «size_layers») (now «size_bytes») (now forecast))) ⌝ }
-    ensures { λ r. ⌜ (r ≡ shortest (filmIn (handedFilm (p .chunks) (p .span) (p .limit) (now (sizes .entry)) (now («size_chunks» .entry)) (now («size_layers» .entry)) (now («size_bytes» .entry)) (now (forecast .entry))))) × (r ≤ 3600) ⌝ }
+    requires { ⌜ (p .delay ≡ 1) × FilmInRange (filmIn (waitInput (p .chunks) (p .span) (p .limit) (now sizes) (now «size_chunks») (now «size_layers») (now «size_bytes») (now forecast))) ⌝ }
+    ensures { λ r. ⌜ (r ≡ shortest (filmIn (waitInput (p .chunks) (p .span) (p .limit) (now (sizes .entry)) (now («size_chunks» .entry)) (now («size_layers» .entry)) (now («size_bytes» .entry)) (now (forecast .entry))))) × (r ≤ 3600) ⌝ }
 {
     let unset = p.chunks as u32;
-    let mut sums = [wide(unset); 3601];
-    let mut bases = [unset; 500];
+    let mut sums = [wide(unset); SUMS];
+    let mut bases = [unset; CHUNKS];
     let mut begins = [60397977600u64; 1000];
     add_up(forecast, &mut sums);
     set_bases(
@@ -209,7 +219,7 @@ fn slots_refusal(forecast: &[u32]) -> u8
     if forecast.len() < 1 {
         return 7;
     }
-    job::refuse_unless(7, forecast.len() <= 3600)
+    job::refuse_unless(7, forecast.len() <= SLOTS)
 }
 
 // 5, 6, 18, 7 in that order, or 0 for none; s and d(C) are no part of it.
@@ -221,7 +231,7 @@ fn input_refusal(
     size_bytes: &[u32],
     forecast: &[u32],
 ) -> u8
-    ensures { λ r. ⌜ r ≡ inputRefusal (handedFilm (p .chunks) (p .span) (p .limit) (now (sizes .entry)) (now («size_chunks» .entry)) (now («size_layers» .entry)) (now («size_bytes» .entry)) (now (forecast .entry))) ⌝ }
+    ensures { λ r. ⌜ r ≡ inputRefusal (waitInput (p .chunks) (p .span) (p .limit) (now (sizes .entry)) (now («size_chunks» .entry)) (now («size_layers» .entry)) (now («size_bytes» .entry)) (now (forecast .entry))) ⌝ }
 {
     let seven = job::or_else(slots_refusal(forecast), job::bytes_refusal(forecast));
     let numbers = job::overrides_refusal(p, sizes, size_chunks, size_layers, size_bytes);
@@ -232,8 +242,8 @@ fn input_refusal(
     job::or_else(five, job::or_else(six, job::or_else(eighteen, seven)))
 }
 
-// How long the film must wait: the smallest s for which the plan skips no base. Refused: 5 for C, L and the limit, 6, 18, 7, then 16
-// exactly if no s within the forecast works.
+// How long the film must wait: the smallest s for which the plan skips no base. Refused: 5 for C, L
+// and the limit, 6, 18, 7, then 16 exactly if no s within the forecast works.
 pub fn wait(
     chunks: u16,
     span: u16,
@@ -244,9 +254,9 @@ pub fn wait(
     size_bytes: &[u32],
     forecast: &[u32],
 ) -> Answer
-    ensures answer { λ r. ⌜ r ≡ answerOf (handedFilm chunks span limit (now (sizes .entry)) (now («size_chunks» .entry)) (now («size_layers» .entry)) (now («size_bytes» .entry)) (now (forecast .entry))) ⌝ }
-    ensures delay { λ r. ⌜ DelayMeans (handedFilm chunks span limit (now (sizes .entry)) (now («size_chunks» .entry)) (now («size_layers» .entry)) (now («size_bytes» .entry)) (now (forecast .entry))) r ⌝ }
-    ensures sixteen { λ r. ⌜ SixteenMeans (handedFilm chunks span limit (now (sizes .entry)) (now («size_chunks» .entry)) (now («size_layers» .entry)) (now («size_bytes» .entry)) (now (forecast .entry))) r ⌝ }
+    ensures answer { λ r. ⌜ r ≡ answerOf (waitInput chunks span limit (now (sizes .entry)) (now («size_chunks» .entry)) (now («size_layers» .entry)) (now («size_bytes» .entry)) (now (forecast .entry))) ⌝ }
+    ensures delay { λ r. ⌜ DelayMeans (waitInput chunks span limit (now (sizes .entry)) (now («size_chunks» .entry)) (now («size_layers» .entry)) (now («size_bytes» .entry)) (now (forecast .entry))) r ⌝ }
+    ensures sixteen { λ r. ⌜ SixteenMeans (waitInput chunks span limit (now (sizes .entry)) (now («size_chunks» .entry)) (now («size_layers» .entry)) (now («size_bytes» .entry)) (now (forecast .entry))) r ⌝ }
 {
     let p = Programme {
         chunks,

@@ -1,11 +1,12 @@
--- Lemmas. What the code's parts hand on. Its passes over the rows see of a row only its slot and its bytes.
+-- Lemmas. What the code's parts hand on. Its passes over the rows see of a row only its slot and
+-- its bytes.
 use Prim.Native.Nat.{ℕ, _≤_, _<_}
 use mathlib.Core.Path.{_≡_}
 use mathlib.Core.List.{List, []}
 use lib.ListN.{length}
 use lib.Dec.{eqb}
-use Rattle.basics.specs.Refusals.{unless}
-use Rattle.basics.specs.Lists.{upTo}
+use Rattle.theory_basics.specs.Refusals.{unless}
+use Rattle.theory_basics.specs.Lists.{upTo}
 use Rattle.fetch.specs.Rows.{Row, bytesInSlot, rowAt}
 use Rattle.checker.specs.declared.Checked.{Checked}
 use Rattle.checker.specs.declared.Checked.the-variants as check

@@ -5,7 +5,7 @@ use mathlib.Core.List.{List}
 use native.Mathlib.Omega.{arith}
 use lib.ListN.{length}
 use lib.Dec.{eqb}
-use Rattle.basics.specs.Tests.{All}
+use Rattle.theory_basics.specs.Tests.{All}
 use Rattle.job.specs.Job.{Job, EqualChunks, Layer, Within, withForecast}
 use Rattle.fetch.specs.Rows.{Row, bytesInSlot}
 use Rattle.fetch.specs.lemmas.Rows.{bytes-append}

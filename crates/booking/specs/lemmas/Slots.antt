@@ -1,4 +1,5 @@
--- Lemmas. A forecast changed slot by slot, and what a list that can be booked has in each slot. Assumes nothing.
+-- Lemmas. A forecast changed slot by slot, and what a list that can be booked has in each slot.
+-- Assumes nothing.
 use Prim.Native.Nat.{ℕ, suc, _+_, _-_, _≤_}
 use mathlib.Core.Path.{_≡_, subst}
 use mathlib.Core.Bool.{Bool}
@@ -6,13 +7,13 @@ use mathlib.Core.List.{List, [], _∷_, _++_}
 use native.Mathlib.Omega.{arith}
 use lib.ListN.{length, getD}
 use lib.Seq.{ext-getD}
-use Rattle.basics.specs.Tests.{All}
-use Rattle.basics.specs.lemmas.Lists.{length-upTo, getD-upTo}
-use Rattle.basics.specs.lemmas.Tables.{all-at}
-use Rattle.basics.specs.lemmas.Tests.{all-map}
+use Rattle.theory_basics.specs.Tests.{All}
+use Rattle.theory_basics.specs.lemmas.Lists.{length-upTo, getD-upTo}
+use Rattle.theory_basics.specs.lemmas.Tables.{all-at}
+use Rattle.theory_basics.specs.lemmas.Tests.{all-map}
 use Rattle.job.specs.Job.{lastSlot}
 use Rattle.fetch.specs.Rows.{Row, bytesIf, bytesInSlot}
-use Rattle.fetch.specs.Rules.{InRange}
+use Rattle.fetch.specs.Rules.{RowInRange}
 use Rattle.booking.specs.Booking.{slotHas, slotBySlot, takenOff, addedBack, SlotsThere, Bookable}
 
 -- ---- slot by slot
@@ -70,6 +71,6 @@ module _ (f : List ℕ) (rows : List Row) (b : Bookable f rows) where
   -- Rule 1.
   pub bookable-there : SlotsThere f rows
   bookable-there =
-      all-map (InRange (b .job)) (λ (x : Row). (1 ≤ x .slot) × (x .slot ≤ length f)) rows
+      all-map (RowInRange (b .job)) (λ (x : Row). (1 ≤ x .slot) × (x .slot ≤ length f)) rows
       (λ x r. (r .slot-low, omega (arith, r .slot-high, its-slots)))
       (b .passes .in-range)

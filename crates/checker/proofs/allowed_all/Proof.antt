@@ -7,8 +7,8 @@ use mathlib.Core.Path.{_≡_, refl, sym}
 use mathlib.Core.Bool.{true}
 use native.Mathlib.Omega.{arith}
 use denote.Ref.{now}
-use Rattle.basics.specs.Tests.{allBelow, allTo}
-use Rattle.basics.specs.lemmas.Tests.{allTo-more}
+use Rattle.theory_basics.specs.Tests.{allBelow, allTo}
+use Rattle.theory_basics.specs.lemmas.Tests.{allTo-more}
 use Rattle.job.specs.Table.{tableAt}
 use Rattle.checker.specs.lemmas.Judged.{allowedBy, early}
 

@@ -8,7 +8,7 @@ use mathlib.Core.Bool.{true}
 use native.Mathlib.Omega.{arith}
 use native.Mathlib.Numerals.{add-one}
 use denote.Ref.{now}
-use Rattle.basics.specs.Tests.{allBelow}
+use Rattle.theory_basics.specs.Tests.{allBelow}
 use Rattle.job.specs.Table.{tableAt}
 use Rattle.checker.specs.lemmas.Judged.{allowedBy, early}
 

@@ -1,4 +1,5 @@
--- Refusals 5, 6, 18, 7, then 8, else the verdict of the job whose sizes fill the table: that of the second call at slot 1.
+-- Refusals 5, 6, 18, 7, then 8, else the verdict of the job whose sizes fill the table: that of the
+-- second call at slot 1.
 use borrow.Author.Needs.{needs}
 use Rattle.checker.proofs.check.Statement.{statement}
 use Rattle.checker.proofs.check.Tie as tie
@@ -7,12 +8,12 @@ use native.Mathlib.Omega.{arith}
 use lib.ListN.{length-replicate}
 use denote.Ref.{now}
 use borrow.Author.Tests.{ne-eqb, eq-eqb}
-use Rattle.job.specs.Handed.{handed, jobIn, handed-iff}
-use Rattle.fetch.specs.Handed as rows
+use Rattle.job.specs.Input.{jobInput, jobIn, input-iff}
+use Rattle.fetch.specs.Input as rows
 use Rattle.fetch.specs.Rows.{rowsOf}
 use Rattle.fetch.specs.VerdictFrom.{first-slot}
 use Rattle.checker.specs.declared.Checked.the-variants.{Verdict}
-use Rattle.rules.proofs.Exact.{shown}
+use Rattle.core_rules.proofs.Exact.{shown}
 
 refusal-requires : tie.Need-refusal-requires
 refusal-requires c κs = search needs
@@ -20,11 +21,11 @@ refusal-requires c κs = search needs
 returns : tie.Need-returns
 returns c = rw (sym (c .before .refusal .ensures), ne-eqb _ _ (c .if1 .taken), ne-eqb _ _ (c .if1 .taken))
 
-handed-refusal-requires : tie.Need-handed-refusal-requires
-handed-refusal-requires c κs = search needs
+list-refusal-requires : tie.Need-list-refusal-requires
+list-refusal-requires c κs = search needs
 
 returns-2 : tie.Need-returns-2
-returns-2 c = rw (sym (c .before .before .before .refusal .ensures), eq-eqb _ _ (c .before .before .if1 .left), sym (c .before .handed-refusal .ensures), ne-eqb _ _ (c .if2 .taken))
+returns-2 c = rw (sym (c .before .before .before .refusal .ensures), eq-eqb _ _ (c .before .before .if1 .left), sym (c .before .list-refusal .ensures), ne-eqb _ _ (c .if2 .taken))
 
 cast-unset : tie.Need-cast-unset
 cast-unset c = search needs
@@ -35,24 +36,24 @@ fill-sizes-requires c κs = search needs
 verdict-of-requires : tie.Need-verdict-of-requires
 verdict-of-requires c κs =
     let a = c .before .before .before .before .before .before .before .before .before .before .before .before .before .before .before .before .before .before .args in
-    let h = handed (a .p) (now (a .sizes)) (now (a .size-chunks)) (now (a .size-layers)) (now (a .size-bytes)) (now (a .forecast)) in
-    let ok = handed-iff h .0 (sym (c .before .before .before .before .before .before .before .refusal .ensures) ∙ c .before .before .before .before .before .before .if1 .left) .1 in (
+    let h = jobInput (a .p) (now (a .sizes)) (now (a .size-chunks)) (now (a .size-layers)) (now (a .size-bytes)) (now (a .forecast)) in
+    let ok = input-iff h .0 (sym (c .before .before .before .before .before .before .before .refusal .ensures) ∙ c .before .before .before .before .before .before .if1 .left) .1 in (
       ok .chunks-in .high,
       ok .last-in,
       ok .layers-in .high,
       omega (arith, ok .slots-in, ok .last-in),
-      rows.handed-iff (a .p .chunks) (now (a .marks)) (now (a .slots)) (now (a .chunks)) (now (a .layers)) (now (a .bytes)) .0 (sym (c .before .before .before .before .before .handed-refusal .ensures) ∙ c .before .before .before .before .if2 .left),
+      rows.whole-iff (a .p .chunks) (now (a .marks)) (now (a .slots)) (now (a .chunks)) (now (a .layers)) (now (a .bytes)) .0 (sym (c .before .before .before .before .before .list-refusal .ensures) ∙ c .before .before .before .before .if2 .left),
     )
 
 returns-3 : tie.Need-returns-3
 returns-3 c =
     let a = c .before .before .before .before .before .before .before .before .before .before .before .before .before .before .before .before .before .before .before .args in
-    let h = handed (a .p) (now (a .sizes)) (now (a .size-chunks)) (now (a .size-layers)) (now (a .size-bytes)) (now (a .forecast)) in
+    let h = jobInput (a .p) (now (a .sizes)) (now (a .size-chunks)) (now (a .size-layers)) (now (a .size-bytes)) (now (a .forecast)) in
     let none = sym (c .before .before .before .before .before .before .before .before .refusal .ensures) ∙ c .before .before .before .before .before .before .before .if1 .left in
     let its = c .before .before .fill-sizes .ensures (length-replicate 2000 (a .p .chunks)) in
     let rows = rowsOf (now (a .slots)) (now (a .chunks)) (now (a .layers)) (now (a .bytes)) in
-    rw (none, sym (c .before .before .before .before .before .before .handed-refusal .ensures), eq-eqb _ _ (c .before .before .before .before .before .if2 .left))
-    (ap Verdict (c .verdict-of .ensures (h .sizes) (jobIn h .overrides) (shown h _ (handed-iff h .0 none .1) its) ∙ first-slot (jobIn h) (now (a .marks)) rows))
+    rw (none, sym (c .before .before .before .before .before .before .list-refusal .ensures), eq-eqb _ _ (c .before .before .before .before .before .if2 .left))
+    (ap Verdict (c .verdict-of .ensures (h .sizes) (jobIn h .overrides) (shown h _ (input-iff h .0 none .1) its) ∙ first-slot (jobIn h) (now (a .marks)) rows))
 
 pub check-spec : {M : Type 1} → statement M
 check-spec =
@@ -60,7 +61,7 @@ check-spec =
     (tie.spec
     refusal-requires
     returns
-    handed-refusal-requires
+    list-refusal-requires
     returns-2
     cast-unset
     fill-sizes-requires

@@ -6,7 +6,7 @@ use mathlib.Core.Path.{refl, sym, _∙_}
 use native.Mathlib.Omega.{arith}
 use denote.Ref.{now}
 use Rattle.fetch.specs.Rows.{rowsOf}
-use Rattle.rules.proofs.Exact.{due-most}
+use Rattle.core_rules.proofs.Exact.{due-most}
 use Rattle.checker.proofs.Judged.{judged, judged-one}
 
 last-due-requires : tie.Need-last-due-requires

@@ -1,16 +1,17 @@
--- Lemmas. What the checker's private functions say: rule 2 of the second call by tables, and the verdict of every job that the tables show.
+-- Lemmas. What the checker's private functions say: rule 2 of the second call by tables, and the
+-- verdict of every job that the tables show.
 use Prim.Native.Nat.{ℕ, _+_, _*_, _-_, _≤_, _<_}
 use mathlib.Core.Path.{_≡_}
 use mathlib.Core.Bool.{Bool, true, _&&_, _||_}
 use mathlib.Core.List.{List}
 use lib.ListN.{length, getD}
 use lib.Dec.{ltb, eqb}
-use Rattle.basics.specs.Tests.{all}
+use Rattle.theory_basics.specs.Tests.{all}
 use Rattle.job.specs.declared.Programme.{Programme}
 use Rattle.job.specs.Job.{Override, jobOf}
 use Rattle.fetch.specs.Rows.{Row, rowsOf}
 use Rattle.fetch.specs.VerdictFrom.{layerBefore, verdictFrom}
-use Rattle.rules.specs.lemmas.Tables.{Shown, inRange}
+use Rattle.core_rules.specs.lemmas.Tables.{Shown, inRange}
 
 -- ---- rule 2 of the second call
 
@@ -26,7 +27,7 @@ allowedBy size layersum before i n = allowedSum (getD layersum (4 * (i - 1) + n)
 abbrev pub early : List ℕ → ℕ → ℕ → Bool
 early late i n = eqb (getD late (4 * (i - 1) + n) 0) 0
 
-pub record Late (from : ℕ) (rows : List Row) (late : List ℕ) : Type 0 where
+pub record MarkLatePost (from : ℕ) (rows : List Row) (late : List ℕ) : Type 0 where
   pub is : (i n : ℕ) → 1 ≤ i → i ≤ 500 → n < 4 → early late i n ≡ layerBefore from rows i n
   pub long : length late ≡ 2000
 

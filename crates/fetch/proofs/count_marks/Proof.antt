@@ -1,10 +1,11 @@
--- `count_marks` is the sum over words and rest, which is the count: at most the number of marks, so it fits.
+-- `count_marks` is the sum over words and rest, which is the count: at most the number of marks, so
+-- it fits.
 use Prim.Native.Nat.{_+_}
 use mathlib.Core.Path.{_≡_, sym, _∙_, ap₂}
 use native.Mathlib.Omega.{arith}
 use borrow.Author.Needs.{needs}
 use denote.Ref.{now}
-use Rattle.basics.specs.lemmas.Tables.{all-each}
+use Rattle.theory_basics.specs.lemmas.Tables.{all-each}
 use Rattle.fetch.specs.Words.{words-and-rest}
 use Rattle.fetch.specs.lemmas.Counts.{Byte, count-le}
 use Rattle.fetch.proofs.count_marks.Statement.{statement}

@@ -7,10 +7,10 @@ use native.Mathlib.Omega.{arith}
 use native.Mathlib.Nat.{pow-suc}
 use lib.ListN.{length, getD, take, drop, take-append-drop}
 use lib.Seq.{drop-drop}
-use Rattle.basics.specs.Tests.{All}
-use Rattle.basics.specs.Sums.{count}
-use Rattle.basics.specs.Lists.{upTo}
-use Rattle.basics.specs.lemmas.Ranges.{cond-most}
+use Rattle.theory_basics.specs.Tests.{All}
+use Rattle.theory_basics.specs.Sums.{count}
+use Rattle.theory_basics.specs.Lists.{upTo}
+use Rattle.theory_basics.specs.lemmas.Ranges.{cond-most}
 use Rattle.fetch.specs.Marks.{bit}
 use Rattle.fetch.specs.Counts.{markCount, lowBytes, wordOf}
 use Rattle.fetch.specs.lemmas.Marks.{high-bit}

@@ -8,7 +8,7 @@ use native.Mathlib.Nat.{pow-suc, two-pow-succ, mod-eq-of-lt, div-eq-of-lt, add-m
 use lib.Pow.{pow-pos, pow-mono, pow-add, high, mod-pow-add}
 use lib.Dec.{eqb, ltb, ltb→lt, nltb→le, eqb→eq, T-not}
 use borrow.Author.Tests.{eq-eqb, ne-eqb}
-use Rattle.basics.specs.lemmas.Tests.{test, eqb-iff}
+use Rattle.theory_basics.specs.lemmas.Tests.{test, eqb-iff}
 use Rattle.fetch.specs.Rows.{markByte}
 use Rattle.fetch.specs.Marks.{bit, withLayer, withoutLayer}
 

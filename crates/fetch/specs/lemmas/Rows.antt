@@ -1,4 +1,5 @@
--- Lemmas. Sums and tests over rows: in another order, with one row more, of a row that stands in the list, of a base. Assumes nothing.
+-- Lemmas. Sums and tests over rows: in another order, with one row more, of a row that stands in
+-- the list, of a base. Assumes nothing.
 use Prim.Native.Nat.{ℕ, zero, suc, _+_, _≤_}
 use mathlib.Core.Path.{_≡_, refl, ap, _∙_}
 use mathlib.Core.Bool.{Bool, true, false, not, cond, _&&_, _||_}
@@ -6,8 +7,8 @@ use mathlib.Core.List.{List, [], _∷_, _++_}
 use mathlib.Core.Logic.{⊎-elim}
 use native.Mathlib.Omega.{arith}
 use lib.Dec.{T, eqb}
-use Rattle.basics.specs.Tests.{all, any, In, here, there}
-use Rattle.basics.specs.lemmas.Tests.{by-cond, test, T-or-iff}
+use Rattle.theory_basics.specs.Tests.{all, any, In, here, there}
+use Rattle.theory_basics.specs.lemmas.Tests.{by-cond, test, T-or-iff}
 use Rattle.job.specs.Job.{Job, Layer, Accepted, size}
 use Rattle.job.specs.lemmas.Within.{size-least}
 use Rattle.fetch.specs.Rows.{Row, bytesIf, Carried, Permuted, none, keep, swap, next}

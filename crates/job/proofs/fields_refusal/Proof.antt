@@ -1,7 +1,7 @@
 -- `job::fields_refusal` meets its contract. Assumes nothing.
 use mathlib.Core.Path.{ap₂, _∙_}
 use borrow.Author.Needs.{needs}
-use Rattle.basics.specs.Refusals.{_orElse_}
+use Rattle.theory_basics.specs.Refusals.{_orElse_}
 use Rattle.job.proofs.fields_refusal.Statement.{statement}
 use Rattle.job.proofs.fields_refusal.Tie as tie
 

@@ -6,7 +6,7 @@ use mathlib.Core.Path.{ap, _∙_}
 use mathlib.Core.List.{List}
 use Prim.Native.Nat.{ℕ}
 use lib.ListN.{length}
-use Rattle.job.specs.Handed.{overridesOf}
+use Rattle.job.specs.Input.{overridesOf}
 use Rattle.job.specs.Table.{overriddenBy}
 use Rattle.job.specs.lemmas.Table.{length-own}
 

@@ -2,7 +2,7 @@
 use mathlib.Core.Path.{ap, ap₂, _∙_}
 use mathlib.Core.Bool.{_&&_}
 use borrow.Author.Needs.{needs}
-use Rattle.basics.specs.Refusals.{unless}
+use Rattle.theory_basics.specs.Refusals.{unless}
 use Rattle.job.proofs.film_refusal.Statement.{statement}
 use Rattle.job.proofs.film_refusal.Tie as tie
 
@@ -20,6 +20,9 @@ is-within-requires-2 c κs = search needs
 
 cast-is-within-3 : tie.Need-cast-is-within-3
 cast-is-within-3 c = search needs
+
+cast-is-within-4 : tie.Need-cast-is-within-4
+cast-is-within-4 c = search needs
 
 is-within-requires-3 : tie.Need-is-within-requires-3
 is-within-requires-3 c κs = search needs
@@ -50,6 +53,7 @@ film-refusal-spec =
     cast-is-within-2
     is-within-requires-2
     cast-is-within-3
+    cast-is-within-4
     is-within-requires-3
     both-requires
     both-requires-2

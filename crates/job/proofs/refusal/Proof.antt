@@ -2,9 +2,9 @@
 use Rattle.job.proofs.refusal.Statement.{statement}
 use Rattle.job.proofs.refusal.Tie as tie
 use borrow.Author.Needs.{needs}
-use Rattle.job.specs.Handed.{jobRefusal}
+use Rattle.job.specs.Input.{jobRefusal}
 use mathlib.Core.Path.{ap₂, _∙_}
-use Rattle.basics.specs.Refusals.{_orElse_}
+use Rattle.theory_basics.specs.Refusals.{_orElse_}
 
 forecast-refusal-requires : tie.Need-forecast-refusal-requires
 forecast-refusal-requires c κs = search needs

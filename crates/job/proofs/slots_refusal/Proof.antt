@@ -4,7 +4,7 @@ use mathlib.Core.Path.{ap, _∙_}
 use lib.ListN.{length}
 use lib.Dec.{eqb}
 use borrow.Author.Needs.{needs}
-use Rattle.basics.specs.Refusals.{unless}
+use Rattle.theory_basics.specs.Refusals.{unless}
 use Rattle.job.proofs.slots_refusal.Statement.{statement}
 use Rattle.job.proofs.slots_refusal.Tie as tie
 

@@ -1,12 +1,13 @@
--- Lemmas. The greatest of some numbers: each is at most a bound exactly if the greatest is. Assumes nothing.
+-- Lemmas. The greatest of some numbers: each is at most a bound exactly if the greatest is. Assumes
+-- nothing.
 use Prim.Native.Nat.{ℕ, _≤_, max}
 use mathlib.Core.Path.{_≡_, refl}
 use mathlib.Core.List.{List, [], _∷_}
 use mathlib.Core.Logic.{_↔_}
 use native.Mathlib.Omega.{arith}
 use lib.Dec.{leb}
-use Rattle.basics.specs.Tests.{all}
-use Rattle.basics.specs.lemmas.Tests.{leb-iff, same-test, T-and, and-T}
+use Rattle.theory_basics.specs.Tests.{all}
+use Rattle.theory_basics.specs.lemmas.Tests.{leb-iff, same-test, T-and, and-T}
 use Rattle.job.specs.Job.{Within}
 use Rattle.job.specs.Refusal.{within, within-iff}
 

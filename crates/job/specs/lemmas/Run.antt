@@ -1,4 +1,5 @@
--- Lemmas. Refusal 18 in one pass: each SZ is named and sized, and stands after the one before it. Assumes nothing.
+-- Lemmas. Refusal 18 in one pass: each SZ is named and sized, and stands after the one before it.
+-- Assumes nothing.
 use Prim.Native.Nat.{ℕ, _+_, _≤_, _<_, min}
 use mathlib.Core.Path.{_≡_, refl, sym, _∙_}
 use mathlib.Core.Bool.{Bool, true, _&&_}
@@ -9,13 +10,13 @@ use native.Mathlib.Numerals.{add-one}
 use lib.ListN.{length, getD, drop, drop-of-length-le}
 use lib.Seq.{drop-cons}
 use lib.Dec.{T, leb, leb→le, nleb→lt}
-use Rattle.basics.specs.Tests.{All, all}
-use Rattle.basics.specs.lemmas.Tests.{same-test, test}
-use Rattle.basics.specs.lemmas.Refusals.{and-as}
+use Rattle.theory_basics.specs.Tests.{All, all}
+use Rattle.theory_basics.specs.lemmas.Tests.{same-test, test}
+use Rattle.theory_basics.specs.lemmas.Refusals.{and-as}
 use Rattle.job.specs.declared.Programme.{Programme}
 use Rattle.job.specs.Job.{Override, Within, Named, Rising}
 use Rattle.job.specs.Refusal.{named, sized, comes, rising, named-iff, before-iff, within-iff, overrides-test}
-use Rattle.job.specs.Handed.{overridesOf}
+use Rattle.job.specs.Input.{overridesOf}
 
 -- Chunk and layer alone, of the SZ before.
 abbrev pub past : ℕ → ℕ → Override

@@ -1,4 +1,5 @@
--- Lemmas. The SZs of an accepted job: of chunks after the first, rising, and few; the size where none names it. Assumes nothing.
+-- Lemmas. The SZs of an accepted job: of chunks after the first, rising, and few; the size where
+-- none names it. Assumes nothing.
 use Prim.Native.Nat.{ℕ, _+_, _*_, _≤_, _<_}
 use mathlib.Core.Path.{_≡_, refl}
 use mathlib.Core.Bool.{Bool, true, false, _&&_}
@@ -8,8 +9,8 @@ use native.Mathlib.Omega.{arith}
 use lib.ListN.{length, getD}
 use lib.Dec.{eqb}
 use borrow.Author.Tests.{eq-eqb, ne-eqb}
-use Rattle.basics.specs.Tests.{All}
-use Rattle.basics.specs.lemmas.Tests.{all-map}
+use Rattle.theory_basics.specs.Tests.{All}
+use Rattle.theory_basics.specs.lemmas.Tests.{all-map}
 use Rattle.job.specs.Job.{Job, Override, Named, Rising, Accepted, chunks, sizeIn}
 
 -- Of a chunk of 2 to C and a layer below 4.

@@ -1,4 +1,5 @@
--- Lemmas. The table of all sizes at each place, what an accepted job's table says, and the table filled place by place. Assumes nothing.
+-- Lemmas. The table of all sizes at each place, what an accepted job's table says, and the table
+-- filled place by place. Assumes nothing.
 use Prim.Native.Nat.{ℕ, zero, suc, _+_, _*_, _-_, _/_, _%_, _≤_, _<_}
 use mathlib.Core.Path.{_≡_, refl, sym, ap, _∙_}
 use mathlib.Core.Bool.{Bool, cond, _&&_}
@@ -8,10 +9,10 @@ use native.Mathlib.Omega.{arith}
 use lib.ListN.{length, getD, set, drop, length-set, drop-of-length-le, List·getD-eq-default}
 use lib.Seq.{getD-set-same, getD-set-other, drop-cons, set-at, append-snoc}
 use lib.Dec.{T, eqb, ltb, eqb→eq, ltb→lt, nltb→le, T-not}
-use Rattle.basics.specs.Tests.{All}
-use Rattle.basics.specs.lemmas.Tests.{all-map, by-cond, and-T, T-and, eqb-iff, test}
-use Rattle.basics.specs.Lists.{upTo}
-use Rattle.basics.specs.lemmas.Lists.{length-upTo, getD-upTo}
+use Rattle.theory_basics.specs.Tests.{All}
+use Rattle.theory_basics.specs.lemmas.Tests.{all-map, by-cond, and-T, T-and, eqb-iff, test}
+use Rattle.theory_basics.specs.Lists.{upTo}
+use Rattle.theory_basics.specs.lemmas.Lists.{length-upTo, getD-upTo}
 use Rattle.job.specs.Job.{Job, Override, Accepted, chunks, size, sizeIn}
 use Rattle.job.specs.lemmas.Spots.{Spot, spots, Other, own-where}
 use Rattle.job.specs.Table.{spot, ownTable, overriddenBy, ownSizes, sizesTable, tableAt}

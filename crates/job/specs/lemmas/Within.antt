@@ -1,13 +1,13 @@
--- Lemmas. Numbers within a range: what a table of them has at each place, and the least and the most size of an accepted job. Assumes
--- nothing.
+-- Lemmas. Numbers within a range: what a table of them has at each place, and the least and the
+-- most size of an accepted job. Assumes nothing.
 use Prim.Native.Nat.{ℕ, zero, suc, _≤_, _<_}
 use mathlib.Core.Bool.{_&&_}
 use mathlib.Core.List.{List, [], _∷_}
 use native.Mathlib.Omega.{arith}
 use lib.ListN.{length, getD}
 use lib.Dec.{eqb}
-use Rattle.basics.specs.Tests.{All}
-use Rattle.basics.specs.lemmas.Tests.{by-cond}
+use Rattle.theory_basics.specs.Tests.{All}
+use Rattle.theory_basics.specs.lemmas.Tests.{by-cond}
 use Rattle.job.specs.Job.{Accepted, Job, Override, Within, layers, size, sizeIn}
 
 -- Past the end it has 0.

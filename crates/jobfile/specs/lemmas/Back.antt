@@ -7,9 +7,9 @@ use native.Mathlib.Omega.{arith}
 use lib.ListN.{length, length-append, length-replicate, replicate}
 use lib.Dec.{T, leb, eqb, eqb→eq, not-T}
 use borrow.Author.Tests.{le-leb, eq-eqb}
-use Rattle.basics.specs.Tests.{All}
-use Rattle.basics.specs.lemmas.Tests.{T-and, leb-iff, all-map, all-append, by-cond}
-use Rattle.basics.specs.lemmas.Refusals.{unless-iff, orElse-iff}
+use Rattle.theory_basics.specs.Tests.{All}
+use Rattle.theory_basics.specs.lemmas.Tests.{T-and, leb-iff, all-map, all-append, by-cond}
+use Rattle.theory_basics.specs.lemmas.Refusals.{unless-iff, orElse-iff}
 use Rattle.records.specs.File.{Format, firstFault}
 use Rattle.records.specs.lemmas.Written.{h-back, w-back, ReadsBack, Plain}
 use Rattle.job.specs.declared.Programme.{Programme}

@@ -5,23 +5,23 @@ use mathlib.Core.List.{List, [], _∷_, _++_, map}
 use native.Mathlib.Omega.{arith}
 use lib.ListN.{length, length-append}
 use lib.Dec.{eqb}
-use Rattle.basics.specs.lemmas.Tests.{by-cond}
+use Rattle.theory_basics.specs.lemmas.Tests.{by-cond}
 use Rattle.job.specs.Job.{Job, Override, layers, Accepted}
 use Rattle.job.specs.Uneven.{overrides-few}
 use Rattle.jobrecords.specs.declared.Record.the-variants.{Pg, En}
 use Rattle.jobrecords.specs.Records.{encode}
 use Rattle.jobfile.specs.Writer.{Run, inFront, runs, layerRecord, overrideRecord, runRecord, jobFile}
-use Rattle.jobfile.specs.lemmas.Puts.{bytesOf, bytes-append}
+use Rattle.jobfile.specs.lemmas.Puts.{recordsBytes, bytes-append}
 
-layers-length : (l : List ℕ) → length (bytesOf (map layerRecord l)) ≡ 6 * length l
+layers-length : (l : List ℕ) → length (recordsBytes (map layerRecord l)) ≡ 6 * length l
 layers-length [] = refl
 layers-length (x ∷ l) = omega (arith, layers-length l)
 
-overrides-length : (l : List Override) → length (bytesOf (map overrideRecord l)) ≡ 9 * length l
+overrides-length : (l : List Override) → length (recordsBytes (map overrideRecord l)) ≡ 9 * length l
 overrides-length [] = refl
 overrides-length (o ∷ l) = omega (arith, overrides-length l)
 
-runs-length : (l : List Run) → length (bytesOf (map runRecord l)) ≡ 8 * length l
+runs-length : (l : List Run) → length (recordsBytes (map runRecord l)) ≡ 8 * length l
 runs-length [] = refl
 runs-length (r ∷ l) = omega (arith, runs-length l)
 
@@ -34,11 +34,11 @@ file-length j =
     let c = map runRecord (runs (j .forecast)) in
     omega (
       arith,
-      length-append (bytesOf (Pg (j .programme) ∷ a ++ (b ++ c))) (encode En),
+      length-append (recordsBytes (Pg (j .programme) ∷ a ++ (b ++ c))) (encode En),
       ap length (bytes-append a (b ++ c)),
       ap length (bytes-append b c),
-      length-append (bytesOf a) (bytesOf (b ++ c)),
-      length-append (bytesOf b) (bytesOf c),
+      length-append (recordsBytes a) (recordsBytes (b ++ c)),
+      length-append (recordsBytes b) (recordsBytes c),
       layers-length (j .sizes),
       overrides-length (j .overrides),
       runs-length (runs (j .forecast)),

@@ -9,7 +9,7 @@ use lib.ListN.{length, getD, drop, length-drop, drop-of-length-le}
 use lib.Seq.{drop-cons, drop-drop}
 use lib.Dec.{eqb, T-not}
 use borrow.Author.Tests.{eq-eqb, ne-eqb, eqb-true}
-use Rattle.basics.specs.lemmas.Tests.{by-cond, eqb-iff}
+use Rattle.theory_basics.specs.lemmas.Tests.{by-cond, eqb-iff}
 use Rattle.jobrecords.specs.Says.{forecastIn}
 use Rattle.jobfile.specs.Writer.{Run, inFront, runs, Differ, Longest, runRecord}
 

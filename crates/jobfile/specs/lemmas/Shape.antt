@@ -1,4 +1,5 @@
--- Lemmas. Records in one sequence, without a fault, are the records of the job that they say. Assumes nothing.
+-- Lemmas. Records in one sequence, without a fault, are the records of the job that they say.
+-- Assumes nothing.
 use Prim.Native.Nat.{ℕ, zero, suc, _≤_}
 use mathlib.Core.Path.{_≡_, refl, sym, ap, subst}
 use mathlib.Core.Bool.{true, false, not}
@@ -7,10 +8,10 @@ use native.Mathlib.Omega.{arith}
 use lib.ListN.{replicate}
 use lib.Dec.{T, leb, eqb, eqb→eq}
 use borrow.Author.Tests.{eq-eqb}
-use Rattle.basics.specs.Tests.{All}
-use Rattle.basics.specs.lemmas.Tests.{and-T, T-true, not-T-false}
-use Rattle.basics.specs.Refusals.{_orElse_}
-use Rattle.basics.specs.lemmas.Refusals.{unless-iff, orElse-iff}
+use Rattle.theory_basics.specs.Tests.{All}
+use Rattle.theory_basics.specs.lemmas.Tests.{and-T, T-true, not-T-false}
+use Rattle.theory_basics.specs.Refusals.{_orElse_}
+use Rattle.theory_basics.specs.lemmas.Refusals.{unless-iff, orElse-iff}
 use Rattle.records.specs.File.{firstFault}
 use Rattle.records.specs.lemmas.Exact.{NoEnd}
 use Rattle.job.specs.Refusal.{within-iff, overridesRefusal, slotsRefusal}
@@ -46,7 +47,8 @@ apart count b (r ∷ l) s = and-T (leb 1 4) (not (eqb b (r .bytes))) (s .0) .1
 
 -- ---- LYs, SZs, BWs
 
--- After q: no LY from an SZ on, no SZ from a BW on, and the records are those of the sizes and the forecast that they give.
+-- After q: no LY from an SZ on, no SZ from a BW on, and the records are those of the sizes and the
+-- forecast that they give.
 record Body (q : Record) (rs : List Record) : Type 0 where
   no-sizes : 3 ≤ place q → sizesIn rs ≡ []
   no-overrides : 4 ≤ place q → overridesIn rs ≡ []

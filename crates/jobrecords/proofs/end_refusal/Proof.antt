@@ -6,7 +6,7 @@ use mathlib.Core.Path.{sym, ap, ap₂, _∙_}
 use lib.Seq.{length-take-le}
 use lib.Dec.{eqb}
 use denote.Ref.{now}
-use Rattle.basics.specs.Refusals.{unless, _orElse_}
+use Rattle.theory_basics.specs.Refusals.{unless, _orElse_}
 use Rattle.jobrecords.proofs.end_refusal.Statement.{statement}
 use Rattle.jobrecords.proofs.end_refusal.Tie as tie
 

@@ -4,7 +4,7 @@ use Rattle.jobrecords.proofs.ended.Statement.{statement}
 use Rattle.jobrecords.proofs.ended.Tie as tie
 use mathlib.Core.Path.{_≡_, sym, ap₂, _∙_}
 use denote.Ref.{now}
-use Rattle.basics.specs.Refusals.{_orElse_}
+use Rattle.theory_basics.specs.Refusals.{_orElse_}
 use borrow.Author.Tests.{eq-eqb, ne-eqb}
 use Rattle.jobrecords.specs.lemmas.Reading.{endCode}
 

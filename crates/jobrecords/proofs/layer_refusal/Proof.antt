@@ -4,7 +4,7 @@ use Rattle.jobrecords.proofs.layer_refusal.Statement.{statement}
 use Rattle.jobrecords.proofs.layer_refusal.Tie as tie
 use mathlib.Core.Path.{ap, ap₂, _∙_}
 use mathlib.Core.Bool.{Bool, not, _||_}
-use Rattle.basics.specs.Refusals.{unless, _orElse_}
+use Rattle.theory_basics.specs.Refusals.{unless, _orElse_}
 
 layer-follows-requires : tie.Need-layer-follows-requires
 layer-follows-requires c κs = search needs

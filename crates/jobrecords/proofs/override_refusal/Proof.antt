@@ -4,7 +4,7 @@ use Rattle.jobrecords.proofs.override_refusal.Statement.{statement}
 use Rattle.jobrecords.proofs.override_refusal.Tie as tie
 use mathlib.Core.Path.{ap, _∙_}
 use mathlib.Core.Bool.{Bool, not, _||_}
-use Rattle.basics.specs.Refusals.{unless}
+use Rattle.theory_basics.specs.Refusals.{unless}
 
 override-follows-requires : tie.Need-override-follows-requires
 override-follows-requires c κs = search needs

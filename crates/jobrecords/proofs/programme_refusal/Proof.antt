@@ -3,7 +3,7 @@ use borrow.Author.Needs.{needs}
 use Rattle.jobrecords.proofs.programme_refusal.Statement.{statement}
 use Rattle.jobrecords.proofs.programme_refusal.Tie as tie
 use mathlib.Core.Path.{ap₂, _∙_}
-use Rattle.basics.specs.Refusals.{_orElse_}
+use Rattle.theory_basics.specs.Refusals.{_orElse_}
 
 refuse-unless-requires : tie.Need-refuse-unless-requires
 refuse-unless-requires c κs = search needs

@@ -4,8 +4,8 @@ use Rattle.jobrecords.proofs.run_refusal.Statement.{statement}
 use Rattle.jobrecords.proofs.run_refusal.Tie as tie
 use mathlib.Core.Path.{sym, ap, _∙_}
 use mathlib.Core.Bool.{Bool, not, _||_}
-use Rattle.basics.specs.Refusals.{unless}
-use Rattle.basics.specs.lemmas.Refusals.{orElse-none, orElse-some}
+use Rattle.theory_basics.specs.Refusals.{unless}
+use Rattle.theory_basics.specs.lemmas.Refusals.{orElse-none, orElse-some}
 
 run-follows-requires : tie.Need-run-follows-requires
 run-follows-requires c κs = search needs

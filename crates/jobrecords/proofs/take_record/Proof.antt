@@ -4,7 +4,7 @@ use Rattle.jobrecords.proofs.take_record.Statement.{statement}
 use Rattle.jobrecords.proofs.take_record.Tie as tie
 use native.Mathlib.Omega.{arith}
 use denote.Ref.{now}
-use Rattle.jobrecords.proofs.Turns.{takes-programme, takes-layer, takes-override, takes-run, takes-end, layer-inside, run-inside}
+use Rattle.jobrecords.proofs.Records.{takes-programme, takes-layer, takes-override, takes-run, takes-end, layer-inside, run-inside}
 
 enum-known-record : tie.Need-enum-known-record
 enum-known-record c = search needs

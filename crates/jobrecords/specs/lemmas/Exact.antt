@@ -1,4 +1,5 @@
--- Lemmas. A record of a job file that stands in front of a string of bytes has just its own bytes there. Assumes nothing.
+-- Lemmas. A record of a job file that stands in front of a string of bytes has just its own bytes
+-- there. Assumes nothing.
 use Prim.Native.Nat.{ℕ, zero, suc, _%_, _≤_, _<_}
 use mathlib.Core.Path.{_≡_, refl, ap, _∙_}
 use mathlib.Core.Bool.{Bool, true, _&&_}
@@ -7,7 +8,7 @@ use native.Mathlib.Omega.{arith}
 use lib.ListN.{length, getD, drop}
 use lib.Seq.{drop-cons}
 use lib.Dec.{T, leb, leb→le}
-use Rattle.basics.specs.lemmas.Tests.{by-cond, and-T}
+use Rattle.theory_basics.specs.lemmas.Tests.{by-cond, and-T}
 use Rattle.records.specs.Fields.{Bytes, h, w, hAt, marked}
 use Rattle.records.specs.File.{Front, got, none, encodeAll}
 use Rattle.records.specs.lemmas.Exact.{h-bytes, w-bytes, bytes-append, h-exact, w-exact, mark-exact, Exact}

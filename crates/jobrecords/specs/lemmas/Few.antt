@@ -1,4 +1,5 @@
--- Lemmas. SZs past the 1,996 that a job can have are refused by 18, whatever they say. Assumes nothing.
+-- Lemmas. SZs past the 1,996 that a job can have are refused by 18, whatever they say. Assumes
+-- nothing.
 use Prim.Native.Nat.{ℕ, _*_, _≤_, _<_}
 use mathlib.Core.Path.{_≡_}
 use mathlib.Core.Bool.{Bool, _&&_}
@@ -6,8 +7,8 @@ use mathlib.Core.List.{List, [], _∷_}
 use native.Mathlib.Omega.{arith}
 use lib.ListN.{length}
 use lib.Dec.{not-T}
-use Rattle.basics.specs.Tests.{all}
-use Rattle.basics.specs.lemmas.Tests.{all-map, not-T-false}
+use Rattle.theory_basics.specs.Tests.{all}
+use Rattle.theory_basics.specs.lemmas.Tests.{all-map, not-T-false}
 use Rattle.job.specs.declared.Programme.{Programme}
 use Rattle.job.specs.Job.{Override, Named}
 use Rattle.job.specs.Refusal.{named, rising, sized, overridesRefusal, overrides-test}

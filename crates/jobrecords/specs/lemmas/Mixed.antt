@@ -1,5 +1,5 @@
--- Lemmas. A file in one sequence, read as a mixed one: the same records up to the first SZ, whose mark a mixed file does not know. Assumes
--- nothing.
+-- Lemmas. A file in one sequence, read as a mixed one: the same records up to the first SZ, whose
+-- mark a mixed file does not know. Assumes nothing.
 use Prim.Native.Nat.{ℕ, zero, suc, _+_}
 use mathlib.Core.Path.{_≡_, refl, ap, _∙_}
 use mathlib.Core.Bool.{Bool, true, false, not, cond, _&&_}
@@ -7,8 +7,8 @@ use mathlib.Core.List.{List, [], _∷_, _++_}
 use native.Mathlib.Omega.{arith}
 use lib.ListN.{length, drop}
 use lib.Dec.{T, leb}
-use Rattle.basics.specs.lemmas.Tests.{by-cond}
-use Rattle.basics.specs.lemmas.Refusals.{orElse-iff}
+use Rattle.theory_basics.specs.lemmas.Tests.{by-cond}
+use Rattle.theory_basics.specs.lemmas.Refusals.{orElse-iff}
 use Rattle.records.specs.Fields.{marked}
 use Rattle.records.specs.File.{Front, got, none, Stop, ended, broken, Split, splitBy, splitUpTo, split, firstFault}
 use Rattle.jobrecords.specs.declared.Record.{Record}

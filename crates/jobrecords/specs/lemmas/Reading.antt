@@ -1,14 +1,14 @@
--- Lemmas. The state of the loop that reads a job file, which the contracts of its private functions cite: it stands for the records
--- read so far. Assumes nothing.
+-- Lemmas. The state of the loop that reads a job file, which the contracts of its private functions
+-- cite: it stands for the records read so far. Assumes nothing.
 use Prim.Native.Nat.{ℕ, _+_, _*_, _-_, _≤_, _<_}
 use mathlib.Core.Path.{_≡_, refl, sym, ap}
 use mathlib.Core.Bool.{Bool, true, false, not, _&&_, _||_, cond}
 use mathlib.Core.List.{List, [], _∷_, _++_}
 use lib.ListN.{length, getD, take}
 use lib.Dec.{leb, eqb, eqb→eq}
-use Rattle.basics.specs.Lists.{upTo}
-use Rattle.basics.specs.Refusals.{unless, _orElse_}
-use Rattle.basics.specs.lemmas.Tests.{by-cond}
+use Rattle.theory_basics.specs.Lists.{upTo}
+use Rattle.theory_basics.specs.Refusals.{unless, _orElse_}
+use Rattle.theory_basics.specs.lemmas.Tests.{by-cond}
 use Rattle.records.specs.Fields.{hAt, wAt, marked}
 use Rattle.records.specs.File.{Front, none, split, recordsRefusal}
 use Rattle.records.specs.lemmas.Reading.{Reads}
@@ -19,16 +19,16 @@ use Rattle.jobrecords.specs.declared.Record.{Record}
 use Rattle.jobrecords.specs.declared.Record.the-variants.{Pg, Ly, Sz, Bw, En}
 use Rattle.jobrecords.specs.declared.Read.{Read}
 use Rattle.jobrecords.specs.declared.Read.the-variants.{Got, Refused}
-use Rattle.jobrecords.specs.declared.Sofar.{Sofar}
+use Rattle.jobrecords.specs.declared.Progress.{Progress}
 use Rattle.jobrecords.specs.declared.Ending.{Ending}
 use Rattle.jobrecords.specs.declared.Ending.the-variants.{Whole, Broken}
-use Rattle.jobrecords.specs.declared.Turn.{Turn}
-use Rattle.jobrecords.specs.declared.Turn.the-variants.{On, Done, Stop}
+use Rattle.jobrecords.specs.declared.Step.{Step}
+use Rattle.jobrecords.specs.declared.Step.the-variants.{On, Done, Stop}
 use Rattle.jobrecords.specs.Records.{SZ, whole, overrideAt}
 use Rattle.jobrecords.specs.Says.{hasProgramme, noProgramme, programmeIn, sizesIn, overridesIn, forecastIn}
 use Rattle.jobrecords.specs.Refusal.{secondRefusal, previous, place, isRunOf, follows, sequenceRefusal, rangeFault, format, jobOfFile}
 
-abbrev pub noRecords : Sofar
+abbrev pub noRecords : Progress
 noRecords = record { place = 0; bytes = 0; seen = false; programme = noProgramme; layers = 0; overrides = 0; ends = 0; slots = 0 }
 
 -- A record of n bytes, where so many are left.
@@ -87,21 +87,21 @@ pub sequence-at : (sequenced : Bool) (q r : Record) → sequenceAt sequenced (pl
 sequence-at sequenced q r = ap (λ (b : Bool). unless 17 (not sequenced || b)) (follows-at q r)
 
 -- The fault of a record, by the state.
-abbrev pub faultAfter : Bool → Sofar → Record → ℕ
+abbrev pub faultAfter : Bool → Progress → Record → ℕ
 faultAfter sequenced j r = secondRefusal (j .seen) r orElse sequenceAt sequenced (j .place) (j .bytes) r orElse rangeFault (j .layers) (j .slots) r
 
 -- An SZ has no other fault than 17, and EN none.
-pub override-after : (sequenced : Bool) (j : Sofar) (chunk layer bytes : ℕ) → faultAfter sequenced j (Sz chunk layer bytes) ≡ unless 17 (not sequenced || within 1 3 (j .place))
+pub override-after : (sequenced : Bool) (j : Progress) (chunk layer bytes : ℕ) → faultAfter sequenced j (Sz chunk layer bytes) ≡ unless 17 (not sequenced || within 1 3 (j .place))
 override-after sequenced j chunk layer bytes = orElse-zero (unless 17 (not sequenced || within 1 3 (j .place))) where
   orElse-zero : (n : ℕ) → (n orElse 0) ≡ n
   orElse-zero n = by-cond (λ (m : ℕ). m ≡ n) (eqb n 0) (λ t. sym (eqb→eq n 0 t)) (λ t. refl)
 
-pub end-after : (sequenced : Bool) (j : Sofar) → faultAfter sequenced j En ≡ 0
+pub end-after : (sequenced : Bool) (j : Progress) → faultAfter sequenced j En ≡ 0
 end-after true j = refl
 end-after false j = refl
 
 -- A record that is no second PG and in range can be taken.
-pub record Fine (j : Sofar) (r : Record) : Type 0 where
+pub record Fine (j : Progress) (r : Record) : Type 0 where
   pub first : secondRefusal (j .seen) r ≡ 0
   pub in-range : rangeFault (j .layers) (j .slots) r ≡ 0
 
@@ -115,17 +115,17 @@ abbrev pub overridesOn : List ℕ → ℕ → ℕ → List Override
 overridesOn s from n = upTo (λ k. overrideOn s (from + 9 * k)) n
 
 -- Those that the state counts.
-abbrev pub counted : List ℕ → Sofar → List Override
+abbrev pub counted : List ℕ → Progress → List Override
 counted s j = overridesOn s (j .ends - 9 * j .overrides) (j .overrides)
 
 -- The job that the state stands for, with the sizes in the table z and the slots in the table f.
-abbrev pub jobFrom : List ℕ → Sofar → List ℕ → List ℕ → Job
+abbrev pub jobFrom : List ℕ → Progress → List ℕ → List ℕ → Job
 jobFrom s j z f = jobOf (j .programme) (take (j .layers) z) (counted s j) (take (j .slots) f)
 
 -- ---- at EN
 
 -- 4, 6, 18, 7 at EN, by the state.
-abbrev pub endRefusal : List ℕ → Sofar → List ℕ → ℕ
+abbrev pub endRefusal : List ℕ → Progress → List ℕ → ℕ
 endRefusal s j z =
     unless 4 (j .seen)
     orElse unless 6 (leb 1 (j .layers))
@@ -133,33 +133,33 @@ endRefusal s j z =
     orElse unless 7 (eqb (j .slots) (lastDue (j .programme)))
 
 -- EN with so many bytes after it, by the state.
-abbrev pub endCode : List ℕ → Sofar → ℕ → List ℕ → ℕ
+abbrev pub endCode : List ℕ → Progress → ℕ → List ℕ → ℕ
 endCode s j after z = unless 3 (eqb after 0) orElse endRefusal s j z
 
-abbrev pub endedBy : List ℕ → Sofar → ℕ → List ℕ → Turn
+abbrev pub endedBy : List ℕ → Progress → ℕ → List ℕ → Step
 endedBy s j after z = cond (eqb (endCode s j after z) 0) (Done j) (Stop (endCode s j after z))
 
 -- ---- what the state stands for
 
 -- The SZs that the state counts stand in the file.
-pub record Inside (s : List ℕ) (j : Sofar) : Type 0 where
+pub record Inside (s : List ℕ) (j : Progress) : Type 0 where
   pub overrides-in : 9 * j .overrides ≤ j .ends
   pub ends-in : j .ends ≤ length s
 
 -- A table with room for every layer,
-pub record Sized (j : Sofar) (z : List ℕ) : Type 0 where
+pub record Sized (j : Progress) (z : List ℕ) : Type 0 where
   pub chunks-in : j .programme .chunks ≤ 500
   pub layers-in : j .layers ≤ 4
   pub sizes-room : length z ≡ 4
 
 -- and one with room for every slot.
-pub record Room (j : Sofar) (z f : List ℕ) : Type 0 where
+pub record Room (j : Progress) (z f : List ℕ) : Type 0 where
   pub sized : Sized j z
   pub slots-in : j .slots ≤ 3600
   pub slots-room : length f ≡ 3600
 
 -- The state, with the sizes in the table z and the slots in the table f, stands for some records.
-pub record StandsFor (j : Sofar) (z f : List ℕ) (rs : List Record) : Type 0 where
+pub record StandsFor (j : Progress) (z f : List ℕ) (rs : List Record) : Type 0 where
   pub room : Room j z f
   pub place-is : j .place ≡ place (previous rs)
   pub bytes-is : j .bytes ≡ runBytes (previous rs)
@@ -168,9 +168,9 @@ pub record StandsFor (j : Sofar) (z f : List ℕ) (rs : List Record) : Type 0 wh
   pub sizes-are : take (j .layers) z ≡ sizesIn rs
   pub forecast-is : take (j .slots) f ≡ forecastIn rs
 
--- The SZs among some records of the file s, read up to a place, are those that the state counts: none before the first SZ, and after an SZ
--- the next would stand behind it.
-pub record Counts (s : List ℕ) (at : ℕ) (j : Sofar) (rs : List Record) : Type 0 where
+-- The SZs among some records of the file s, read up to a place, are those that the state counts:
+-- none before the first SZ, and after an SZ the next would stand behind it.
+pub record Counts (s : List ℕ) (at : ℕ) (j : Progress) (rs : List Record) : Type 0 where
   pub are : overridesIn rs ≡ counted s j
   pub room : 9 * j .overrides ≤ j .ends
   pub inside : j .ends ≤ at
@@ -179,14 +179,14 @@ pub record Counts (s : List ℕ) (at : ℕ) (j : Sofar) (rs : List Record) : Typ
 
 module _ (sequenced : Bool) where
   -- The file s is read up to a place without a refusal.
-  pub record Going (s : List ℕ) (at : ℕ) (j : Sofar) (z f : List ℕ) : Type 0 where
+  pub record OneStepPre (s : List ℕ) (at : ℕ) (j : Progress) (z f : List ℕ) : Type 0 where
     pub before : List Record
     pub reads : Reads (format sequenced) s at before
     pub stands : StandsFor j z f before
     pub counts : Counts s at j before
 
   -- The file s is read to its end.
-  pub record Complete (s : List ℕ) (j : Sofar) (z f : List ℕ) : Type 0 where
+  pub record Complete (s : List ℕ) (j : Progress) (z f : List ℕ) : Type 0 where
     pub none : recordsRefusal (format sequenced) s ≡ 0
     pub room : Room j z f
     pub inside : Inside s j
@@ -196,15 +196,15 @@ module _ (sequenced : Bool) where
     pub is : recordsRefusal (format sequenced) s ≡ n
     pub some : n ≡ 0 → ⊥
 
-  abbrev pub Ended : List ℕ → List ℕ → List ℕ → Ending → Type 0
-  Ended s z f (Whole j) = Complete s j z f
-  Ended s z f (Broken n) = Refuses s n
+  abbrev pub ReadAllPost : List ℕ → List ℕ → List ℕ → Ending → Type 0
+  ReadAllPost s z f (Whole j) = Complete s j z f
+  ReadAllPost s z f (Broken n) = Refuses s n
 
   -- What a turn leaves.
-  abbrev pub Turned : List ℕ → ℕ → List ℕ → List ℕ → Turn → Type 0
-  Turned s at z f (On j next) = (at < next) × Going s next j z f
-  Turned s at z f (Done j) = Complete s j z f
-  Turned s at z f (Stop n) = Refuses s n
+  abbrev pub OneStepPost : List ℕ → ℕ → List ℕ → List ℕ → Step → Type 0
+  OneStepPost s at z f (On j next) = (at < next) × OneStepPre s next j z f
+  OneStepPost s at z f (Done j) = Complete s j z f
+  OneStepPost s at z f (Stop n) = Refuses s n
 
 -- How many SZs there are, and the place after the last, with a record more that ends at a place.
 abbrev pub moreOverrides : ℕ → Record → ℕ
@@ -221,8 +221,9 @@ endsAfter ends next (Sz chunk layer bytes) = next
 endsAfter ends next (Bw count bytes) = ends
 endsAfter ends next En = ends
 
--- A record without a fault that ends at a place goes into the tables: whatever the state stood for, it then stands for that record too.
-pub record Takes (j : Sofar) (z f : List ℕ) (r : Record) (next : ℕ) (j′ : Sofar) (z′ f′ : List ℕ) : Type 0 where
+-- A record without a fault that ends at a place goes into the tables: whatever the state stood for,
+-- it then stands for that record too.
+pub record TakeRecordPost (j : Progress) (z f : List ℕ) (r : Record) (next : ℕ) (j′ : Progress) (z′ f′ : List ℕ) : Type 0 where
   pub stands : (rs : List Record) → StandsFor j z f rs → StandsFor j′ z′ f′ (rs ++ (r ∷ []))
   pub overrides-are : j′ .overrides ≡ moreOverrides (j .overrides) r
   pub ends-are : j′ .ends ≡ endsAfter (j .ends) next r

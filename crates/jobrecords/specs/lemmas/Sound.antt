@@ -1,4 +1,5 @@
--- Lemmas. A record lies within the bytes that it stands in front of, and where records break off the refusal is not 0. Assumes nothing.
+-- Lemmas. A record lies within the bytes that it stands in front of, and where records break off
+-- the refusal is not 0. Assumes nothing.
 use Prim.Native.Nat.{ℕ, zero, suc, _+_, _≤_, _<_}
 use mathlib.Core.Path.{_≡_}
 use mathlib.Core.Bool.{Bool, _&&_}
@@ -6,7 +7,7 @@ use mathlib.Core.List.{List}
 use native.Mathlib.Omega.{arith}
 use lib.ListN.{length, drop}
 use lib.Dec.{leb, leb→le}
-use Rattle.basics.specs.lemmas.Tests.{by-cond}
+use Rattle.theory_basics.specs.lemmas.Tests.{by-cond}
 use Rattle.records.specs.Fields.{marked}
 use Rattle.records.specs.File.{Front, got, none, Stop, ended, broken, Split, splitBy, splitUpTo, split}
 use Rattle.jobrecords.specs.declared.Record.{Record}

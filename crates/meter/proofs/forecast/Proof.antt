@@ -3,7 +3,7 @@ use borrow.Author.Needs.{needs}
 use Rattle.meter.proofs.forecast.Statement.{statement}
 use Rattle.meter.proofs.forecast.Tie as tie
 use native.Mathlib.Omega.{arith}
-use Rattle.basics.specs.lemmas.Tests.{true-T}
+use Rattle.theory_basics.specs.lemmas.Tests.{true-T}
 use Rattle.meter.specs.lemmas.Order.{in-order-iff}
 use Rattle.meter.specs.Meter.{samplesOf}
 use Rattle.meter.proofs.Laws.{answer-true, answer-false}

@@ -1,4 +1,5 @@
--- `meter::in_order` meets its contract. The loop's invariant: the first i samples are in range and rise, up to the slot `before`.
+-- `meter::in_order` meets its contract. The loop's invariant: the first i samples are in range and
+-- rise, up to the slot `before`.
 use Rattle.meter.proofs.in_order.Statement.{statement}
 use Rattle.meter.proofs.in_order.Tie as tie
 use Prim.Native.Nat.{_-_, _≤_}

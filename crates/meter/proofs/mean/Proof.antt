@@ -1,4 +1,5 @@
--- `meter::mean` meets its contract. The loop's invariant: the shares of the first i samples are summed, and none of them is 0.
+-- `meter::mean` meets its contract. The loop's invariant: the shares of the first i samples are
+-- summed, and none of them is 0.
 use Rattle.meter.proofs.mean.Statement.{statement}
 use Rattle.meter.proofs.mean.Tie as tie
 use Prim.Native.Nat.{_-_, _≤_}

@@ -1,4 +1,5 @@
--- `meter::update` meets its contract: a walk of its MIR, by hand. The borrow is opened, the meter is copied out, `take` is called, the answer's meter is stored, and the borrow is closed there.
+-- `meter::update` meets its contract: a walk of its MIR, by hand. The borrow is opened, the meter
+-- is copied out, `take` is called, the answer's meter is stored, and the borrow is closed there.
 -- Assumes nothing.
 use mathlib.Core.Path.{_≡_, refl, subst, ap}
 use Prim.Native.Nat.{ℕ, _<_, _^_}
@@ -124,7 +125,8 @@ module _ {M : Type 1} (𝓤 : URA M) (H : Heap 𝓤) (A : Atoms 𝓤) (W : Given
         pass1 ! (init ! 8 refl (tt, tt)) $ pass1 ! (init ! 6 refl (tt, record { fits = gs .1 })) $ pass1 ! (init ! 4 refl (tt, record { fits = gn .1 })) $ pass0 ! $
         move ! (12 ∷ 13 ∷ 14 ∷ []) $ opens ! tt T.the-row {h = h} b o (λ vs. spelt ! T.the-row (Is T.the-row) (shows 𝓤 H A T.the-row) valsT (LL.tells T.the-type T′.the-laws) fullShare h vs b o $
         move ! (1 ∷ []) $ peeks ! T.the-row (Is T.the-row) (shows 𝓤 H A T.the-row) h (valsT h) (λ ih. move ! (1 ∷ 0 ∷ []) $
-        -- [the meter's cell; what a meter owns; the open borrow; obs; auth; room for _5; …; room for _4; …; _3; …; _2; …; _1; …; room for _0; …]
+        -- [the meter's cell; what a meter owns; the open borrow; obs; auth; room for _5; …; room
+        -- for _4; …; _3; …; _2; …; _1; …; room for _0; …]
         assigns ! (of-opd ! (load ! (from ! (hop ! (look ! 13 refl) (stop !))) (look-raw ! 0 refl))) (from ! (stop !)) (init ! 5 refl (LL.lawful T.the-type T′.the-laws 𝓤 H A W .typed h _ ih .0)) $
         use0 W (raw (Take 𝓤 H A at-mem run .pre to-take)) (goes-take ih (gs .1) (gn .1)) $
         calls-at ! fm (Take 𝓤 H A at-mem run) known-take to-take
@@ -134,7 +136,8 @@ module _ {M : Type 1} (𝓤 : URA M) (H : Heap 𝓤) (A : Atoms 𝓤) (W : Given
         peeks ! R.the-row (Is R.the-row) (shows 𝓤 H A R.the-row) r (v ∷ []) (λ ir.
         land ! (from ! (stop !)) (init ! 8 refl (LL.lawful R.the-type R′.the-laws 𝓤 H A W .typed r _ ir .0)) $
         rewrite ! 8 (λ (us : List Val). ‵ (fat fullShare R′.mir l₄ 0 (hd us))) (LL.tells R.the-type R′.the-laws r (v ∷ []) ir) refl $
-        -- [what the answer owns; the meter's cell; what the old meter owns; the open borrow; obs; auth; _5; …; _4; …; _3; …; _2; …; _1; …; room for _0; …]
+        -- [what the answer owns; the meter's cell; what the old meter owns; the open borrow; obs;
+        -- auth; _5; …; _4; …; _3; …; _2; …; _1; …; room for _0; …]
         assigns ! (of-opd ! (load ! (from ! (fld ! refl (stop !))) (look-in ! 8 (sub ! 1 refl (whole !))))) (from ! (hop ! (look ! 14 refl) (stop !))) (store-raw ! 1 refl (LL.lawful T.the-type T′.the-laws 𝓤 H A W .typed (r .meter) _ (meter-is r v ir) .0)) $
         assigns ! (of-opd ! (load ! (from ! (fld ! refl (stop !))) (look-in ! 8 (sub ! 0 refl (whole !))))) (from ! (stop !)) (init ! 16 refl (tt, record { fits = ir .1 .1 .0 .1 })) $
         drop ! $ move ! (1 ∷ []) $ drop ! $ owned ! T.the-row (Is T.the-row) (LL.makes T.the-type T′.the-plain 𝓤 H A) (r .meter) _ (meter-is r v ir) $ move ! (1 ∷ 0 ∷ []) $

@@ -1,4 +1,5 @@
--- Lemmas. How ten cells take one more number: what the private functions over the two arrays answer.
+-- Lemmas. How ten cells take one more number: what the private functions over the two arrays
+-- answer.
 use Prim.Native.Nat.{ℕ}
 use mathlib.Core.Bool.{cond}
 use mathlib.Core.List.{List, [], _∷_, _++_}

@@ -1,4 +1,5 @@
--- Lemmas. The forecast's quotient against the exact harmonic mean. Only `share-is` looks at how a share is rounded.
+-- Lemmas. The forecast's quotient against the exact harmonic mean. Only `share-is` looks at how a
+-- share is rounded.
 use Prim.Native.Nat.{ℕ, _+_, _*_, _-_, _/_, _^_, _≤_, _<_}
 use mathlib.Core.Path.{_≡_}
 use mathlib.Core.Bool.{Bool, true, false, not, _||_}
@@ -8,11 +9,11 @@ use native.Mathlib.Omega.{arith}
 use native.Mathlib.Nat.{mul-le-mul-left, mul-le-mul-right, mul-pos, le-of-mul-le-mul-right, lt-of-mul-lt-mul-right, div-mul-le-self, lt-div-mul-add, le-div-iff-mul-le, div-lt-iff-lt-mul, mul-div-right}
 use lib.ListN.{length}
 use lib.Dec.{T, T-not, leb, leb→le, nleb→lt, eqb→eq}
-use Rattle.basics.specs.lemmas.Division.{divided-up-enough, divided-up-near}
-use Rattle.basics.specs.Tests.{All, any, In, here, there}
-use Rattle.basics.specs.lemmas.Tests.{test, T-or-iff, eqb-iff}
+use Rattle.theory_basics.specs.lemmas.Division.{divided-up-enough, divided-up-near}
+use Rattle.theory_basics.specs.Tests.{All, any, In, here, there}
+use Rattle.theory_basics.specs.lemmas.Tests.{test, T-or-iff, eqb-iff}
 use Rattle.meter.specs.Forecast.{bytesOf, isZero, total, share, meanOf}
-use Rattle.meter.specs.Meter.{Sample, InRange}
+use Rattle.meter.specs.Meter.{Sample, SampleInRange}
 use Rattle.meter.specs.Harmonic.{product, others, NotAbove, WholePart}
 
 -- Bytes of which the mean is taken: in range and not 0.
@@ -89,7 +90,8 @@ whole-part-greatest bs h x w n =
     let l : x < h + 1 = lt-of-mul-lt-mul-right (others bs) (omega (arith, n, w .next-above)) in
     omega arith
 
--- A number that is not above the exact mean, while what is one less than such a number is not above it, is the whole part or one less.
+-- A number that is not above the exact mean, while what is one less than such a number is not above
+-- it, is the whole part or one less.
 pub one-less-at-most :
     (bs : List ℕ) (h f : ℕ) → WholePart bs h → NotAbove f bs → ((g : ℕ) → NotAbove (g + 1) bs → g ≤ f) → (f ≡ h) ⊎ (f + 1 ≡ h)
 one-less-at-most bs h f w n near =
@@ -169,7 +171,7 @@ zero-in [] t = absurd t
 zero-in (b ∷ bs) t =
     ⊎-elim (λ u. rw (eqb→eq b 0 u) here) (λ u. there (zero-in bs u)) (T-or-iff (isZero b) (any isZero bs) .0 t)
 
-pub counts : (l : List Sample) → All InRange l → T (not (any isZero (bytesOf l))) → All Counts (bytesOf l)
+pub counts : (l : List Sample) → All SampleInRange l → T (not (any isZero (bytesOf l))) → All Counts (bytesOf l)
 counts [] a t = tt
 counts (x ∷ l) a t =
     let u = not-or (isZero (x .bytes)) (any isZero (bytesOf l)) t in

@@ -1,4 +1,5 @@
--- Lemmas. The tests of the meter and what they say; samples added one by one; what is stored reads back.
+-- Lemmas. The tests of the meter and what they say; samples added one by one; what is stored reads
+-- back.
 use Prim.Native.Nat.{ℕ, zero, suc, _+_, _-_, _≤_, _<_}
 use mathlib.Core.Path.{_≡_, refl, _∙_}
 use mathlib.Core.Bool.{Bool, true, false, not, _&&_}
@@ -8,18 +9,18 @@ use native.Mathlib.Omega.{arith}
 use lib.ListN.{length, getD, drop, length-drop, length-map, List·getD-append, List·getD-map}
 use lib.Seq.{ext-getD}
 use lib.Dec.{T, leb, ltb}
-use Rattle.basics.specs.Tests.{All, all}
-use Rattle.basics.specs.lemmas.Tests.{all-iff, leb-iff, ltb-iff, tests, last, T-true, test}
-use Rattle.basics.specs.Lists.{upTo}
-use Rattle.basics.specs.lemmas.Lists.{length-upTo, getD-upTo}
-use Rattle.basics.specs.Refusals.{unless, _orElse_}
-use Rattle.basics.specs.lemmas.Refusals.{and-as}
+use Rattle.theory_basics.specs.Tests.{All, all}
+use Rattle.theory_basics.specs.lemmas.Tests.{all-iff, leb-iff, ltb-iff, tests, last, T-true, test}
+use Rattle.theory_basics.specs.Lists.{upTo}
+use Rattle.theory_basics.specs.lemmas.Lists.{length-upTo, getD-upTo}
+use Rattle.theory_basics.specs.Refusals.{unless, _orElse_}
+use Rattle.theory_basics.specs.lemmas.Refusals.{and-as}
 use Rattle.meter.specs.declared.Meter.{Meter}
-use Rattle.meter.specs.Meter.{Sample, sample, samplesOf, storing, InRange, inRange, Rising, rising, lastSlot, InOrder, inOrder, lastTen}
+use Rattle.meter.specs.Meter.{Sample, sample, samplesOf, storing, SampleInRange, inRange, Rising, rising, lastSampleSlot, InOrder, inOrder, lastTen}
 
 -- ---- tests
 
-pub in-range-iff : (x : Sample) → T (inRange x) ↔ InRange x
+pub in-range-iff : (x : Sample) → T (inRange x) ↔ SampleInRange x
 in-range-iff x = (
   λ t. let u = simp tests at t in record { slot-low = u .0; slot-high = u .1 .0; bytes-high = u .1 .1 },
   λ w. simp tests (w .slot-low, (w .slot-high, w .bytes-high)),
@@ -32,7 +33,7 @@ rising-iff s (x ∷ l) = and-as (ltb s (x .slot)) (rising (x .slot) l) (ltb-iff 
 pub in-order-iff : (l : List Sample) → T (inOrder l) ↔ InOrder l
 in-order-iff l =
     let p = and-as (leb (length l) 10) (all inRange l && rising 0 l) (leb-iff (length l) 10)
-    (and-as (all inRange l) (rising 0 l) (all-iff inRange InRange in-range-iff l) (rising-iff 0 l)) in (
+    (and-as (all inRange l) (rising 0 l) (all-iff inRange SampleInRange in-range-iff l) (rising-iff 0 l)) in (
       λ t. let u = p .0 t in record { few = u .0; each = u .1 .0; rises = u .1 .1 },
       λ o. p .1 (o .few, (o .each, o .rises)),
     )
@@ -65,7 +66,7 @@ then-after n false b c h p q r = (λ e. absurd (omega arith), λ x. absurd (p .1
 
 -- ---- one more sample
 
-pub rising-snoc : (s : ℕ) (l : List Sample) (x : Sample) → Rising s (l ++ (x ∷ [])) ↔ (Rising s l × (lastSlot s l < x .slot))
+pub rising-snoc : (s : ℕ) (l : List Sample) (x : Sample) → Rising s (l ++ (x ∷ [])) ↔ (Rising s l × (lastSampleSlot s l < x .slot))
 rising-snoc s [] x = (λ r. (tt, r .0), λ r. (r .1, tt))
 rising-snoc s (y ∷ l) x =
     let i = rising-snoc (y .slot) l x in (
@@ -82,18 +83,18 @@ all-snoc P (y ∷ l) x =
     )
 
 -- The slot of the last sample is that of the newest.
-pub last-slot-snoc : (s : ℕ) (l : List Sample) (x : Sample) → lastSlot s (l ++ (x ∷ [])) ≡ x .slot
+pub last-slot-snoc : (s : ℕ) (l : List Sample) (x : Sample) → lastSampleSlot s (l ++ (x ∷ [])) ≡ x .slot
 last-slot-snoc s [] x = refl
 last-slot-snoc s (y ∷ l) x = last-slot-snoc (y .slot) l x
 
 -- In range and rising, however many.
 pub record Fine (l : List Sample) : Type 0 where
-  pub each : All InRange l
+  pub each : All SampleInRange l
   pub rises : Rising 0 l
 
-pub fine-snoc : (l : List Sample) (x : Sample) → Fine (l ++ (x ∷ [])) ↔ (Fine l × (InRange x × (lastSlot 0 l < x .slot)))
+pub fine-snoc : (l : List Sample) (x : Sample) → Fine (l ++ (x ∷ [])) ↔ (Fine l × (SampleInRange x × (lastSampleSlot 0 l < x .slot)))
 fine-snoc l x =
-    let a = all-snoc InRange l x in
+    let a = all-snoc SampleInRange l x in
     let r = rising-snoc 0 l x in (
       λ f.
           let u = a .0 (f .each) in
@@ -128,7 +129,7 @@ all-drop P (suc n) (x ∷ l) a = all-drop P n l (a .1)
 pub last-ten-in-order : (l : List Sample) → Fine l → InOrder (lastTen l)
 last-ten-in-order l f = record {
   few = omega (arith, length-drop (length l - 10) l);
-  each = all-drop InRange (length l - 10) l (f .each);
+  each = all-drop SampleInRange (length l - 10) l (f .each);
   rises = rising-drop 0 (length l - 10) l (f .rises);
 }
 

@@ -9,7 +9,7 @@ use native.Mathlib.Nat.{mul-le-mul-right, lt-of-mul-lt-mul-right, le-div-iff-mul
 use lib.ListN.{length, replicate, length-replicate}
 use lib.Pow.{pow-add}
 use borrow.Author.Tests.{ne-eqb}
-use Rattle.basics.specs.Tests.{All, any}
+use Rattle.theory_basics.specs.Tests.{All, any}
 use Rattle.meter.specs.Forecast.{isZero, total, share, meanOf, forecastOf}
 use Rattle.meter.specs.Harmonic.{product, others, WholePart}
 use Rattle.meter.specs.lemmas.Mean.{Counts, share-is, share-wide, others-pos, mean-not-above, mean-near, one-less-at-most}

@@ -1,5 +1,5 @@
--- 9 by the length; then the records taken so far are the file's own, each without a fault (`Scanned`), and each turn goes further. Assumes
--- nothing.
+-- 9 by the length; then the records taken so far are the file's own, each without a fault
+-- (`Scanned`), and each turn goes further. Assumes nothing.
 use Rattle.planfile.proofs.file_rows.Statement.{statement}
 use Rattle.planfile.proofs.file_rows.Tie as tie
 use mathlib.Core.Path.{ap, _∙_}
@@ -9,7 +9,7 @@ use borrow.Author.Needs.{needs}
 use lib.ListN.{length}
 use denote.Ref.{now}
 use Rattle.planfile.specs.lemmas.Scan.{refusalOf, Scanned, scanned-start, too-long}
-use Rattle.planfile.proofs.Turns.{none-read, kp-more, kp-ends, ft-more, en-after, en-lacking, en-rows}
+use Rattle.planfile.proofs.Steps.{none-read, kp-more, kp-ends, ft-more, en-after, en-lacking, en-rows}
 
 abbrev Inv-loop : tie.InvT-loop
 Inv-loop count file at₀ kept₀ rows₀ at kept rows = Scanned count file at kept rows

@@ -5,7 +5,7 @@ use Rattle.planfile.proofs.read_plan.Tie as tie
 use mathlib.Core.Path.{_∙_}
 use native.Mathlib.Omega.{arith}
 use denote.Ref.{now}
-use Rattle.job.specs.Handed.{handed}
+use Rattle.job.specs.Input.{jobInput}
 use Rattle.planfile.specs.Calls.{slicesOf}
 use Rattle.planfile.proofs.Reader.{job-refused, file-refused, may-copy, short, whole, same-slices}
 
@@ -15,7 +15,7 @@ refusal-requires c κs = search needs
 returns : tie.Need-returns
 returns c =
     let a = c .before .before .before .before .before .before .before .before .before .before .before .before .before .args in
-    let h = handed (a .p) (now (a .sizes)) (now (a .size-chunks)) (now (a .size-layers)) (now (a .size-bytes)) (now (a .forecast)) in
+    let h = jobInput (a .p) (now (a .sizes)) (now (a .size-chunks)) (now (a .size-layers)) (now (a .size-bytes)) (now (a .forecast)) in
     let lent = slicesOf (now (a .marks)) (now (a .slots)) (now (a .chunks)) (now (a .layers)) (now (a .bytes)) in
     job-refused h (now (a .file)) lent (c .before .refusal .result) (c .before .refusal .ensures) (c .if1 .taken)
 
@@ -31,7 +31,7 @@ enum-told c = search needs
 returns-2 : tie.Need-returns-2
 returns-2 c =
     let a = c .before .before .before .before .before .before .before .before .before .before .before .before .before .before .before .before .args in
-    let h = handed (a .p) (now (a .sizes)) (now (a .size-chunks)) (now (a .size-layers)) (now (a .size-bytes)) (now (a .forecast)) in
+    let h = jobInput (a .p) (now (a .sizes)) (now (a .size-chunks)) (now (a .size-layers)) (now (a .size-bytes)) (now (a .forecast)) in
     let lent = slicesOf (now (a .marks)) (now (a .slots)) (now (a .chunks)) (now (a .layers)) (now (a .bytes)) in
     file-refused h (now (a .file)) lent (c .before .before .before .before .refusal .result) (c .before .before .before .before .refusal .ensures) (c .before .before .before .if1 .left) (c .before .before .file-rows .result) (c .before .before .file-rows .ensures) (c .enum-told .given .0 .0) (c .enum-told .given .1)
 
@@ -44,7 +44,7 @@ has-room-requires c κs = search needs
 copy-marks-requires : tie.Need-copy-marks-requires
 copy-marks-requires c κs =
     let a = c .before .before .before .before .before .before .before .before .before .before .before .before .before .before .before .before .before .before .before .before .before .args in
-    let h = handed (a .p) (now (a .sizes)) (now (a .size-chunks)) (now (a .size-layers)) (now (a .size-bytes)) (now (a .forecast)) in
+    let h = jobInput (a .p) (now (a .sizes)) (now (a .size-chunks)) (now (a .size-layers)) (now (a .size-bytes)) (now (a .forecast)) in
     let lent = slicesOf (now (a .marks)) (now (a .slots)) (now (a .chunks)) (now (a .layers)) (now (a .bytes)) in
     let may = may-copy h (now (a .file)) lent (c .before .before .before .before .before .before .before .before .before .refusal .result) (c .before .before .before .before .before .before .before .before .before .refusal .ensures) (c .before .before .before .before .before .before .before .before .if1 .left) (c .before .before .before .before .before .before .before .file-rows .result) (c .before .before .before .before .before .before .before .file-rows .ensures) (c .before .before .before .before .before .read .given .0 .0) (c .before .before .before .before .before .read .given .1) (c .before .before .has-room .result) (c .before .before .has-room .ensures) (c .before .if2 .taken) in
     (may .for-marks, omega (arith, may .inside))
@@ -52,7 +52,7 @@ copy-marks-requires c κs =
 copy-rows-requires : tie.Need-copy-rows-requires
 copy-rows-requires c κs =
     let a = c .before .before .before .before .before .before .before .before .before .before .before .before .before .before .before .before .before .before .before .before .before .before .before .before .before .before .before .before .args in
-    let h = handed (a .p) (now (a .sizes)) (now (a .size-chunks)) (now (a .size-layers)) (now (a .size-bytes)) (now (a .forecast)) in
+    let h = jobInput (a .p) (now (a .sizes)) (now (a .size-chunks)) (now (a .size-layers)) (now (a .size-bytes)) (now (a .forecast)) in
     let lent = slicesOf (now (a .marks)) (now (a .slots)) (now (a .chunks)) (now (a .layers)) (now (a .bytes)) in
     let may = may-copy h (now (a .file)) lent (c .before .before .before .before .before .before .before .before .before .before .before .before .before .before .before .before .refusal .result) (c .before .before .before .before .before .before .before .before .before .before .before .before .before .before .before .before .refusal .ensures) (c .before .before .before .before .before .before .before .before .before .before .before .before .before .before .before .if1 .left) (c .before .before .before .before .before .before .before .before .before .before .before .before .before .before .file-rows .result) (c .before .before .before .before .before .before .before .before .before .before .before .before .before .before .file-rows .ensures) (c .before .before .before .before .before .before .before .before .before .before .before .before .read .given .0 .0) (c .before .before .before .before .before .before .before .before .before .before .before .before .read .given .1) (c .before .before .before .before .before .before .before .before .before .has-room .result) (c .before .before .before .before .before .before .before .before .before .has-room .ensures) (c .before .before .before .before .before .before .before .before .if2 .taken) in
     (may .for-slots, may .for-chunks, may .for-layers, may .for-bytes, may .inside)
@@ -75,7 +75,7 @@ same-length-5 c = search needs
 returns-3 : tie.Need-returns-3
 returns-3 c =
     let a = c .before .before .before .before .before .before .before .before .before .before .before .before .before .before .before .before .before .before .before .before .before .before .before .before .before .before .before .before .before .before .before .before .before .before .before .before .before .args in
-    let h = handed (a .p) (now (a .sizes)) (now (a .size-chunks)) (now (a .size-layers)) (now (a .size-bytes)) (now (a .forecast)) in
+    let h = jobInput (a .p) (now (a .sizes)) (now (a .size-chunks)) (now (a .size-layers)) (now (a .size-bytes)) (now (a .forecast)) in
     let lent = slicesOf (now (a .marks)) (now (a .slots)) (now (a .chunks)) (now (a .layers)) (now (a .bytes)) in
     let rows = c .before .before .before .before .before .before .before .before .copy-rows .ensures in
     whole h (now (a .file)) lent (c .before .before .before .before .before .before .before .before .before .before .before .before .before .before .before .before .before .before .before .before .before .before .before .before .before .refusal .result) (c .before .before .before .before .before .before .before .before .before .before .before .before .before .before .before .before .before .before .before .before .before .before .before .before .before .refusal .ensures) (c .before .before .before .before .before .before .before .before .before .before .before .before .before .before .before .before .before .before .before .before .before .before .before .before .if1 .left) (c .before .before .before .before .before .before .before .before .before .before .before .before .before .before .before .before .before .before .before .before .before .before .before .file-rows .result) (c .before .before .before .before .before .before .before .before .before .before .before .before .before .before .before .before .before .before .before .before .before .before .before .file-rows .ensures) (c .before .before .before .before .before .before .before .before .before .before .before .before .before .before .before .before .before .before .before .before .before .read .given .0 .0) (c .before .before .before .before .before .before .before .before .before .before .before .before .before .before .before .before .before .before .before .before .before .read .given .1) (c .before .before .before .before .before .before .before .before .before .before .before .before .before .before .before .before .before .before .has-room .result) (c .before .before .before .before .before .before .before .before .before .before .before .before .before .before .before .before .before .before .has-room .ensures) (c .before .before .before .before .before .before .before .before .before .before .before .before .before .before .before .before .before .if2 .taken) _ (same-slices (c .before .before .before .before .before .before .before .before .before .before .before .before .before .before .before .copy-marks .ensures) (rows .0) (rows .1 .0) (rows .1 .1 .0) (rows .1 .1 .1))
@@ -83,7 +83,7 @@ returns-3 c =
 returns-4 : tie.Need-returns-4
 returns-4 c =
     let a = c .before .before .before .before .before .before .before .before .before .before .before .before .before .before .before .before .before .before .before .before .args in
-    let h = handed (a .p) (now (a .sizes)) (now (a .size-chunks)) (now (a .size-layers)) (now (a .size-bytes)) (now (a .forecast)) in
+    let h = jobInput (a .p) (now (a .sizes)) (now (a .size-chunks)) (now (a .size-layers)) (now (a .size-bytes)) (now (a .forecast)) in
     let lent = slicesOf (now (a .marks)) (now (a .slots)) (now (a .chunks)) (now (a .layers)) (now (a .bytes)) in
     short h (now (a .file)) lent (c .before .before .before .before .before .before .before .before .refusal .result) (c .before .before .before .before .before .before .before .before .refusal .ensures) (c .before .before .before .before .before .before .before .if1 .left) (c .before .before .before .before .before .before .file-rows .result) (c .before .before .before .before .before .before .file-rows .ensures) (c .before .before .before .before .read .given .0 .0) (c .before .before .before .before .read .given .1) (c .before .has-room .result) (c .before .has-room .ensures) (c .if2 .left)
 

@@ -1,4 +1,5 @@
--- Lemmas. The records of a plan, written and read back, have no fault and say the plan. Assumes nothing.
+-- Lemmas. The records of a plan, written and read back, have no fault and say the plan. Assumes
+-- nothing.
 use Prim.Native.Nat.{ℕ, zero, suc, _+_, _≤_, _<_}
 use mathlib.Core.Path.{_≡_, refl, sym, ap, _∙_}
 use mathlib.Core.Bool.{Bool, true, false}
@@ -9,21 +10,21 @@ use lib.ListN.{length, getD}
 use lib.Seq.{ext-getD}
 use lib.Dec.{T, leb, eqb, leb→le, nleb→lt}
 use borrow.Author.Tests.{eq-eqb, le-leb, lt-leb}
-use Rattle.basics.specs.Tests.{All}
-use Rattle.basics.specs.lemmas.Tests.{all-append, test, T-true, not-T-false}
-use Rattle.basics.specs.Lists.{upTo}
-use Rattle.basics.specs.lemmas.Lists.{length-upTo, getD-upTo, upTo-cong}
-use Rattle.basics.specs.Refusals.{unless, _orElse_}
-use Rattle.basics.specs.lemmas.Refusals.{unless-iff, orElse-iff}
+use Rattle.theory_basics.specs.Tests.{All}
+use Rattle.theory_basics.specs.lemmas.Tests.{all-append, test, T-true, not-T-false}
+use Rattle.theory_basics.specs.Lists.{upTo}
+use Rattle.theory_basics.specs.lemmas.Lists.{length-upTo, getD-upTo, upTo-cong}
+use Rattle.theory_basics.specs.Refusals.{unless, _orElse_}
+use Rattle.theory_basics.specs.lemmas.Refusals.{unless-iff, orElse-iff}
 use Rattle.records.specs.File.{Format, got, split, firstFault, fileRefusal, encodeAll}
 use Rattle.records.specs.lemmas.Written.{h-back, w-back, ReadsBack, Plain, split-written, refusal-written}
 use Rattle.job.specs.Job.{chunks}
-use Rattle.job.specs.Handed.{HandedJob, jobIn, jobRefusal}
+use Rattle.job.specs.Input.{JobInput, jobIn, jobRefusal}
 use Rattle.fetch.specs.Rows.{Row, rowAt}
-use Rattle.fetch.specs.Handed.{Whole, handedRefusal, handed-iff}
+use Rattle.fetch.specs.Input.{Whole, listRefusal, whole-iff}
 use Rattle.planfile.specs.Records.{encode, front}
 use Rattle.planfile.specs.PlanFile.{marksIn, rowsIn, fault, lacking, format, Plan, RowInWidth, InWidth, planIn, kps, ftOf, recordsOf, fileOf}
-use Rattle.planfile.specs.Calls.{Slices, room, readRefusal, planOf, writeRest, writeRefusal}
+use Rattle.planfile.specs.Calls.{ListSlices, room, planReadRefusal, planOf, writeRest, writeRefusal}
 use Rattle.planfile.specs.lemmas.Scan.{marks-append, rows-append}
 use Rattle.planfile.specs.lemmas.Writing.{bytes-all, all-upTo, map-upTo, length-file}
 use Rattle.planfile.specs.declared.Record.{Record}
@@ -161,36 +162,36 @@ module _ (count : ℕ) (plan : Plan) (i : InWidth plan) (e : length (plan .marks
 -- ---- the calls
 
 -- What a writer that does not refuse has found.
-pub record Accepts (h : HandedJob) (s : Slices) : Type 0 where
+pub record Accepts (h : JobInput) (s : ListSlices) : Type 0 where
   pub job-in : jobRefusal h ≡ 0
   pub whole : Whole (chunks (jobIn h)) (s .marks) (s .slots) (s .chunks) (s .layers) (s .bytes)
   pub fits : length (fileOf (planOf s)) ≤ 65536
 
-pub accepts : (h : HandedJob) (s : Slices) (out : List ℕ) → writeRefusal h s out ≡ 0 → Accepts h s
+pub accepts : (h : JobInput) (s : ListSlices) (out : List ℕ) → writeRefusal h s out ≡ 0 → Accepts h s
 unfolding writeRefusal writeRest
 accepts h s out e =
-    let handed = handedRefusal (chunks (jobIn h)) (s .marks) (s .slots) (s .chunks) (s .layers) (s .bytes) in
+    let list = listRefusal (chunks (jobIn h)) (s .marks) (s .slots) (s .chunks) (s .layers) (s .bytes) in
     let long = length (fileOf (planOf s)) in
     let nine = unless 9 (leb long 65536) in
     let eleven = unless 11 (leb long (length out)) in
-    let a = orElse-iff (jobRefusal h) (handed orElse nine orElse eleven) .0 e in
-    let b = orElse-iff handed (nine orElse eleven) .0 (a .1) in
+    let a = orElse-iff (jobRefusal h) (list orElse nine orElse eleven) .0 e in
+    let b = orElse-iff list (nine orElse eleven) .0 (a .1) in
     record {
       job-in = a .0;
-      whole = handed-iff (chunks (jobIn h)) (s .marks) (s .slots) (s .chunks) (s .layers) (s .bytes) .0 (b .0);
+      whole = whole-iff (chunks (jobIn h)) (s .marks) (s .slots) (s .chunks) (s .layers) (s .bytes) .0 (b .0);
       fits = leb→le long 65536 (unless-iff 9 (leb long 65536) (omega arith) .0 (orElse-iff nine eleven .0 (b .1) .0));
     }
 
 -- The fields of the rows that four slices of one length hand over are those slices.
-pub field : (f : Row → ℕ) (s : Slices) (l : List ℕ) → ((k : ℕ) → f (rowAt (s .slots) (s .chunks) (s .layers) (s .bytes) k) ≡ getD l k 0) → length (s .slots) ≡ length l → map f (planOf s .rows) ≡ l
+pub field : (f : Row → ℕ) (s : ListSlices) (l : List ℕ) → ((k : ℕ) → f (rowAt (s .slots) (s .chunks) (s .layers) (s .bytes) k) ≡ getD l k 0) → length (s .slots) ≡ length l → map f (planOf s .rows) ≡ l
 field f s l h e =
     map-upTo f (rowAt (s .slots) (s .chunks) (s .layers) (s .bytes)) (length (s .slots))
     ∙ upTo-cong (λ k. f (rowAt (s .slots) (s .chunks) (s .layers) (s .bytes) k)) (λ k. getD l k 0) (length (s .slots)) (λ k u. h k)
     ∙ rw e (upTo-getD l)
 
 -- A file that is accepted, says that plan and has room isn't refused.
-pub not-short : (h : HandedJob) (s lent : Slices) → jobRefusal h ≡ 0 → fileRefusal (format (chunks (jobIn h))) (fileOf (planOf s)) ≡ 0 → planIn (chunks (jobIn h)) (fileOf (planOf s)) ≡ planOf s → length (planOf s .rows) ≡ length (s .slots) → T (room lent (chunks (jobIn h)) (length (s .slots))) → readRefusal h (fileOf (planOf s)) lent ≡ 0
-unfolding readRefusal
+pub not-short : (h : JobInput) (s lent : ListSlices) → jobRefusal h ≡ 0 → fileRefusal (format (chunks (jobIn h))) (fileOf (planOf s)) ≡ 0 → planIn (chunks (jobIn h)) (fileOf (planOf s)) ≡ planOf s → length (planOf s .rows) ≡ length (s .slots) → T (room lent (chunks (jobIn h)) (length (s .slots))) → planReadRefusal h (fileOf (planOf s)) lent ≡ 0
+unfolding planReadRefusal
 not-short h s lent z f p n t = rw (z, f, p, n, T-true (room lent (chunks (jobIn h)) (length (s .slots))) t)
 
 -- 9 by the size alone, whatever the room.

@@ -1,13 +1,14 @@
--- Lemmas. A file has at most as many rows as its bytes have room for: 11 bytes an FT. Assumes nothing.
+-- Lemmas. A file has at most as many rows as its bytes have room for: 11 bytes an FT. Assumes
+-- nothing.
 use Prim.Native.Nat.{ℕ, zero, suc, _+_, _*_, _≤_}
 use mathlib.Core.Path.{_≡_, refl}
 use mathlib.Core.List.{List}
 use native.Mathlib.Omega.{arith}
 use lib.Dec.{leb, leb→le}
 use lib.ListN.{length, drop, length-drop}
-use Rattle.basics.specs.Refusals.{unless, _orElse_}
-use Rattle.basics.specs.lemmas.Refusals.{orElse-iff, unless-as}
-use Rattle.basics.specs.lemmas.Tests.{by-cond, leb-iff}
+use Rattle.theory_basics.specs.Refusals.{unless, _orElse_}
+use Rattle.theory_basics.specs.lemmas.Refusals.{orElse-iff, unless-as}
+use Rattle.theory_basics.specs.lemmas.Tests.{by-cond, leb-iff}
 use Rattle.records.specs.Fields.{marked}
 use Rattle.records.specs.File.{Front, Split, fileRefusal, got, none, recordsRefusal, splitBy, splitUpTo}
 use Rattle.planfile.specs.PlanFile.{format, planIn, rowsIn}

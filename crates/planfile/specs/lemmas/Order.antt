@@ -1,4 +1,5 @@
--- Lemmas. A file whose records end at EN is accepted exactly if its KPs are in turn, before every FT, and complete. Assumes nothing.
+-- Lemmas. A file whose records end at EN is accepted exactly if its KPs are in turn, before every
+-- FT, and complete. Assumes nothing.
 use Prim.Native.Nat.{ℕ, zero, suc, _+_, _≤_}
 use mathlib.Core.Path.{_≡_, refl, sym, ap, _∙_}
 use mathlib.Core.Bool.{Bool, true, false, _&&_}
@@ -9,11 +10,11 @@ use lib.ListN.{length, getD, drop, length-append, List·getD-append}
 use lib.Seq.{getD-at}
 use lib.Dec.{leb, eqb, eqb→eq}
 use borrow.Author.Tests.{le-leb}
-use Rattle.basics.specs.Tests.{All}
-use Rattle.basics.specs.lemmas.Tests.{tests}
-use Rattle.basics.specs.lemmas.Lists.{upTo-cong}
-use Rattle.basics.specs.Refusals.{unless, _orElse_}
-use Rattle.basics.specs.lemmas.Refusals.{unless-iff, orElse-iff}
+use Rattle.theory_basics.specs.Tests.{All}
+use Rattle.theory_basics.specs.lemmas.Tests.{tests}
+use Rattle.theory_basics.specs.lemmas.Lists.{upTo-cong}
+use Rattle.theory_basics.specs.Refusals.{unless, _orElse_}
+use Rattle.theory_basics.specs.lemmas.Refusals.{unless-iff, orElse-iff}
 use Rattle.records.specs.File.{Front, got, none, ended, Split, splitBy, splitUpTo, split, firstFault, fileRefusal}
 use Rattle.fetch.specs.Rows.{Row}
 use Rattle.planfile.specs.Records.{front, isEnd}

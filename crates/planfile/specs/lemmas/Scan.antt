@@ -1,5 +1,5 @@
--- Lemmas. Going through a plan file a record a turn: how many KPs and FTs are taken, and where each stands in an accepted file.
--- Assumes nothing.
+-- Lemmas. Going through a plan file a record a turn: how many KPs and FTs are taken, and where each
+-- stands in an accepted file. Assumes nothing.
 use Prim.Native.Nat.{ℕ, suc, _+_, _*_, _-_, _≤_, _<_}
 use mathlib.Core.Path.{_≡_, refl, sym, ap, subst, _∙_}
 use mathlib.Core.Bool.{Bool, not, cond, _&&_}
@@ -10,11 +10,11 @@ use lib.ListN.{length, getD, set, drop, length-drop, length-append, length-set}
 use lib.Seq.{getD-drop, drop-cons, set-at}
 use lib.Dec.{T, leb, eqb, leb→le, eqb→eq}
 use borrow.Author.Tests.{ne-eqb, le-leb, lt-leb}
-use Rattle.basics.specs.lemmas.Tests.{by-cond, T-true, not-T-false, same-test, eqb-iff, tests}
-use Rattle.basics.specs.Lists.{upTo}
-use Rattle.basics.specs.lemmas.Lists.{length-upTo}
-use Rattle.basics.specs.Refusals.{unless, _orElse_}
-use Rattle.basics.specs.lemmas.Refusals.{unless-iff, orElse-iff}
+use Rattle.theory_basics.specs.lemmas.Tests.{by-cond, T-true, not-T-false, same-test, eqb-iff, tests}
+use Rattle.theory_basics.specs.Lists.{upTo}
+use Rattle.theory_basics.specs.lemmas.Lists.{length-upTo}
+use Rattle.theory_basics.specs.Refusals.{unless, _orElse_}
+use Rattle.theory_basics.specs.lemmas.Refusals.{unless-iff, orElse-iff}
 use Rattle.records.specs.Fields.{hAt, wAt, marked}
 use Rattle.records.specs.File.{Front, got, none, recordsRefusal, fileRefusal}
 use Rattle.records.specs.lemmas.Reading.{Reads, reads-start, reads-none, reads-fault, reads-more, reads-end}
@@ -43,7 +43,8 @@ module _ (s : List ℕ) (at : ℕ) where
 
 -- ---- what stands in front
 
--- What is known of a record in front: it is as long as its kind, its bytes are there, and its fields are theirs.
+-- What is known of a record in front: it is as long as its kind, its bytes are there, and its
+-- fields are theirs.
 abbrev Stands : List ℕ → Front Record → Type 0
 Stands s (none n) = 0 < n
 Stands s (got (Kp chunk marks) n) = (n ≡ 5) × (n ≤ length s) × (marks ≡ getD s 4 0)
@@ -112,7 +113,7 @@ pub record Laid (count : ℕ) (file : List ℕ) : Type 0 where
   pub inside : 5 * count + 11 * length (planIn count file .rows) ≤ length file
 
 -- A file of that refusal gets that answer, and is laid out so if it is accepted.
-pub record Done (count : ℕ) (file : List ℕ) (refused : ℕ) (a : PlanRead) : Type 0 where
+pub record FileRowsPost (count : ℕ) (file : List ℕ) (refused : ℕ) (a : PlanRead) : Type 0 where
   pub answer : a ≡ answerOf refused (length (planIn count file .rows))
   pub laid : refused ≡ 0 → Laid count file
 
@@ -147,10 +148,10 @@ scanned-start count file =
 -- What holds after a turn.
 abbrev Next : ℕ → List ℕ → ℕ → Turn → Type 0
 Next count file at (More next kept rows) = Scanned count file next kept rows × (at < next) × (next ≤ length file)
-Next count file at (End a) = Done count file (recordsRefusal (format count) file) a
+Next count file at (End a) = FileRowsPost count file (recordsRefusal (format count) file) a
 
 -- A file that is refused.
-refused : (count : ℕ) (file : List ℕ) (r n : ℕ) → 0 < n → r ≡ n → Done count file r (Refused n)
+refused : (count : ℕ) (file : List ℕ) (r n : ℕ) → 0 < n → r ≡ n → FileRowsPost count file r (Refused n)
 refused count file r n p e = record { answer = rw (e, ne-eqb n 0 (λ z. omega arith)); laid = λ z. absurd (omega arith) }
 
 module _ (count : ℕ) (file : List ℕ) (at kept rows : ℕ) (i : Scanned count file at kept rows) where
@@ -235,17 +236,17 @@ module _ (count : ℕ) (file : List ℕ) (at kept rows : ℕ) (i : Scanned count
   pub scanned-more : (next k n : ℕ) → turnOf count file at kept rows ≡ More next k n → Scanned count file next k n × (at < next) × (next ≤ length file)
   scanned-more next k n e = subst (Next count file at) e turned
 
-  pub scanned-end : (a : PlanRead) → turnOf count file at kept rows ≡ End a → Done count file (recordsRefusal (format count) file) a
+  pub scanned-end : (a : PlanRead) → turnOf count file at kept rows ≡ End a → FileRowsPost count file (recordsRefusal (format count) file) a
   scanned-end a e = subst (Next count file at) e turned
 
 -- ---- 9 first
 
 module _ (count : ℕ) (file : List ℕ) where
-  pub too-long : 65536 < length file → Done count file (fileRefusal (format count) file) (Refused 9)
+  pub too-long : 65536 < length file → FileRowsPost count file (fileRefusal (format count) file) (Refused 9)
   unfolding fileRefusal
   too-long l = refused count file (fileRefusal (format count) file) 9 (omega arith) (rw (lt-leb (length file) 65536 l))
 
-  pub not-long : length file ≤ 65536 → (a : PlanRead) → Done count file (recordsRefusal (format count) file) a → Done count file (fileRefusal (format count) file) a
+  pub not-long : length file ≤ 65536 → (a : PlanRead) → FileRowsPost count file (recordsRefusal (format count) file) a → FileRowsPost count file (fileRefusal (format count) file) a
   unfolding fileRefusal
   not-long l a d = rw (le-leb (length file) 65536 l) d
 

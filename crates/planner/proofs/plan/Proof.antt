@@ -1,8 +1,9 @@
--- `plan` meets its contract: the refusals in their order, then the plan, with what document 01 says of it.
+-- `plan` meets its contract: the refusals in their order, then the plan, with what document 01 says
+-- of it.
 use borrow.Author.Needs.{needs}
 use Rattle.planner.proofs.plan.Statement.{statement}
 use Rattle.planner.proofs.plan.Tie as tie
-use Rattle.planner.proofs.Handing.{none, refused-input, short-marks, decided-by-lists, pictures-of-lists, best-of-lists, steady-bases}
+use Rattle.planner.proofs.Outputs.{none, refused-input, short-marks, decided-by-lists, pictures-of-lists, best-of-lists, steady-bases}
 
 refusal-requires : tie.Need-refusal-requires
 refusal-requires c κs = search needs
@@ -22,8 +23,8 @@ refused-requires-2 c κs = search needs
 returns-2 : tie.Need-returns-2
 returns-2 c = (short-marks _ _ _ _ _ _ (none (c .before .before .before .before .refusal .ensures) (c .before .before .before .if1 .left)) (c .before .if2 .taken) _ (c .refused2 .ensures), (decided-by-lists _, (pictures-of-lists _, (best-of-lists _, steady-bases _))))
 
-lay-plan-requires : tie.Need-lay-plan-requires
-lay-plan-requires c κs = (none (c .before .before .before .before .before .before .before .before .refusal .ensures) (c .before .before .before .before .before .before .before .if1 .left), c .before .before .before .before .before .if2 .left)
+write-decided-requires : tie.Need-write-decided-requires
+write-decided-requires c κs = (none (c .before .before .before .before .before .before .before .before .refusal .ensures) (c .before .before .before .before .before .before .before .if1 .left), c .before .before .before .before .before .if2 .left)
 
 same-length : tie.Need-same-length
 same-length c = search needs
@@ -41,7 +42,7 @@ same-length-5 : tie.Need-same-length-5
 same-length-5 c = search needs
 
 returns-3 : tie.Need-returns-3
-returns-3 c = (c .before .before .before .before .before .before .before .before .before .before .lay-plan .ensures, (decided-by-lists _, (pictures-of-lists _, (best-of-lists _, steady-bases _))))
+returns-3 c = (c .before .before .before .before .before .before .before .before .before .before .write-decided .ensures, (decided-by-lists _, (pictures-of-lists _, (best-of-lists _, steady-bases _))))
 
 pub plan-spec : {M : Type 1} → statement M
 plan-spec =
@@ -53,7 +54,7 @@ plan-spec =
     cast-if2
     refused-requires-2
     returns-2
-    lay-plan-requires
+    write-decided-requires
     same-length
     same-length-2
     same-length-3

@@ -1,5 +1,5 @@
--- Lemmas. A file that splits into records, nothing after EN, is the bytes of those records: the other way round from `Written`. Assumes
--- nothing.
+-- Lemmas. A file that splits into records, nothing after EN, is the bytes of those records: the
+-- other way round from `Written`. Assumes nothing.
 use Prim.Native.Nat.{ℕ, zero, suc, _+_, _*_, _-_, _/_, _%_, _≤_, _<_}
 use mathlib.Core.Path.{_≡_, refl, sym, ap, _∙_}
 use mathlib.Core.Bool.{true, false}
@@ -9,8 +9,8 @@ use native.Mathlib.Numerals.{add-one}
 use lib.ListN.{length, getD, drop, drop-of-length-le}
 use lib.Seq.{drop-cons}
 use lib.Dec.{T, eqb, eqb→eq}
-use Rattle.basics.specs.Tests.{All}
-use Rattle.basics.specs.lemmas.Tests.{by-cond, and-T, T-true, not-T-false, all-append}
+use Rattle.theory_basics.specs.Tests.{All}
+use Rattle.theory_basics.specs.lemmas.Tests.{by-cond, and-T, T-true, not-T-false, all-append}
 use Rattle.records.specs.Fields.{Bytes, h, w, hAt, wAt, marked}
 use Rattle.records.specs.File.{Front, got, none, Format, ended, broken, Split, splitBy, splitUpTo, split, encodeAll}
 

@@ -7,7 +7,7 @@ use lib.ListN.{length, take, drop, length-append, length-drop, take-append-drop}
 use lib.Seq.{length-take-le, take-at, drop-at, drop-drop}
 use lib.Dec.{leb, leb→le}
 use borrow.Author.Tests.{le-leb}
-use Rattle.basics.specs.lemmas.Tests.{by-cond}
+use Rattle.theory_basics.specs.lemmas.Tests.{by-cond}
 use Rattle.records.specs.Fields.{written}
 
 -- Where bytes fit, they stand between what stays.

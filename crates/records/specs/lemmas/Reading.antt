@@ -1,4 +1,5 @@
--- Lemmas. Reading a file from its front, a record a turn: what is left from here gives the whole file. Assumes nothing.
+-- Lemmas. Reading a file from its front, a record a turn: what is left from here gives the whole
+-- file. Assumes nothing.
 use Prim.Native.Nat.{ℕ, zero, suc, _+_, _-_, _≤_, _<_}
 use mathlib.Core.Path.{_≡_, refl, sym, ap, _∙_}
 use mathlib.Core.Bool.{Bool, true, false, cond}
@@ -7,8 +8,8 @@ use native.Mathlib.Omega.{arith}
 use lib.ListN.{length, drop, length-drop}
 use lib.Seq.{drop-drop}
 use lib.Dec.{leb, eqb}
-use Rattle.basics.specs.Refusals.{unless, _orElse_}
-use Rattle.basics.specs.lemmas.Refusals.{orElse-none, orElse-some}
+use Rattle.theory_basics.specs.Refusals.{unless, _orElse_}
+use Rattle.theory_basics.specs.lemmas.Refusals.{orElse-none, orElse-some}
 use Rattle.records.specs.File.{Front, got, none, Format, Stop, ended, broken, Split, splitBy, splitUpTo, split, firstFault, stopRefusal, recordsRefusal}
 
 module _ {R : Type 0} (F : Format R) where

@@ -7,8 +7,8 @@ use native.Mathlib.Omega.{arith}
 use lib.ListN.{length, drop, length-append}
 use lib.Seq.{drop-append-seam}
 use lib.Dec.{leb, eqb}
-use Rattle.basics.specs.Tests.{All}
-use Rattle.basics.specs.Refusals.{unless, _orElse_}
+use Rattle.theory_basics.specs.Tests.{All}
+use Rattle.theory_basics.specs.Refusals.{unless, _orElse_}
 use Rattle.records.specs.File.{Front, got, none, Format, Stop, ended, broken, Split, splitBy, splitUpTo, split, firstFault, stopRefusal, recordsRefusal, fileRefusal, encodeAll}
 
 -- The bytes of a field give its value back.

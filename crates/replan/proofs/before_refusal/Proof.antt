@@ -8,8 +8,8 @@ use lib.ListN.{length, drop, drop-of-length-le}
 use lib.Dec.{ltb}
 use borrow.Author.Tests.{lt-ltb, le-ltb}
 use denote.Ref.{now}
-use Rattle.basics.specs.Tests.{all}
-use Rattle.basics.specs.lemmas.Tables.{drop-next}
+use Rattle.theory_basics.specs.Tests.{all}
+use Rattle.theory_basics.specs.lemmas.Tables.{drop-next}
 use Rattle.replan.proofs.before_refusal.Statement.{statement}
 use Rattle.replan.proofs.before_refusal.Tie as tie
 

@@ -6,7 +6,7 @@ use lib.ListN.{length}
 use lib.Dec.{eqb}
 use borrow.Author.Needs.{needs}
 use denote.Ref.{now}
-use Rattle.basics.specs.Refusals.{_orElse_, unless}
+use Rattle.theory_basics.specs.Refusals.{_orElse_, unless}
 use Rattle.replan.proofs.part_refusal.Statement.{statement}
 use Rattle.replan.proofs.part_refusal.Tie as tie
 

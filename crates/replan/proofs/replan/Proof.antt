@@ -1,12 +1,13 @@
--- `replan` meets its contract: the refusals in their order, then the plan made afresh, with what document 02 says of it.
+-- `replan` meets its contract: the refusals in their order, then the plan made afresh, with what
+-- document 02 says of it.
 use Prim.Native.Nat.{ℕ}
 use lib.ListN.{length-replicate}
 use denote.Ref.{now}
-use Rattle.job.specs.Handed.{handed}
-use Rattle.planner.proofs.Handing.{none}
-use Rattle.replan.specs.Answer.{handedOn}
+use Rattle.job.specs.Input.{jobInput}
+use Rattle.planner.proofs.Outputs.{none}
+use Rattle.replan.specs.Answer.{replanInput}
 use Rattle.replan.specs.Theorems.{settled-afresh, standing-goes-on}
-use Rattle.replan.proofs.Handing.{earlier-long, gather-from, handed-laid, lay-from, none-left, not-false, not-kept, not-true, refused-asked, short-marks, some-slot}
+use Rattle.replan.proofs.Outputs.{earlier-long, gather-from, output-laid, lay-from, none-left, not-false, not-kept, not-true, refused-asked, short-marks, some-slot}
 use borrow.Author.Needs.{needs}
 use Rattle.replan.proofs.replan.Statement.{statement}
 use Rattle.replan.proofs.replan.Tie as tie
@@ -20,8 +21,8 @@ refused-requires c κs = search needs
 returns : tie.Need-returns
 returns c =
     let a = c .before .before .before .before .before .before .before .before .before .before .before .before .before .before .before .before .before .before .args in
-    let h = handed (a .p) (now (a .sizes)) (now (a .size-chunks)) (now (a .size-layers)) (now (a .size-bytes)) (now (a .forecast)) in
-    let o = handedOn (a .from) (now (a .fetched-slots)) (now (a .fetched-chunks)) (now (a .fetched-layers)) (now (a .fetched-bytes)) (now (a .onward)) in
+    let h = jobInput (a .p) (now (a .sizes)) (now (a .size-chunks)) (now (a .size-layers)) (now (a .size-bytes)) (now (a .forecast)) in
+    let o = replanInput (a .from) (now (a .fetched-slots)) (now (a .fetched-chunks)) (now (a .fetched-layers)) (now (a .fetched-bytes)) (now (a .onward)) in
     (refused-asked h o _ _ _ _ _ _ (c .before .before .asked-refusal .ensures) (c .before .if1 .taken) _ (c .refused .ensures), (settled-afresh h o, standing-goes-on h o))
 
 cast-unset : tie.Need-cast-unset
@@ -33,22 +34,22 @@ fill-sizes-requires c κs = search needs
 sub-gather : tie.Need-sub-gather
 sub-gather c =
     let a = c .before .before .before .before .before .before .before .before .before .before .before .before .before .before .before .before .before .before .before .before .before .args in
-    let h = handed (a .p) (now (a .sizes)) (now (a .size-chunks)) (now (a .size-layers)) (now (a .size-bytes)) (now (a .forecast)) in
-    let o = handedOn (a .from) (now (a .fetched-slots)) (now (a .fetched-chunks)) (now (a .fetched-layers)) (now (a .fetched-bytes)) (now (a .onward)) in
+    let h = jobInput (a .p) (now (a .sizes)) (now (a .size-chunks)) (now (a .size-layers)) (now (a .size-bytes)) (now (a .forecast)) in
+    let o = replanInput (a .from) (now (a .fetched-slots)) (now (a .fetched-chunks)) (now (a .fetched-layers)) (now (a .fetched-bytes)) (now (a .onward)) in
     some-slot h o (none (c .before .before .before .before .before .asked-refusal .ensures) (c .before .before .before .before .if1 .left))
 
 slice-aggregate-gather : tie.Need-slice-aggregate-gather
 slice-aggregate-gather c =
     let a = c .before .before .before .before .before .before .before .before .before .before .before .before .before .before .before .before .before .before .before .before .before .before .args in
-    let h = handed (a .p) (now (a .sizes)) (now (a .size-chunks)) (now (a .size-layers)) (now (a .size-bytes)) (now (a .forecast)) in
-    let o = handedOn (a .from) (now (a .fetched-slots)) (now (a .fetched-chunks)) (now (a .fetched-layers)) (now (a .fetched-bytes)) (now (a .onward)) in
+    let h = jobInput (a .p) (now (a .sizes)) (now (a .size-chunks)) (now (a .size-layers)) (now (a .size-bytes)) (now (a .forecast)) in
+    let o = replanInput (a .from) (now (a .fetched-slots)) (now (a .fetched-chunks)) (now (a .fetched-layers)) (now (a .fetched-bytes)) (now (a .onward)) in
     earlier-long h o (none (c .before .before .before .before .before .before .asked-refusal .ensures) (c .before .before .before .before .before .if1 .left))
 
 gather-requires : tie.Need-gather-requires
 gather-requires c κs =
     let a = c .before .before .before .before .before .before .before .before .before .before .before .before .before .before .before .before .before .before .before .before .before .before .before .before .before .args in
-    let h = handed (a .p) (now (a .sizes)) (now (a .size-chunks)) (now (a .size-layers)) (now (a .size-bytes)) (now (a .forecast)) in
-    let o = handedOn (a .from) (now (a .fetched-slots)) (now (a .fetched-chunks)) (now (a .fetched-layers)) (now (a .fetched-bytes)) (now (a .onward)) in
+    let h = jobInput (a .p) (now (a .sizes)) (now (a .size-chunks)) (now (a .size-layers)) (now (a .size-bytes)) (now (a .forecast)) in
+    let o = replanInput (a .from) (now (a .fetched-slots)) (now (a .fetched-chunks)) (now (a .fetched-layers)) (now (a .fetched-bytes)) (now (a .onward)) in
     gather-from h o (none (c .before .before .before .before .before .before .before .before .before .asked-refusal .ensures) (c .before .before .before .before .before .before .before .before .if1 .left)) (length-replicate {A = ℕ} 2000 (a .p .chunks)) (length-replicate {A = ℕ} 500 0) (length-replicate {A = ℕ} 500 0)
 
 refused-requires-2 : tie.Need-refused-requires-2
@@ -57,8 +58,8 @@ refused-requires-2 c κs = search needs
 returns-2 : tie.Need-returns-2
 returns-2 c =
     let a = c .before .before .before .before .before .before .before .before .before .before .before .before .before .before .before .before .before .before .before .before .before .before .before .before .before .before .before .before .args in
-    let h = handed (a .p) (now (a .sizes)) (now (a .size-chunks)) (now (a .size-layers)) (now (a .size-bytes)) (now (a .forecast)) in
-    let o = handedOn (a .from) (now (a .fetched-slots)) (now (a .fetched-chunks)) (now (a .fetched-layers)) (now (a .fetched-bytes)) (now (a .onward)) in
+    let h = jobInput (a .p) (now (a .sizes)) (now (a .size-chunks)) (now (a .size-layers)) (now (a .size-bytes)) (now (a .forecast)) in
+    let o = replanInput (a .from) (now (a .fetched-slots)) (now (a .fetched-chunks)) (now (a .fetched-layers)) (now (a .fetched-bytes)) (now (a .onward)) in
     let z = none (c .before .before .before .before .before .before .before .before .before .before .before .before .asked-refusal .ensures) (c .before .before .before .before .before .before .before .before .before .before .before .if1 .left) in
     let its = c .before .before .before .before .before .before .before .before .fill-sizes .ensures (length-replicate {A = ℕ} 2000 (a .p .chunks)) in
     (not-kept h o z its (c .before .before .gather .ensures) (not-true _ (c .before .if2 .taken)) _ _ _ _ _ _ (c .refused2 .ensures), (settled-afresh h o, standing-goes-on h o))
@@ -72,18 +73,18 @@ refused-requires-3 c κs = search needs
 returns-3 : tie.Need-returns-3
 returns-3 c =
     let a = c .before .before .before .before .before .before .before .before .before .before .before .before .before .before .before .before .before .before .before .before .before .before .before .before .before .before .before .before .before .before .args in
-    let h = handed (a .p) (now (a .sizes)) (now (a .size-chunks)) (now (a .size-layers)) (now (a .size-bytes)) (now (a .forecast)) in
-    let o = handedOn (a .from) (now (a .fetched-slots)) (now (a .fetched-chunks)) (now (a .fetched-layers)) (now (a .fetched-bytes)) (now (a .onward)) in
+    let h = jobInput (a .p) (now (a .sizes)) (now (a .size-chunks)) (now (a .size-layers)) (now (a .size-bytes)) (now (a .forecast)) in
+    let o = replanInput (a .from) (now (a .fetched-slots)) (now (a .fetched-chunks)) (now (a .fetched-layers)) (now (a .fetched-bytes)) (now (a .onward)) in
     let z = none (c .before .before .before .before .before .before .before .before .before .before .before .before .before .before .asked-refusal .ensures) (c .before .before .before .before .before .before .before .before .before .before .before .before .before .if1 .left) in
     let its = c .before .before .before .before .before .before .before .before .before .before .fill-sizes .ensures (length-replicate {A = ℕ} 2000 (a .p .chunks)) in
     let n = none-left h o z its (c .before .before .before .before .gather .ensures) (not-false _ (c .before .before .before .if2 .left)) in
     (short-marks h o _ _ _ _ _ n (c .before .if3 .taken) _ (c .refused3 .ensures), (settled-afresh h o, standing-goes-on h o))
 
-lay-requires : tie.Need-lay-requires
-lay-requires c κs =
+write-plan-requires : tie.Need-write-plan-requires
+write-plan-requires c κs =
     let a = c .before .before .before .before .before .before .before .before .before .before .before .before .before .before .before .before .before .before .before .before .before .before .before .before .before .before .before .before .before .before .before .before .before .before .before .before .before .args in
-    let h = handed (a .p) (now (a .sizes)) (now (a .size-chunks)) (now (a .size-layers)) (now (a .size-bytes)) (now (a .forecast)) in
-    let o = handedOn (a .from) (now (a .fetched-slots)) (now (a .fetched-chunks)) (now (a .fetched-layers)) (now (a .fetched-bytes)) (now (a .onward)) in
+    let h = jobInput (a .p) (now (a .sizes)) (now (a .size-chunks)) (now (a .size-layers)) (now (a .size-bytes)) (now (a .forecast)) in
+    let o = replanInput (a .from) (now (a .fetched-slots)) (now (a .fetched-chunks)) (now (a .fetched-layers)) (now (a .fetched-bytes)) (now (a .onward)) in
     let z = none (c .before .before .before .before .before .before .before .before .before .before .before .before .before .before .before .before .before .before .before .before .before .asked-refusal .ensures) (c .before .before .before .before .before .before .before .before .before .before .before .before .before .before .before .before .before .before .before .before .if1 .left) in
     let its = c .before .before .before .before .before .before .before .before .before .before .before .before .before .before .before .before .before .fill-sizes .ensures (length-replicate {A = ℕ} 2000 (a .p .chunks)) in
     lay-from h o z its (c .before .before .before .before .before .before .before .before .before .before .before .gather .ensures) (not-false _ (c .before .before .before .before .before .before .before .before .before .before .if2 .left)) (c .before .before .before .before .before .before .before .before .if3 .left)
@@ -106,11 +107,11 @@ same-length-5 c = search needs
 returns-4 : tie.Need-returns-4
 returns-4 c =
     let a = c .before .before .before .before .before .before .before .before .before .before .before .before .before .before .before .before .before .before .before .before .before .before .before .before .before .before .before .before .before .before .before .before .before .before .before .before .before .before .before .before .before .before .before .before .before .before .before .before .args in
-    let h = handed (a .p) (now (a .sizes)) (now (a .size-chunks)) (now (a .size-layers)) (now (a .size-bytes)) (now (a .forecast)) in
-    let o = handedOn (a .from) (now (a .fetched-slots)) (now (a .fetched-chunks)) (now (a .fetched-layers)) (now (a .fetched-bytes)) (now (a .onward)) in
+    let h = jobInput (a .p) (now (a .sizes)) (now (a .size-chunks)) (now (a .size-layers)) (now (a .size-bytes)) (now (a .forecast)) in
+    let o = replanInput (a .from) (now (a .fetched-slots)) (now (a .fetched-chunks)) (now (a .fetched-layers)) (now (a .fetched-bytes)) (now (a .onward)) in
     let z = none (c .before .before .before .before .before .before .before .before .before .before .before .before .before .before .before .before .before .before .before .before .before .before .before .before .before .before .before .before .before .before .before .before .asked-refusal .ensures) (c .before .before .before .before .before .before .before .before .before .before .before .before .before .before .before .before .before .before .before .before .before .before .before .before .before .before .before .before .before .before .before .if1 .left) in
     let its = c .before .before .before .before .before .before .before .before .before .before .before .before .before .before .before .before .before .before .before .before .before .before .before .before .before .before .before .before .fill-sizes .ensures (length-replicate {A = ℕ} 2000 (a .p .chunks)) in
-    (handed-laid h o z its (c .before .before .before .before .before .before .before .before .before .before .before .before .before .before .before .before .before .before .before .before .before .before .gather .ensures) (not-false _ (c .before .before .before .before .before .before .before .before .before .before .before .before .before .before .before .before .before .before .before .before .before .if2 .left)) (c .before .before .before .before .before .before .before .before .before .before .before .before .before .before .before .before .before .before .before .if3 .left) (c .before .before .before .before .before .before .before .before .before .before .lay .ensures), (settled-afresh h o, standing-goes-on h o))
+    (output-laid h o z its (c .before .before .before .before .before .before .before .before .before .before .before .before .before .before .before .before .before .before .before .before .before .before .gather .ensures) (not-false _ (c .before .before .before .before .before .before .before .before .before .before .before .before .before .before .before .before .before .before .before .before .before .if2 .left)) (c .before .before .before .before .before .before .before .before .before .before .before .before .before .before .before .before .before .before .before .if3 .left) (c .before .before .before .before .before .before .before .before .before .before .write-plan .ensures), (settled-afresh h o, standing-goes-on h o))
 
 pub replan-spec : {M : Type 1} → statement M
 replan-spec =
@@ -129,7 +130,7 @@ replan-spec =
     cast-if3
     refused-requires-3
     returns-3
-    lay-requires
+    write-plan-requires
     same-length
     same-length-2
     same-length-3

@@ -6,8 +6,8 @@ use mathlib.Core.List.{List}
 use native.Mathlib.Omega.{arith}
 use denote.Ref.{now}
 use Rattle.report.specs.lemmas.Tables.{chunkLineBy}
-use Rattle.text.specs.lemmas.Places.{put-length}
-use Rattle.text.specs.lemmas.Texts.{Putting, putting-start, putting-room, putting-more, putting-end}
+use Rattle.core_text.specs.lemmas.Places.{put-length}
+use Rattle.core_text.specs.lemmas.Texts.{Putting, putting-start, putting-room, putting-more, putting-end}
 
 abbrev piece : List ℕ → List ℕ → ℕ → ℕ → List ℕ
 piece sizes table depth k = chunkLineBy sizes table depth (k + 1)

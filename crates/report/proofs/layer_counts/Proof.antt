@@ -5,10 +5,10 @@ use Prim.Native.Nat.{ℕ, _-_}
 use mathlib.Core.List.{List, _∷_}
 use native.Mathlib.Omega.{arith}
 use denote.Ref.{now}
-use Rattle.basics.specs.Text.{digits}
+use Rattle.theory_basics.specs.Text.{digits}
 use Rattle.report.specs.lemmas.Tables.{countBy}
-use Rattle.text.specs.lemmas.Places.{put-length}
-use Rattle.text.specs.lemmas.Texts.{Putting, putting-start, putting-room, putting-more, putting-end}
+use Rattle.core_text.specs.lemmas.Places.{put-length}
+use Rattle.core_text.specs.lemmas.Texts.{Putting, putting-start, putting-room, putting-more, putting-end}
 
 abbrev piece : List ℕ → List ℕ → ℕ → ℕ → List ℕ
 piece sizes table count n = 32 ∷ digits (countBy sizes table count n)

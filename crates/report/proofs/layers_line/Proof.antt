@@ -7,11 +7,11 @@ use mathlib.Core.Path.{refl}
 use mathlib.Core.List.{List, [], _∷_, _++_}
 use lib.ListN.{length}
 use denote.Ref.{now}
-use Rattle.basics.specs.Lists.{upTo}
-use Rattle.basics.specs.Text.{ascii, digits, text, line}
+use Rattle.theory_basics.specs.Lists.{upTo}
+use Rattle.theory_basics.specs.Text.{ascii, digits, text, line}
 use Rattle.report.specs.lemmas.Tables.{countBy}
-use Rattle.text.specs.lemmas.Places.{Put, put-room, put-then, room-first}
-use Rattle.text.specs.lemmas.Texts.{ended-text}
+use Rattle.core_text.specs.lemmas.Places.{Put, put-room, put-then, room-first}
+use Rattle.core_text.specs.lemmas.Texts.{ended-text}
 
 abbrev counts : List ℕ → List ℕ → ℕ → ℕ → List ℕ
 counts sizes table count depth = text (upTo (λ n. 32 ∷ digits (countBy sizes table count n)) depth)

@@ -9,14 +9,15 @@ use native.Mathlib.Omega.{arith}
 use native.Mathlib.Nat.{one-le-mul}
 use lib.ListN.{length}
 use denote.Ref.{now}
-use Rattle.basics.specs.Lists.{upTo}
+use Rattle.theory_basics.specs.Lists.{upTo}
 use Rattle.job.specs.declared.Programme.{Programme}
 use Rattle.job.specs.Job.{lastDue}
-use Rattle.basics.specs.Text.{ascii, digits, text, line}
+use Rattle.theory_basics.specs.Text.{ascii, digits, text, line}
 use Rattle.report.specs.lemmas.Tables.{chunkLineBy, countBy, switchBy, switchLines, linesBy}
-use Rattle.text.specs.lemmas.Places.{Put, put-room, put-then, room-first}
+use Rattle.core_text.specs.lemmas.Places.{Put, put-room, put-then, room-first}
 
--- The five parts of the text, with the numbers that the calls before hand over, and the room for each after those before it.
+-- The five parts of the text, with the numbers that the calls before hand over, and the room for
+-- each after those before it.
 module _
     (p : Programme) (sizes table out : List ℕ) (depth spent left : ℕ) {film last held switch : ℕ}
     (h : length (linesBy p sizes depth table spent left) ≤ length out)

@@ -28,8 +28,8 @@ cast-unset c = search needs
 fill-sizes-requires : tie.Need-fill-sizes-requires
 fill-sizes-requires c κs = search needs
 
-hand-lines-requires : tie.Need-hand-lines-requires
-hand-lines-requires c κs =
+write-lines-requires : tie.Need-write-lines-requires
+write-lines-requires c κs =
     let e = c .before .before .before .before .before .before .before .before .before .made2 .given .1 in
     let stored = c .before .before .before .fill-sizes .ensures (length-replicate 2000 (c .before .before .before .before .before .before .before .before .before .before .before .before .before .before .before .before .before .before .before .args .p .chunks)) in
     let left = c .before .before .before .before .before .before .less .ensures ∙ ap (λ (t : ℕ). t - c .before .before .before .before .before .before .before .before .before .made2 .given .0 .0) (c .before .before .before .before .before .before .before .sum-of .ensures) in
@@ -46,7 +46,7 @@ returns-2 c =
     let e = c .before .before .before .before .before .before .before .before .before .before .before .before .made2 .given .1 in
     let stored = c .before .before .before .before .before .before .fill-sizes .ensures (length-replicate 2000 (c .before .before .before .before .before .before .before .before .before .before .before .before .before .before .before .before .before .before .before .before .before .before .args .p .chunks)) in
     let left = c .before .before .before .before .before .before .before .before .before .less .ensures ∙ ap (λ (t : ℕ). t - c .before .before .before .before .before .before .before .before .before .before .before .before .made2 .given .0 .0) (c .before .before .before .before .before .before .before .before .before .before .sum-of .ensures) in
-    reported (c .before .before .before .before .before .before .before .before .before .before .before .before .before .before .plan-table .ensures) e stored left (c .before .before .hand-lines .ensures)
+    reported (c .before .before .before .before .before .before .before .before .before .before .before .before .before .before .plan-table .ensures) e stored left (c .before .before .write-lines .ensures)
 
 pub report-spec : {M : Type 1} → statement M
 report-spec =
@@ -59,7 +59,7 @@ report-spec =
     less-requires
     cast-unset
     fill-sizes-requires
-    hand-lines-requires
+    write-lines-requires
     returns
     same-length
     returns-2)

@@ -1,11 +1,12 @@
--- Lemmas. The plan's own list is handed over in four slices: its rows again out of them. Assumes nothing.
+-- Lemmas. The plan's own list is handed over in four slices: its rows again out of them. Assumes
+-- nothing.
 use Prim.Native.Nat.{ℕ}
 use mathlib.Core.Path.{_≡_, _∙_}
 use mathlib.Core.List.{List, map}
 use native.Mathlib.Omega.{arith}
 use lib.ListN.{length, getD, length-map, List·getD-map}
 use lib.Seq.{ext-getD}
-use Rattle.basics.specs.lemmas.Lists.{length-upTo, getD-upTo}
+use Rattle.theory_basics.specs.lemmas.Lists.{length-upTo, getD-upTo}
 use Rattle.fetch.specs.Rows.{Row, rowAt, rowsOf, rowSlot, rowChunk, rowLayer, rowBytes}
 
 abbrev none : Row

@@ -1,5 +1,6 @@
--- Lemmas. The differences between neighbours in a list of pictures, as a pass over the chunks meets them: one picture more, how large
--- they can be, and where there are few pictures or no skipped chunk. Assumes nothing.
+-- Lemmas. The differences between neighbours in a list of pictures, as a pass over the chunks meets
+-- them: one picture more, how large they can be, and where there are few pictures or no skipped
+-- chunk. Assumes nothing.
 use Prim.Native.Nat.{ℕ, zero, suc, _+_, _*_, _-_, _≤_}
 use mathlib.Core.Path.{_≡_, refl, ap, _∙_}
 use mathlib.Core.Bool.{Bool, true, false, cond}
@@ -7,10 +8,10 @@ use mathlib.Core.List.{List, [], _∷_, _++_, append-nil}
 use native.Mathlib.Omega.{arith}
 use native.Mathlib.Nat.{mul-le-mul-right}
 use lib.ListN.{length, length-append}
-use Rattle.basics.specs.Tests.{All}
-use Rattle.basics.specs.lemmas.Tests.{all-append}
-use Rattle.basics.specs.Sums.{pre, count}
-use Rattle.basics.specs.lemmas.Ranges.{count-small}
+use Rattle.theory_basics.specs.Tests.{All}
+use Rattle.theory_basics.specs.lemmas.Tests.{all-append}
+use Rattle.theory_basics.specs.Sums.{pre, count}
+use Rattle.theory_basics.specs.lemmas.Ranges.{count-small}
 use Rattle.report.specs.Report.{apart, differences, those}
 use Rattle.report.specs.lemmas.Bounds.{apart-most}
 use Rattle.report.specs.lemmas.Tables.{changeOf, heldOf, lastOf}

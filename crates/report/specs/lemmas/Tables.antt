@@ -1,20 +1,20 @@
--- Lemmas. What the report's table holds of a list of rows, and the numbers that are read from it: the contracts of private functions
--- speak of these, no public one does.
+-- Lemmas. What the report's table holds of a list of rows, and the numbers that are read from it:
+-- the contracts of private functions speak of these, no public one does.
 use Prim.Native.Nat.{ℕ, _+_, _*_, _-_, _/_, _%_, _≤_, _<_}
 use mathlib.Core.Path.{_≡_}
 use mathlib.Core.Bool.{Bool, cond}
 use mathlib.Core.List.{List, [], _∷_, _++_}
 use lib.ListN.{length, getD}
 use lib.Dec.{eqb}
-use Rattle.basics.specs.Sums.{sum, count}
-use Rattle.basics.specs.Lists.{upTo}
+use Rattle.theory_basics.specs.Sums.{sum, count}
+use Rattle.theory_basics.specs.Lists.{upTo}
 use Rattle.job.specs.declared.Programme.{Programme}
-use Rattle.job.specs.Handed.{HandedJob, jobIn, jobRefusal}
+use Rattle.job.specs.Input.{JobInput, jobIn, jobRefusal}
 use Rattle.job.specs.Job.{lastDue}
 use Rattle.job.specs.Table.{tableAt}
 use Rattle.fetch.specs.Rows.{Row, bytesOfLayer}
 use Rattle.planner.specs.Answer.{planRows}
-use Rattle.basics.specs.Text.{ascii, digits, line, text}
+use Rattle.theory_basics.specs.Text.{ascii, digits, line, text}
 use Rattle.report.specs.Report.{apart, bytesInRows, differences, those}
 use Rattle.report.specs.declared.table.Spent.{Spent}
 use Rattle.report.specs.declared.table.Spent.the-variants.{Bytes as sent, Refused as refused}
@@ -42,10 +42,10 @@ pub record Summed (rows : List Row) (table : List ℕ) : Type 0 where
   pub long : length table ≡ 2000
 
 -- The bytes of the plan's rows and their table, or the job's refusal.
-abbrev pub spentOf : HandedJob → Spent
+abbrev pub spentOf : JobInput → Spent
 spentOf h = cond (eqb (jobRefusal h) 0) (sent (bytesInRows (planRows (jobIn h)))) (refused (jobRefusal h))
 
-pub record Tabled (h : HandedJob) (table : List ℕ) (r : Spent) : Type 0 where
+pub record Tabled (h : JobInput) (table : List ℕ) (r : Spent) : Type 0 where
   pub spent : r ≡ spentOf h
   pub by-rows : jobRefusal h ≡ 0 → Summed (planRows (jobIn h)) table
 

@@ -5,17 +5,17 @@ use mathlib.Core.List.{List, [], _∷_}
 use native.Mathlib.Omega.{arith}
 use native.Mathlib.Nat.{div-le-self, mod-lt, mul-le-mul, one-le-mul}
 use lib.ListN.{length, length-append}
-use Rattle.basics.specs.Lists.{upTo}
+use Rattle.theory_basics.specs.Lists.{upTo}
 use Rattle.job.specs.Job.{Job, Accepted, chunks, layers, size, forecast, lastSlot, heldMost}
-use Rattle.fetch.specs.Rows.{Row, bytesOfLayer, carried, layerCount}
-use Rattle.basics.specs.Text.{ascii, digits, ended, line, text}
-use Rattle.basics.specs.lemmas.Digits.{digits-few}
-use Rattle.text.specs.lemmas.Texts.{text-most, ended-text}
-use Rattle.basics.specs.lemmas.Ranges.{sum-most, pre-most, cond-most}
+use Rattle.fetch.specs.Rows.{Row, bytesOfLayer, carried, layerCount, layersCarried}
+use Rattle.theory_basics.specs.Text.{ascii, digits, ended, line, text}
+use Rattle.theory_basics.specs.lemmas.Digits.{digits-few}
+use Rattle.core_text.specs.lemmas.Texts.{text-most, ended-text}
+use Rattle.theory_basics.specs.lemmas.Ranges.{sum-most, pre-most, cond-most}
 use Rattle.job.specs.lemmas.Within.{all-most, size-most}
 use Rattle.report.specs.lemmas.Bounds.{equal-most}
 use Rattle.report.specs.lemmas.Switches.{differences-most}
-use Rattle.report.specs.Report.{slotsLine, layersCarried, bytesCarried, chunkLine, chunkLines, layersLine, bytesInRows, forecastSum, left, bytesLine, switchSum, switchLine, filmSlots, rateLine}
+use Rattle.report.specs.Report.{slotsLine, bytesCarried, chunkLine, chunkLines, layersLine, bytesInRows, forecastSum, left, bytesLine, switchSum, switchLine, filmSlots, rateLine}
 
 -- The bytes after a line's first word: a space before each word, and the line feed.
 abbrev width : List (List ℕ) → ℕ

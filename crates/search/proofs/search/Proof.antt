@@ -1,8 +1,9 @@
--- `search` meets its contract: the refusals in their order, then what is found, with what document 02 says of it.
+-- `search` meets its contract: the refusals in their order, then what is found, with what document
+-- 02 says of it.
 use borrow.Author.Needs.{needs}
 use Rattle.search.proofs.search.Statement.{statement}
 use Rattle.search.proofs.search.Tie as tie
-use Rattle.search.proofs.Handing.{found-by-walk, good-enough-found, more-steps, none, refused-input, short-marks}
+use Rattle.search.proofs.Outputs.{found-by-walk, good-enough-found, more-steps, none, refused-input, short-marks}
 
 refusal-requires : tie.Need-refusal-requires
 refusal-requires c κs = search needs
@@ -22,8 +23,8 @@ refused-requires-2 c κs = search needs
 returns-2 : tie.Need-returns-2
 returns-2 c = let b = c .before .before .before .before .before .before .before .before .before .before .before .before .before .before .before .args .budget in (short-marks _ b _ _ _ _ _ (none (c .before .before .before .before .refusal .ensures) (c .before .before .before .if1 .left)) (c .before .if2 .taken) _ (c .refused2 .ensures), (found-by-walk _ b, (good-enough-found _ b, more-steps _ b)))
 
-lay-found-requires : tie.Need-lay-found-requires
-lay-found-requires c κs = (none (c .before .before .before .before .before .before .before .before .refusal .ensures) (c .before .before .before .before .before .before .before .if1 .left), c .before .before .before .before .before .if2 .left)
+write-found-requires : tie.Need-write-found-requires
+write-found-requires c κs = (none (c .before .before .before .before .before .before .before .before .refusal .ensures) (c .before .before .before .before .before .before .before .if1 .left), c .before .before .before .before .before .if2 .left)
 
 same-length : tie.Need-same-length
 same-length c = search needs
@@ -41,7 +42,7 @@ same-length-5 : tie.Need-same-length-5
 same-length-5 c = search needs
 
 returns-3 : tie.Need-returns-3
-returns-3 c = let b = c .before .before .before .before .before .before .before .before .before .before .before .before .before .before .before .before .before .before .before .before .before .before .before .before .before .before .before .before .before .before .args .budget in (c .before .before .before .before .before .before .before .before .before .before .lay-found .ensures, (found-by-walk _ b, (good-enough-found _ b, more-steps _ b)))
+returns-3 c = let b = c .before .before .before .before .before .before .before .before .before .before .before .before .before .before .before .before .before .before .before .before .before .before .before .before .before .before .before .before .before .before .args .budget in (c .before .before .before .before .before .before .before .before .before .before .write-found .ensures, (found-by-walk _ b, (good-enough-found _ b, more-steps _ b)))
 
 pub search-spec : {M : Type 1} → statement M
 search-spec =
@@ -53,7 +54,7 @@ search-spec =
     cast-if2
     refused-requires-2
     returns-2
-    lay-found-requires
+    write-found-requires
     same-length
     same-length-2
     same-length-3

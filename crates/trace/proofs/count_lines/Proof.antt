@@ -16,18 +16,18 @@ abbrev μ-loop : tie.MeasureT-loop
 loop-holds : tie.Need-loop-holds Inv-loop μ-loop
 loop-holds c = let a = c .before .args in scanning-start (now (a .trace)) (now (a .counts)) (c .before .pre)
 
-seven-on-requires : tie.Need-seven-on-requires Inv-loop μ-loop
-seven-on-requires c κs = omega (arith, c .loop-test .taken)
+number-end-requires : tie.Need-number-end-requires Inv-loop μ-loop
+number-end-requires c κs = omega (arith, c .loop-test .taken)
 
 digits-from-requires : tie.Need-digits-from-requires Inv-loop μ-loop
-digits-from-requires c κs = (omega (arith, c .seven-on .ensures, c .before .loop-test .taken), omega (arith, c .seven-on .ensures), omega (arith, c .seven-on .ensures))
+digits-from-requires c κs = (omega (arith, c .number-end .ensures, c .before .loop-test .taken), omega (arith, c .number-end .ensures), omega (arith, c .number-end .ensures))
 
 returns : tie.Need-returns Inv-loop μ-loop
 returns c =
     let a = c .before .before .before .before .before .before .args in
     let l = c .before .before .before .before .loop in
     let d = c .before .digits-from in
-    let e = c .before .before .seven-on in
+    let e = c .before .before .number-end in
     scanning-empty (now (a .trace)) (now (a .counts)) (l .counts) (l .i) (l .t) (l .inv) (c .before .before .before .loop-test .taken) (e .result) (d .result .value) (d .result .next) (e .ensures) (d .ensures) (c .if1 .taken)
 
 returns-2 : tie.Need-returns-2 Inv-loop μ-loop
@@ -35,7 +35,7 @@ returns-2 c =
     let a = c .before .before .before .before .before .before .before .args in
     let l = c .before .before .before .before .before .loop in
     let d = c .before .before .digits-from in
-    let e = c .before .before .before .seven-on in
+    let e = c .before .before .before .number-end in
     scanning-cut (now (a .trace)) (now (a .counts)) (l .counts) (l .i) (l .t) (l .inv) (c .before .before .before .before .loop-test .taken) (e .result) (d .result .value) (d .result .next) (e .ensures) (d .ensures) (c .before .if1 .left) (c .if2 .taken)
 
 shared-slice-read-if3 : tie.Need-shared-slice-read-if3 Inv-loop μ-loop
@@ -46,7 +46,7 @@ returns-3 c =
     let a = c .before .before .before .before .before .before .before .before .before .args in
     let l = c .before .before .before .before .before .before .before .loop in
     let d = c .before .before .before .before .digits-from in
-    let e = c .before .before .before .before .before .seven-on in
+    let e = c .before .before .before .before .before .number-end in
     scanning-other (now (a .trace)) (now (a .counts)) (l .counts) (l .i) (l .t) (l .inv) (c .before .before .before .before .before .before .loop-test .taken) (e .result) (d .result .value) (d .result .next) (e .ensures) (d .ensures) (c .before .before .if2 .left) (c .if3 .taken)
 
 returns-4 : tie.Need-returns-4 Inv-loop μ-loop
@@ -54,7 +54,7 @@ returns-4 c =
     let a = c .before .before .before .before .before .before .before .before .before .before .args in
     let l = c .before .before .before .before .before .before .before .before .loop in
     let d = c .before .before .before .before .before .digits-from in
-    let e = c .before .before .before .before .before .before .seven-on in
+    let e = c .before .before .before .before .before .before .number-end in
     scanning-falls (now (a .trace)) (now (a .counts)) (l .counts) (l .i) (l .t) (l .inv) (c .before .before .before .before .before .before .before .loop-test .taken) (e .result) (d .result .value) (d .result .next) (e .ensures) (d .ensures) (c .before .if3 .left) (c .before .before .before .if2 .left) (c .if4 .taken)
 
 count-line-requires : tie.Need-count-line-requires Inv-loop μ-loop
@@ -71,7 +71,7 @@ loop-again c =
     let a = c .before .before .before .before .before .before .before .before .before .before .before .before .args in
     let l = c .before .before .before .before .before .before .before .before .before .before .loop in
     let d = c .before .before .before .before .before .before .before .digits-from in
-    let e = c .before .before .before .before .before .before .before .before .seven-on in
+    let e = c .before .before .before .before .before .before .before .before .number-end in
     rw (c .count-line .ensures)
     (scanning-line (now (a .trace)) (now (a .counts)) (l .counts) (l .i) (l .t) (l .inv) (c .before .before .before .before .before .before .before .before .before .loop-test .taken) (e .result) (d .result .value) (d .result .next) (e .ensures) (d .ensures) (c .before .before .before .if3 .left) (c .before .before .before .before .before .if2 .left) (c .before .before .before .before .before .before .if1 .left) (c .before .before .if4 .left))
 
@@ -88,7 +88,7 @@ count-lines-spec =
     Inv-loop
     μ-loop
     loop-holds
-    seven-on-requires
+    number-end-requires
     digits-from-requires
     returns
     returns-2

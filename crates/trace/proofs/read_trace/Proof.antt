@@ -4,7 +4,7 @@ use Rattle.trace.proofs.read_trace.Statement.{statement}
 use Rattle.trace.proofs.read_trace.Tie as tie
 use mathlib.Core.Path.{_∙_, ap, ap₂, sym}
 use denote.Ref.{now}
-use Rattle.basics.specs.Refusals.{unless, _orElse_}
+use Rattle.theory_basics.specs.Refusals.{unless, _orElse_}
 use Rattle.trace.proofs.Answers.{read-none, read-many, read-refused, read-few, read-short, read-done}
 
 returns : tie.Need-returns

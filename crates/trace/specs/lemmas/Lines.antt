@@ -1,4 +1,5 @@
--- Lemmas. The lines of a trace: what is found is what was put together, and the tests say what the words say. Assumes nothing.
+-- Lemmas. The lines of a trace: what is found is what was put together, and the tests say what the
+-- words say. Assumes nothing.
 use Prim.Native.Nat.{ℕ}
 use mathlib.Core.Path.{_≡_, refl, sym, ap, _∙_}
 use mathlib.Core.Bool.{Bool, false, cond, _&&_}
@@ -8,12 +9,12 @@ use native.Mathlib.Omega.{arith}
 use borrow.Author.Tests.{ne-eqb}
 use lib.ListN.{length}
 use lib.Dec.{T, leb, eqb, eqb→eq}
-use Rattle.basics.specs.lemmas.Refusals.{unless-as, and-as}
-use Rattle.basics.specs.Tests.{All, all}
-use Rattle.basics.specs.lemmas.Tests.{all-iff, all-map, by-cond, leb-iff}
+use Rattle.theory_basics.specs.lemmas.Refusals.{unless-as, and-as}
+use Rattle.theory_basics.specs.Tests.{All, all}
+use Rattle.theory_basics.specs.lemmas.Tests.{all-iff, all-map, by-cond, leb-iff}
 use Rattle.job.specs.Job.{Within}
 use Rattle.job.specs.Refusal.{within, within-iff}
-use Rattle.trace.specs.Trace.{Found, Line, Means, NotBelow, linesRefusal, found, front, line, notBelow, bytesOf, time}
+use Rattle.trace.specs.Trace.{Found, Line, Means, NotBelow, linesRefusal, found, front, line, notBelow, linesBytes, time}
 
 -- ---- what is found
 
@@ -34,21 +35,21 @@ line-no-feed : (l : List ℕ) → Line l → All (λ b. b ≡ 10 → ⊥) l
 line-no-feed l a = all-map (Within 48 57) (λ b. b ≡ 10 → ⊥) l (λ b w e. omega (arith, w .low)) (a .digits)
 
 -- The lines of some bytes are found again.
-pub found-bytes : (ls : List (List ℕ)) → All Line ls → found (bytesOf ls) ≡ record { lines = ls; rest = [] }
+pub found-bytes : (ls : List (List ℕ)) → All Line ls → found (linesBytes ls) ≡ record { lines = ls; rest = [] }
 found-bytes [] a = refl
 found-bytes (l ∷ ls) a =
-    found-line l (bytesOf ls) (line-no-feed l (a .0))
+    found-line l (linesBytes ls) (line-no-feed l (a .0))
     ∙ ap (λ (f : Found). record { lines = l ∷ f .lines; rest = f .rest }) (found-bytes ls (a .1))
 
 -- What is found, put together, is the trace.
-pub bytes-found : (bs : List ℕ) → bytesOf (found bs .lines) ++ found bs .rest ≡ bs
+pub bytes-found : (bs : List ℕ) → linesBytes (found bs .lines) ++ found bs .rest ≡ bs
 bytes-found [] = refl
 bytes-found (b ∷ bs) =
-    by-cond (λ (f : Found). bytesOf (f .lines) ++ f .rest ≡ b ∷ bs) (eqb b 10)
+    by-cond (λ (f : Found). linesBytes (f .lines) ++ f .rest ≡ b ∷ bs) (eqb b 10)
     (λ t. rw (eqb→eq b 10 t) (ap (λ (l : List ℕ). 10 ∷ l) (bytes-found bs)))
     (λ t. in-front (found bs .lines) (found bs .rest) (bytes-found bs))
   where
-    in-front : (ls : List (List ℕ)) (rest : List ℕ) → bytesOf ls ++ rest ≡ bs → bytesOf (front b ls rest .lines) ++ front b ls rest .rest ≡ b ∷ bs
+    in-front : (ls : List (List ℕ)) (rest : List ℕ) → linesBytes ls ++ rest ≡ bs → linesBytes (front b ls rest .lines) ++ front b ls rest .rest ≡ b ∷ bs
     in-front [] rest e = ap (λ (l : List ℕ). b ∷ l) e
     in-front (l ∷ ls) rest e = ap (λ (l : List ℕ). b ∷ l) e
 
@@ -82,7 +83,7 @@ lines-found trace =
       λ e.
           let u = r .0 e in
           record {
-            bytes = sym (bytes-found trace) ∙ ap (λ (l : List ℕ). bytesOf (f .lines) ++ l) (u .0) ∙ append-nil (bytesOf (f .lines));
+            bytes = sym (bytes-found trace) ∙ ap (λ (l : List ℕ). linesBytes (f .lines) ++ l) (u .0) ∙ append-nil (linesBytes (f .lines));
             each = u .1 .0;
             rises = u .1 .1;
           },

@@ -7,11 +7,11 @@ use mathlib.Core.Logic.{⊎-elim}
 use native.Mathlib.Omega.{arith}
 use lib.ListN.{replicate, take}
 use lib.Seq.{take-all, take-append-le}
-use Rattle.basics.specs.Lists.{upTo}
-use Rattle.basics.specs.lemmas.Lent.{map-snoc}
-use Rattle.basics.specs.lemmas.Lists.{length-upTo}
-use Rattle.basics.specs.Tests.{All, all}
-use Rattle.basics.specs.lemmas.Tests.{last, all-snoc}
+use Rattle.theory_basics.specs.Lists.{upTo}
+use Rattle.theory_basics.specs.lemmas.Lent.{map-snoc}
+use Rattle.theory_basics.specs.lemmas.Lists.{length-upTo}
+use Rattle.theory_basics.specs.Tests.{All, all}
+use Rattle.theory_basics.specs.lemmas.Tests.{last, all-snoc}
 
 module _ {A : Type 0} where
   pub All-replicate : (P : A → Type 0) (n : ℕ) (x : A) → P x → All P (replicate n x)

@@ -5,12 +5,13 @@ use mathlib.Core.Bool.{Bool}
 use mathlib.Core.List.{List, map}
 use lib.Dec.{T, leb}
 use lib.ListN.{length, drop, getD}
-use Rattle.basics.specs.Tests.{all}
+use Rattle.theory_basics.specs.Tests.{all}
 use Rattle.trace.specs.lemmas.Scan.{scan}
 use Rattle.trace.specs.lemmas.Tally.{tally}
 use Rattle.job.specs.Refusal.{within}
 
--- The digits from a place on: what they say, and the first place that is none of them or is the end.
+-- The digits from a place on: what they say, and the first place that is none of them or is the
+-- end.
 pub record DigitsRead (trace : List ℕ) (from end value next : ℕ) : Type 0 where
   pub low : from ≤ next
   pub high : next ≤ end

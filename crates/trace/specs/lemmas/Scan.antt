@@ -1,4 +1,5 @@
--- Lemmas. One pass over the trace from its first byte, as the code makes it, finds what Trace finds. Assumes nothing.
+-- Lemmas. One pass over the trace from its first byte, as the code makes it, finds what Trace
+-- finds. Assumes nothing.
 use Prim.Native.Nat.{ℕ, _+_, _*_, _-_, _≤_}
 use mathlib.Core.Path.{_≡_, refl, sym, ap, _∙_}
 use mathlib.Core.Bool.{Bool, true, false, cond, _&&_, and-false}
@@ -8,10 +9,10 @@ use native.Mathlib.Omega.{arith}
 use borrow.Author.Tests.{lt-leb, ne-eqb}
 use lib.ListN.{length, length-append}
 use lib.Dec.{T-not, leb, eqb, eqb→eq, eqb-refl}
-use Rattle.basics.specs.Tests.{All, all}
-use Rattle.basics.specs.Text.{readOn}
-use Rattle.basics.specs.lemmas.Digits.{read-snoc}
-use Rattle.basics.specs.lemmas.Tests.{by-cond, not-T-false, test, all-append, all-snoc}
+use Rattle.theory_basics.specs.Tests.{All, all}
+use Rattle.theory_basics.specs.Text.{readOn}
+use Rattle.theory_basics.specs.lemmas.Digits.{read-snoc}
+use Rattle.theory_basics.specs.lemmas.Tests.{by-cond, not-T-false, test, all-append, all-snoc}
 use Rattle.job.specs.Refusal.{within}
 use Rattle.trace.specs.Trace.{Found, found, front, line, notBelow, time}
 use Rattle.trace.specs.lemmas.Lines.{found-line}
@@ -23,7 +24,8 @@ pub record Scanned : Type 0 where
   pub fine : Bool
   pub times : List ℕ
 
--- n bytes of the line are read: v is the number that they say, d whether they are digits. t: the time before.
+-- n bytes of the line are read: v is the number that they say, d whether they are digits. t: the
+-- time before.
 abbrev pub scan : ℕ → ℕ → Bool → ℕ → List ℕ → Scanned
 scan n v d t [] = record { fine = eqb n 0; times = [] }
 scan n v d t (b ∷ bs) =

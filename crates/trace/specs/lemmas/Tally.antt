@@ -1,4 +1,5 @@
--- Lemmas. A table of counts, one for each slot, that stop at a cap, as the code keeps it; and how long a written trace is. Assumes nothing.
+-- Lemmas. A table of counts, one for each slot, that stop at a cap, as the code keeps it; and how
+-- long a written trace is. Assumes nothing.
 use Prim.Native.Nat.{ℕ, zero, suc, _+_, _*_, _/_, _≤_, _<_, min}
 use mathlib.Core.Path.{_≡_, refl, sym, ap, _∙_}
 use mathlib.Core.Bool.{cond}
@@ -8,12 +9,12 @@ use native.Mathlib.Omega.{arith}
 use lib.ListN.{length, getD, set, replicate, length-append, length-set, length-replicate, getD-replicate}
 use lib.Seq.{ext-getD, getD-set-same, getD-set-other}
 use lib.Dec.{T-not}
-use Rattle.basics.specs.Lists.{upTo}
-use Rattle.basics.specs.lemmas.Lists.{getD-upTo, length-upTo}
-use Rattle.basics.specs.lemmas.Tests.{T-true, not-T-false, test}
-use Rattle.basics.specs.Text.{digits}
+use Rattle.theory_basics.specs.Lists.{upTo}
+use Rattle.theory_basics.specs.lemmas.Lists.{getD-upTo, length-upTo}
+use Rattle.theory_basics.specs.lemmas.Tests.{T-true, not-T-false, test}
+use Rattle.theory_basics.specs.Text.{digits}
 use Rattle.trace.specs.lemmas.Times.{in-slot-iff}
-use Rattle.trace.specs.Trace.{howMany, inSlot, linesFrom, bytesOf, traceOf}
+use Rattle.trace.specs.Trace.{howMany, inSlot, linesFrom, linesBytes, traceOf}
 
 -- ---- counts that stop at a cap
 
@@ -72,11 +73,11 @@ abbrev pub widthFrom : ℕ → List ℕ → ℕ
 widthFrom t [] = 0
 widthFrom t (b ∷ f) = b / 1500 * (length (digits (t * 1000)) + 1) + widthFrom (suc t) f
 
-bytesOf-repeat : (n : ℕ) (l : List ℕ) (ls : List (List ℕ)) → length (bytesOf (replicate n l ++ ls)) ≡ n * (length l + 1) + length (bytesOf ls)
+bytesOf-repeat : (n : ℕ) (l : List ℕ) (ls : List (List ℕ)) → length (linesBytes (replicate n l ++ ls)) ≡ n * (length l + 1) + length (linesBytes ls)
 bytesOf-repeat zero l ls = omega arith
-bytesOf-repeat (suc n) l ls = omega (arith, length-append l (10 ∷ bytesOf (replicate n l ++ ls)), bytesOf-repeat n l ls)
+bytesOf-repeat (suc n) l ls = omega (arith, length-append l (10 ∷ linesBytes (replicate n l ++ ls)), bytesOf-repeat n l ls)
 
-bytesOf-width : (t : ℕ) (f : List ℕ) → length (bytesOf (linesFrom t f)) ≡ widthFrom t f
+bytesOf-width : (t : ℕ) (f : List ℕ) → length (linesBytes (linesFrom t f)) ≡ widthFrom t f
 bytesOf-width t [] = refl
 bytesOf-width t (b ∷ f) = bytesOf-repeat (b / 1500) (digits (t * 1000)) (linesFrom (suc t) f) ∙ ap (λ (n : ℕ). b / 1500 * (length (digits (t * 1000)) + 1) + n) (bytesOf-width (suc t) f)
 

@@ -8,13 +8,13 @@ use native.Mathlib.Omega.{arith}
 use borrow.Author.Tests.{le-leb, lt-leb, lt-ltb, le-ltb}
 use lib.ListN.{length, length-append, length-replicate, getD, replicate}
 use lib.Dec.{T, leb}
-use Rattle.basics.specs.Tests.{All}
-use Rattle.basics.specs.lemmas.Tests.{all-append, all-map, by-cond, tests}
+use Rattle.theory_basics.specs.Tests.{All}
+use Rattle.theory_basics.specs.lemmas.Tests.{all-append, all-map, by-cond, tests}
 use Rattle.job.specs.Job.{Within}
-use Rattle.basics.specs.lemmas.Digits.{digits-are, digits-few, digits-read, digits-some}
-use Rattle.basics.specs.Text.{digits}
+use Rattle.theory_basics.specs.lemmas.Digits.{digits-are, digits-few, digits-read, digits-some}
+use Rattle.theory_basics.specs.Text.{digits}
 use Rattle.trace.specs.lemmas.Lists.{All-replicate}
-use Rattle.trace.specs.Trace.{Line, NotBelow, bytesOf, howMany, inSlot, linesFrom, time}
+use Rattle.trace.specs.Trace.{Line, NotBelow, linesBytes, howMany, inSlot, linesFrom, time}
 
 -- ---- digits
 
@@ -109,9 +109,9 @@ many-at (suc m) t (b ∷ f) =
 -- ---- how many bytes
 
 -- A line and its line feed are at most 8 bytes.
-pub bytes-few : (ls : List (List ℕ)) → All Line ls → length (bytesOf ls) ≤ 8 * length ls
+pub bytes-few : (ls : List (List ℕ)) → All Line ls → length (linesBytes ls) ≤ 8 * length ls
 bytes-few [] a = omega arith
-bytes-few (l ∷ ls) a = omega (arith, length-append l (10 ∷ bytesOf ls), a .0 .few .high, bytes-few ls (a .1))
+bytes-few (l ∷ ls) a = omega (arith, length-append l (10 ∷ linesBytes ls), a .0 .few .high, bytes-few ls (a .1))
 
 -- A slot has at most 11,184 lines.
 pub lines-few : (t : ℕ) (f : List ℕ) → All (λ b. b ≤ 16777216) f → length (linesFrom t f) ≤ 11184 * length f

@@ -3,7 +3,7 @@ use borrow.Author.Needs.{needs}
 use Rattle.wait.proofs.input_refusal.Statement.{statement}
 use Rattle.wait.proofs.input_refusal.Tie as tie
 use mathlib.Core.Path.{ap₂, _∙_}
-use Rattle.basics.specs.Refusals.{_orElse_}
+use Rattle.theory_basics.specs.Refusals.{_orElse_}
 use Rattle.wait.specs.Answer.{inputRefusal}
 
 slots-refusal-requires : tie.Need-slots-refusal-requires

@@ -5,7 +5,7 @@ use Rattle.wait.proofs.shortest_delay.Tie as tie
 use native.Mathlib.Omega.{arith}
 use lib.ListN.{length-replicate}
 use denote.Ref.{now}
-use Rattle.job.specs.Handed.{overridesOf}
+use Rattle.job.specs.Input.{overridesOf}
 use Rattle.wait.proofs.Searches.{bytes-small, search-from, shortest-is}
 
 cast-unset : tie.Need-cast-unset

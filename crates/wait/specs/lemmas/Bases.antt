@@ -1,21 +1,22 @@
--- Lemmas. Of one job: the plan skips no base exactly if all chunks fit with their bases alone, and so exactly if all bases can be carried,
--- if some passing list in playing order carries them all, and for equal chunks if some passing list in any order does.
+-- Lemmas. Of one job: the plan skips no base exactly if all chunks fit with their bases alone, and
+-- so exactly if all bases can be carried, if some passing list in playing order carries them all,
+-- and for equal chunks if some passing list in any order does.
 use Prim.Native.Nat.{ℕ, _≤_, _<_}
 use mathlib.Core.Path.{_≡_}
 use mathlib.Core.Bool.{true}
 use mathlib.Core.Logic.{_↔_}
 use native.Mathlib.Omega.{arith}
-use Rattle.basics.specs.lemmas.Ranges.{sum-mono}
+use Rattle.theory_basics.specs.lemmas.Ranges.{sum-mono}
 use Rattle.job.specs.Job.{Job, EqualChunks, chunks, due, heldMost, layers, size}
-use Rattle.schedule.specs.Plan.{after}
-use Rattle.schedule.specs.Statement.{CanCarry, IsPlan}
-pub use Rattle.schedule.specs.lemmas.AllBases.{AllFit, basesAlone, from, no-skip-iff}
-use Rattle.schedule.specs.lemmas.AllBases.{can-carry-all-iff, fits-all-fit}
-use Rattle.schedule.specs.lemmas.AnyOrder.{any-order-fit}
-use Rattle.schedule.specs.lemmas.Choice.{can-carry-fits, chunk-bytes}
-use Rattle.schedule.specs.lemmas.Kept.{feas-picked, picked-asc, picked-each}
-use Rattle.schedule.specs.lemmas.Level.{level, level-choice, level-exactly}
-use Rattle.schedule.specs.lemmas.Words.{Sized, bytesOfChunk, layer-of}
+use Rattle.theory_plan.specs.Plan.{after}
+use Rattle.theory_plan.specs.Statement.{CanCarry, IsPlan}
+pub use Rattle.theory_plan.specs.lemmas.AllBases.{AllFit, basesAlone, from, no-skip-iff}
+use Rattle.theory_plan.specs.lemmas.AllBases.{can-carry-all-iff, fits-all-fit}
+use Rattle.theory_plan.specs.lemmas.AnyOrder.{any-order-fit}
+use Rattle.theory_plan.specs.lemmas.Choice.{can-carry-fits, chunk-bytes}
+use Rattle.theory_plan.specs.lemmas.Kept.{feas-picked, picked-asc, picked-each}
+use Rattle.theory_plan.specs.lemmas.Level.{level, level-choice, level-exactly}
+use Rattle.theory_plan.specs.lemmas.Words.{Sized, bytesOfChunk, layer-of}
 use Rattle.wait.specs.Wait.{NoSkip, SomeList, SomeOrdered}
 
 module _ (j : Job) (some : 0 < layers j) where

@@ -1,11 +1,12 @@
--- Lemmas. The first number of a range that passes: what it is where there is one, and what 0 says. Assumes nothing.
+-- Lemmas. The first number of a range that passes: what it is where there is one, and what 0 says.
+-- Assumes nothing.
 use Prim.Native.Nat.{ℕ, zero, suc, _+_, _≤_, _<_}
 use mathlib.Core.Path.{_≡_, refl}
 use mathlib.Core.Bool.{Bool, not}
 use mathlib.Core.Logic.{⊎-elim}
 use native.Mathlib.Omega.{arith}
 use lib.Dec.{T, ltb, ltb→lt, nltb→le}
-use Rattle.basics.specs.lemmas.Tests.{by-cond, test}
+use Rattle.theory_basics.specs.lemmas.Tests.{by-cond, test}
 use Rattle.wait.specs.Answer.{firstFrom}
 
 -- r is the first of s .. s + n - 1 that passes.

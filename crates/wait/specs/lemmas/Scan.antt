@@ -1,5 +1,6 @@
--- Lemmas. The base pass of schedule's Trials for chunks that must all be kept: from the last chunk down, a stack of needs, one test a
--- chunk. And what the forecast brings up to each slot, which serves every s.
+-- Lemmas. The base pass of theory_plan's Trials for chunks that must all be kept: from the last
+-- chunk down, a stack of needs, one test a chunk. And what the forecast brings up to each slot,
+-- which serves every s.
 use Prim.Native.Nat.{ℕ, zero, suc, _-_, _≤_, _/_}
 use mathlib.Core.Path.{_≡_, refl, sym, ap, _∙_, subst, fun-ext}
 use mathlib.Core.Bool.{Bool, true, _&&_}
@@ -9,14 +10,14 @@ use native.Mathlib.Omega.{arith}
 use lib.ListN.{getD, drop}
 use lib.Seq.{getD-take}
 use lib.Dec.{T, leb, leb→le, nleb→lt}
-use Rattle.basics.specs.Sums.{pre}
-use Rattle.basics.specs.lemmas.Ranges.{pre-cong, pre-mono}
-use Rattle.basics.specs.lemmas.Tests.{T-and, and-T, test, tests}
+use Rattle.theory_basics.specs.Sums.{pre}
+use Rattle.theory_basics.specs.lemmas.Ranges.{pre-cong, pre-mono}
+use Rattle.theory_basics.specs.lemmas.Tests.{T-and, and-T, test, tests}
 use Rattle.job.specs.Job.{due, dueSlot, forecast, heldMost, lastDue, sizeIn}
-use Rattle.schedule.specs.Plan.{after, need}
-use Rattle.schedule.specs.lemmas.Linear.{needs-at, needs-of}
-use Rattle.schedule.specs.lemmas.Need.{Feas}
-use Rattle.schedule.specs.lemmas.Trials.{candidate, keeps}
+use Rattle.theory_plan.specs.Plan.{after, needOf}
+use Rattle.theory_plan.specs.lemmas.Linear.{needs-at, needs-of}
+use Rattle.theory_plan.specs.lemmas.Need.{Feas}
+use Rattle.theory_plan.specs.lemmas.Trials.{candidate, keeps}
 use Rattle.wait.specs.Wait.{Film, jobAt, programmeAt}
 use Rattle.wait.specs.lemmas.Bases.{AllFit, from}
 
@@ -39,10 +40,10 @@ module _ (s d A : ℕ → ℕ) where
   needs-from-are lo (suc m) =
       let r = needs-from-are (suc lo) m in
       let e = needs-at s d A (from (suc lo) m) 0 in
-      let g : getD (needsFrom (suc lo) m) 0 0 ≡ need s d A (from (suc lo) m) = rw r e in
-      let c : candidate s d A (needsFrom (suc lo) m) (suc lo) ≡ need s d A (suc lo ∷ from (suc lo) m) = omega arith in
-      subst (λ (n : ℕ). n ∷ needsFrom (suc lo) m ≡ need s d A (suc lo ∷ from (suc lo) m) ∷ needs-of s d A (from (suc lo) m)) (sym c)
-      (ap (λ (ns : List ℕ). need s d A (suc lo ∷ from (suc lo) m) ∷ ns) r)
+      let g : getD (needsFrom (suc lo) m) 0 0 ≡ needOf s d A (from (suc lo) m) = rw r e in
+      let c : candidate s d A (needsFrom (suc lo) m) (suc lo) ≡ needOf s d A (suc lo ∷ from (suc lo) m) = omega arith in
+      subst (λ (n : ℕ). n ∷ needsFrom (suc lo) m ≡ needOf s d A (suc lo ∷ from (suc lo) m) ∷ needs-of s d A (from (suc lo) m)) (sym c)
+      (ap (λ (ns : List ℕ). needOf s d A (suc lo ∷ from (suc lo) m) ∷ ns) r)
 
   -- All are kept exactly if they fit.
   keeps-all-iff : (h lo m : ℕ) → T (keepsAll h lo m) ↔ Feas s d A h (from lo m)
@@ -52,8 +53,8 @@ module _ (s d A : ℕ → ℕ) where
       let ns = needsFrom (suc lo) m in
       let ks = from (suc lo) m in
       let all = needs-from-are lo (suc m) in
-      let front : getD (needsFrom lo (suc m)) 0 0 ≡ need s d A (suc lo ∷ ks) = ap (λ (l : List ℕ). getD l 0 0) all ∙ needs-at s d A (suc lo ∷ ks) 0 in
-      let behind : getD (needsFrom lo (suc m)) h 0 ≡ need s d A (drop h (suc lo ∷ ks)) = ap (λ (l : List ℕ). getD l h 0) all ∙ needs-at s d A (suc lo ∷ ks) h in (
+      let front : getD (needsFrom lo (suc m)) 0 0 ≡ needOf s d A (suc lo ∷ ks) = ap (λ (l : List ℕ). getD l 0 0) all ∙ needs-at s d A (suc lo ∷ ks) 0 in
+      let behind : getD (needsFrom lo (suc m)) h 0 ≡ needOf s d A (drop h (suc lo ∷ ks)) = ap (λ (l : List ℕ). getD l h 0) all ∙ needs-at s d A (suc lo ∷ ks) h in (
         λ t.
             let u = and-T (keepsAll h (suc lo) m) (keeps s d A h ns (suc lo)) t in
             let v = simp tests at (u .1) in

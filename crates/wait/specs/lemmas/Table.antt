@@ -1,4 +1,5 @@
--- Lemmas. What the functions of lib.rt ask of each other and hand each other: the tables, and the pass over the chunks for one s.
+-- Lemmas. What the functions of lib.rt ask of each other and hand each other: the tables, and the
+-- pass over the chunks for one s.
 use Prim.Native.Nat.{ℕ, _+_, _*_, _-_, _≤_, _<_}
 use mathlib.Core.Path.{_≡_}
 use mathlib.Core.Bool.{Bool}
@@ -16,7 +17,8 @@ pub record SumTable (f sums : List ℕ) : Type 0 where
 abbrev pub BaseTable : ℕ → List ℕ → List ℕ → Type 0
 BaseTable chunks table bases = (i : ℕ) → 1 ≤ i → i ≤ chunks → getD bases (i - 1) 0 ≡ tableAt table i 0
 
--- By the tables: the bytes of chunk i, its due slot, and what comes after slot t up to the last due slot.
+-- By the tables: the bytes of chunk i, its due slot, and what comes after slot t up to the last due
+-- slot.
 abbrev pub sizeAt : List ℕ → ℕ → ℕ
 sizeAt bases i = getD bases (i - 1) 0
 
@@ -38,7 +40,7 @@ abbrev pub Free : ℕ → List ℕ → Type 0
 Free chunks begins = (k : ℕ) → chunks ≤ k → k < 1000 → getD begins k 0 ≡ never
 
 -- What one pass asks: sums that start at 0 and never fall, and room behind the last chunk.
-pub record PassFrom (chunks span held s : ℕ) (bases sums begins : List ℕ) : Type 0 where
+pub record KeepsAllPre (chunks span held s : ℕ) (bases sums begins : List ℕ) : Type 0 where
   pub some : 1 ≤ chunks
   pub few : chunks ≤ 500
   pub wait : 1 ≤ s
@@ -50,16 +52,16 @@ pub record PassFrom (chunks span held s : ℕ) (bases sums begins : List ℕ) : 
   pub free : Free chunks begins
   pub long : length begins ≡ 1000
 
-pub record PassDone (chunks span held s : ℕ) (bases sums begins : List ℕ) (r : Bool) : Type 0 where
+pub record KeepsAllPost (chunks span held s : ℕ) (bases sums begins : List ℕ) (r : Bool) : Type 0 where
   pub answer : r ≡ keptBy chunks span held bases sums s
   pub free : Free chunks begins
   pub long : length begins ≡ 1000
 
 -- What the search asks, for so many tries.
-pub record SearchFrom (chunks span held tries : ℕ) (bases sums begins : List ℕ) : Type 0 where
+pub record FindDelayPre (chunks span held tries : ℕ) (bases sums begins : List ℕ) : Type 0 where
   pub each :
       (s : ℕ) → 1 ≤ s → s ≤ tries → (begins′ : List ℕ) → Free chunks begins′ → length begins′ ≡ 1000 →
-      PassFrom chunks span held s bases sums begins′
+      KeepsAllPre chunks span held s bases sums begins′
   pub few : tries ≤ 3600
   pub free : Free chunks begins
   pub long : length begins ≡ 1000

@@ -4,8 +4,8 @@ use Rattle.report.proofs.lines.chunk_line.Statement.{statement}
 use Rattle.report.proofs.lines.chunk_line.Tie as tie
 use mathlib.Core.List.{List, [], _∷_, _++_}
 use Prim.Native.Nat.{ℕ}
-use Rattle.basics.specs.Text.{digits}
-use Rattle.text.specs.lemmas.Places.{put-room, put-then, room-first}
+use Rattle.theory_basics.specs.Text.{digits}
+use Rattle.core_text.specs.lemmas.Places.{put-room, put-then, room-first}
 
 abbrev next : ℕ → List ℕ
 next n = 32 ∷ digits n

@@ -4,7 +4,7 @@ use Rattle.report.proofs.lines.put_end.Statement.{statement}
 use Rattle.report.proofs.lines.put_end.Tie as tie
 use denote.Ref.{now}
 use native.Mathlib.Omega.{arith}
-use Rattle.text.specs.lemmas.Places.{put-byte}
+use Rattle.core_text.specs.lemmas.Places.{put-byte}
 
 slice-write-out : tie.Need-slice-write-out
 slice-write-out c = search needs

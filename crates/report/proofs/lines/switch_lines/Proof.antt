@@ -5,8 +5,8 @@ use Rattle.report.proofs.lines.switch_lines.Tie as tie
 use mathlib.Core.List.{List, [], _∷_}
 use native.Mathlib.Omega.{arith}
 use Prim.Native.Nat.{ℕ, _/_, _%_}
-use Rattle.basics.specs.Text.{ascii, digits, line}
-use Rattle.text.specs.lemmas.Places.{put-room, put-then, room-first}
+use Rattle.theory_basics.specs.Text.{ascii, digits, line}
+use Rattle.core_text.specs.lemmas.Places.{put-room, put-then, room-first}
 
 abbrev one : ℕ → List ℕ
 one switch = line (ascii "switch") (digits switch ∷ [])

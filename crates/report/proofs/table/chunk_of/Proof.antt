@@ -9,7 +9,7 @@ use native.Mathlib.Omega.{arith}
 use native.Mathlib.Numerals.{add-one}
 use denote.Ref.{now}
 use Rattle.report.specs.lemmas.Tables.{carriedBy, layersBy, bytesBy}
-use Rattle.basics.specs.lemmas.Ranges.{sum-most, cond-most}
+use Rattle.theory_basics.specs.lemmas.Ranges.{sum-most, cond-most}
 use Rattle.report.proofs.Laws.{bytes-most, carried-most}
 
 abbrev Inv-loop : tie.InvT-loop

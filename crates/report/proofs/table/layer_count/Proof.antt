@@ -9,7 +9,7 @@ use native.Mathlib.Omega.{arith}
 use native.Mathlib.Numerals.{add-one}
 use denote.Ref.{now}
 use Rattle.report.specs.lemmas.Tables.{carriedBy, countBy}
-use Rattle.basics.specs.lemmas.Ranges.{pre-most, cond-most}
+use Rattle.theory_basics.specs.lemmas.Ranges.{pre-most, cond-most}
 
 abbrev Inv-loop : tie.InvT-loop
 Inv-loop sizes table count n carry₀ i₀ carry i = (i ≤ count) × (carry ≡ countBy sizes table i n)

@@ -7,8 +7,8 @@ use native.Mathlib.Omega.{arith}
 use native.Mathlib.Numerals.{add-one}
 use lib.ListN.{length, getD}
 use denote.Ref.{now}
-use Rattle.basics.specs.Sums.{sum}
-use Rattle.basics.specs.lemmas.Ranges.{sum-most}
+use Rattle.theory_basics.specs.Sums.{sum}
+use Rattle.theory_basics.specs.lemmas.Ranges.{sum-most}
 
 abbrev Inv-loop : tie.InvT-loop
 Inv-loop s total₀ i₀ total i = (i ≤ length s) × (total ≡ sum (λ k. getD s k 0) i)

@@ -4,8 +4,8 @@ use Rattle.trace.proofs.repeated.put_line.Statement.{statement}
 use Rattle.trace.proofs.repeated.put_line.Tie as tie
 use native.Mathlib.Omega.{arith}
 use mathlib.Core.List.{[], _∷_}
-use Rattle.basics.specs.Text.{digits}
-use Rattle.text.specs.lemmas.Places.{put-byte, put-room, put-then, room-first}
+use Rattle.theory_basics.specs.Text.{digits}
+use Rattle.core_text.specs.lemmas.Places.{put-byte, put-room, put-then, room-first}
 
 put-number-requires : tie.Need-put-number-requires
 put-number-requires c κs = let a = c .before .before .args in room-first (a .at) (digits (a .n)) (10 ∷ []) (c .before .before .pre)

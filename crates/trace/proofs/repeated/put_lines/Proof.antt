@@ -5,7 +5,7 @@ use Prim.Native.Nat.{_-_}
 use native.Mathlib.Omega.{arith}
 use borrow.Author.Needs.{needs}
 use denote.Ref.{now}
-use Rattle.basics.specs.Text.{digits}
+use Rattle.theory_basics.specs.Text.{digits}
 use Rattle.trace.proofs.Repeats.{Doubling, doubling-start, doubling-more, doubling-end, none-put, first-fits, out-long, apart, copy-fits}
 
 abbrev Inv-loop : tie.InvT-loop

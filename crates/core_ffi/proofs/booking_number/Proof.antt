@@ -1,0 +1,22 @@
+-- `core_ffi::booking_number` meets its contract. Assumes nothing.
+use borrow.Author.Needs.{needs}
+use Rattle.core_ffi.proofs.booking_number.Statement.{statement}
+use Rattle.core_ffi.proofs.booking_number.Tie as tie
+
+enum-told : tie.Need-enum-told
+enum-told c = search needs
+
+enum-known-answer : tie.Need-enum-known-answer
+enum-known-answer c = search needs
+
+refused-requires : tie.Need-refused-requires
+refused-requires c κs = search needs
+
+returns : tie.Need-returns
+returns c = search needs
+
+returns-2 : tie.Need-returns-2
+returns-2 c = rw (c .before .before .answer .given .1) (c .refused .ensures)
+
+pub booking-number-spec : {M : Type 1} → statement M
+booking-number-spec = tie.close (tie.spec enum-told enum-known-answer refused-requires returns returns-2)

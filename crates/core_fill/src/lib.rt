@@ -1,0 +1,168 @@
+// Internal. The plan's own list, piece by piece: each piece, with so many bytes left, goes into
+// slot after slot, from its release on, until nothing is left of it. The part of the forecast may
+// start at any slot, and the list may be under way already: the contracts speak of every list that
+// goes on with these pieces. Sizes are those of the table that job's fill_sizes fills.
+use job::CHUNKS;
+use job::SizeTable;
+ghost use mathlib.Core.Path.{_≡_};
+ghost use Prim.Native.Nat.{ℕ, _+_, _*_, _-_, _<_, _≤_};
+ghost use lib.ListN.{length, drop, set};
+ghost use Rattle.job.specs.Table.{tableAt};
+ghost use Rattle.core_fill.specs.lemmas.Filling.{PutPiecePre, PutPiecePost, PutPost, begun, lastOf, leftAt, layersOf, queueOf, PutChunkPre, PutAllPre};
+ghost use Rattle.theory_plan.specs.lemmas.Parts.{ForecastPart};
+
+// The slot t, the bytes left in it, and the rows made.
+pub struct Position {
+    pub slot: usize,
+    pub left: u32,
+    pub rows: usize,
+}
+
+// One row at place n of the four slices.
+fn put_row(
+    slots: &mut [u16],
+    chunks: &mut [u16],
+    layers: &mut [u8],
+    bytes: &mut [u32],
+    n: usize,
+    t: usize,
+    chunk: u16,
+    layer: u8,
+    b: u32,
+)
+    requires { ⌜ (n < length (now slots)) × (n < length (now chunks)) × (n < length (now layers)) × (n < length (now bytes)) × (t ≤ 3600) ⌝ }
+    ensures { λ _. ⌜ (now (slots .exit) ≡ set (now (slots .entry)) n t) × (now (chunks .exit) ≡ set (now (chunks .entry)) n chunk) × (now (layers .exit) ≡ set (now (layers .entry)) n layer) × (now (bytes .exit) ≡ set (now (bytes .entry)) n b) ⌝ }
+{
+    slots[n] = t as u16;
+    chunks[n] = chunk;
+    layers[n] = layer;
+    bytes[n] = b;
+}
+
+// A chunk does not begin before its release.
+pub fn begin(part: &[u32], start: usize, at: Position, ready: u16) -> Position
+    requires { ⌜ ForecastPart start (now part) × (start ≤ at .slot) × (ready ≤ lastOf start (now part)) ⌝ }
+    ensures { λ r. ⌜ r ≡ begun start (now (part .entry)) at ready ⌝ }
+{
+    let r = ready as usize;
+    if at.slot < r {
+        let k = r - start;
+        let c = part[k];
+        return Position {
+            slot: r,
+            left: c,
+            rows: at.rows,
+        };
+    }
+    at
+}
+
+// A piece that may begin goes into slot after slot until nothing is left of it.
+pub fn put_piece(
+    part: &[u32],
+    start: usize,
+    at: Position,
+    chunk: u16,
+    layer: u8,
+    size: u32,
+    slots: &mut [u16],
+    chunks: &mut [u16],
+    layers: &mut [u8],
+    bytes: &mut [u32],
+) -> Position
+    requires { ⌜ PutPiecePre start (now part) 1 at (now slots) (now chunks) (now layers) (now bytes) × (1 ≤ size) × (size ≤ at .left + leftAt start (now part) (at .slot)) ⌝ }
+    ensures { λ r. ⌜ PutPiecePost start (now (part .entry)) chunk layer size at (now (slots .entry)) (now (chunks .entry)) (now (layers .entry)) (now (bytes .entry)) r (now (slots .exit)) (now (chunks .exit)) (now (layers .exit)) (now (bytes .exit)) ⌝ }
+{
+    let mut t = at.slot;
+    let mut c = at.left;
+    let mut n = at.rows;
+    let mut left = size;
+    while c < left {
+        let next = t + 1;
+        let k = next - start;
+        if c == 0 {
+            t = next;
+            c = part[k];
+        } else {
+            put_row(slots, chunks, layers, bytes, n, t, chunk, layer, c);
+            n = n + 1;
+            left = left - c;
+            t = next;
+            c = part[k];
+        }
+    }
+    put_row(slots, chunks, layers, bytes, n, t, chunk, layer, left);
+    c = c - left;
+    n = n + 1;
+    Position {
+        slot: t,
+        left: c,
+        rows: n,
+    }
+}
+
+// The layers that a chunk carries.
+pub fn put_chunk(
+    part: &[u32],
+    start: usize,
+    table: &SizeTable,
+    from: Position,
+    ready: u16,
+    chunk: u16,
+    mark: u8,
+    slots: &mut [u16],
+    chunks: &mut [u16],
+    layers: &mut [u8],
+    bytes: &mut [u32],
+) -> Position
+    requires { ⌜ PutChunkPre start (now part) (tableAt (now table)) from ready chunk mark (now slots) (now chunks) (now layers) (now bytes) ⌝ }
+    ensures { λ r. ⌜ PutPost start (now (part .entry)) (layersOf (tableAt (now (table .entry))) chunk ready mark) 4 from (now (slots .entry)) (now (chunks .entry)) (now (layers .entry)) (now (bytes .entry)) r (now (slots .exit)) (now (chunks .exit)) (now (layers .exit)) (now (bytes .exit)) ⌝ }
+{
+    let mut at = begin(part, start, from, ready);
+    let mut n: u8 = 0;
+    while fetch::has(mark, n) {
+        let z = core_sizes::size_in(table, chunk, n as usize);
+        at = put_piece(part, start, at, chunk, n, z, slots, chunks, layers, bytes);
+        n = n + 1;
+    }
+    at
+}
+
+// The pieces of all kept chunks.
+pub fn put_all(
+    part: &[u32],
+    start: usize,
+    table: &SizeTable,
+    ids: &[u16; CHUNKS],
+    ready: &[u16; CHUNKS],
+    mark: &[u8; CHUNKS],
+    first: usize,
+    from: Position,
+    slots: &mut [u16],
+    chunks: &mut [u16],
+    layers: &mut [u8],
+    bytes: &mut [u32],
+) -> Position
+    requires { ⌜ PutAllPre start (now part) (tableAt (now table)) (now ids) (now ready) (now mark) first from (now slots) (now chunks) (now layers) (now bytes) ⌝ }
+    ensures { λ r. ⌜ PutPost start (now (part .entry)) (queueOf (tableAt (now (table .entry))) (drop first (now (ids .entry))) (drop first (now (ready .entry))) (drop first (now (mark .entry)))) (4 * (500 - first)) from (now (slots .entry)) (now (chunks .entry)) (now (layers .entry)) (now (bytes .entry)) r (now (slots .exit)) (now (chunks .exit)) (now (layers .exit)) (now (bytes .exit)) ⌝ }
+{
+    let mut at = from;
+    let mut q = first;
+    while q < CHUNKS {
+        at = put_chunk(
+            part,
+            start,
+            table,
+            at,
+            ready[q],
+            ids[q],
+            mark[q],
+            slots,
+            chunks,
+            layers,
+            bytes,
+        );
+        q = q + 1;
+    }
+    at
+}

@@ -1,0 +1,230 @@
+// Internal. A decided choice handed over, whoever decided it: its own list, marks and counts into
+// lent slices where these hold it whole. The kept chunks, their releases and their marks stand at
+// the end of tables of 500 places, from a first place on, as core_decide leaves them.
+use job::CHUNKS;
+use job::ROWS;
+use job::SizeTable;
+ghost use mathlib.Core.Path.{_≡_};
+ghost use Prim.Native.Nat.{_+_, _≤_};
+ghost use lib.ListN.{length, getD, drop};
+ghost use lib.Dec.{eqb};
+ghost use Rattle.theory_basics.specs.Lists.{upTo};
+ghost use Rattle.theory_basics.specs.Lent.{over};
+ghost use Rattle.job.specs.Table.{tableAt};
+ghost use Rattle.theory_plan.specs.lemmas.Ascending.{Asc};
+ghost use Rattle.core_output.specs.lemmas.Writing.{WritePre, FillPre, FillPost, WritePost, Each};
+ghost use Rattle.core_decide.specs.lemmas.Marks.{markOr};
+
+// The rows made, and the counts.
+struct Filled {
+    pub rows: usize,
+    pub counts: [u16; 4],
+}
+
+// Whether the slices hold the rows and marks whole, how many rows there are, and the counts.
+pub struct Output {
+    pub whole: bool,
+    pub rows: usize,
+    pub counts: [u16; 4],
+}
+
+fn wide(x: u16) -> usize
+    ensures { λ r. ⌜ r ≡ x ⌝ }
+{
+    x as usize
+}
+
+// Whether the kept chunk at place q is this one.
+fn is_at(ids: &[u16; CHUNKS], q: usize, chunk: usize) -> bool
+    requires { ⌜ (1 ≤ chunk) × (length (now ids) ≡ 500) ⌝ }
+    ensures { λ r. ⌜ r ≡ eqb (getD (now (ids .entry)) q 0) chunk ⌝ }
+{
+    if q < CHUNKS {
+        return wide(ids[q]) == chunk;
+    }
+    false
+}
+
+// A mark for each chunk: the one at its place among the kept chunks, or 0.
+fn spread(ids: &[u16; CHUNKS], mark: &[u8; CHUNKS], first: usize, count: usize, marks: &mut [u8])
+    requires { ⌜ (first ≤ 500) × (count ≤ length (now marks)) × Asc 1 count (drop first (now ids)) × (length (now ids) ≡ 500) × (length (now mark) ≡ 500) ⌝ }
+    ensures { λ _. ⌜ now (marks .exit) ≡ over (upTo (λ i. markOr 0 (i + 1) (drop first (now (ids .entry))) (drop first (now (mark .entry)))) count) (now (marks .entry)) ⌝ }
+{
+    let mut q = first;
+    let mut i: usize = 0;
+    while i < count {
+        let chunk = i + 1;
+        if is_at(ids, q, chunk) {
+            marks[i] = mark[q];
+            q = q + 1;
+            i = chunk;
+        } else {
+            marks[i] = 0;
+            i = chunk;
+        }
+    }
+}
+
+// Into slices that have room for any plan.
+fn fill(
+    count: usize,
+    forecast: &[u32],
+    table: &SizeTable,
+    first: usize,
+    ids: &[u16; CHUNKS],
+    ready: &[u16; CHUNKS],
+    mark: &[u8; CHUNKS],
+    marks: &mut [u8],
+    slots: &mut [u16],
+    chunks: &mut [u16],
+    layers: &mut [u8],
+    bytes: &mut [u32],
+) -> Filled
+    requires { ⌜ FillPre count (now forecast) (tableAt (now table)) first (now ids) (now ready) (now mark) (now marks) (now slots) (now chunks) (now layers) (now bytes) ⌝ }
+    ensures { λ r. ⌜ Each count (now (forecast .entry)) (tableAt (now (table .entry))) first (now (ids .entry)) (now (ready .entry)) (now (mark .entry)) (λ j x. FillPost j x (now (marks .entry)) (now (slots .entry)) (now (chunks .entry)) (now (layers .entry)) (now (bytes .entry)) r (now (marks .exit)) (now (slots .exit)) (now (chunks .exit)) (now (layers .exit)) (now (bytes .exit))) ⌝ }
+{
+    let c = forecast[0];
+    let from = core_fill::Position {
+        slot: 1,
+        left: c,
+        rows: 0,
+    };
+    let end = core_fill::put_all(
+        forecast,
+        1,
+        table,
+        ids,
+        ready,
+        mark,
+        first,
+        from,
+        slots,
+        chunks,
+        layers,
+        bytes,
+    );
+    spread(ids, mark, first, count, marks);
+    let counts = core_slices::count_layers(&marks[..count]);
+    Filled {
+        rows: end.rows,
+        counts,
+    }
+}
+
+// Into slices that may be too short: laid out aside, and copied if it fits whole.
+fn write_aside(
+    count: usize,
+    forecast: &[u32],
+    table: &SizeTable,
+    first: usize,
+    ids: &[u16; CHUNKS],
+    ready: &[u16; CHUNKS],
+    mark: &[u8; CHUNKS],
+    marks: &mut [u8],
+    slots: &mut [u16],
+    chunks: &mut [u16],
+    layers: &mut [u8],
+    bytes: &mut [u32],
+) -> Output
+    requires { ⌜ WritePre count (now forecast) (tableAt (now table)) first (now ids) (now ready) (now mark) (now marks) ⌝ }
+    ensures { λ r. ⌜ Each count (now (forecast .entry)) (tableAt (now (table .entry))) first (now (ids .entry)) (now (ready .entry)) (now (mark .entry)) (λ j x. WritePost j x (now (marks .entry)) (now (slots .entry)) (now (chunks .entry)) (now (layers .entry)) (now (bytes .entry)) r (now (marks .exit)) (now (slots .exit)) (now (chunks .exit)) (now (layers .exit)) (now (bytes .exit))) ⌝ }
+{
+    let mut own_marks = [0u8; CHUNKS];
+    let mut own_slots = [0u16; ROWS];
+    let mut own_chunks = [0u16; ROWS];
+    let mut own_layers = [0u8; ROWS];
+    let mut own_bytes = [0u32; ROWS];
+    let made = fill(
+        count,
+        forecast,
+        table,
+        first,
+        ids,
+        ready,
+        mark,
+        &mut own_marks,
+        &mut own_slots,
+        &mut own_chunks,
+        &mut own_layers,
+        &mut own_bytes,
+    );
+    let rows = made.rows;
+    let counts = made.counts;
+    if core_slices::all_at_least(rows, slots.len(), chunks.len(), layers.len(), bytes.len()) {
+        core_slices::copy8(&own_marks, count, marks);
+        core_slices::copy16(&own_slots, rows, slots);
+        core_slices::copy16(&own_chunks, rows, chunks);
+        core_slices::copy8(&own_layers, rows, layers);
+        core_slices::copy32(&own_bytes, rows, bytes);
+        Output {
+            whole: true,
+            rows,
+            counts,
+        }
+    } else {
+        Output {
+            whole: false,
+            rows,
+            counts,
+        }
+    }
+}
+
+// The rows, by slot, chunk, layer, and a mark for each of count chunks. Where a row slice is too
+// short nothing is written.
+pub fn write_plan(
+    count: usize,
+    forecast: &[u32],
+    table: &SizeTable,
+    first: usize,
+    ids: &[u16; CHUNKS],
+    ready: &[u16; CHUNKS],
+    mark: &[u8; CHUNKS],
+    marks: &mut [u8],
+    slots: &mut [u16],
+    chunks: &mut [u16],
+    layers: &mut [u8],
+    bytes: &mut [u32],
+) -> Output
+    requires { ⌜ WritePre count (now forecast) (tableAt (now table)) first (now ids) (now ready) (now mark) (now marks) ⌝ }
+    ensures { λ r. ⌜ Each count (now (forecast .entry)) (tableAt (now (table .entry))) first (now (ids .entry)) (now (ready .entry)) (now (mark .entry)) (λ j x. WritePost j x (now (marks .entry)) (now (slots .entry)) (now (chunks .entry)) (now (layers .entry)) (now (bytes .entry)) r (now (marks .exit)) (now (slots .exit)) (now (chunks .exit)) (now (layers .exit)) (now (bytes .exit))) ⌝ }
+{
+    if core_slices::all_at_least(ROWS, slots.len(), chunks.len(), layers.len(), bytes.len()) {
+        let made = fill(
+            count,
+            forecast,
+            table,
+            first,
+            ids,
+            ready,
+            mark,
+            marks,
+            slots,
+            chunks,
+            layers,
+            bytes,
+        );
+        let rows = made.rows;
+        let counts = made.counts;
+        Output {
+            whole: true,
+            rows,
+            counts,
+        }
+    } else {
+        write_aside(
+            count,
+            forecast,
+            table,
+            first,
+            ids,
+            ready,
+            mark,
+            marks,
+            slots,
+            chunks,
+            layers,
+            bytes,
+        )
+    }
+}

@@ -1,0 +1,6 @@
+pub mod PassForward
+pub mod PassBack
+pub mod Both
+pub mod SetTables
+pub mod Short
+pub mod Lines

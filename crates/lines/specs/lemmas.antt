@@ -1,5 +1,0 @@
-pub mod Passes
-pub mod Held
-pub mod Laying
-pub mod Sentences
-pub mod All

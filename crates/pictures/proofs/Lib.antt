@@ -1,3 +1,0 @@
-pub mod Maxima
-pub mod Walks
-pub mod Gathers

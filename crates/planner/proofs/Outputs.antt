@@ -1,0 +1,189 @@
+-- Laws on what the public call hands over. Assumes nothing.
+use mathlib.Core.Path.{_≡_, refl, sym, _∙_, ap, subst}
+use mathlib.Core.Bool.{Bool, true, false, cond}
+use mathlib.Core.List.{List, [], _∷_}
+use mathlib.Core.Logic.{⊎-elim}
+use Prim.Native.Nat.{ℕ, _≤_, _<_}
+use native.Mathlib.Omega.{arith}
+use lib.ListN.{length}
+use lib.Dec.{eqb}
+use borrow.Author.Tests.{eq-eqb, ne-eqb, le-leb, lt-leb}
+use Rattle.theory_basics.specs.Refusals.{unless}
+use Rattle.theory_basics.specs.lemmas.Refusals.{orElse-none, orElse-some}
+use Rattle.theory_basics.specs.lemmas.Tests.{T-true, not-T-false, test}
+use Rattle.job.specs.Job.{Job, Accepted, chunks, size}
+use Rattle.job.specs.Input.{JobInput, jobIn, jobRefusal, input-iff}
+use Rattle.theory_plan.specs.Plan.{plan}
+use Rattle.theory_plan.specs.lemmas.Plan.{plan-choice, plan-fits}
+use Rattle.theory_plan.specs.Theorems.{best, elsewhere-iff, plan-exists}
+use Rattle.theory_plan.specs.Pictures.{most-pictures}
+use Rattle.core_decide.specs.lemmas.Decision.{Decides}
+use Rattle.core_slices.specs.lemmas.Slices.{Result, rowsHold, Stands}
+use Rattle.core_output.specs.declared.Output.{Output}
+use Rattle.core_output.specs.lemmas.Writing.{Decided, WritePost, ownResult}
+use Rattle.core_output.proofs.Writing.{unlaid}
+use Rattle.planner.specs.declared.Answer.the-variants.{Rows, Refused}
+use Rattle.planner.specs.declared.Planned.{Planned}
+use Rattle.planner.specs.Answer.{planRows, Lent, lentOf, holds, planRefusal, PlanOutput, DecidedByLists, PicturesOfLists, BestOfLists, SteadyBases}
+use Rattle.planner.specs.lemmas.Outputs.{Outputs, shortRefusal}
+use Rattle.theory_sensitivity.specs.Theorems.{steady}
+
+-- ---- what is handed over, by the refusal
+
+-- Nothing but a number.
+abbrev pub OnlyNumber : Planned → ℕ → Type 0
+OnlyNumber r k = (r .answer ≡ Refused k) × (r .counts ≡ 0 ∷ 0 ∷ 0 ∷ 0 ∷ [])
+
+module _ (x : Result) {marks slots cs layers bytes : List ℕ} {r : Planned} where
+  pub over-refused : (refused k : ℕ) → refused ≡ k → (k ≡ 0 → ⊥) → OnlyNumber r k → Outputs refused x marks slots cs layers bytes r marks slots cs layers bytes
+  over-refused refused k e o n =
+      let g : eqb refused 0 ≡ false = ap (λ (n : ℕ). eqb n 0) e ∙ ne-eqb k 0 o in
+      record {
+        answer = n .0 ∙ sym (rw (g, e));
+        counts = n .1 ∙ sym (rw g);
+        marks-are = sym (rw g);
+        slots-are = sym (rw g);
+        chunks-are = sym (rw g);
+        layers-are = sym (rw g);
+        bytes-are = sym (rw g);
+      }
+
+  pub over-given :
+      (refused : ℕ) → refused ≡ 0 → {n : ℕ} {counts : List ℕ} → (r .answer ≡ Rows n) × (r .counts ≡ counts) → {marks' slots' cs' layers' bytes' : List ℕ} →
+      Stands x n counts marks slots cs layers bytes marks' slots' cs' layers' bytes' → Outputs refused x marks slots cs layers bytes r marks' slots' cs' layers' bytes'
+  over-given refused e a s =
+      let g : eqb refused 0 ≡ true = eq-eqb refused 0 e in
+      record {
+        answer = a .0 ∙ ap Rows (s .rows-are) ∙ sym (rw g);
+        counts = a .1 ∙ s .counts-are ∙ sym (rw g);
+        marks-are = s .marks-are ∙ sym (rw g);
+        slots-are = s .slots-are ∙ sym (rw g);
+        chunks-are = s .chunks-are ∙ sym (rw g);
+        layers-are = s .layers-are ∙ sym (rw g);
+        bytes-are = s .bytes-are ∙ sym (rw g);
+      }
+
+  -- Where the marks fit: the rows, or 11.
+  pub over-fits :
+      {n : ℕ} {counts : List ℕ} → rowsHold n slots cs layers bytes ≡ true → (r .answer ≡ Rows n) × (r .counts ≡ counts) → {marks' slots' cs' layers' bytes' : List ℕ} →
+      Stands x n counts marks slots cs layers bytes marks' slots' cs' layers' bytes' →
+      Outputs (shortRefusal (x .rows) slots cs layers bytes) x marks slots cs layers bytes r marks' slots' cs' layers' bytes'
+  over-fits {n} h a s = over-given (shortRefusal (x .rows) slots cs layers bytes) (ap (λ (m : ℕ). unless 11 (rowsHold m slots cs layers bytes)) (sym (s .rows-are)) ∙ rw h) a s
+
+  pub over-short :
+      {n : ℕ} → n ≡ length (x .rows) → rowsHold n slots cs layers bytes ≡ false → OnlyNumber r 11 →
+      Outputs (shortRefusal (x .rows) slots cs layers bytes) x marks slots cs layers bytes r marks slots cs layers bytes
+  over-short {n} e h o =
+      over-refused (shortRefusal (x .rows) slots cs layers bytes) 11 (ap (λ (m : ℕ). unless 11 (rowsHold m slots cs layers bytes)) (sym e) ∙ rw h) (λ z. omega arith) o
+
+-- ---- so for the plan
+
+-- What is handed over of it.
+abbrev planned : Job → Result
+planned j = ownResult j (plan j)
+
+-- What a refusal's number says.
+pub none : {k refusal : ℕ} → k ≡ refusal → k ≤ 0 → refusal ≡ 0
+none e h = omega arith
+
+accepted : (h : JobInput) → jobRefusal h ≡ 0 → Accepted (jobIn h)
+accepted h z = input-iff h .0 z .1
+
+module _ (h : JobInput) (marks slots cs layers bytes : List ℕ) where
+  abbrev j : Job
+  j = jobIn h
+
+  abbrev lent : Lent
+  lent = lentOf marks slots cs layers bytes
+
+  output-by :
+      (refused : ℕ) → planRefusal h lent ≡ refused → {r : Planned} {marks' slots' cs' layers' bytes' : List ℕ} →
+      Outputs refused (planned j) marks slots cs layers bytes r marks' slots' cs' layers' bytes' → PlanOutput h marks slots cs layers bytes r marks' slots' cs' layers' bytes'
+  output-by refused e {r} {marks'} {slots'} {cs'} {layers'} {bytes'} x =
+      let y = subst (λ (k : ℕ). Outputs k (planned j) marks slots cs layers bytes r marks' slots' cs' layers' bytes') (sym e) x in
+      record {
+        answer = y .answer;
+        counts = y .counts;
+        marks-are = y .marks-are;
+        slots-are = y .slots-are;
+        chunks-are = y .chunks-are;
+        layers-are = y .layers-are;
+        bytes-are = y .bytes-are;
+      }
+
+  -- 5, 6, 18 or 7.
+  pub refused-input : (k : ℕ) → k ≡ jobRefusal h → 0 < k → (r : Planned) → OnlyNumber r k → PlanOutput h marks slots cs layers bytes r marks slots cs layers bytes
+  refused-input k e o r x =
+      output-by k (orElse-some (jobRefusal h) (unless 11 (holds j lent)) (λ z. omega arith) ∙ sym e) (over-refused (planned j) k k refl (λ z. omega arith) x)
+
+  -- 11.
+  pub short-marks : jobRefusal h ≡ 0 → length marks < chunks j → (r : Planned) → OnlyNumber r 11 → PlanOutput h marks slots cs layers bytes r marks slots cs layers bytes
+  short-marks e f r x =
+      output-by 11 (orElse-none (jobRefusal h) (unless 11 (holds j lent)) e ∙ rw (lt-leb (chunks j) (length marks) f)) (over-refused (planned j) 11 11 refl (λ z. omega arith) x)
+
+  -- The marks fit: the rows say.
+  pub fit-marks :
+      jobRefusal h ≡ 0 → chunks j ≤ length marks → {r : Planned} {marks' slots' cs' layers' bytes' : List ℕ} →
+      Outputs (shortRefusal (planRows j) slots cs layers bytes) (planned j) marks slots cs layers bytes r marks' slots' cs' layers' bytes' →
+      PlanOutput h marks slots cs layers bytes r marks' slots' cs' layers' bytes'
+  fit-marks e f =
+      output-by (shortRefusal (planRows j) slots cs layers bytes) (orElse-none (jobRefusal h) (unless 11 (holds j lent)) e ∙ rw (le-leb (chunks j) (length marks) f))
+
+  -- What was laid, whole or not at all.
+  module _ (z : jobRefusal h ≡ 0) (fit : chunks j ≤ length marks) {made : Output} {marks' slots' cs' layers' bytes' : List ℕ} (l : WritePost j (plan j) marks slots cs layers bytes made marks' slots' cs' layers' bytes') where
+    stands : made .whole ≡ true → Stands (planned j) (made .rows) (made .counts) marks slots cs layers bytes marks' slots' cs' layers' bytes'
+    stands t =
+        record {
+          rows-are = l .rows;
+          counts-are = l .counts;
+          marks-are = l .marks-are ∙ rw t;
+          slots-are = l .slots-are ∙ rw t;
+          chunks-are = l .chunks-are ∙ rw t;
+          layers-are = l .layers-are ∙ rw t;
+          bytes-are = l .bytes-are ∙ rw t;
+        }
+
+    room : (v : Bool) → made .whole ≡ v → rowsHold (made .rows) slots cs layers bytes ≡ v
+    room v t = ap (λ (n : ℕ). rowsHold n slots cs layers bytes) (l .rows) ∙ sym (l .whole) ∙ t
+
+    pub output-laid :
+        (r : Planned) → (r .answer ≡ cond (made .whole) (Rows (made .rows)) (Refused 11)) × (r .counts ≡ cond (made .whole) (made .counts) (0 ∷ 0 ∷ 0 ∷ 0 ∷ [])) →
+        PlanOutput h marks slots cs layers bytes r marks' slots' cs' layers' bytes'
+    output-laid r x =
+        ⊎-elim
+        (λ t. let e = T-true (made .whole) t in fit-marks z fit (over-fits (planned j) (room true e) (x .0 ∙ rw e, x .1 ∙ rw e) (stands e)))
+        (λ t.
+        let e = not-T-false (made .whole) t in
+        unlaid l e (λ m s c y b. PlanOutput h marks slots cs layers bytes r m s c y b)
+        (fit-marks z fit (over-short (planned j) (l .rows) (room false e) (x .0 ∙ rw e, x .1 ∙ rw e))))
+        (test (made .whole))
+
+-- ---- what writing the plan asks for
+
+module _ (h : JobInput) (z : jobRefusal h ≡ 0) where
+  ok-of : Accepted (jobIn h)
+  ok-of = accepted h z
+
+  pub decided :
+      (own : ℕ → ℕ → ℕ) → own ≡ size (jobIn h) → {first : ℕ} {ids ready mark : List ℕ} → Decides (jobIn h) (plan (jobIn h)) first ids ready mark →
+      Decided (chunks (jobIn h)) (jobIn h .forecast) own first ids ready mark (jobIn h) (plan (jobIn h))
+  decided own says d =
+      record { accepted = ok-of; counted = refl; forecast-is = refl; sizes-are = says; choice = plan-choice (jobIn h); fits = plan-fits (jobIn h); tables = d }
+
+-- ---- what holds of the plan
+
+pub decided-by-lists : (h : JobInput) → DecidedByLists h
+decided-by-lists h z = plan-exists (jobIn h) (accepted h z)
+
+pub pictures-of-lists : (h : JobInput) → PicturesOfLists h
+pictures-of-lists h z =
+    let j = jobIn h in
+    let a = accepted h z in
+    let is = plan-exists j a in
+    record { most = most-pictures j a (plan j) is; equal-bases = λ equal. elsewhere-iff j (λ w. w .1 equal) (plan j) .0 is }
+
+pub best-of-lists : (h : JobInput) → BestOfLists h
+best-of-lists h z equal = let j = jobIn h in let a = accepted h z in best j a equal (plan j) (plan-exists j a)
+
+pub steady-bases : (h : JobInput) → SteadyBases h
+steady-bases h z = steady (jobIn h) (accepted h z)

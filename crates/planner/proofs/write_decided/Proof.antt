@@ -1,0 +1,72 @@
+-- `write_decided` meets its contract: what is decided and laid is the plan.
+use borrow.Author.Needs.{needs}
+use Rattle.planner.proofs.write_decided.Statement.{statement}
+use Rattle.planner.proofs.write_decided.Tie as tie
+use mathlib.Core.Path.{refl}
+use Prim.Native.Nat.{ℕ}
+use lib.ListN.{length-replicate}
+use Rattle.job.specs.Input.{input-iff}
+use Rattle.core_decide.specs.lemmas.Accepted.{decide-from, filled}
+use Rattle.planner.proofs.Outputs.{decided, output-laid}
+
+cast-unset : tie.Need-cast-unset
+cast-unset c = search needs
+
+fill-sizes-requires : tie.Need-fill-sizes-requires
+fill-sizes-requires c κs = search needs
+
+cast-count : tie.Need-cast-count
+cast-count c = search needs
+
+decide-requires : tie.Need-decide-requires
+decide-requires c κs =
+    let o = c .before .before .before .before .before .before .before .before .before .before .before .before .before .before .before .before .before .before .pre in
+    let says = filled _ (input-iff _ .0 (o .0) .1) _ (c .before .before .before .before .before .fill-sizes .ensures (length-replicate {A = ℕ} 2000 (c .before .before .before .before .before .before .before .before .before .before .before .before .before .before .before .before .before .before .args .p .chunks))) in
+    decide-from _ (input-iff _ .0 (o .0) .1) _ says _ _ (length-replicate {A = ℕ} 500 0) (length-replicate {A = ℕ} 500 0)
+
+write-plan-requires : tie.Need-write-plan-requires
+write-plan-requires c κs =
+    let o = c .before .before .before .before .before .before .before .before .before .before .before .before .before .before .before .before .before .before .before .before .before .before .before .before .before .before .before .before .pre in
+    let says = filled _ (input-iff _ .0 (o .0) .1) _ (c .before .before .before .before .before .before .before .before .before .before .before .before .before .before .before .fill-sizes .ensures (length-replicate {A = ℕ} 2000 (c .before .before .before .before .before .before .before .before .before .before .before .before .before .before .before .before .before .before .before .before .before .before .before .before .before .before .before .before .args .p .chunks))) in
+    record { job = _; choice = _; decided = decided _ (o .0) _ says (c .before .before .before .before .before .before .before .before .before .decide .ensures _ _ refl says); marks-fit = o .1 }
+
+answered-requires : tie.Need-answered-requires
+answered-requires c κs = search needs
+
+same-length : tie.Need-same-length
+same-length c = search needs
+
+same-length-2 : tie.Need-same-length-2
+same-length-2 c = search needs
+
+same-length-3 : tie.Need-same-length-3
+same-length-3 c = search needs
+
+same-length-4 : tie.Need-same-length-4
+same-length-4 c = search needs
+
+same-length-5 : tie.Need-same-length-5
+same-length-5 c = search needs
+
+returns : tie.Need-returns
+returns c =
+    let o = c .before .before .before .before .before .before .before .before .before .before .before .before .before .before .before .before .before .before .before .before .before .before .before .before .before .before .before .before .before .before .before .before .before .before .before .before .before .before .before .before .pre in
+    let says = filled _ (input-iff _ .0 (o .0) .1) _ (c .before .before .before .before .before .before .before .before .before .before .before .before .before .before .before .before .before .before .before .before .before .before .before .before .before .before .before .fill-sizes .ensures (length-replicate {A = ℕ} 2000 (c .before .before .before .before .before .before .before .before .before .before .before .before .before .before .before .before .before .before .before .before .before .before .before .before .before .before .before .before .before .before .before .before .before .before .before .before .before .before .before .before .args .p .chunks))) in
+    output-laid _ _ _ _ _ _ (o .0) (o .1) (c .before .before .before .before .before .before .before .before .before .before .before .write-plan .ensures _ _ (decided _ (o .0) _ says (c .before .before .before .before .before .before .before .before .before .before .before .before .before .before .before .before .before .before .before .before .before .decide .ensures _ _ refl says))) _ (c .answered .ensures)
+
+pub write-decided-spec : {M : Type 1} → statement M
+write-decided-spec =
+    tie.close
+    (tie.spec
+    cast-unset
+    fill-sizes-requires
+    cast-count
+    decide-requires
+    write-plan-requires
+    answered-requires
+    same-length
+    same-length-2
+    same-length-3
+    same-length-4
+    same-length-5
+    returns)

@@ -1,0 +1,73 @@
+-- Laws on what the call hands over: a refusal by the job, 11, or the text in front of the old
+-- bytes. Assumes nothing.
+use Prim.Native.Nat.{ℕ, _+_, _≤_, _<_}
+use mathlib.Core.Path.{_≡_, refl, sym, ap, _∙_}
+use mathlib.Core.List.{List, _++_}
+use native.Mathlib.Omega.{arith}
+use lib.ListN.{length, drop, take}
+use lib.Dec.{leb}
+use borrow.Author.Tests.{eq-eqb, le-leb, lt-leb, ne-eqb}
+use Rattle.theory_basics.specs.Refusals.{unless}
+use Rattle.theory_basics.specs.lemmas.Refusals.{orElse-none, orElse-some}
+use Rattle.job.specs.Input.{JobInput, input-iff, jobIn, jobRefusal}
+use Rattle.job.specs.Job.{Accepted}
+use Rattle.records.specs.Fields.{written}
+use Rattle.records.specs.lemmas.Puts.{written-whole}
+use Rattle.theory_plan.specs.Plan.{plan}
+use Rattle.theory_reasons.specs.Lines.{linesOf, planText}
+use Rattle.theory_reasons.specs.Statement.{against}
+use Rattle.theory_reasons.specs.Theorems.{plan-reasons, text-fits}
+use Rattle.core_text.specs.lemmas.Places.{Put, put-front, put-whole}
+use Rattle.reasons.specs.Answer.{LinesOfPlan, Told, refusal}
+use Rattle.reasons.specs.declared.Written.the-variants.{Bytes, Refused}
+
+pub none : {k refused : ℕ} → k ≡ refused → k ≤ 0 → refused ≡ 0
+none e h = omega arith
+
+pub accepted : (h : JobInput) → jobRefusal h ≡ 0 → Accepted (jobIn h)
+accepted h z = input-iff h .0 z .1
+
+pub fits : (h : JobInput) → jobRefusal h ≡ 0 → length (planText (jobIn h)) ≤ 94000
+fits h z = text-fits (jobIn h) (accepted h z)
+
+module _ (h : JobInput) (old : List ℕ) where
+  pub told-refused : (k : ℕ) → k ≡ jobRefusal h → 0 < k → Told h old old (Refused k)
+  told-refused k e o =
+      let z : jobRefusal h ≡ 0 → ⊥ = λ z. omega arith in
+      let r : refusal h old ≡ k = orElse-some (jobRefusal h) (unless 11 (leb (length (planText (jobIn h))) (length old))) z ∙ sym e in
+      let n = ne-eqb k 0 (λ z. omega arith) in
+      record { result = rw (r, n); buffer = rw (r, n) }
+
+  module _ (z : jobRefusal h ≡ 0) where
+    pub told-short : length old < length (planText (jobIn h)) → Told h old old (Refused 11)
+    told-short l =
+        let r : refusal h old ≡ 11 = orElse-none (jobRefusal h) (unless 11 (leb (length (planText (jobIn h))) (length old))) z ∙ rw (lt-leb (length (planText (jobIn h))) (length old) l) in
+        record { result = rw r; buffer = rw r }
+
+    pub told : (n : ℕ) (new : List ℕ) → length (planText (jobIn h)) ≤ length old → n ≡ length (planText (jobIn h)) → new ≡ planText (jobIn h) ++ drop (length (planText (jobIn h))) old → Told h old new (Bytes n)
+    told n new l e b =
+        let r : refusal h old ≡ 0 = orElse-none (jobRefusal h) (unless 11 (leb (length (planText (jobIn h))) (length old))) z ∙ rw (le-leb (length (planText (jobIn h))) (length old) l) in
+        record { result = rw (r, e); buffer = rw r b }
+
+    -- Put into the buffer itself,
+    pub told-put : (n : ℕ) (new : List ℕ) → length (planText (jobIn h)) ≤ length old → Put old 0 (planText (jobIn h)) new n → Told h old new (Bytes n)
+    told-put n new l p = told n new l (omega (arith, p .place)) (put-whole l p)
+
+    -- or put aside and copied.
+    pub told-copied :
+        (n : ℕ) (new before aside : List ℕ) → length (planText (jobIn h)) ≤ length before → Put before 0 (planText (jobIn h)) aside n → n ≤ length old →
+        new ≡ written old 0 (take n aside) → Told h old new (Bytes n)
+    told-copied n new before aside room p l e =
+        let t = put-front room p .1 in
+        let fit : length (planText (jobIn h)) ≤ length old = omega (arith, p .place) in
+        told n new fit (omega (arith, p .place)) (e ∙ ap (written old 0) t ∙ written-whole old (planText (jobIn h)) fit)
+
+pub lines-of-plan : (h : JobInput) → LinesOfPlan h
+unfolding planText
+lines-of-plan h z p d =
+    let j = jobIn h in
+    record {
+      lines = linesOf j (plan j) (against j (plan j));
+      reasons = plan-reasons j (accepted h z) p d;
+      text = refl;
+    }

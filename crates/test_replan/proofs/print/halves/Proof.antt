@@ -1,0 +1,59 @@
+-- `test_replan::print::halves` is safe and ends. Assumes nothing.
+use borrow.Author.Needs.{needs}
+use Prim.Native.Nat.{_≤_, _-_}
+use lib.ListN.{length}
+use Rattle.test_replan.proofs.print.halves.Statement.{statement}
+use Rattle.test_replan.proofs.print.halves.Tie as tie
+
+abbrev Inv-loop : tie.InvT-loop
+Inv-loop text column k₀ k = k ≤ length column
+
+abbrev μ-loop : tie.MeasureT-loop
+μ-loop text column k₀ k = length column - k
+
+word-requires : tie.Need-word-requires Inv-loop μ-loop
+word-requires c κs = search needs
+
+loop-holds : tie.Need-loop-holds Inv-loop μ-loop
+loop-holds c = search needs
+
+mul-half : tie.Need-mul-half Inv-loop μ-loop
+mul-half c = search needs
+
+shared-slice-read-half : tie.Need-shared-slice-read-half Inv-loop μ-loop
+shared-slice-read-half c = search needs
+
+half-requires : tie.Need-half-requires Inv-loop μ-loop
+half-requires c κs = search needs
+
+next-requires : tie.Need-next-requires Inv-loop μ-loop
+next-requires c κs = search needs
+
+add-k : tie.Need-add-k Inv-loop μ-loop
+add-k c = search needs
+
+loop-less : tie.Need-loop-less Inv-loop μ-loop
+loop-less c = search needs
+
+loop-again : tie.Need-loop-again Inv-loop μ-loop
+loop-again c = search needs
+
+returns : tie.Need-returns Inv-loop μ-loop
+returns c = search needs
+
+pub halves-spec : {M : Type 1} → statement M
+halves-spec =
+    tie.close
+    (tie.spec
+    Inv-loop
+    μ-loop
+    word-requires
+    loop-holds
+    mul-half
+    shared-slice-read-half
+    half-requires
+    next-requires
+    add-k
+    loop-less
+    loop-again
+    returns)

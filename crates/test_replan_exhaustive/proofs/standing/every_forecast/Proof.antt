@@ -1,0 +1,68 @@
+-- `test_replan_exhaustive::standing::every_forecast` is safe and ends. Assumes nothing.
+use borrow.Author.Needs.{needs}
+use Prim.Native.Nat.{_≤_, _-_}
+use lib.ListN.{length}
+use mathlib.Core.Path.{_≡_}
+use Rattle.test_replan_exhaustive.proofs.standing.every_forecast.Statement.{statement}
+use Rattle.test_replan_exhaustive.proofs.standing.every_forecast.Tie as tie
+
+abbrev Inv-loop : tie.InvT-loop
+Inv-loop f tally₀ forecasts w₀ tally w = (w ≤ forecasts) × (length tally ≡ length tally₀)
+
+abbrev μ-loop : tie.MeasureT-loop
+μ-loop f tally₀ forecasts w₀ tally w = forecasts - w
+
+walked-requires : tie.Need-walked-requires Inv-loop μ-loop
+walked-requires c κs = search needs
+
+returns : tie.Need-returns Inv-loop μ-loop
+returns c = search needs
+
+last-due-requires : tie.Need-last-due-requires Inv-loop μ-loop
+last-due-requires c κs = search needs
+
+cast-forecasts : tie.Need-cast-forecasts Inv-loop μ-loop
+cast-forecasts c = search needs
+
+forecasts-requires : tie.Need-forecasts-requires Inv-loop μ-loop
+forecasts-requires c κs = search needs
+
+loop-holds : tie.Need-loop-holds Inv-loop μ-loop
+loop-holds c = search needs
+
+plan-first-requires : tie.Need-plan-first-requires Inv-loop μ-loop
+plan-first-requires c κs = search needs
+
+add-w : tie.Need-add-w Inv-loop μ-loop
+add-w c = search needs
+
+loop-less : tie.Need-loop-less Inv-loop μ-loop
+loop-less c = search needs
+
+loop-again : tie.Need-loop-again Inv-loop μ-loop
+loop-again c = search needs
+
+same-length : tie.Need-same-length Inv-loop μ-loop
+same-length c = search needs
+
+returns-2 : tie.Need-returns-2 Inv-loop μ-loop
+returns-2 c = search needs
+
+pub every-forecast-spec : {M : Type 1} → statement M
+every-forecast-spec =
+    tie.close
+    (tie.spec
+    Inv-loop
+    μ-loop
+    walked-requires
+    returns
+    last-due-requires
+    cast-forecasts
+    forecasts-requires
+    loop-holds
+    plan-first-requires
+    add-w
+    loop-less
+    loop-again
+    same-length
+    returns-2)

@@ -1,0 +1,35 @@
+-- `test_report::reports` meets its contract. Assumes nothing.
+use borrow.Author.Needs.{needs}
+use Rattle.test_report.proofs.cases.reports.Statement.{statement}
+use Rattle.test_report.proofs.cases.reports.Tie as tie
+use Prim.Native.Nat.{_≤_, _-_}
+use native.Mathlib.Omega.{arith}
+
+abbrev Inv-loop : tie.InvT-loop
+Inv-loop i₀ i = i ≤ 19
+
+abbrev μ-loop : tie.MeasureT-loop
+μ-loop i₀ i = 19 - i
+
+loop-holds : tie.Need-loop-holds Inv-loop μ-loop
+loop-holds c = omega arith
+
+case-requires : tie.Need-case-requires Inv-loop μ-loop
+case-requires c κs = search needs
+
+add-i : tie.Need-add-i Inv-loop μ-loop
+add-i c = omega arith
+
+loop-less : tie.Need-loop-less Inv-loop μ-loop
+loop-less c = omega arith
+
+loop-again : tie.Need-loop-again Inv-loop μ-loop
+loop-again c = omega arith
+
+returns : tie.Need-returns Inv-loop μ-loop
+returns c = search needs
+
+pub reports-spec : {M : Type 1} → statement M
+reports-spec =
+    tie.close
+    (tie.spec Inv-loop μ-loop loop-holds case-requires add-i loop-less loop-again returns)

@@ -1,0 +1,15 @@
+// Tests of the calls on link traces. First the case files of data/ (CASES.md says what each is),
+// read for three slots and written again, whose lines tools/reference.py computes; then slot
+// counts, rooms and refusals that compete, whose lines are written by hand in
+// tools/expected_traces.txt.
+mod print;
+mod reading;
+mod writing;
+
+fn main() {
+    reading::trace_files();
+    reading::slot_counts();
+    reading::rooms();
+    writing::forecasts();
+    writing::slots();
+}

@@ -1,0 +1,28 @@
+-- Lemmas. Lists given by the value at each index. Assumes nothing.
+use Prim.Native.Nat.{ℕ, zero, suc, _<_}
+use mathlib.Core.Path.{_≡_, refl, _∙_}
+use mathlib.Core.List.{[], _∷_}
+use mathlib.Core.Logic.{⊎-elim}
+use native.Mathlib.Omega.{arith}
+use lib.ListN.{length, getD, length-append, List·getD-append}
+use lib.Seq.{getD-at}
+use lib.Dec.{ltb, ltb→lt, nltb→le}
+use Rattle.theory_basics.specs.Lists.{upTo}
+use Rattle.theory_basics.specs.lemmas.Tests.{test}
+
+module _ {A : Type 0} where
+  pub length-upTo : (f : ℕ → A) (n : ℕ) → length (upTo f n) ≡ n
+  length-upTo f zero = refl
+  length-upTo f (suc n) = omega (arith, length-append (upTo f n) (f n ∷ []), length-upTo f n)
+
+  pub getD-upTo : (f : ℕ → A) (n k : ℕ) (d : A) → k < n → getD (upTo f n) k d ≡ f k
+  getD-upTo f zero k d h = absurd (omega arith)
+  getD-upTo f (suc n) k d h =
+      ⊎-elim
+      (λ t. let u = ltb→lt k n t in List·getD-append (upTo f n) (f n ∷ []) d k (omega (arith, length-upTo f n)) ∙ getD-upTo f n k d u)
+      (λ t. let e : k ≡ n = omega (arith, nltb→le k n t) in rw e (getD-at (upTo f n) (f n) [] d n (length-upTo f n)))
+      (test (ltb k n))
+
+  pub upTo-cong : (f g : ℕ → A) (n : ℕ) → ((k : ℕ) → k < n → f k ≡ g k) → upTo f n ≡ upTo g n
+  upTo-cong f g zero h = refl
+  upTo-cong f g (suc n) h = rw (upTo-cong f g n (λ k u. h k (omega arith)), h n (omega arith))

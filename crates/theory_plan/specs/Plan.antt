@@ -1,0 +1,115 @@
+-- Meaning. The plan computed, so that a contract can name it: the bases of request 9 or of document
+-- 01's trials, then the trials of the upper layers in document 01's order, each decided by a test
+-- that takes no list. What a plan is says Statement (`IsPlan`); that this is it, and the only one,
+-- say `plan-exists` and `plan-unique` of Theorems, and that the test says whether some list can
+-- carry the choice, `decision`. So nobody has to believe the test.
+use Prim.Native.Nat.{ℕ, zero, suc, _+_, _-_, max}
+use mathlib.Core.Bool.{Bool, true, not, cond, _&&_}
+use mathlib.Core.List.{List, [], _∷_}
+use lib.ListN.{drop}
+use lib.Dec.{leb, eqb}
+use Rattle.theory_basics.specs.Sums.{pre, sum}
+use Rattle.theory_basics.specs.Tests.{allTo}
+use Rattle.job.specs.Job.{Job, chunks, due, forecast, heldMost, lastSlot, layers, size}
+use Rattle.theory_plan.specs.Bases.{baseSize, isKept}
+
+-- ---- the kept chunks of a choice
+
+-- The numbers of lo + 1 .. lo + n that pass.
+abbrev pub picked : (ℕ → Bool) → ℕ → ℕ → List ℕ
+picked p lo zero = []
+picked p lo (suc n) = cond (p (suc lo)) (suc lo ∷ picked p (suc lo) n) (picked p (suc lo) n)
+
+-- The bytes of chunk k in the choice lv.
+abbrev pub bytes : Job → (ℕ → ℕ) → ℕ → ℕ
+bytes j lv k = sum (size j k) (lv k)
+
+-- The chunks that are not skipped, in playing order.
+abbrev pub kept : Job → (ℕ → ℕ) → List ℕ
+kept j lv = picked (λ i. leb 1 (lv i)) 0 (chunks j)
+
+-- What is forecast after slot t, up to the last slot.
+abbrev pub after : Job → ℕ → ℕ
+after j t = pre (forecast j) (lastSlot j) - pre (forecast j) t
+
+-- ---- whether they fit
+
+-- Throughout, w k are the bytes of chunk k, d k its due slot, A t what is forecast after slot t,
+-- and h how many chunks may be held.
+
+-- How much of the forecast, counted from its end, the chunks use up.
+abbrev pub needOf : (w d A : ℕ → ℕ) → List ℕ → ℕ
+needOf w d A [] = 0
+needOf w d A (k ∷ ks) = w k + max (A (d k)) (needOf w d A ks)
+
+-- For each chunk, those from h places behind it on fit into the slots from its due slot on.
+abbrev pub tails : (w d A : ℕ → ℕ) (h : ℕ) → List ℕ → Bool
+tails w d A h [] = true
+tails w d A h (k ∷ ks) = leb (needOf w d A (drop h (k ∷ ks))) (A (d k - 1)) && tails w d A h ks
+
+-- The chunks fit: all of them into the whole forecast, and each behind the chunk that must be gone
+-- when it begins.
+unfoldable pub feas : (w d A : ℕ → ℕ) (h : ℕ) → List ℕ → Bool
+feas w d A h ks = leb (needOf w d A ks) (A 0) && tails w d A h ks
+
+-- The test that a choice fits.
+unfoldable pub fits : Job → (ℕ → ℕ) → Bool
+unfolding feas
+fits j lv = feas (bytes j lv) (due j) (after j) (heldMost j) (kept j lv)
+
+-- ---- the trials
+
+-- One layer more for chunk i.
+abbrev pub raise : (ℕ → ℕ) → ℕ → ℕ → ℕ
+raise p i k = cond (eqb k i) (suc (p k)) (p k)
+
+-- Layer n of chunk i is taken: the layers below are carried, and the choice with it fits.
+abbrev pub takes : Job → ℕ → (ℕ → ℕ) → ℕ → Bool
+takes j n p i = eqb (p i) n && fits j (raise p i)
+
+-- The choice after the trial of layer n of chunk i.
+abbrev pub try : Job → ℕ → (ℕ → ℕ) → ℕ → ℕ → ℕ
+try j n p i = cond (takes j n p i) (raise p i) p
+
+-- Layer n is tried for the chunks lo + m down to lo + 1.
+abbrev pub sweep : Job → ℕ → ℕ → ℕ → (ℕ → ℕ) → ℕ → ℕ
+sweep j n lo zero p = p
+sweep j n lo (suc m) p = try j n (sweep j n (suc lo) m p) (suc lo)
+
+-- On settled bases, layers 1 .. n - 1 are tried for all chunks.
+abbrev pub planTo : Job → (ℕ → ℕ) → ℕ → ℕ → ℕ
+planTo j bases zero = λ k. 0
+planTo j bases (suc zero) = bases
+planTo j bases (suc (suc n)) = sweep j (suc n) 0 (chunks j) (planTo j bases (suc n))
+
+-- All layers.
+abbrev pub planOn : Job → (ℕ → ℕ) → ℕ → ℕ
+planOn j bases = planTo j bases (layers j)
+
+-- ---- document 01's way by itself
+
+-- The base is tried for all chunks.
+abbrev pub basesTried : Job → ℕ → ℕ
+basesTried j = sweep j 0 0 (chunks j) (λ k. 0)
+
+unfoldable pub planByTrials : Job → ℕ → ℕ
+unfolding fits
+planByTrials j = planOn j (basesTried j)
+
+-- ---- the plan
+
+-- Base sizes do not vary: each base has chunk 1's size.
+abbrev pub equalBases : Job → Bool
+equalBases j = allTo (chunks j) (λ i. eqb (baseSize j i) (baseSize j 1))
+
+-- Request 9 settles the bases: H is at least C, and base sizes vary.
+abbrev pub byMooreHodgson : Job → Bool
+byMooreHodgson j = leb (chunks j) (heldMost j) && not (equalBases j)
+
+-- The bases that Moore-Hodgson keeps.
+abbrev pub basesMooreHodgson : Job → ℕ → ℕ
+basesMooreHodgson j i = cond (isKept j i) 1 0
+
+unfoldable pub plan : Job → ℕ → ℕ
+unfolding fits
+plan j = planOn j (cond (byMooreHodgson j) (basesMooreHodgson j) (basesTried j))

@@ -1,0 +1,73 @@
+-- Meaning. The plan made afresh, computed, so that a contract can name it: the trials in document
+-- 01's order, from the layers whole before p on, each decided by a test that takes no list. What
+-- such a plan is says Statement (`IsReplan`); that this is it, and the only one, say
+-- `replan-exists` and `replan-unique` of Theorems, and that the test says whether some list can
+-- carry the choice, `decision-from`. So nobody has to believe the test.
+use Prim.Native.Nat.{ℕ, zero, suc, _-_, max}
+use mathlib.Core.Bool.{Bool, not, cond, _&&_, _||_}
+use mathlib.Core.List.{List}
+use lib.Dec.{leb, ltb, eqb}
+use Rattle.theory_basics.specs.Sums.{sum}
+use Rattle.theory_basics.specs.Tests.{all, allTo}
+use Rattle.job.specs.Job.{Job, chunks, due, heldMost, layers, size}
+use Rattle.fetch.specs.Rows.{Row, bytesOfLayer, hasRow, layersCarried}
+use Rattle.theory_plan.specs.Plan.{after, feas, picked, raise}
+
+-- ---- whether a choice still fits
+
+-- What is forecast after slot t, of the slots from p on.
+abbrev pub afterFrom : Job → ℕ → ℕ → ℕ
+afterFrom j p t = after j (max t (p - 1))
+
+-- The bytes of chunk k in the choice that are not yet fetched.
+abbrev pub bytesLeft : Job → List Row → (ℕ → ℕ) → ℕ → ℕ
+bytesLeft j fetched choice k = sum (λ n. size j k n - bytesOfLayer fetched k n) (choice k)
+
+-- Chunk i is begun, given up or not, or it is kept: so it may be held.
+abbrev pub busy : List Row → (ℕ → ℕ) → ℕ → Bool
+busy fetched choice i = hasRow fetched i || leb 1 (choice i)
+
+abbrev pub busyChunks : Job → List Row → (ℕ → ℕ) → List ℕ
+busyChunks j fetched choice = picked (busy fetched choice) 0 (chunks j)
+
+-- Layers whole before p are in the choice, a chunk that is kept has begun or plays after all that
+-- have, and the busy chunks fit, each with the bytes not yet fetched, into the slots from p on.
+unfoldable pub fitsFrom : Job → ℕ → List Row → (ℕ → ℕ) → Bool
+unfolding feas
+fitsFrom j p fetched choice =
+    allTo (chunks j) (λ k. leb (layersCarried j fetched k) (choice k))
+    && (allTo (chunks j) (λ i. not (leb 1 (choice i)) || (hasRow fetched i || all (λ x. ltb (x .chunk) i) fetched))
+    && feas (bytesLeft j fetched choice) (due j) (afterFrom j p) (heldMost j) (busyChunks j fetched choice))
+
+-- ---- the trials
+
+-- Chunk i is due from p on, and the choice fits.
+abbrev pub openTo : Job → ℕ → List Row → ℕ → (ℕ → ℕ) → Bool
+openTo j p fetched i choice = leb p (due j i) && fitsFrom j p fetched choice
+
+-- The trials in general, where ok i says of the choice that is tried whether chunk i may have one
+-- layer more.
+
+-- Layer n of chunk i is taken: the layers below are carried, and the choice with it passes.
+abbrev pub takes : (ℕ → (ℕ → ℕ) → Bool) → ℕ → (ℕ → ℕ) → ℕ → Bool
+takes ok n p i = eqb (p i) n && ok i (raise p i)
+
+-- The choice after the trial of layer n of chunk i.
+abbrev pub try : (ℕ → (ℕ → ℕ) → Bool) → ℕ → (ℕ → ℕ) → ℕ → ℕ → ℕ
+try ok n p i = cond (takes ok n p i) (raise p i) p
+
+-- Layer n is tried for the chunks lo + m down to lo + 1.
+abbrev pub sweep : (ℕ → (ℕ → ℕ) → Bool) → ℕ → ℕ → ℕ → (ℕ → ℕ) → ℕ → ℕ
+sweep ok n lo zero p = p
+sweep ok n lo (suc m) p = try ok n (sweep ok n (suc lo) m p) (suc lo)
+
+-- Layers 0 .. n - 1 are tried for all of c chunks, of which those of base are carried from the
+-- start.
+abbrev pub planTo : ℕ → (ℕ → ℕ) → (ℕ → (ℕ → ℕ) → Bool) → ℕ → ℕ → ℕ
+planTo c base ok zero = base
+planTo c base ok (suc n) = sweep ok n 0 c (planTo c base ok n)
+
+-- All layers, from those whole before p on.
+unfoldable pub replan : Job → ℕ → List Row → ℕ → ℕ
+unfolding fitsFrom
+replan j p fetched = planTo (chunks j) (layersCarried j fetched) (openTo j p fetched) (layers j)
