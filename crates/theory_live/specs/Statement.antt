@@ -47,8 +47,8 @@ inTime j p rows r i = leb (missing j rows i) (brings j p r i)
 -- before j that have missing bytes are passed over in this slot. Else none is."
 
 -- The first of 1 .. n that passes, one after all those up to which none does; n + 1 if none does.
-abbrev pub firstOf : (ℕ → Bool) → ℕ → ℕ
-firstOf f n = 1 + count (λ i. eqb (count f i) 0) n
+abbrev pub firstThat : (ℕ → Bool) → ℕ → ℕ
+firstThat f n = 1 + count (λ i. eqb (count f i) 0) n
 
 -- Chunk i is open and lacks base bytes.
 abbrev pub lacks : Job → ℕ → List Row → ℕ → Bool
@@ -56,7 +56,7 @@ lacks j p rows i = isOpen j p rows i && ltb 0 (missing j rows i)
 
 -- k, the first of these.
 abbrev pub firstLacking : Job → ℕ → List Row → ℕ
-firstLacking j p rows = firstOf (lacks j p rows) (chunks j)
+firstLacking j p rows = firstThat (lacks j p rows) (chunks j)
 
 -- Chunk i is of the next H open chunks after k, lacks base bytes and is in time.
 abbrev pub couldCome : Job → ℕ → List Row → ℕ → ℕ → ℕ → Bool
@@ -65,7 +65,7 @@ couldCome j p rows r k i =
 
 -- j, the first of these.
 abbrev pub nextInTime : Job → ℕ → List Row → ℕ → ℕ → ℕ
-nextInTime j p rows r k = firstOf (couldCome j p rows r k) (chunks j)
+nextInTime j p rows r k = firstThat (couldCome j p rows r k) (chunks j)
 
 -- Chunk i is passed over for m, the rule's j: it lacks base bytes and stands from k to before m; k
 -- is not in time; and m would not be in time behind k.

@@ -8,7 +8,7 @@ use lib.Dec.{T, T-not, not-T, leb, eqb, leb→le, nleb→lt, eqb→eq}
 use Rattle.theory_basics.specs.Sums.{count}
 use Rattle.theory_basics.specs.lemmas.Ranges.{bit-le, bit-no, bit-yes, count-mono}
 use Rattle.theory_basics.specs.lemmas.Tests.{and-T, last, T-and, test}
-use Rattle.theory_live.specs.Statement.{firstOf}
+use Rattle.theory_live.specs.Statement.{firstThat}
 
 -- ---- as many as there is room for
 
@@ -65,10 +65,10 @@ count-either p a b (suc n) f =
 -- Up to n none passes, and the first is n + 1; or the first is of 1 .. n, passes, and none before
 -- it does.
 pub record Found (f : ℕ → Bool) (n : ℕ) : Type 0 where
-  pub low : 1 ≤ firstOf f n
-  pub at-most : firstOf f n ≤ suc n
-  pub before : (i : ℕ) → 1 ≤ i → i < firstOf f n → T (not (f i))
-  pub passes : firstOf f n ≤ n → T (f (firstOf f n))
+  pub low : 1 ≤ firstThat f n
+  pub at-most : firstThat f n ≤ suc n
+  pub before : (i : ℕ) → 1 ≤ i → i < firstThat f n → T (not (f i))
+  pub passes : firstThat f n ≤ n → T (f (firstThat f n))
 
 none-so-far : (f : ℕ → Bool) (n : ℕ) → count f n ≡ 0 → (i : ℕ) → 1 ≤ i → i ≤ n → T (not (f i))
 none-so-far f zero e i g h = absurd (omega arith)
@@ -79,7 +79,7 @@ none-so-far f (suc n) e i g h =
     (last i n h)
 
 -- How many numbers have none up to them: all, or those before the first.
-counts : (f : ℕ → Bool) (n : ℕ) → ((count f n ≡ 0) × (firstOf f n ≡ suc n)) ⊎ ((1 ≤ count f n) × (firstOf f n ≤ n) × T (f (firstOf f n)))
+counts : (f : ℕ → Bool) (n : ℕ) → ((count f n ≡ 0) × (firstThat f n ≡ suc n)) ⊎ ((1 ≤ count f n) × (firstThat f n ≤ n) × T (f (firstThat f n)))
 counts f zero = inl (refl, refl)
 counts f (suc n) =
     ⊎-elim
@@ -89,7 +89,7 @@ counts f (suc n) =
     let y = bit-yes (f (suc n)) t in
     let z : count f (suc n) ≡ 1 = omega (arith, c .0, y) in
     let w = bit-no (eqb (count f (suc n)) 0) (not-T (eqb (count f (suc n)) 0) (λ u. omega (arith, eqb→eq (count f (suc n)) 0 u))) in
-    let e : firstOf f (suc n) ≡ suc n = omega (arith, c .1, w) in
+    let e : firstThat f (suc n) ≡ suc n = omega (arith, c .1, w) in
     inr (omega arith, omega arith, rw e t))
     (λ t.
     let y = bit-no (f (suc n)) t in
@@ -100,15 +100,15 @@ counts f (suc n) =
     (λ c.
     let z : 1 ≤ count f (suc n) = omega (arith, c .0) in
     let w = bit-no (eqb (count f (suc n)) 0) (not-T (eqb (count f (suc n)) 0) (λ u. omega (arith, eqb→eq (count f (suc n)) 0 u))) in
-    let e : firstOf f (suc n) ≡ firstOf f n = omega (arith, w) in
+    let e : firstThat f (suc n) ≡ firstThat f n = omega (arith, w) in
     inr (z, omega (arith, c .1), subst (λ (k : ℕ). T (f k)) (sym e) (c .2)))
     (counts f n)
 
-firsts-before : (f : ℕ → Bool) (n i : ℕ) → 1 ≤ i → i < firstOf f n → i ≤ n → T (not (f i))
+firsts-before : (f : ℕ → Bool) (n i : ℕ) → 1 ≤ i → i < firstThat f n → i ≤ n → T (not (f i))
 firsts-before f n i g h l = ⊎-elim (λ c. none-so-far f n (c .0) i g l) (λ c. early f n i g h (c .1)) (counts f n)
   where
     -- By the count: the numbers with none up to them come first.
-    early : (f : ℕ → Bool) (n i : ℕ) → 1 ≤ i → i < firstOf f n → firstOf f n ≤ n → T (not (f i))
+    early : (f : ℕ → Bool) (n i : ℕ) → 1 ≤ i → i < firstThat f n → firstThat f n ≤ n → T (not (f i))
     early f zero i g h l = absurd (omega arith)
     early f (suc n) i g h l =
         ⊎-elim
@@ -120,7 +120,7 @@ firsts-before f n i g h l = ⊎-elim (λ c. none-so-far f n (c .0) i g l) (λ c.
 
 pub found : (f : ℕ → Bool) (n : ℕ) → Found f n
 found f n =
-    let most : firstOf f n ≤ suc n = ⊎-elim (λ c. omega (arith, c .1)) (λ c. omega (arith, c .1)) (counts f n) in
+    let most : firstThat f n ≤ suc n = ⊎-elim (λ c. omega (arith, c .1)) (λ c. omega (arith, c .1)) (counts f n) in
     record {
       low = omega arith;
       at-most = most;
