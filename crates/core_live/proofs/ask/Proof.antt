@@ -1,36 +1,39 @@
+-- `ask` meets its contract, word by word of the rule.
+use Prim.Native.Nat.{ℕ, _≤_}
+use native.Mathlib.Omega.{arith}
+use denote.Ref.{now}
+use lib.ListN.{length-replicate}
+use Rattle.job.specs.Table.{tableAt}
+use Rattle.theory_live.specs.lemmas.Firsts.{found}
+use Rattle.core_live.specs.lemmas.ByTables.{lacksAt}
+use Rattle.core_live.proofs.Rule.{asks-stand}
 use Rattle.core_live.proofs.ask.Statement.{statement}
 use Rattle.core_live.proofs.ask.Tie as tie
-use Rattle.core_live.proofs.ask.Reads as reads
-use Rattle.core_live.proofs.ask.Lts as lts
-use Rattle.core_live.proofs.first_lacking.Reads as first-lacking-reads
-use Rattle.core_live.proofs.passed_until.Reads as passed-until-reads
-use Rattle.core_live.proofs.put_pieces.Reads as put-pieces-reads
-use Rattle.core_live.proofs.set_asked.Reads as set-asked-reads
-use Rattle.core_replan_decide.proofs.last_begun.Reads as last-begun-reads
 
--- src/lib.rt:373:9
 last-begun-requires : tie.Need-last-begun-requires
-last-begun-requires c κs = ?
+last-begun-requires c κs = (c .pre .fine .few, c .pre .begun-long)
 
--- src/lib.rt:374:9
 first-lacking-requires : tie.Need-first-lacking-requires
-first-lacking-requires c κs = ?
+first-lacking-requires c κs = c .before .pre .fine
 
--- src/lib.rt:375:9
 passed-until-requires : tie.Need-passed-until-requires
-passed-until-requires c κs = ?
+passed-until-requires c κs = 
+    let a = c .before .before .args in
+    (c .before .before .pre .fine, omega (arith, c .first-lacking .ensures, found (lacksAt (a .p) (a .start) (tableAt (now (a .left))) (now (a .begun)) (c .before .last-begun .result)) (a .p .chunks) .low))
 
--- src/lib.rt:377:5
 set-asked-requires : tie.Need-set-asked-requires
-set-asked-requires c κs = ?
+set-asked-requires c κs = (c .before .before .before .before .pre .fine, length-replicate {A = ℕ} 500 0)
 
--- src/lib.rt:378:5
 put-pieces-requires : tie.Need-put-pieces-requires
-put-pieces-requires c κs = ?
+put-pieces-requires c κs = (c .before .before .before .before .before .before .before .before .before .pre .fine .few, c .before .before .before .before .before .before .before .before .before .pre .few-layers, c .before .before .before .before .before .before .before .before .before .pre .long)
 
--- src/lib.rt:358:1
 returns : tie.Need-returns
-returns c = ?
+returns c = 
+    let a = c .before .before .before .before .before .before .before .before .before .before .args in
+    λ sizes os forecast rows whole d accepted ok tabled.
+    asks-stand (a .p) sizes os forecast (a .start) (a .rate) rows (tableAt (now (a .left))) (now (a .begun)) whole (c .before .before .before .before .before .before .before .before .before .last-begun .result)
+    (omega (arith, accepted .layers-in .low)) ok tabled (c .before .before .before .before .before .before .before .before .before .last-begun .ensures) (c .before .before .before .before .before .before .before .before .first-lacking .ensures) (c .before .before .before .before .before .before .before .passed-until .ensures) (c .before .before .before .before .before .set-asked .ensures) d
+    (c .put-pieces .ensures)
 
 pub ask-spec : {M : Type 1} → statement M
 ask-spec =

@@ -7,7 +7,7 @@ use mathlib.Core.List.{List, [], _∷_, _++_, map}
 use lib.Dec.{leb, ltb, eqb}
 use lib.ListN.{length, take}
 use Rattle.theory_basics.specs.Sums.{count}
-use Rattle.job.specs.Job.{dueSlot, jobOf, Override}
+use Rattle.job.specs.Job.{Accepted, dueSlot, jobOf, Override}
 use Rattle.job.specs.declared.Programme.{Programme}
 use Rattle.fetch.specs.Rows.{Row}
 use Rattle.theory_plan.specs.Own.{Part}
@@ -139,10 +139,10 @@ pub record AskFrom (p : Programme) (depth : ℕ) (begun chunks layers bytes : Li
   pub begun-long : length begun ≡ 500
   pub long : Long chunks layers bytes
 
--- For every job with these tables, and rows that 21 and 22 let pass: the asks of theory_live.
+-- For every accepted job and rows with these tables that 21 and 22 let pass: the asks of theory_live.
 abbrev pub Asks : Programme → (depth start rate : ℕ) (left : ℕ → ℕ → ℕ) (begun : List ℕ) (r : ℕ) (chunks layers bytes : List ℕ) → Type 0
 Asks p depth start rate left begun r chunks layers bytes =
     (sizes : List ℕ) (os : List Override) (forecast : List ℕ) (rows : List Row) (whole : List ℕ) →
     let j = jobOf p sizes os forecast in
-    depth ≡ length sizes → Acceptable j start rows → Tabled j rows left begun whole →
+    depth ≡ length sizes → Accepted j → Acceptable j start rows → Tabled j rows left begun whole →
     Standing (asks j start rows rate) r chunks layers bytes
