@@ -10,7 +10,8 @@ use lib.ListN.{length, getD, set, take, length-append, length-set}
 use lib.Seq.{take-set-le, take-suc-set}
 use Rattle.theory_basics.specs.lemmas.Ranges.{bit-le}
 use Rattle.theory_plan.specs.Own.{Part}
-use Rattle.core_live.specs.lemmas.ByTables.{begunAt, layerAt, Long, partBytes, partChunk, partLayer, pieceAt, Puts, Standing}
+use Rattle.theory_live.specs.Statement.{partBytes, partChunk, partLayer}
+use Rattle.core_live.specs.lemmas.ByTables.{layerAt, Long, pieceAt, Puts, Standing}
 
 -- A column, one place written behind what stands there.
 column-more : (f : Part → ℕ) (made : List Part) (q : Part) (l : List ℕ) (w : ℕ) → w < length l → take w l ≡ map f made → take (w + 1) (set l w (f q)) ≡ map f (made ++ (q ∷ []))

@@ -342,8 +342,9 @@ fn put_pieces(
     bytes: &mut [u32; 2000],
 ) -> usize
     requires { ⌜ (count ≤ 500) × (depth ≤ 4) × Long (now chunks) (now layers) (now bytes) ⌝ }
-    ensures { λ r. ⌜ Standing (piecesAt (tableAt (now (left .entry))) (now (asked .entry)) count depth)
-        r (now (chunks .exit)) (now (layers .exit)) (now (bytes .exit)) ⌝ }
+    ensures { λ r. ⌜ (r ≤ 2000)
+        × Standing (piecesAt (tableAt (now (left .entry))) (now (asked .entry)) count depth)
+            r (now (chunks .exit)) (now (layers .exit)) (now (bytes .exit)) ⌝ }
 {
     let mut at: usize = 0;
     let mut n: u8 = 0;

@@ -124,6 +124,16 @@ asksBelow j rows which (suc n) = asksBelow j rows which n ++ layerAsks j rows wh
 abbrev pub asks : Job → ℕ → List Row → ℕ → List Part
 asks j p rows r = asksBelow j rows (asked j p rows r) (layers j)
 
+-- The three columns of pieces, each in a slice of its own.
+abbrev pub partChunk : Part → ℕ
+partChunk q = q .chunk
+
+abbrev pub partLayer : Part → ℕ
+partLayer q = q .layer
+
+abbrev pub partBytes : Part → ℕ
+partBytes q = q .bytes
+
 -- ---- "The desk asks the link for them one after the other, as far as the slot goes."
 
 -- The rows that x bytes of slot p make of the asks.

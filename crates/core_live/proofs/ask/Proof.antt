@@ -30,10 +30,14 @@ put-pieces-requires c κs = (c .before .before .before .before .before .before .
 returns : tie.Need-returns
 returns c = 
     let a = c .before .before .before .before .before .before .before .before .before .before .args in
-    λ sizes os forecast rows whole d accepted ok tabled.
-    asks-stand (a .p) sizes os forecast (a .start) (a .rate) rows (tableAt (now (a .left))) (now (a .begun)) whole (c .before .before .before .before .before .before .before .before .before .last-begun .result)
-    (omega (arith, accepted .layers-in .low)) ok tabled (c .before .before .before .before .before .before .before .before .before .last-begun .ensures) (c .before .before .before .before .before .before .before .before .first-lacking .ensures) (c .before .before .before .before .before .before .before .passed-until .ensures) (c .before .before .before .before .before .set-asked .ensures) d
-    (c .put-pieces .ensures)
+    record {
+      few = c .put-pieces .ensures .0;
+      long = c .put-pieces .ensures .1 .long;
+      stand = λ sizes os forecast rows whole d accepted ok tabled.
+          asks-stand (a .p) sizes os forecast (a .start) (a .rate) rows (tableAt (now (a .left))) (now (a .begun)) whole (c .before .before .before .before .before .before .before .before .before .last-begun .result)
+          (omega (arith, accepted .layers-in .low)) ok tabled (c .before .before .before .before .before .before .before .before .before .last-begun .ensures) (c .before .before .before .before .before .before .before .before .first-lacking .ensures) (c .before .before .before .before .before .before .before .passed-until .ensures) (c .before .before .before .before .before .set-asked .ensures) d
+          (c .put-pieces .ensures .1);
+    }
 
 pub ask-spec : {M : Type 1} → statement M
 ask-spec =

@@ -36,7 +36,7 @@ returns : tie.Need-returns Inv-loop μ-loop
 returns c = 
     let l = c .before .loop in
     let e : l .n ≡ c .before .before .args .depth = omega (arith, l .inv .0, c .loop-test .left) in
-    rw e at (l .inv .2)
+    (omega (arith, l .inv .1, l .inv .0, c .before .before .pre .1), rw e at (l .inv .2))
 
 pub put-pieces-spec : {M : Type 1} → statement M
 put-pieces-spec =

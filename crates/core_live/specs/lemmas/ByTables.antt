@@ -12,7 +12,7 @@ use Rattle.job.specs.declared.Programme.{Programme}
 use Rattle.fetch.specs.Rows.{Row}
 use Rattle.theory_plan.specs.Own.{Part}
 use Rattle.theory_replan.specs.Statement.{Acceptable}
-use Rattle.theory_live.specs.Statement.{asks, firstThat}
+use Rattle.theory_live.specs.Statement.{asks, firstThat, partBytes, partChunk, partLayer}
 use Rattle.core_replan_decide.specs.lemmas.Decision.{Tabled}
 use Rattle.core_replan_decide.specs.lemmas.Tables.{Fine, of}
 
@@ -102,16 +102,6 @@ abbrev pub piecesAt : (ℕ → ℕ → ℕ) → List ℕ → ℕ → ℕ → Lis
 piecesAt left asked c zero = []
 piecesAt left asked c (suc n) = piecesAt left asked c n ++ layerAt left asked n c
 
--- The columns of pieces.
-abbrev pub partChunk : Part → ℕ
-partChunk q = q .chunk
-
-abbrev pub partLayer : Part → ℕ
-partLayer q = q .layer
-
-abbrev pub partBytes : Part → ℕ
-partBytes q = q .bytes
-
 -- Tables with room for any pieces.
 pub record Long (chunks layers bytes : List ℕ) : Type 0 where
   pub chunks-long : length chunks ≡ 2000
@@ -140,9 +130,11 @@ pub record AskFrom (p : Programme) (depth : ℕ) (begun chunks layers bytes : Li
   pub long : Long chunks layers bytes
 
 -- For every accepted job and rows with these tables that 21 and 22 let pass: the asks of theory_live.
-abbrev pub Asks : Programme → (depth start rate : ℕ) (left : ℕ → ℕ → ℕ) (begun : List ℕ) (r : ℕ) (chunks layers bytes : List ℕ) → Type 0
-Asks p depth start rate left begun r chunks layers bytes =
-    (sizes : List ℕ) (os : List Override) (forecast : List ℕ) (rows : List Row) (whole : List ℕ) →
-    let j = jobOf p sizes os forecast in
-    depth ≡ length sizes → Accepted j → Acceptable j start rows → Tabled j rows left begun whole →
-    Standing (asks j start rows rate) r chunks layers bytes
+pub record Asks (p : Programme) (depth start rate : ℕ) (left : ℕ → ℕ → ℕ) (begun : List ℕ) (r : ℕ) (chunks layers bytes : List ℕ) : Type 0 where
+  pub few : r ≤ 2000
+  pub long : Long chunks layers bytes
+  pub stand :
+      (sizes : List ℕ) (os : List Override) (forecast : List ℕ) (rows : List Row) (whole : List ℕ) →
+      let j = jobOf p sizes os forecast in
+      depth ≡ length sizes → Accepted j → Acceptable j start rows → Tabled j rows left begun whole →
+      Standing (asks j start rows rate) r chunks layers bytes
