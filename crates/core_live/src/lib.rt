@@ -38,7 +38,14 @@ fn is_open(p: Programme, start: usize, begun: &[u8; 500], last: u16, i: u16) -> 
 }
 
 // Open, with bytes of the base missing.
-fn lacks(p: Programme, start: usize, left: &[u32; 2000], begun: &[u8; 500], last: u16, i: u16) -> bool
+fn lacks(
+    p: Programme,
+    start: usize,
+    left: &[u32; 2000],
+    begun: &[u8; 500],
+    last: u16,
+    i: u16,
+) -> bool
     requires { ⌜ Within 1 500 i ⌝ }
     ensures { λ r. ⌜ r ≡ lacksAt p start (tableAt (now (left .entry))) (now (begun .entry)) last i ⌝ }
 {
@@ -69,14 +76,7 @@ fn in_time(p: Programme, start: usize, rate: u32, left: &[u32; 2000], i: u16) ->
 }
 
 // The same of chunk m behind what is missing of chunk k.
-fn in_time_behind(
-    p: Programme,
-    start: usize,
-    rate: u32,
-    left: &[u32; 2000],
-    k: u16,
-    m: u16,
-) -> bool
+fn in_time_behind(p: Programme, start: usize, rate: u32, left: &[u32; 2000], k: u16, m: u16) -> bool
     requires { ⌜ Within 1 500 k × Within 1 500 m × (dueSlot p m ≤ 3600) ⌝ }
     ensures { λ r. ⌜ r ≡ leb (tableAt (now (left .entry)) k 0 + tableAt (now (left .entry)) m 0)
         (bringsAt p start rate m) ⌝ }
@@ -344,7 +344,7 @@ fn put_pieces(
     requires { ⌜ (count ≤ 500) × (depth ≤ 4) × Long (now chunks) (now layers) (now bytes) ⌝ }
     ensures { λ r. ⌜ (r ≤ 2000)
         × Standing (piecesAt (tableAt (now (left .entry))) (now (asked .entry)) count depth)
-            r (now (chunks .exit)) (now (layers .exit)) (now (bytes .exit)) ⌝ }
+        r (now (chunks .exit)) (now (layers .exit)) (now (bytes .exit)) ⌝ }
 {
     let mut at: usize = 0;
     let mut n: u8 = 0;

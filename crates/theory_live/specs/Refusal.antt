@@ -31,9 +31,10 @@ liveRefusal j p rows =
 onward-none : (j : Job) → Accepted j → (p : ℕ) → slotRefusal (j .programme) p ≡ 0 → onwardRefusal j p (drop (p - 1) (j .forecast)) ≡ 0
 onward-none j ok p z =
     let s = slot-iff (j .programme) p .0 z in
-    onward-iff j p (drop (p - 1) (j .forecast)) .1
-    (all-drop (Within 0 16777216) (p - 1) (j .forecast) (ok .forecast-in),
-    omega (arith, length-drop (p - 1) (j .forecast), ok .slots-in, s .low, s .high))
+    onward-iff j p (drop (p - 1) (j .forecast)) .1 (
+      all-drop (Within 0 16777216) (p - 1) (j .forecast) (ok .forecast-in),
+      omega (arith, length-drop (p - 1) (j .forecast), ok .slots-in, s .low, s .high),
+    )
 
 -- "For the same reasons as planning afresh": with the job's forecast unchanged from p on.
 pub as-planning-afresh :

@@ -17,7 +17,7 @@ first-lacking-requires : tie.Need-first-lacking-requires
 first-lacking-requires c κs = c .before .pre .fine
 
 passed-until-requires : tie.Need-passed-until-requires
-passed-until-requires c κs = 
+passed-until-requires c κs =
     let a = c .before .before .args in
     (c .before .before .pre .fine, omega (arith, c .first-lacking .ensures, found (lacksAt (a .p) (a .start) (tableAt (now (a .left))) (now (a .begun)) (c .before .last-begun .result)) (a .p .chunks) .low))
 
@@ -28,7 +28,7 @@ put-pieces-requires : tie.Need-put-pieces-requires
 put-pieces-requires c κs = (c .before .before .before .before .before .before .before .before .before .pre .fine .few, c .before .before .before .before .before .before .before .before .before .pre .few-layers, c .before .before .before .before .before .before .before .before .before .pre .long)
 
 returns : tie.Need-returns
-returns c = 
+returns c =
     let a = c .before .before .before .before .before .before .before .before .before .before .args in
     record {
       few = c .put-pieces .ensures .0;

@@ -16,7 +16,7 @@ add-slots : tie.Need-add-slots
 add-slots c = search needs
 
 mul-result : tie.Need-mul-result
-mul-result c = 
+mul-result c =
     let h : c .before .before .args .rate * (c .less .result + 1) ≤ 4294967295 * 3601 =
     mul-le-mul {n₂ = 4294967295} {m₂ = 3601} (omega arith) (omega (arith, c .less .ensures, c .before .due-slot .ensures, c .before .before .pre)) in
     omega arith

@@ -32,7 +32,7 @@ one-requires : tie.Need-one-requires Inv-loop μ-loop
 one-requires c κs = search needs
 
 add-held : tie.Need-add-held Inv-loop μ-loop
-add-held c = 
+add-held c =
     let a = c .before .before .before .before .before .args in
     let few = count-small (c .before .before .before .before .loop .i) (λ k. begunAt (now (a .begun)) k && ltb (a .start) (dueSlot (a .p) k)) in
     omega (arith, c .one .ensures, bit-le (c .before .is-held .result), c .before .before .before .before .loop .inv .1, few)
@@ -41,13 +41,14 @@ loop-less : tie.Need-loop-less Inv-loop μ-loop
 loop-less c = omega (arith, c .before .before .if1 .taken)
 
 loop-again : tie.Need-loop-again Inv-loop μ-loop
-loop-again c = 
-    let a = c .before .before .before .before .before .args in
-    (omega (arith, c .before .before .if1 .taken),
-    rw (c .one .ensures, c .before .is-held .ensures, c .before .before .before .before .loop .inv .1) (sym (count-more (c .before .before .before .before .loop .i) (λ k. begunAt (now (a .begun)) k && ltb (a .start) (dueSlot (a .p) k)))))
+loop-again c =
+    let a = c .before .before .before .before .before .args in (
+      omega (arith, c .before .before .if1 .taken),
+      rw (c .one .ensures, c .before .is-held .ensures, c .before .before .before .before .loop .inv .1) (sym (count-more (c .before .before .before .before .loop .i) (λ k. begunAt (now (a .begun)) k && ltb (a .start) (dueSlot (a .p) k)))),
+    )
 
 returns : tie.Need-returns Inv-loop μ-loop
-returns c = 
+returns c =
     let l = c .before .before .loop in
     let e : l .i ≡ c .before .before .before .args .p .chunks = omega (arith, l .inv .0, c .if1 .left) in
     rw e at (l .inv .1)

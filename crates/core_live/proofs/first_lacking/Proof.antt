@@ -26,7 +26,7 @@ lacks-requires : tie.Need-lacks-requires Inv-loop μ-loop
 lacks-requires c κs = record { low = omega arith; high = omega (arith, c .if1 .taken, c .before .before .before .pre .few) }
 
 returns : tie.Need-returns Inv-loop μ-loop
-returns c = 
+returns c =
     let a = c .before .before .before .before .before .args in
     first-here (lacksAt (a .p) (a .start) (tableAt (now (a .left))) (now (a .begun)) (a .last)) (c .before .before .before .before .loop .i) (a .p .chunks) (c .before .before .before .before .loop .inv .1)
     (true-T _ (sym (c .before .lacks .ensures) ∙ c .if2 .taken)) (omega (arith, c .before .before .if1 .taken))
@@ -35,16 +35,17 @@ loop-less : tie.Need-loop-less Inv-loop μ-loop
 loop-less c = omega (arith, c .before .before .if1 .taken)
 
 loop-again : tie.Need-loop-again Inv-loop μ-loop
-loop-again c = 
-    let a = c .before .before .before .before .before .args in
-    (omega (arith, c .before .before .if1 .taken),
-    clear-more (lacksAt (a .p) (a .start) (tableAt (now (a .left))) (now (a .begun)) (a .last)) (c .before .before .before .before .loop .i) (c .before .before .before .before .loop .inv .1) (sym (c .before .lacks .ensures) ∙ c .if2 .left))
+loop-again c =
+    let a = c .before .before .before .before .before .args in (
+      omega (arith, c .before .before .if1 .taken),
+      clear-more (lacksAt (a .p) (a .start) (tableAt (now (a .left))) (now (a .begun)) (a .last)) (c .before .before .before .before .loop .i) (c .before .before .before .before .loop .inv .1) (sym (c .before .lacks .ensures) ∙ c .if2 .left),
+    )
 
 add-after : tie.Need-add-after Inv-loop μ-loop
 add-after c = omega (arith, c .before .before .loop .inv .0, c .before .before .before .pre .few)
 
 returns-2 : tie.Need-returns-2 Inv-loop μ-loop
-returns-2 c = 
+returns-2 c =
     let a = c .before .before .before .args in
     let l = c .before .before .loop in
     let e : l .i ≡ a .p .chunks = omega (arith, l .inv .0, c .if1 .left) in

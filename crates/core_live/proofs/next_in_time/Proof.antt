@@ -48,7 +48,7 @@ lacks-requires : tie.Need-lacks-requires Inv-loop μ-loop
 lacks-requires c κs = record { low = omega arith; high = omega (arith, c .before .before .if1 .taken, c .before .before .before .before .before .before .before .pre .0 .few) }
 
 in-time-requires : tie.Need-in-time-requires Inv-loop μ-loop
-in-time-requires c κs = 
+in-time-requires c κs =
     let h = c .before .before .before .if1 .taken in
     let f = c .before .before .before .before .before .before .before .before .pre .0 in
     (record { low = omega arith; high = omega (arith, h, f .few) }, due-in f (c .before .before .before .before .before .loop .i + 1) (omega (arith, h)) .1)
@@ -60,7 +60,7 @@ both-requires-2 : tie.Need-both-requires-2 Inv-loop μ-loop
 both-requires-2 c κs = search needs
 
 returns : tie.Need-returns Inv-loop μ-loop
-returns c = 
+returns c =
     let a = c .before .before .before .before .before .before .before .before .before .before .before .before .args in
     let l = c .before .before .before .before .before .before .before .before .before .loop in
     let here = here-is _ _ _ _ _ _ _ (l .inv) (c .before .before .before .before .before .before .is-open .ensures) (c .before .before .before .before .before .one .ensures) (c .before .before .before .before .lacks .ensures) (c .before .before .before .in-time .ensures) (c .before .before .both .ensures) (c .before .before .before .before .before .before .before .before .before .before .before .held-most .ensures) (c .before .before .before .before .before .before .before .before .before .before .wide .ensures) (c .before .both2 .ensures) in
@@ -71,7 +71,7 @@ loop-less : tie.Need-loop-less Inv-loop μ-loop
 loop-less c = omega (arith, c .before .before .before .before .before .before .before .if1 .taken)
 
 loop-again : tie.Need-loop-again Inv-loop μ-loop
-loop-again c = 
+loop-again c =
     let l = c .before .before .before .before .before .before .before .before .before .loop in
     let here = here-is _ _ _ _ _ _ _ (l .inv) (c .before .before .before .before .before .before .is-open .ensures) (c .before .before .before .before .before .one .ensures) (c .before .before .before .before .lacks .ensures) (c .before .before .before .in-time .ensures) (c .before .before .both .ensures) (c .before .before .before .before .before .before .before .before .before .before .before .held-most .ensures) (c .before .before .before .before .before .before .before .before .before .before .wide .ensures) (c .before .both2 .ensures) in
     looking-more _ _ _ _ _ _ _ (l .inv) (c .before .before .before .before .before .before .before .if1 .taken) (rw (c .before .before .before .before .before .one .ensures, c .before .before .before .before .before .before .is-open .ensures)) (sym here ∙ c .if2 .left)
@@ -80,7 +80,7 @@ add-after : tie.Need-add-after Inv-loop μ-loop
 add-after c = omega (arith, c .before .before .loop .inv .within, c .before .before .before .before .before .pre .0 .few)
 
 returns-2 : tie.Need-returns-2 Inv-loop μ-loop
-returns-2 c = 
+returns-2 c =
     let a = c .before .before .before .before .before .args in
     let l = c .before .before .loop in
     let e : l .i ≡ a .p .chunks = omega (arith, l .inv .within, c .if1 .left) in

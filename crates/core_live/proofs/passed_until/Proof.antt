@@ -15,7 +15,7 @@ returns : tie.Need-returns
 returns c = (let a = c .before .before .args in until-beyond (a .p) (a .start) (a .rate) (tableAt (now (a .left))) (now (a .begun)) (a .last) (a .k)) (c .if1 .taken)
 
 in-time-requires : tie.Need-in-time-requires
-in-time-requires c κs = 
+in-time-requires c κs =
     let f = c .before .before .pre .0 in
     (record { low = c .before .before .pre .1; high = omega (arith, c .if1 .left, f .few) }, due-in f (c .before .before .args .k) (omega (arith, c .if1 .left)) .1)
 
@@ -29,21 +29,22 @@ returns-3 : tie.Need-returns-3
 returns-3 c = (let a = c .before .before .before .before .before .before .before .args in until-no-next (a .p) (a .start) (a .rate) (tableAt (now (a .left))) (now (a .begun)) (a .last) (a .k)) (c .before .before .next-in-time .ensures) (c .if3 .taken)
 
 in-time-behind-requires : tie.Need-in-time-behind-requires
-in-time-behind-requires c κs = 
+in-time-behind-requires c κs =
     let f = c .before .before .before .before .before .before .before .pre .0 in
     let a = c .before .before .before .before .before .before .before .args in
     let e = c .before .before .next-in-time .ensures in
     let m = c .before .before .next-in-time .result in
-    let low = found (couldComeAt (a .p) (a .start) (a .rate) (tableAt (now (a .left))) (now (a .begun)) (a .last) (a .k)) (a .p .chunks) .low in
-    (record { low = c .before .before .before .before .before .before .before .pre .1; high = omega (arith, c .before .before .before .before .before .if1 .left, f .few) },
-    record { low = omega (arith, e, low); high = omega (arith, c .if3 .left, f .few) },
-    due-in f m (omega (arith, c .if3 .left)) .1)
+    let low = found (couldComeAt (a .p) (a .start) (a .rate) (tableAt (now (a .left))) (now (a .begun)) (a .last) (a .k)) (a .p .chunks) .low in (
+      record { low = c .before .before .before .before .before .before .before .pre .1; high = omega (arith, c .before .before .before .before .before .if1 .left, f .few) },
+      record { low = omega (arith, e, low); high = omega (arith, c .if3 .left, f .few) },
+      due-in f m (omega (arith, c .if3 .left)) .1,
+    )
 
 returns-4 : tie.Need-returns-4
 returns-4 c = (let a = c .before .before .before .before .before .before .before .before .before .args in until-behind (a .p) (a .start) (a .rate) (tableAt (now (a .left))) (now (a .begun)) (a .last) (a .k)) (c .before .before .before .before .next-in-time .ensures) (sym (c .before .in-time-behind .ensures) ∙ c .if4 .taken)
 
 returns-5 : tie.Need-returns-5
-returns-5 c = 
+returns-5 c =
     (let a = c .before .before .before .before .before .before .before .before .before .args in until-next (a .p) (a .start) (a .rate) (tableAt (now (a .left))) (now (a .begun)) (a .last) (a .k)) (c .before .before .before .before .next-in-time .ensures) (sym (c .before .before .before .before .before .before .in-time .ensures) ∙ c .before .before .before .before .before .if2 .left) (omega (arith, c .before .before .if3 .left))
     (sym (c .before .in-time-behind .ensures) ∙ c .if4 .left)
 

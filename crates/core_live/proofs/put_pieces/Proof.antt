@@ -28,12 +28,12 @@ loop-less : tie.Need-loop-less Inv-loop μ-loop
 loop-less c = omega (arith, c .before .before .before .before .loop-test .taken)
 
 loop-again : tie.Need-loop-again Inv-loop μ-loop
-loop-again c = 
+loop-again c =
     let l = c .before .before .before .before .before .loop in
     (omega (arith, c .before .before .before .before .loop-test .taken), omega (arith, l .inv .1, c .put-layer .ensures .most, c .before .before .before .before .before .before .pre .0), rw add-one (c .put-layer .ensures .behind _ (l .inv .2)))
 
 returns : tie.Need-returns Inv-loop μ-loop
-returns c = 
+returns c =
     let l = c .before .loop in
     let e : l .n ≡ c .before .before .args .depth = omega (arith, l .inv .0, c .loop-test .left) in
     (omega (arith, l .inv .1, l .inv .0, c .before .before .pre .1), rw e at (l .inv .2))

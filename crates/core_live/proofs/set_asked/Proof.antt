@@ -62,13 +62,13 @@ loop-less : tie.Need-loop-less Inv-loop μ-loop
 loop-less c = omega (arith, c .before .before .before .before .before .before .before .if1 .taken)
 
 loop-again : tie.Need-loop-again Inv-loop μ-loop
-loop-again c = 
+loop-again c =
     rw (c .before .before .before .before .before .before .wide2 .ensures)
     (asking-more _ _ _ _ _ _ _ (c .before .before .before .before .before .before .before .before .before .loop .inv) (c .before .before .before .before .before .before .before .if1 .taken) (c .before .before .before .before .before .before .before .before .before .before .before .before .before .pre .0 .few) (c .flag .result) (rw (c .before .before .before .one .ensures, c .before .before .before .before .is-fresh .ensures, c .before .before .before .before .before .in-line .ensures))
     (c .flag .ensures ∙ rw (c .before .both .ensures, c .before .before .fits2 .ensures, c .before .before .before .before .is-fresh .ensures, c .before .before .before .before .before .in-line .ensures, c .before .before .before .before .before .before .before .before .before .before .before .wide .ensures, c .before .before .before .before .before .before .before .before .before .before .before .before .held-most .ensures)))
 
 returns : tie.Need-returns Inv-loop μ-loop
-returns c = 
+returns c =
     let l = c .before .before .loop in
     let e : l .i ≡ c .before .before .before .before .before .before .args .p .chunks = omega (arith, l .inv .within, c .if1 .left) in
     rw e at (l .inv .flags)
