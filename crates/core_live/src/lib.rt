@@ -1,6 +1,6 @@
-// Internal. What to ask the link for in a slot, over tables by chunk: what the rows fetched leave of
-// each layer, and which chunks they begin. The rule is that of theory_live, Statement; each function
-// answers one of its words, and the pieces go into tables that have room for any.
+// Internal. What to ask the link for in a slot, over tables by chunk: what the rows fetched leave
+// of each layer, and which chunks they begin. The rule is that of theory_live, Statement; each
+// function answers one of its words, and the pieces go into tables that have room for any.
 use job::Programme;
 ghost use mathlib.Core.Path.{_≡_};
 ghost use mathlib.Core.Bool.{_&&_, _||_, not, cond};
@@ -11,7 +11,9 @@ ghost use Rattle.job.specs.Job.{dueSlot, Within};
 ghost use Rattle.job.specs.Table.{tableAt};
 ghost use Rattle.core_replan_decide.specs.lemmas.Tables.{Fine, of};
 ghost use Rattle.theory_live.specs.Statement.{firstThat};
-ghost use Rattle.core_live.specs.lemmas.ByTables.{openAt, bringsAt, inTimeAt, lacksAt, couldComeAt, passedAt, lineAt, freshAt, heldAt, Until, AskedFlags, Long, Puts, Standing, piecesAt, AskFrom, Asks};
+ghost use Rattle.core_live.specs.lemmas.ByTables.{openAt, bringsAt, inTimeAt, lacksAt, couldComeAt, Until};
+ghost use Rattle.core_live.specs.lemmas.ByTables.{passedAt, lineAt, freshAt, heldAt, AskedFlags};
+ghost use Rattle.core_live.specs.lemmas.ByTables.{Long, Puts, Standing, piecesAt, AskFrom, Asks};
 
 fn one(yes: bool) -> usize
     ensures { λ r. ⌜ r ≡ cond yes 1 0 ⌝ }
@@ -55,8 +57,8 @@ fn lacks(
     )
 }
 
-// What the rate brings from slot start to the due slot of chunk i. A rate of 32 bits over 3,600 slots
-// needs 44.
+// What the rate brings from slot start to the due slot of chunk i. A rate of 32 bits over 3,600
+// slots needs 44.
 fn brings(p: Programme, start: usize, rate: u32, i: u16) -> u64
     requires { ⌜ dueSlot p i ≤ 3600 ⌝ }
     ensures { λ r. ⌜ r ≡ bringsAt p start rate i ⌝ }
@@ -111,8 +113,8 @@ fn first_lacking(
     after
 }
 
-// The first of the next H open chunks after k that lacks base bytes and is in time; one after the last
-// if none is.
+// The first of the next H open chunks after k that lacks base bytes and is in time; one after the
+// last if none is.
 fn next_in_time(
     p: Programme,
     start: usize,
@@ -298,8 +300,8 @@ fn is_piece(flag: u8, bytes: u32) -> bool
     core_rules::both(flag == 1, 0 < bytes)
 }
 
-// The pieces of layer n, in playing order, from place at on. Each chunk is written, and the place moves
-// on only behind a piece.
+// The pieces of layer n, in playing order, from place at on. Each chunk is written, and the place
+// moves on only behind a piece.
 fn put_layer(
     count: u16,
     n: u8,

@@ -1,5 +1,5 @@
--- Meaning. What the call hands over: the asks of slot p (theory_live, Statement), by chunk, layer and
--- bytes, each in a slice of its own, or a refusal's number.
+-- Meaning. What the call hands over: the asks of slot p (theory_live, Statement), by chunk, layer
+-- and bytes, each in a slice of its own, or a refusal's number.
 use Prim.Native.Nat.{ℕ, suc, _≤_, _<_}
 use mathlib.Core.Path.{_≡_}
 use mathlib.Core.Bool.{Bool, cond, _&&_}
@@ -80,8 +80,8 @@ refusal i l = inputRefusal i orElse unless 11 (holds (pieces i) l)
 
 -- ---- what is handed over
 
--- How many pieces, or the refusal's number; and what stands in the lent slices: the pieces, then the
--- old contents, on a refusal the old contents alone.
+-- How many pieces, or the refusal's number; and what stands in the lent slices: the pieces, then
+-- the old contents, on a refusal the old contents alone.
 pub record HandedOver (refused : ℕ) (ps : List Part) (l : PieceSlices) (r : Answer) (l′ : PieceSlices) : Type 0 where
   pub answer : r ≡ cond (eqb refused 0) (Pieces (length ps)) (Refused refused)
   pub chunks-are : l′ .chunks ≡ lentAfter refused (map partChunk ps) (l .chunks)

@@ -1,5 +1,5 @@
--- Theorems. The refusals of the call are those of planning afresh with the job's forecast unchanged;
--- where there is none, the asks are few and safe whatever the link brings.
+-- Theorems. The refusals of the call are those of planning afresh with the job's forecast
+-- unchanged; where there is none, the asks are few and safe whatever the link brings.
 use Prim.Native.Nat.{ℕ, suc, _-_, _≤_, _<_}
 use mathlib.Core.Path.{_≡_, sym, _∙_, ap}
 use mathlib.Core.List.{List, [], _++_}

@@ -1,6 +1,6 @@
-// What to fetch next in a slot of the act, whatever the link brings: from the rows fetched before the
-// slot and a rate, the pieces to ask the link for, one after the other, as far as the slot goes. A
-// desk that asks so from slot 1 on is never refused.
+// What to fetch next in a slot of the act, whatever the link brings: from the rows fetched before
+// the slot and a rate, the pieces to ask the link for, one after the other, as far as the slot
+// goes. A desk that asks so from slot 1 on is never refused.
 use job::Programme;
 ghost use mathlib.Core.Path.{_≡_};
 ghost use mathlib.Core.Bool.{_&&_};
@@ -87,9 +87,10 @@ fn hand_over(
     }
 }
 
-// The asks of slot from at a rate, beside the rows fetched before it: for each layer from the base up,
-// for each asked chunk in playing order, the bytes not yet fetched. Refusals 5, 6, 18, 7, 8, 21, 22 as
-// in planning afresh, then 11 where a slice is shorter than the result; a refusal writes nothing.
+// The asks of slot from at a rate, beside the rows fetched before it: for each layer from the base
+// up, for each asked chunk in playing order, the bytes not yet fetched. Refusals 5, 6, 18, 7, 8,
+// 21, 22 as in planning afresh, then 11 where a slice is shorter than the result; a refusal writes
+// nothing.
 pub fn live(
     p: Programme,
     sizes: &[u32],

@@ -20,7 +20,8 @@ use Rattle.theory_replan.specs.Statement.{Acceptable, joined}
 use Rattle.theory_live.specs.Statement.{act}
 use Rattle.theory_live.specs.Theorems.{act-is-safe}
 
--- 21 and 22, in this order. 22 asks the forecast of the slots before p alone: all rows are before p.
+-- 21 and 22, in this order. 22 asks the forecast of the slots before p alone: all rows are before
+-- p.
 unfoldable pub liveRefusal : Job → ℕ → List Row → ℕ
 liveRefusal j p rows =
     slotRefusal (j .programme) p orElse beforeRefusal p rows orElse unless 22 (handedKept j rows)

@@ -129,7 +129,8 @@ pub record AskFrom (p : Programme) (depth : ℕ) (begun chunks layers bytes : Li
   pub begun-long : length begun ≡ 500
   pub long : Long chunks layers bytes
 
--- For every accepted job and rows with these tables that 21 and 22 let pass: the asks of theory_live.
+-- For every accepted job and rows with these tables that 21 and 22 let pass: the asks of
+-- theory_live.
 pub record Asks (p : Programme) (depth start rate : ℕ) (left : ℕ → ℕ → ℕ) (begun : List ℕ) (r : ℕ) (chunks layers bytes : List ℕ) : Type 0 where
   pub few : r ≤ 2000
   pub long : Long chunks layers bytes
