@@ -13,6 +13,7 @@ ghost use Rattle.theory_basics.specs.Refusals.{_orElse_};
 ghost use Rattle.core_ffi.specs.Meters.{meterIn, storage};
 ghost use Rattle.core_ffi.specs.Plans.{fourCounts, orderNumber};
 ghost use Rattle.core_ffi.specs.lemmas.Numbers.{bookedNumber, checkedNumber, countsHandedBy, forecastNumber, jobReadNumber, jobWrittenNumber, lengthsRead, planNumber, planReadNumber, planWrittenNumber, programmeRead, reasonNumber, refusedNumber, reportNumber, traceReadNumber, traceWrittenNumber, waitNumber, walkHandedBy};
+ghost use Rattle.core_ffi.specs.lemmas.Asking.{liveNumber};
 ghost use Rattle.core_ffi.specs.lemmas.Planning.{replanShort};
 ghost use Rattle.job.specs.Handed.{handed};
 ghost use Rattle.jobrecords.specs.Refusal.{mixed, oneSequence, refusalOf};
@@ -368,5 +369,14 @@ pub fn waited(answer: wait::Answer) -> u64
     match answer {
         wait::Answer::Delay(s) => s as u64,
         wait::Answer::Refused(n) => refused(n),
+    }
+}
+
+pub fn asked(answer: live::Answer) -> u64
+    ensures { λ r. ⌜ r ≡ liveNumber answer ⌝ }
+{
+    match answer {
+        live::Answer::Pieces(n) => n as u64,
+        live::Answer::Refused(n) => refused(n),
     }
 }

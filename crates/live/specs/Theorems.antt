@@ -1,21 +1,22 @@
 -- Theorems. The refusals of the call are those of planning afresh with the job's forecast
 -- unchanged; where there is none, the asks are few and safe whatever the link brings.
 use Prim.Native.Nat.{ℕ, suc, _-_, _≤_, _<_}
-use mathlib.Core.Path.{_≡_, sym, _∙_, ap}
+use mathlib.Core.Path.{_≡_, sym, _∙_, ap, ap₂}
 use mathlib.Core.List.{List, [], _++_}
 use mathlib.Core.Logic.{⊎-elim}
 use lib.Dec.{T-not, eqb, eqb-refl, eqb→eq}
 use lib.ListN.{length}
 use Rattle.theory_basics.specs.Refusals.{_orElse_}
-use Rattle.theory_basics.specs.lemmas.Refusals.{orElse-iff, orElse-some}
+use Rattle.theory_basics.specs.lemmas.Refusals.{orElse-iff, orElse-none, orElse-some}
 use Rattle.theory_basics.specs.lemmas.Tests.{test}
 use Rattle.job.specs.Handed.{handed-iff, jobIn, jobRefusal}
 use Rattle.job.specs.Job.{Accepted, forecast, lastSlot}
 use Rattle.fetch.specs.Handed.{handedRefusal}
+use Rattle.fetch.specs.Rows.{Row}
 use Rattle.theory_replan.specs.Refusal.{replanRefusal}
 use Rattle.theory_replan.specs.Statement.{Acceptable}
-use Rattle.theory_live.specs.Refusal.{as-planning-afresh, live-refusal-iff, liveRefusal}
-use Rattle.theory_live.specs.Statement.{takenOf}
+use Rattle.theory_live.specs.Refusal.{act-never-refused, as-planning-afresh, live-refusal-iff, liveRefusal}
+use Rattle.theory_live.specs.Statement.{act, takenOf}
 use Rattle.theory_live.specs.Theorems.{at-most-2000, safe-whatever-comes}
 use Rattle.replan.specs.Answer as replan
 use Rattle.live.specs.Answer.{fetched, inputRefusal, LiveInput, pieces}
@@ -60,3 +61,18 @@ module _ (i : LiveInput) where
         i .slot < lastSlot (jobIn (i .job)) → (x : ℕ) → x ≤ forecast (jobIn (i .job)) (i .slot) →
         Acceptable (jobIn (i .job)) (suc (i .slot)) (fetched i ++ takenOf (i .slot) x (pieces i))
     safe-pieces h x l = safe-whatever-comes (jobIn (i .job)) (i .slot) (fetched i) (i .rate) x acceptable h l
+
+-- "A desk that asks so from slot 1 on, with whatever rates and whatever the link brings, is never
+-- refused by 22": in slot t + 1 the call, handed the rows of the act, is refused by nothing but 11.
+pub act-not-refused :
+    (i : LiveInput) → jobRefusal (i .job) ≡ 0 →
+    handedRefusal 0 [] (i .rows .slots) (i .rows .chunks) (i .rows .layers) (i .rows .bytes) ≡ 0 →
+    (rate got : ℕ → ℕ) (t : ℕ) → i .slot ≡ suc t → fetched i ≡ act (jobIn (i .job)) rate got t → t < lastSlot (jobIn (i .job)) →
+    ((u : ℕ) → 1 ≤ u → u ≤ t → got u ≤ forecast (jobIn (i .job)) u) → inputRefusal i ≡ 0
+act-not-refused i a b rate got t e f h g =
+    let job = jobRefusal (i .job) in
+    let list = handedRefusal 0 [] (i .rows .slots) (i .rows .chunks) (i .rows .layers) (i .rows .bytes) in
+    let own = liveRefusal (jobIn (i .job)) (i .slot) (fetched i) in
+    orElse-none job (list orElse own) a ∙ orElse-none list own b
+    ∙ ap₂ (λ (p : ℕ) (rows : List Row). liveRefusal (jobIn (i .job)) p rows) e f
+    ∙ act-never-refused (jobIn (i .job)) (handed-iff (i .job) .0 a .1) rate got t h g
