@@ -67,7 +67,8 @@ module _ (i : LiveInput) where
 pub act-not-refused :
     (i : LiveInput) → jobRefusal (i .job) ≡ 0 →
     handedRefusal 0 [] (i .rows .slots) (i .rows .chunks) (i .rows .layers) (i .rows .bytes) ≡ 0 →
-    (rate got : ℕ → ℕ) (t : ℕ) → i .slot ≡ suc t → fetched i ≡ act (jobIn (i .job)) rate got t → t < lastSlot (jobIn (i .job)) →
+    (rate got : ℕ → ℕ) (t : ℕ) → i .slot ≡ suc t → fetched i ≡ act (jobIn (i .job)) rate got t →
+    t < lastSlot (jobIn (i .job)) →
     ((u : ℕ) → 1 ≤ u → u ≤ t → got u ≤ forecast (jobIn (i .job)) u) → inputRefusal i ≡ 0
 act-not-refused i a b rate got t e f h g =
     let job = jobRefusal (i .job) in

@@ -57,12 +57,15 @@ too-slow = refl
 -- With 4 bytes of chunk 1 fetched in slot 1 it is in time in slot 2, and since it is not held at
 -- the end of slot 2, two more have room.
 too-slow-begun :
-    asks (film 4 []) 2 (row 1 1 0 4 ∷ []) 2 ≡ part 1 0 2 ∷ part 2 0 6 ∷ part 3 0 6 ∷ part 1 1 3 ∷ part 2 1 3 ∷ part 3 1 3 ∷ []
+    asks (film 4 []) 2 (row 1 1 0 4 ∷ []) 2
+    ≡ part 1 0 2 ∷ part 2 0 6 ∷ part 3 0 6 ∷ part 1 1 3 ∷ part 2 1 3 ∷ part 3 1 3 ∷ []
 unfolding sizeIn passedOver
 too-slow-begun = refl
 
 -- The act at this rate, to the end of slot 6: chunks 2 and 3 are shown.
-too-slow-act : act (film 4 []) (λ p. 2) (λ p. 2) 6 ≡ row 1 2 0 2 ∷ row 2 2 0 2 ∷ row 3 2 0 2 ∷ row 4 3 0 2 ∷ row 5 3 0 2 ∷ row 6 3 0 2 ∷ []
+too-slow-act :
+    act (film 4 []) (λ p. 2) (λ p. 2) 6
+    ≡ row 1 2 0 2 ∷ row 2 2 0 2 ∷ row 3 2 0 2 ∷ row 4 3 0 2 ∷ row 5 3 0 2 ∷ row 6 3 0 2 ∷ []
 unfolding sizeIn passedOver
 too-slow-act = refl
 

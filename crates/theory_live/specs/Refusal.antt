@@ -29,7 +29,9 @@ liveRefusal j p rows =
 -- ---- as planning afresh
 
 -- Where the slot is in the job, what is left of an accepted job's forecast is not refused.
-onward-none : (j : Job) → Accepted j → (p : ℕ) → slotRefusal (j .programme) p ≡ 0 → onwardRefusal j p (drop (p - 1) (j .forecast)) ≡ 0
+onward-none :
+    (j : Job) → Accepted j → (p : ℕ) → slotRefusal (j .programme) p ≡ 0 →
+    onwardRefusal j p (drop (p - 1) (j .forecast)) ≡ 0
 onward-none j ok p z =
     let s = slot-iff (j .programme) p .0 z in
     onward-iff j p (drop (p - 1) (j .forecast)) .1 (
@@ -39,7 +41,8 @@ onward-none j ok p z =
 
 -- "For the same reasons as planning afresh": with the job's forecast unchanged from p on.
 pub as-planning-afresh :
-    (j : Job) → Accepted j → (p : ℕ) (rows : List Row) → replanRefusal j p rows (drop (p - 1) (j .forecast)) ≡ liveRefusal j p rows
+    (j : Job) → Accepted j → (p : ℕ) (rows : List Row) →
+    replanRefusal j p rows (drop (p - 1) (j .forecast)) ≡ liveRefusal j p rows
 unfolding liveRefusal replanRefusal
 as-planning-afresh j ok p rows =
     let onward = drop (p - 1) (j .forecast) in
@@ -58,7 +61,8 @@ as-planning-afresh j ok p rows =
     (test (eqb slot 0))
 
 -- None exactly if the rows are acceptable.
-pub live-refusal-iff : (j : Job) → Accepted j → (p : ℕ) (rows : List Row) → (liveRefusal j p rows ≡ 0) ↔ Acceptable j p rows
+pub live-refusal-iff :
+    (j : Job) → Accepted j → (p : ℕ) (rows : List Row) → (liveRefusal j p rows ≡ 0) ↔ Acceptable j p rows
 live-refusal-iff j ok p rows =
     let onward = drop (p - 1) (j .forecast) in
     let e = as-planning-afresh j ok p rows in
@@ -79,7 +83,8 @@ live-refusal-iff j ok p rows =
 -- "A desk that asks so from slot 1 on, with whatever rates and whatever the link brings, is never
 -- refused by 22": nor by 21, in any slot to d(C).
 pub act-never-refused :
-    (j : Job) → Accepted j → (rate got : ℕ → ℕ) (t : ℕ) → t < lastSlot j → ((u : ℕ) → 1 ≤ u → u ≤ t → got u ≤ forecast j u) →
+    (j : Job) → Accepted j → (rate got : ℕ → ℕ) (t : ℕ) → t < lastSlot j →
+    ((u : ℕ) → 1 ≤ u → u ≤ t → got u ≤ forecast j u) →
     liveRefusal j (suc t) (act j rate got t) ≡ 0
 act-never-refused j ok rate got t h f =
     live-refusal-iff j ok (suc t) (act j rate got t) .1 (act-is-safe j ok rate got t h f)

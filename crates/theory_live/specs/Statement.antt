@@ -61,7 +61,8 @@ firstLacking j p rows = firstThat (lacks j p rows) (chunks j)
 -- Chunk i is of the next H open chunks after k, lacks base bytes and is in time.
 abbrev pub couldCome : Job → ℕ → List Row → ℕ → ℕ → ℕ → Bool
 couldCome j p rows r k i =
-    ltb k i && leb (count (isOpen j p rows) i) (count (isOpen j p rows) k + heldMost j) && lacks j p rows i && inTime j p rows r i
+    ltb k i && leb (count (isOpen j p rows) i) (count (isOpen j p rows) k + heldMost j)
+    && lacks j p rows i && inTime j p rows r i
 
 -- j, the first of these.
 abbrev pub nextInTime : Job → ℕ → List Row → ℕ → ℕ → ℕ
@@ -108,7 +109,8 @@ asked j p rows r i = askedBeside j p rows (passedOver j p rows r) i
 -- Of layer n of chunk i, if chunk i is asked and bytes of the layer are not yet fetched.
 abbrev pub pieceOf : Job → List Row → (ℕ → Bool) → ℕ → ℕ → List Part
 pieceOf j rows which n i =
-    cond (which i && ltb 0 (remaining j rows i n)) (record { chunk = i; layer = n; bytes = remaining j rows i n } ∷ []) []
+    cond (which i && ltb 0 (remaining j rows i n))
+    (record { chunk = i; layer = n; bytes = remaining j rows i n } ∷ []) []
 
 -- Of layer n, for the chunks 1 to i.
 abbrev pub layerAsks : Job → List Row → (ℕ → Bool) → ℕ → ℕ → List Part

@@ -38,12 +38,14 @@ pub safe-whatever-comes :
 safe-whatever-comes j p rows r x ok h l = safe-beside j p rows (passedOver j p rows r) x ok h l
 
 layer-same :
-    (j : Job) (f : List ℕ) (rows : List Row) (a : ℕ → Bool) (n c : ℕ) → layerAsks (withForecast j f) rows a n c ≡ layerAsks j rows a n c
+    (j : Job) (f : List ℕ) (rows : List Row) (a : ℕ → Bool) (n c : ℕ) →
+    layerAsks (withForecast j f) rows a n c ≡ layerAsks j rows a n c
 layer-same j f rows a n zero = refl
 layer-same j f rows a n (suc c) = ap (λ (l : List Part). l ++ pieceOf j rows a n (suc c)) (layer-same j f rows a n c)
 
 below-same :
-    (j : Job) (f : List ℕ) (rows : List Row) (a : ℕ → Bool) (m : ℕ) → asksBelow (withForecast j f) rows a m ≡ asksBelow j rows a m
+    (j : Job) (f : List ℕ) (rows : List Row) (a : ℕ → Bool) (m : ℕ) →
+    asksBelow (withForecast j f) rows a m ≡ asksBelow j rows a m
 below-same j f rows a zero = refl
 below-same j f rows a (suc m) = ap₂ (λ (k l : List Part). k ++ l) (below-same j f rows a m) (layer-same j f rows a m (chunks j))
 
@@ -77,7 +79,8 @@ pub record PassedFor (j : Job) (p : ℕ) (rows : List Row) (r i first later : �
 
 could-come :
     (j : Job) (p : ℕ) (rows : List Row) (r k i : ℕ) → T (couldCome j p rows r k i) →
-    (k < i) × (count (isOpen j p rows) i ≤ count (isOpen j p rows) k + heldMost j) × T (lacks j p rows i) × (missing j rows i ≤ brings j p r i)
+    (k < i) × (count (isOpen j p rows) i ≤ count (isOpen j p rows) k + heldMost j) × T (lacks j p rows i)
+    × (missing j rows i ≤ brings j p r i)
 could-come j p rows r k i t =
     let near = leb (count (isOpen j p rows) i) (count (isOpen j p rows) k + heldMost j) in
     let a = and-T (ltb k i && near && lacks j p rows i) (inTime j p rows r i) t in
@@ -140,7 +143,8 @@ nothing-for-nothing j p rows r i t = by (firstLacking j p rows) (nextInTime j p 
 -- "While every open base is in time none is passed over": already while the first that lacks bytes
 -- is.
 pub none-passed-over :
-    (j : Job) (p : ℕ) (rows : List Row) (r : ℕ) → (T (lacks j p rows (firstLacking j p rows)) → T (inTime j p rows r (firstLacking j p rows))) → (i : ℕ) →
+    (j : Job) (p : ℕ) (rows : List Row) (r : ℕ) →
+    (T (lacks j p rows (firstLacking j p rows)) → T (inTime j p rows r (firstLacking j p rows))) → (i : ℕ) →
     T (not (passedOver j p rows r i))
 none-passed-over j p rows r f i =
     not-T (passedOver j p rows r i) (λ t.
@@ -157,7 +161,8 @@ none-in-outage j p rows i =
     omega (arith, n .later-in-time, l))
 
 -- Nor does a buffer that holds no chunk beyond its due slot.
-pub none-with-no-room : (j : Job) (p : ℕ) (rows : List Row) (r : ℕ) → heldMost j ≡ 0 → (i : ℕ) → T (not (passedOver j p rows r i))
+pub none-with-no-room :
+    (j : Job) (p : ℕ) (rows : List Row) (r : ℕ) → heldMost j ≡ 0 → (i : ℕ) → T (not (passedOver j p rows r i))
 none-with-no-room j p rows r z i =
     not-T (passedOver j p rows r i) (λ t.
     let n = nothing-for-nothing j p rows r i t in
@@ -169,14 +174,17 @@ none-with-no-room j p rows r z i =
 -- "No byte of an upper layer is asked before every asked base is whole": with a byte of a layer
 -- above n in the rows of x bytes, layer n of every asked chunk is whole.
 pub lower-first :
-    (j : Job) (p : ℕ) (rows : List Row) (r x : ℕ) → Acceptable j p rows → (i k n m : ℕ) → Layer j i n → n < m → m < layers j →
-    T (asked j p rows r i) → 1 ≤ bytesOfLayer (takenOf p x (asks j p rows r)) k m → Carried j (rows ++ takenOf p x (asks j p rows r)) i n
+    (j : Job) (p : ℕ) (rows : List Row) (r x : ℕ) → Acceptable j p rows → (i k n m : ℕ) → Layer j i n → n < m →
+    m < layers j →
+    T (asked j p rows r i) → 1 ≤ bytesOfLayer (takenOf p x (asks j p rows r)) k m →
+    Carried j (rows ++ takenOf p x (asks j p rows r)) i n
 lower-first j p rows r x ok i k n m l lt hi a h = lower-whole j p rows (asked j p rows r) x ok i k n m l lt hi a h
 
 -- ---- (c) no bytes twice, none beyond a size, at most 2,000 pieces
 
 -- The asks of a layer sum to at most what is not yet fetched of it.
-pub no-more-asked : (j : Job) (p : ℕ) (rows : List Row) (r i n : ℕ) → leftIf (ofLayer i n) (asks j p rows r) ≤ remaining j rows i n
+pub no-more-asked :
+    (j : Job) (p : ℕ) (rows : List Row) (r i n : ℕ) → leftIf (ofLayer i n) (asks j p rows r) ≤ remaining j rows i n
 no-more-asked j p rows r i n = below-left j rows (asked j p rows r) i n (layers j)
 
 -- And each layer of an asked chunk with bytes not yet fetched is asked for, with all of them.
@@ -190,7 +198,8 @@ pub asks-in-order : (j : Job) (p : ℕ) (rows : List Row) (r : ℕ) → InOrder 
 asks-in-order j p rows r = below-order j rows (asked j p rows r) (layers j)
 
 -- and each is a layer of an asked chunk, with its bytes not yet fetched, at least 1.
-pub each-asked : (j : Job) (p : ℕ) (rows : List Row) (r : ℕ) → All (Piece j rows (asked j p rows r) 0 (layers j) (chunks j)) (asks j p rows r)
+pub each-asked :
+    (j : Job) (p : ℕ) (rows : List Row) (r : ℕ) → All (Piece j rows (asked j p rows r) 0 (layers j) (chunks j)) (asks j p rows r)
 each-asked j p rows r = below-pieces j rows (asked j p rows r) (layers j)
 
 -- "As many as rule 6 allows": of the chunks that would be begun in p and held at its end, those
@@ -230,7 +239,8 @@ nothing-fetched j ok = record {
 -- "A desk that asks so from slot 1 on, with whatever rates and whatever the link brings, is never
 -- refused by 22": for any forecast with at least what came.
 pub act-is-safe :
-    (j : Job) → Accepted j → (rate got : ℕ → ℕ) (t : ℕ) → t < lastSlot j → ((u : ℕ) → 1 ≤ u → u ≤ t → got u ≤ forecast j u) →
+    (j : Job) → Accepted j → (rate got : ℕ → ℕ) (t : ℕ) → t < lastSlot j →
+    ((u : ℕ) → 1 ≤ u → u ≤ t → got u ≤ forecast j u) →
     Acceptable j (suc t) (act j rate got t)
 act-is-safe j ok rate got zero h f = nothing-fetched j ok
 act-is-safe j ok rate got (suc t) h f =
@@ -240,7 +250,8 @@ act-is-safe j ok rate got (suc t) h f =
 -- As the desk calls it: in slot t + 1, whatever it forecasts from there on, planning afresh with
 -- the rows of the act refuses nothing.
 pub never-refused :
-    (j : Job) → Accepted j → (rate got : ℕ → ℕ) (t : ℕ) → t < lastSlot j → ((u : ℕ) → 1 ≤ u → u ≤ t → got u ≤ forecast j u) →
+    (j : Job) → Accepted j → (rate got : ℕ → ℕ) (t : ℕ) → t < lastSlot j →
+    ((u : ℕ) → 1 ≤ u → u ≤ t → got u ≤ forecast j u) →
     (onward : List ℕ) → All (Within 0 16777216) onward → length onward ≡ suc (lastSlot j) - suc t →
     replanRefusal j (suc t) (act j rate got t) onward ≡ 0
 never-refused j ok rate got t h f onward small many =
@@ -254,7 +265,8 @@ never-refused j ok rate got t h f onward small many =
 -- brought of a layer that stays short": the rows fetched before slot t + 1, and the pieces that
 -- this slot, the last one too, fetches whole.
 pub act-passes :
-    (j : Job) → Accepted j → (rate got : ℕ → ℕ) (t : ℕ) → t < lastSlot j → ((u : ℕ) → 1 ≤ u → u ≤ suc t → got u ≤ forecast j u) →
+    (j : Job) → Accepted j → (rate got : ℕ → ℕ) (t : ℕ) → t < lastSlot j →
+    ((u : ℕ) → 1 ≤ u → u ≤ suc t → got u ≤ forecast j u) →
     let rows = act j rate got t in let pieces = asks j (suc t) rows (rate (suc t)) in
     PassesFrom j (suc t) (rows ++ takenOf (suc t) (wholeOf (got (suc t)) pieces) pieces)
 act-passes j ok rate got t h f =

@@ -92,7 +92,8 @@ pub record AskedFlags (p : Programme) (start : ℕ) (left : ℕ → ℕ → ℕ)
 
 -- Of layer n of chunk i, if its flag is set and something is left.
 abbrev pub pieceAt : (ℕ → ℕ → ℕ) → List ℕ → ℕ → ℕ → List Part
-pieceAt left asked n i = cond (begunAt asked i && ltb 0 (left i n)) (record { chunk = i; layer = n; bytes = left i n } ∷ []) []
+pieceAt left asked n i =
+    cond (begunAt asked i && ltb 0 (left i n)) (record { chunk = i; layer = n; bytes = left i n } ∷ []) []
 
 abbrev pub layerAt : (ℕ → ℕ → ℕ) → List ℕ → ℕ → ℕ → List Part
 layerAt left asked n zero = []
@@ -119,7 +120,8 @@ pub record Standing (pieces : List Part) (n : ℕ) (chunks layers bytes : List �
 -- The pieces of layer n stand behind those that stood, whatever they were.
 pub record Puts (left : ℕ → ℕ → ℕ) (asked : List ℕ) (n count at : ℕ) (cs ls bs : List ℕ) (r : ℕ) (cs′ ls′ bs′ : List ℕ) : Type 0 where
   pub most : r ≤ at + count
-  pub behind : (made : List Part) → Standing made at cs ls bs → Standing (made ++ layerAt left asked n count) r cs′ ls′ bs′
+  pub behind :
+      (made : List Part) → Standing made at cs ls bs → Standing (made ++ layerAt left asked n count) r cs′ ls′ bs′
 
 -- ---- the whole
 

@@ -27,7 +27,8 @@ pub record HandFrom (p : Programme) (depth : ℕ) (begun : List ℕ) : Type 0 wh
   pub begun-long : length begun ≡ 500
 
 -- The asks, or 11.
-abbrev pub Hands : Programme → (depth start rate : ℕ) (left : ℕ → ℕ → ℕ) (begun : List ℕ) → PieceSlices → Answer → PieceSlices → Type 0
+abbrev pub Hands :
+    Programme → (depth start rate : ℕ) (left : ℕ → ℕ → ℕ) (begun : List ℕ) → PieceSlices → Answer → PieceSlices → Type 0
 Hands p depth start rate left begun l r l′ =
     (sizes : List ℕ) (os : List Override) (forecast : List ℕ) (rows : List Row) (whole : List ℕ) →
     let j = jobOf p sizes os forecast in
