@@ -13,7 +13,7 @@ use Rattle.job.specs.Job.{Job, forecast, lastSlot}
 use Rattle.fetch.specs.Handed.{handedRefusal}
 use Rattle.fetch.specs.Rows.{Row, rowsOf}
 use Rattle.theory_plan.specs.Own.{Part}
-use Rattle.theory_replan.specs.Statement.{Acceptable}
+use Rattle.theory_replan.specs.Statement.{Acceptable, joined}
 use Rattle.theory_live.specs.Refusal.{liveRefusal}
 use Rattle.theory_live.specs.Statement.{asks, partBytes, partChunk, partLayer, takenOf}
 use Rattle.live.specs.declared.Answer.the-variants.{Pieces, Refused}
@@ -95,7 +95,10 @@ pub record LivePromise (i : LiveInput) (l : PieceSlices) (r : Answer) (l′ : Pi
   -- "At most 2,000 pieces."
   pub few : inputRefusal i ≡ 0 → length (pieces i) ≤ 2000
   -- "For every x, the rows fetched and the first x bytes of the asks as rows of slot p keep what
-  -- planning afresh asks of handed rows at p + 1", for any forecast with at least x in slot p.
+  -- planning afresh asks of handed rows at p + 1", for any forecast from p on with at least x in
+  -- slot p.
   pub safe :
-      inputRefusal i ≡ 0 → i .slot < lastSlot (jobIn (i .job)) → (x : ℕ) → x ≤ forecast (jobIn (i .job)) (i .slot) →
-      Acceptable (jobIn (i .job)) (suc (i .slot)) (fetched i ++ takenOf (i .slot) x (pieces i))
+      inputRefusal i ≡ 0 → i .slot < lastSlot (jobIn (i .job)) → (onward : List ℕ) (x : ℕ) →
+      x ≤ forecast (joined (jobIn (i .job)) (i .slot) onward) (i .slot) →
+      Acceptable (joined (jobIn (i .job)) (i .slot) onward) (suc (i .slot))
+      (fetched i ++ takenOf (i .slot) x (pieces i))

@@ -14,10 +14,10 @@ use Rattle.job.specs.Job.{Accepted, forecast, lastSlot}
 use Rattle.fetch.specs.Handed.{handedRefusal}
 use Rattle.fetch.specs.Rows.{Row}
 use Rattle.theory_replan.specs.Refusal.{replanRefusal}
-use Rattle.theory_replan.specs.Statement.{Acceptable}
+use Rattle.theory_replan.specs.Statement.{Acceptable, joined}
 use Rattle.theory_live.specs.Refusal.{act-never-refused, as-planning-afresh, live-refusal-iff, liveRefusal}
 use Rattle.theory_live.specs.Statement.{act, takenOf}
-use Rattle.theory_live.specs.Theorems.{at-most-2000, safe-whatever-comes}
+use Rattle.theory_live.specs.Theorems.{at-most-2000, safe-whatever-forecast}
 use Rattle.replan.specs.Answer as replan
 use Rattle.live.specs.Answer.{fetched, inputRefusal, LiveInput, pieces}
 use Rattle.live.specs.lemmas.HandOver.{asReplan}
@@ -58,9 +58,12 @@ module _ (i : LiveInput) where
     few-pieces = at-most-2000 (jobIn (i .job)) accepted (i .slot) (fetched i) (i .rate)
 
     pub safe-pieces :
-        i .slot < lastSlot (jobIn (i .job)) → (x : ℕ) → x ≤ forecast (jobIn (i .job)) (i .slot) →
-        Acceptable (jobIn (i .job)) (suc (i .slot)) (fetched i ++ takenOf (i .slot) x (pieces i))
-    safe-pieces h x l = safe-whatever-comes (jobIn (i .job)) (i .slot) (fetched i) (i .rate) x acceptable h l
+        i .slot < lastSlot (jobIn (i .job)) → (onward : List ℕ) (x : ℕ) →
+        x ≤ forecast (joined (jobIn (i .job)) (i .slot) onward) (i .slot) →
+        Acceptable (joined (jobIn (i .job)) (i .slot) onward) (suc (i .slot))
+        (fetched i ++ takenOf (i .slot) x (pieces i))
+    safe-pieces h onward x l =
+        safe-whatever-forecast (jobIn (i .job)) (i .slot) (fetched i) (i .rate) (accepted .slots-in) acceptable h onward x l
 
 -- "A desk that asks so from slot 1 on, with whatever rates and whatever the link brings, is never
 -- refused by 22": in slot t + 1 the call, handed the rows of the act, is refused by nothing but 11.

@@ -7,7 +7,7 @@ use mathlib.Core.List.{List, [], _++_}
 use mathlib.Core.Logic.{⊎-elim}
 use native.Mathlib.Omega.{arith}
 use native.Mathlib.Nat.{mul-le-mul-right}
-use lib.ListN.{length}
+use lib.ListN.{length, take}
 use lib.Dec.{T, T-not, not-T, leb, ltb, leb→le, nleb→lt, ltb→lt, le→leb, lt→ltb}
 use Rattle.theory_basics.specs.Sums.{count}
 use Rattle.theory_basics.specs.Tests.{All, In}
@@ -19,7 +19,7 @@ use Rattle.fetch.specs.Rows.{Row, Carried, bytesOfLayer, heldCount}
 use Rattle.fetch.specs.RulesFrom.{PassesFrom}
 use Rattle.theory_plan.specs.Own.{Part}
 use Rattle.theory_replan.specs.Refusal.{replan-refusal-iff, replanRefusal}
-use Rattle.theory_replan.specs.Statement.{Acceptable}
+use Rattle.theory_replan.specs.Statement.{Acceptable, joined}
 use Rattle.theory_replan.specs.lemmas.Parts.{leftIf}
 use Rattle.theory_live.specs.Statement.{act, asked, asks, asksBelow, brings, couldCome, firstLacking, fresh, hasRoom, inTime, isOpen, lacks, layerAsks, missing, nextInTime, passedOver, passesFor, pieceOf, takenOf, remaining}
 use Rattle.theory_live.specs.lemmas.Asked.{safe-beside}
@@ -53,6 +53,17 @@ below-same j f rows a (suc m) = ap₂ (λ (k l : List Part). k ++ l) (below-same
 pub no-forecast : (j : Job) (f : List ℕ) (p : ℕ) (rows : List Row) (r : ℕ) → asks (withForecast j f) p rows r ≡ asks j p rows r
 unfolding passedOver
 no-forecast j f p rows r = below-same j f rows (asked j p rows r) (layers j)
+
+-- As the desk meets it: in slot p nothing is known of the forecast from p on, and whatever it turns
+-- out to be, with at least x in slot p, the rows are acceptable at p + 1.
+pub safe-whatever-forecast :
+    (j : Job) (p : ℕ) (rows : List Row) (r : ℕ) → length (j .forecast) ≡ lastSlot j → Acceptable j p rows → p < lastSlot j →
+    (onward : List ℕ) (x : ℕ) → x ≤ forecast (joined j p onward) p →
+    Acceptable (joined j p onward) (suc p) (rows ++ takenOf p x (asks j p rows r))
+safe-whatever-forecast j p rows r e ok h onward x l =
+    subst (λ (ps : List Part). Acceptable (joined j p onward) (suc p) (rows ++ takenOf p x ps))
+    (no-forecast j (take (p - 1) (j .forecast) ++ onward) p rows r)
+    (safe-whatever-comes (joined j p onward) p rows r x (acceptable-onward j p rows onward e ok) h l)
 
 -- ---- (b) nothing for nothing
 
