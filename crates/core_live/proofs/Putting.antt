@@ -11,7 +11,7 @@ use lib.Seq.{take-set-le, take-suc-set}
 use Rattle.theory_basics.specs.lemmas.Ranges.{bit-le}
 use Rattle.theory_plan.specs.Own.{Part}
 use Rattle.theory_live.specs.Statement.{partBytes, partChunk, partLayer}
-use Rattle.core_live.specs.lemmas.ByTables.{layerAt, Long, pieceAt, Puts, Standing}
+use Rattle.core_live.specs.lemmas.ByTables.{layerAt, Long, pieceAt, PutsLayer, PiecesStand}
 
 -- A column, one place written behind what stands there.
 column-more : (f : Part → ℕ) (made : List Part) (q : Part) (l : List ℕ) (w : ℕ) → w < length l → take w l ≡ map f made → take (w + 1) (set l w (f q)) ≡ map f (made ++ (q ∷ []))
@@ -28,17 +28,17 @@ long-set w a b c l = record {
 }
 
 -- A place is written whether or not it is a piece; if it isn't, the next is written over it.
-pub standing-more :
-    {made : List Part} {w : ℕ} {cs ls bs : List ℕ} → Standing made w cs ls bs → w < 2000 → (q : Part) (yes : Bool) →
-    Standing (made ++ cond yes (q ∷ []) []) (w + cond yes 1 0) (set cs w (q .chunk)) (set ls w (q .layer)) (set bs w (q .bytes))
-standing-more {made} {w} {cs} {ls} {bs} s h q true = record {
+pub stand-more :
+    {made : List Part} {w : ℕ} {cs ls bs : List ℕ} → PiecesStand made w cs ls bs → w < 2000 → (q : Part) (yes : Bool) →
+    PiecesStand (made ++ cond yes (q ∷ []) []) (w + cond yes 1 0) (set cs w (q .chunk)) (set ls w (q .layer)) (set bs w (q .bytes))
+stand-more {made} {w} {cs} {ls} {bs} s h q true = record {
   many = omega (arith, s .many, length-append made (q ∷ []));
   chunks-are = column-more partChunk made q cs w (omega (arith, s .long .chunks-long)) (s .chunks-are);
   layers-are = column-more partLayer made q ls w (omega (arith, s .long .layers-long)) (s .layers-are);
   bytes-are = column-more partBytes made q bs w (omega (arith, s .long .bytes-long)) (s .bytes-are);
   long = long-set w (q .chunk) (q .layer) (q .bytes) (s .long);
 }
-standing-more {made} {w} {cs} {ls} {bs} s h q false =
+stand-more {made} {w} {cs} {ls} {bs} s h q false =
     let n = append-nil made in
     let z : w + 0 ≡ w = omega arith in
     record {
@@ -55,7 +55,7 @@ module _ (left : ℕ → ℕ → ℕ) (asked : List ℕ) (n count at : ℕ) (cs�
     pub within : i ≤ count
     pub most : w ≤ at + i
     pub long : Long cs ls bs
-    pub behind : (made : List Part) → Standing made at cs₀ ls₀ bs₀ → Standing (made ++ layerAt left asked n i) w cs ls bs
+    pub behind : (made : List Part) → PiecesStand made at cs₀ ls₀ bs₀ → PiecesStand (made ++ layerAt left asked n i) w cs ls bs
 
   pub putting-start : Long cs₀ ls₀ bs₀ → Putting cs₀ ls₀ bs₀ at 0
   putting-start l = record {
@@ -82,15 +82,15 @@ module _ (left : ℕ → ℕ → ℕ) (asked : List ℕ) (n count at : ℕ) (cs�
         long = long-set w (i + 1) n b (a .long);
         behind = λ made s.
             let same : cond yes (q ∷ []) [] ≡ pieceAt left asked n (i + 1) = rw (back, e) in
-            let t = standing-more (a .behind made s) (omega (arith, a .most)) q yes in
+            let t = stand-more (a .behind made s) (omega (arith, a .most)) q yes in
             let z : (made ++ layerAt left asked n i) ++ cond yes (q ∷ []) [] ≡ made ++ layerAt left asked n (i + 1) =
             append-assoc made (layerAt left asked n i) (cond yes (q ∷ []) [])
             ∙ ap (λ (l : List Part). made ++ (layerAt left asked n i ++ l)) same
             ∙ ap (λ (l : List Part). made ++ l) (sym (layer-more i)) in
-            subst (λ (l : List Part). Standing l (w + more) (set cs w (i + 1)) (set ls w n) (set bs w b)) z (rw f t);
+            subst (λ (l : List Part). PiecesStand l (w + more) (set cs w (i + 1)) (set ls w n) (set bs w b)) z (rw f t);
       }
 
-  pub putting-end : {cs ls bs : List ℕ} {w i : ℕ} → Putting cs ls bs w i → count ≤ i → Puts left asked n count at cs₀ ls₀ bs₀ w cs ls bs
+  pub putting-end : {cs ls bs : List ℕ} {w i : ℕ} → Putting cs ls bs w i → count ≤ i → PutsLayer left asked n count at cs₀ ls₀ bs₀ w cs ls bs
   putting-end {cs} {ls} {bs} {w} {i} a h =
       let e : i ≡ count = omega (arith, a .within) in
       record { most = omega (arith, a .most, a .within); behind = rw e at (a .behind) }

@@ -23,7 +23,7 @@ use Rattle.theory_live.specs.Statement.{asked, asks, asksBelow, begunAfter, bri
 use Rattle.theory_live.specs.lemmas.Firsts.{found}
 use Rattle.core_replan_decide.specs.lemmas.Decision.{Tabled}
 use Rattle.core_replan_decide.specs.lemmas.Tables.{LastBegun, of}
-use Rattle.core_live.specs.lemmas.ByTables.{askedAt, AskedFlags, begunAt, bringsAt, couldComeAt, freshAt, heldAt, inTimeAt, lacksAt, layerAt, lineAt, openAt, passedAt, passesForAt, pieceAt, piecesAt, roomAt, Standing, Until}
+use Rattle.core_live.specs.lemmas.ByTables.{askedAt, AskedFlags, begunAt, bringsAt, couldComeAt, freshAt, heldAt, inTimeAt, lacksAt, layerAt, lineAt, openAt, passedAt, passesForAt, pieceAt, piecesAt, roomAt, PiecesStand, Until}
 use Rattle.core_live.proofs.Passing.{six-T}
 
 -- Tests that agree on 1 .. n have the same first.
@@ -180,10 +180,10 @@ module _
   pub asks-stand :
       {from until depth : ℕ} {flags : List ℕ} → from ≡ first → Until p start rate left begunFlags last from until →
       AskedFlags p start left begunFlags last from until (p .chunks) flags → depth ≡ length sizes → {r : ℕ} {cs ls bs : List ℕ} →
-      Standing (piecesAt left flags (p .chunks) depth) r cs ls bs → Standing (asks j start rows rate) r cs ls bs
+      PiecesStand (piecesAt left flags (p .chunks) depth) r cs ls bs → PiecesStand (asks j start rows rate) r cs ls bs
   asks-stand {from} {until} {depth} {flags} e upto flagged d {r} {cs} {ls} {bs} s =
       let upto′ : Until p start rate left begunFlags last first until = subst (λ (k : ℕ). Until p start rate left begunFlags last k until) e upto in
       let flagged′ : AskedFlags p start left begunFlags last first until (p .chunks) flags =
       subst (λ (k : ℕ). AskedFlags p start left begunFlags last k until (p .chunks) flags) e flagged in
       let are = pieces-are until upto′ flags flagged′ (length sizes) (omega arith) in
-      subst (λ (l : List Part). Standing l r cs ls bs) are (subst (λ (n : ℕ). Standing (piecesAt left flags (p .chunks) n) r cs ls bs) d s)
+      subst (λ (l : List Part). PiecesStand l r cs ls bs) are (subst (λ (n : ℕ). PiecesStand (piecesAt left flags (p .chunks) n) r cs ls bs) d s)

@@ -13,7 +13,7 @@ ghost use Rattle.core_replan_decide.specs.lemmas.Tables.{Fine, of};
 ghost use Rattle.theory_live.specs.Statement.{firstThat};
 ghost use Rattle.core_live.specs.lemmas.ByTables.{openAt, bringsAt, inTimeAt, lacksAt, couldComeAt, Until};
 ghost use Rattle.core_live.specs.lemmas.ByTables.{passedAt, lineAt, freshAt, heldAt, AskedFlags};
-ghost use Rattle.core_live.specs.lemmas.ByTables.{Long, Puts, Standing, piecesAt, AskFrom, Asks};
+ghost use Rattle.core_live.specs.lemmas.ByTables.{Long, PutsLayer, PiecesStand, piecesAt, AskFrom, Asks};
 
 fn one(yes: bool) -> usize
     ensures { λ r. ⌜ r ≡ cond yes 1 0 ⌝ }
@@ -314,7 +314,7 @@ fn put_layer(
 ) -> usize
     requires { ⌜ (count ≤ 500) × (n < 4) × (at + count ≤ 2000)
         × Long (now chunks) (now layers) (now bytes) ⌝ }
-    ensures { λ r. ⌜ Puts (tableAt (now (left .entry))) (now (asked .entry)) n count at
+    ensures { λ r. ⌜ PutsLayer (tableAt (now (left .entry))) (now (asked .entry)) n count at
         (now (chunks .entry)) (now (layers .entry)) (now (bytes .entry))
         r (now (chunks .exit)) (now (layers .exit)) (now (bytes .exit)) ⌝ }
 {
@@ -345,7 +345,7 @@ fn put_pieces(
 ) -> usize
     requires { ⌜ (count ≤ 500) × (depth ≤ 4) × Long (now chunks) (now layers) (now bytes) ⌝ }
     ensures { λ r. ⌜ (r ≤ 2000)
-        × Standing (piecesAt (tableAt (now (left .entry))) (now (asked .entry)) count depth)
+        × PiecesStand (piecesAt (tableAt (now (left .entry))) (now (asked .entry)) count depth)
         r (now (chunks .exit)) (now (layers .exit)) (now (bytes .exit)) ⌝ }
 {
     let mut at: usize = 0;

@@ -19,12 +19,12 @@ use Rattle.theory_replan.specs.Refusal.{handedKept}
 use Rattle.theory_live.specs.Statement.{partBytes, partChunk, partLayer}
 use Rattle.core_replan_input.specs.lemmas.Gather.{Gathered}
 use Rattle.core_replan_decide.specs.lemmas.Decision.{Tabled}
-use Rattle.core_live.specs.lemmas.ByTables.{Standing}
+use Rattle.core_live.specs.lemmas.ByTables.{PiecesStand}
 use Rattle.replan.specs.Answer.{jobOn}
 use Rattle.replan.specs.lemmas.Asked.{askedRefusal}
 use Rattle.replan.proofs.Asked.{input-is}
 use Rattle.replan.proofs.Handing.{kept-is, none-left, shown-on}
-use Rattle.live.specs.Answer.{fetched, HandedOver, holds, inputRefusal, LiveInput, LivePromise, pieces, PieceSlices, refusal}
+use Rattle.live.specs.Answer.{fetched, LiveOutput, holds, inputRefusal, LiveInput, LivePromise, pieces, PieceSlices, refusal}
 use Rattle.live.specs.Theorems.{acceptable, accepted, as-replan, few-pieces, safe-pieces}
 use Rattle.live.specs.declared.Answer.the-variants.{Pieces, Refused}
 use Rattle.live.specs.declared.Answer.{Answer}
@@ -36,7 +36,7 @@ pub three-hold : {yes : Bool} (n a b c : ℕ) → yes ≡ leb n a && (leb n b &&
 three-hold n a b c e t =
     let u = simp tests at (true-T (leb n a && (leb n b && leb n c)) (sym e ∙ t)) in (u .0, u .1 .0, u .1 .1)
 
-module _ {ps : List Part} {n : ℕ} {cs ls bs : List ℕ} (s : Standing ps n cs ls bs) (l : PieceSlices) {yes : Bool}
+module _ {ps : List Part} {n : ℕ} {cs ls bs : List ℕ} (s : PiecesStand ps n cs ls bs) (l : PieceSlices) {yes : Bool}
     (e : yes ≡ leb n (length (l .chunks)) && (leb n (length (l .layers)) && leb n (length (l .bytes)))) where
   holds-is : holds ps l ≡ yes
   holds-is =
@@ -45,7 +45,7 @@ module _ {ps : List Part} {n : ℕ} {cs ls bs : List ℕ} (s : Standing ps n cs 
   -- They fit, and are copied.
   pub handed-whole :
       yes ≡ true → {l′ : PieceSlices} → l′ .chunks ≡ over (take n cs) (l .chunks) → l′ .layers ≡ over (take n ls) (l .layers) →
-      l′ .bytes ≡ over (take n bs) (l .bytes) → HandedOver (unless 11 (holds ps l)) ps l (Pieces n) l′
+      l′ .bytes ≡ over (take n bs) (l .bytes) → LiveOutput (unless 11 (holds ps l)) ps l (Pieces n) l′
   handed-whole t {l′} c a b =
       let h : holds ps l ≡ true = holds-is ∙ t in
       record {
@@ -56,7 +56,7 @@ module _ {ps : List Part} {n : ℕ} {cs ls bs : List ℕ} (s : Standing ps n cs 
       }
 
   -- They don't, and nothing is written.
-  pub handed-short : yes ≡ false → HandedOver (unless 11 (holds ps l)) ps l (Refused 11) l
+  pub handed-short : yes ≡ false → LiveOutput (unless 11 (holds ps l)) ps l (Refused 11) l
   handed-short t =
       let h : holds ps l ≡ false = holds-is ∙ t in
       record { answer = rw h; chunks-are = rw h; layers-are = rw h; bytes-are = rw h }
@@ -64,15 +64,15 @@ module _ {ps : List Part} {n : ℕ} {cs ls bs : List ℕ} (s : Standing ps n cs 
 -- ---- the refusals
 
 module _ (i : LiveInput) (l : PieceSlices) where
-  promised : {r : Answer} {l′ : PieceSlices} (refused : ℕ) → refusal i l ≡ refused → HandedOver refused (pieces i) l r l′ → LivePromise i l r l′
+  promised : {r : Answer} {l′ : PieceSlices} (refused : ℕ) → refusal i l ≡ refused → LiveOutput refused (pieces i) l r l′ → LivePromise i l r l′
   promised {r} {l′} refused e x =
       record {
-        handed-over = subst (λ (k : ℕ). HandedOver k (pieces i) l r l′) (sym e) x;
+        output = subst (λ (k : ℕ). LiveOutput k (pieces i) l r l′) (sym e) x;
         few = few-pieces i;
         safe = safe-pieces i;
       }
 
-  only-number : (k : ℕ) → 0 < k → HandedOver k (pieces i) l (Refused k) l
+  only-number : (k : ℕ) → 0 < k → LiveOutput k (pieces i) l (Refused k) l
   only-number k h =
       let e : eqb k 0 ≡ false = ne-eqb k 0 (λ z. omega arith) in
       record { answer = rw e; chunks-are = rw e; layers-are = rw e; bytes-are = rw e }

@@ -82,7 +82,7 @@ refusal i l = inputRefusal i orElse unless 11 (holds (pieces i) l)
 
 -- How many pieces, or the refusal's number; and what stands in the lent slices: the pieces, then
 -- the old contents, on a refusal the old contents alone.
-pub record HandedOver (refused : ℕ) (ps : List Part) (l : PieceSlices) (r : Answer) (l′ : PieceSlices) : Type 0 where
+pub record LiveOutput (refused : ℕ) (ps : List Part) (l : PieceSlices) (r : Answer) (l′ : PieceSlices) : Type 0 where
   pub answer : r ≡ cond (eqb refused 0) (Pieces (length ps)) (Refused refused)
   pub chunks-are : l′ .chunks ≡ lentAfter refused (map partChunk ps) (l .chunks)
   pub layers-are : l′ .layers ≡ lentAfter refused (map partLayer ps) (l .layers)
@@ -91,7 +91,7 @@ pub record HandedOver (refused : ℕ) (ps : List Part) (l : PieceSlices) (r : An
 -- The promise of the call.
 pub record LivePromise (i : LiveInput) (l : PieceSlices) (r : Answer) (l′ : PieceSlices) : Type 0 where
   -- The asks, or the refusal.
-  pub handed-over : HandedOver (refusal i l) (pieces i) l r l′
+  pub output : LiveOutput (refusal i l) (pieces i) l r l′
   -- "At most 2,000 pieces."
   pub few : inputRefusal i ≡ 0 → length (pieces i) ≤ 2000
   -- "For every x, the rows fetched and the first x bytes of the asks as rows of slot p keep what

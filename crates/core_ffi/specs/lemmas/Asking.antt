@@ -13,7 +13,7 @@ liveNumber (Refused n) = refusedNumber n
 
 pub asked-of : {i : LiveInput} {l l′ : PieceSlices} {a : Answer} {r : ℕ} → r ≡ liveNumber a → LivePromise i l a l′ → Asked i l r l′
 asked-of e p =
-    let h = p .handed-over in
+    let h = p .output in
     record {
       number = is-answered liveNumber _ _ _ _ _ _ e (h .answer) refl refl;
       chunks-are = h .chunks-are;

@@ -5,12 +5,12 @@ use native.Mathlib.Omega.{arith}
 use native.Mathlib.Numerals.{add-one}
 use denote.Ref.{now}
 use Rattle.job.specs.Table.{tableAt}
-use Rattle.core_live.specs.lemmas.ByTables.{piecesAt, Standing}
+use Rattle.core_live.specs.lemmas.ByTables.{piecesAt, PiecesStand}
 use Rattle.core_live.proofs.put_pieces.Statement.{statement}
 use Rattle.core_live.proofs.put_pieces.Tie as tie
 
 abbrev Inv-loop : tie.InvT-loop
-Inv-loop count depth left asked chunks₀ layers₀ bytes₀ at₀ n₀ chunks layers bytes at n = Standing (piecesAt (tableAt left) asked count n) at chunks layers bytes × (n ≤ depth) × (at ≤ n * 500)
+Inv-loop count depth left asked chunks₀ layers₀ bytes₀ at₀ n₀ chunks layers bytes at n = PiecesStand (piecesAt (tableAt left) asked count n) at chunks layers bytes × (n ≤ depth) × (at ≤ n * 500)
 
 abbrev μ-loop : tie.MeasureT-loop
 μ-loop count depth left asked chunks₀ layers₀ bytes₀ at₀ n₀ chunks layers bytes at n = depth - n

@@ -110,7 +110,7 @@ pub record Long (chunks layers bytes : List ℕ) : Type 0 where
   pub bytes-long : length bytes ≡ 2000
 
 -- The pieces stand at the start of three tables, by column.
-pub record Standing (pieces : List Part) (n : ℕ) (chunks layers bytes : List ℕ) : Type 0 where
+pub record PiecesStand (pieces : List Part) (n : ℕ) (chunks layers bytes : List ℕ) : Type 0 where
   pub many : n ≡ length pieces
   pub chunks-are : take n chunks ≡ map partChunk pieces
   pub layers-are : take n layers ≡ map partLayer pieces
@@ -118,10 +118,10 @@ pub record Standing (pieces : List Part) (n : ℕ) (chunks layers bytes : List �
   pub long : Long chunks layers bytes
 
 -- The pieces of layer n stand behind those that stood, whatever they were.
-pub record Puts (left : ℕ → ℕ → ℕ) (asked : List ℕ) (n count at : ℕ) (cs ls bs : List ℕ) (r : ℕ) (cs′ ls′ bs′ : List ℕ) : Type 0 where
+pub record PutsLayer (left : ℕ → ℕ → ℕ) (asked : List ℕ) (n count at : ℕ) (cs ls bs : List ℕ) (r : ℕ) (cs′ ls′ bs′ : List ℕ) : Type 0 where
   pub most : r ≤ at + count
   pub behind :
-      (made : List Part) → Standing made at cs ls bs → Standing (made ++ layerAt left asked n count) r cs′ ls′ bs′
+      (made : List Part) → PiecesStand made at cs ls bs → PiecesStand (made ++ layerAt left asked n count) r cs′ ls′ bs′
 
 -- ---- the whole
 
@@ -140,4 +140,4 @@ pub record Asks (p : Programme) (depth start rate : ℕ) (left : ℕ → ℕ →
       (sizes : List ℕ) (os : List Override) (forecast : List ℕ) (rows : List Row) (whole : List ℕ) →
       let j = jobOf p sizes os forecast in
       depth ≡ length sizes → Accepted j → Acceptable j start rows → Tabled j rows left begun whole →
-      Standing (asks j start rows rate) r chunks layers bytes
+      PiecesStand (asks j start rows rate) r chunks layers bytes

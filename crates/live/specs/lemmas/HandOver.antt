@@ -12,7 +12,7 @@ use Rattle.theory_live.specs.Statement.{asks}
 use Rattle.core_replan_decide.specs.lemmas.Decision.{Tabled}
 use Rattle.core_replan_decide.specs.lemmas.Tables.{Fine}
 use Rattle.replan.specs.Answer.{HandedOn, handedOn}
-use Rattle.live.specs.Answer.{HandedOver, holds, LiveInput, PieceSlices}
+use Rattle.live.specs.Answer.{LiveOutput, holds, LiveInput, PieceSlices}
 use Rattle.live.specs.declared.Answer.{Answer}
 
 -- What planning afresh would be handed, with the job's forecast unchanged.
@@ -33,4 +33,4 @@ Hands p depth start rate left begun l r l′ =
     (sizes : List ℕ) (os : List Override) (forecast : List ℕ) (rows : List Row) (whole : List ℕ) →
     let j = jobOf p sizes os forecast in
     depth ≡ length sizes → Accepted j → Acceptable j start rows → Tabled j rows left begun whole →
-    HandedOver (unless 11 (holds (asks j start rows rate) l)) (asks j start rows rate) l r l′
+    LiveOutput (unless 11 (holds (asks j start rows rate) l)) (asks j start rows rate) l r l′
