@@ -2,6 +2,7 @@ pub mod Convention
 pub mod Files
 pub mod Lists
 pub mod Plans
+pub mod Asks
 pub mod Texts
 pub mod Meters
 pub mod Theorems

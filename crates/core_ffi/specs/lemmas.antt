@@ -5,3 +5,4 @@ pub mod Planning
 pub mod Searching
 pub mod Largest
 pub mod Metering
+pub mod Asking
