@@ -25,7 +25,7 @@ use Rattle.theory_live.specs.Statement.{act, asked, asks, asksBelow, bri
 use Rattle.theory_live.specs.lemmas.Asked.{safe-beside}
 use Rattle.theory_live.specs.lemmas.Ends.{acceptable-onward, whole-passes}
 use Rattle.theory_live.specs.lemmas.Firsts.{found, room-filled}
-use Rattle.theory_live.specs.lemmas.Pieces.{below-left, below-length, below-order, below-pieces, in-below, InOrder, ofLayer, Piece, wholeOf}
+use Rattle.theory_live.specs.lemmas.Pieces.{below-left, below-length, below-order, below-pieces, in-below, InOrder, ofLayer, AskedPiece, wholeOf}
 use Rattle.theory_live.specs.lemmas.Safe.{lower-whole}
 
 -- ---- (a) safe whatever comes
@@ -210,7 +210,7 @@ asks-in-order j p rows r = below-order j rows (asked j p rows r) (layers j)
 
 -- and each is a layer of an asked chunk, with its bytes not yet fetched, at least 1.
 pub each-asked :
-    (j : Job) (p : ℕ) (rows : List Row) (r : ℕ) → All (Piece j rows (asked j p rows r) 0 (layers j) (chunks j)) (asks j p rows r)
+    (j : Job) (p : ℕ) (rows : List Row) (r : ℕ) → All (AskedPiece j rows (asked j p rows r) 0 (layers j) (chunks j)) (asks j p rows r)
 each-asked j p rows r = below-pieces j rows (asked j p rows r) (layers j)
 
 -- "As many as rule 6 allows": of the chunks that would be begun in p and held at its end, those

@@ -20,7 +20,7 @@ use Rattle.theory_replan.specs.Statement.{Acceptable, joined}
 use Rattle.theory_live.specs.Statement.{askedBeside, asksBelow, fresh, hasRoom, remaining}
 use Rattle.theory_live.specs.lemmas.Asked.{asked-due, asked-room}
 use Rattle.theory_live.specs.lemmas.Firsts.{room}
-use Rattle.theory_live.specs.lemmas.Pieces.{below-pieces, Piece, whole-each, whole-most, wholeOf}
+use Rattle.theory_live.specs.lemmas.Pieces.{below-pieces, AskedPiece, whole-each, whole-most, wholeOf}
 use Rattle.theory_live.specs.lemmas.Safe.{all-made, Made, madeOf, no-more, rule-1, rule-3, rule-4, rule-5, rule-6, sums}
 
 -- ---- the forecast from p on
@@ -94,7 +94,7 @@ module _ (j : Job) (p : ℕ) (rows : List Row) (over : ℕ → Bool) (x : ℕ) (
   made-whole : All (λ y. y .bytes ≡ remaining j rows (y .chunk) (y .layer)) (madeOf j p rows (askedBeside j p rows over) kept)
   made-whole =
       let a = askedBeside j p rows over in
-      whole-each (Piece j rows a 0 (layers j) (chunks j)) (λ y. y .bytes ≡ remaining j rows (y .chunk) (y .layer)) p (λ q k. k .bytes-are)
+      whole-each (AskedPiece j rows a 0 (layers j) (chunks j)) (λ y. y .bytes ≡ remaining j rows (y .chunk) (y .layer)) p (λ q k. k .bytes-are)
       x (asksBelow j rows a (layers j)) (below-pieces j rows a (layers j))
 
   whole-at : WholeFrom j p (rows ++ madeOf j p rows (askedBeside j p rows over) kept)

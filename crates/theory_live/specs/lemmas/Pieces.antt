@@ -131,7 +131,7 @@ left-append P (q ∷ a) b = omega (arith, left-append P a b)
 -- ---- the asks, whichever chunks are asked
 
 -- A piece of a layer from lo to below hi, of a chunk of 1 .. c that is asked.
-pub record Piece (j : Job) (rows : List Row) (asks : ℕ → Bool) (lo hi c : ℕ) (q : Piece) : Type 0 where
+pub record AskedPiece (j : Job) (rows : List Row) (asks : ℕ → Bool) (lo hi c : ℕ) (q : Piece) : Type 0 where
   pub chunk-low : 1 ≤ q .chunk
   pub chunk-high : q .chunk ≤ c
   pub layer-low : lo ≤ q .layer
@@ -142,7 +142,7 @@ pub record Piece (j : Job) (rows : List Row) (asks : ℕ → Bool) (lo hi c : �
 
 wider :
     (j : Job) (rows : List Row) (asks : ℕ → Bool) (lo hi c lo′ hi′ c′ : ℕ) → lo′ ≤ lo → hi ≤ hi′ → c ≤ c′ → (q : Piece) →
-    Piece j rows asks lo hi c q → Piece j rows asks lo′ hi′ c′ q
+    AskedPiece j rows asks lo hi c q → AskedPiece j rows asks lo′ hi′ c′ q
 wider j rows asks lo hi c lo′ hi′ c′ u v w q k = record {
   chunk-low = k .chunk-low;
   chunk-high = omega (arith, k .chunk-high);
@@ -154,9 +154,9 @@ wider j rows asks lo hi c lo′ hi′ c′ u v w q k = record {
 }
 
 module _ (j : Job) (rows : List Row) (asks : ℕ → Bool) where
-  one-piece : (n c : ℕ) → All (Piece j rows asks n (suc n) (suc c)) (pieceOf j rows asks n (suc c))
+  one-piece : (n c : ℕ) → All (AskedPiece j rows asks n (suc n) (suc c)) (pieceOf j rows asks n (suc c))
   one-piece n c =
-      by-cond (λ l. All (Piece j rows asks n (suc n) (suc c)) l) (asks (suc c) && ltb 0 (remaining j rows (suc c) n))
+      by-cond (λ l. All (AskedPiece j rows asks n (suc n) (suc c)) l) (asks (suc c) && ltb 0 (remaining j rows (suc c) n))
       (λ t.
       let u = and-T (asks (suc c)) (ltb 0 (remaining j rows (suc c) n)) t in (
         record {
@@ -172,33 +172,33 @@ module _ (j : Job) (rows : List Row) (asks : ℕ → Bool) where
       ))
       (λ t. tt)
 
-  pub layer-pieces : (n c : ℕ) → All (Piece j rows asks n (suc n) c) (layerAsks j rows asks n c)
+  pub layer-pieces : (n c : ℕ) → All (AskedPiece j rows asks n (suc n) c) (layerAsks j rows asks n c)
   layer-pieces n zero = tt
   layer-pieces n (suc c) =
-      all-append (Piece j rows asks n (suc n) (suc c)) (layerAsks j rows asks n c) (pieceOf j rows asks n (suc c))
-      (all-map (Piece j rows asks n (suc n) c) (Piece j rows asks n (suc n) (suc c)) (layerAsks j rows asks n c)
+      all-append (AskedPiece j rows asks n (suc n) (suc c)) (layerAsks j rows asks n c) (pieceOf j rows asks n (suc c))
+      (all-map (AskedPiece j rows asks n (suc n) c) (AskedPiece j rows asks n (suc n) (suc c)) (layerAsks j rows asks n c)
       (wider j rows asks n (suc n) c n (suc n) (suc c) (omega arith) (omega arith) (omega arith)) (layer-pieces n c))
       (one-piece n c)
 
-  pub below-pieces : (m : ℕ) → All (Piece j rows asks 0 m (chunks j)) (asksBelow j rows asks m)
+  pub below-pieces : (m : ℕ) → All (AskedPiece j rows asks 0 m (chunks j)) (asksBelow j rows asks m)
   below-pieces zero = tt
   below-pieces (suc m) =
-      all-append (Piece j rows asks 0 (suc m) (chunks j)) (asksBelow j rows asks m) (layerAsks j rows asks m (chunks j))
-      (all-map (Piece j rows asks 0 m (chunks j)) (Piece j rows asks 0 (suc m) (chunks j)) (asksBelow j rows asks m)
+      all-append (AskedPiece j rows asks 0 (suc m) (chunks j)) (asksBelow j rows asks m) (layerAsks j rows asks m (chunks j))
+      (all-map (AskedPiece j rows asks 0 m (chunks j)) (AskedPiece j rows asks 0 (suc m) (chunks j)) (asksBelow j rows asks m)
       (wider j rows asks 0 m (chunks j) 0 (suc m) (chunks j) (omega arith) (omega arith) (omega arith)) (below-pieces m))
-      (all-map (Piece j rows asks m (suc m) (chunks j)) (Piece j rows asks 0 (suc m) (chunks j)) (layerAsks j rows asks m (chunks j))
+      (all-map (AskedPiece j rows asks m (suc m) (chunks j)) (AskedPiece j rows asks 0 (suc m) (chunks j)) (layerAsks j rows asks m (chunks j))
       (wider j rows asks m (suc m) (chunks j) 0 (suc m) (chunks j) (omega arith) (omega arith) (omega arith)) (layer-pieces m (chunks j)))
 
   pub below-somes : (m : ℕ) → Somes (asksBelow j rows asks m)
-  below-somes m = all-map (Piece j rows asks 0 m (chunks j)) (λ q. 1 ≤ q .bytes) (asksBelow j rows asks m) (λ q k. k .some) (below-pieces m)
+  below-somes m = all-map (AskedPiece j rows asks 0 m (chunks j)) (λ q. 1 ≤ q .bytes) (asksBelow j rows asks m) (λ q k. k .some) (below-pieces m)
 
   -- No piece of a layer that they are not of.
   pieces-none :
-      (lo hi c : ℕ) (qs : List Piece) (i n : ℕ) → All (Piece j rows asks lo hi c) qs → (c < i) ⊎ ((n < lo) ⊎ (hi ≤ n)) →
+      (lo hi c : ℕ) (qs : List Piece) (i n : ℕ) → All (AskedPiece j rows asks lo hi c) qs → (c < i) ⊎ ((n < lo) ⊎ (hi ≤ n)) →
       leftIf (ofLayer i n) qs ≡ 0
   pieces-none lo hi c qs i n a h =
       left-none (ofLayer i n) qs
-      (all-map (Piece j rows asks lo hi c) (λ q. T (ofLayer i n (q .chunk) (q .layer)) → ⊥) qs (λ q k t.
+      (all-map (AskedPiece j rows asks lo hi c) (λ q. T (ofLayer i n (q .chunk) (q .layer)) → ⊥) qs (λ q k t.
       let u = and-T (eqb (q .chunk) i) (eqb (q .layer) n) t in
       let e = eqb→eq (q .chunk) i (u .0) in
       let f = eqb→eq (q .layer) n (u .1) in
@@ -333,7 +333,7 @@ module _ (j : Job) (rows : List Row) (asks : ℕ → Bool) where
   layer-order n (suc c) =
       order-append (layerAsks j rows asks n c) (pieceOf j rows asks n (suc c)) (layer-order n c)
       (by-cond (λ l. InOrder l) (asks (suc c) && ltb 0 (remaining j rows (suc c) n)) (λ t. (tt, tt)) (λ t. tt))
-      (all-map (Piece j rows asks n (suc n) c) (λ q. All (AskedBefore q) (pieceOf j rows asks n (suc c))) (layerAsks j rows asks n c)
+      (all-map (AskedPiece j rows asks n (suc n) c) (λ q. All (AskedBefore q) (pieceOf j rows asks n (suc c))) (layerAsks j rows asks n c)
       (λ q k.
       by-cond (λ l. All (AskedBefore q) l) (asks (suc c) && ltb 0 (remaining j rows (suc c) n))
       (λ t. (inr (omega (arith, k .layer-low, k .layer-high), omega (arith, k .chunk-high)), tt)) (λ t. tt))
@@ -343,8 +343,8 @@ module _ (j : Job) (rows : List Row) (asks : ℕ → Bool) where
   below-order zero = tt
   below-order (suc m) =
       order-append (asksBelow j rows asks m) (layerAsks j rows asks m (chunks j)) (below-order m) (layer-order m (chunks j))
-      (all-map (Piece j rows asks 0 m (chunks j)) (λ q. All (AskedBefore q) (layerAsks j rows asks m (chunks j))) (asksBelow j rows asks m)
+      (all-map (AskedPiece j rows asks 0 m (chunks j)) (λ q. All (AskedBefore q) (layerAsks j rows asks m (chunks j))) (asksBelow j rows asks m)
       (λ q k.
-      all-map (Piece j rows asks m (suc m) (chunks j)) (AskedBefore q) (layerAsks j rows asks m (chunks j))
+      all-map (AskedPiece j rows asks m (suc m) (chunks j)) (AskedBefore q) (layerAsks j rows asks m (chunks j))
       (λ z w. inl (omega (arith, k .layer-high, w .layer-low))) (layer-pieces j rows asks m (chunks j)))
       (below-pieces j rows asks m))

@@ -21,7 +21,7 @@ use Rattle.theory_replan.specs.Statement.{Acceptable}
 use Rattle.theory_replan.specs.lemmas.Held.{begun-by, begun-more, begun-row}
 use Rattle.theory_live.specs.Statement.{asksBelow, begunAfter, takenOf, remaining}
 use Rattle.theory_live.specs.lemmas.Firsts.{count-either}
-use Rattle.theory_live.specs.lemmas.Pieces.{below-first, below-left, below-none, below-pieces, below-somes, in-below, ofLayer, Piece, reaches, taken-each, taken-left, taken-most, whole-row}
+use Rattle.theory_live.specs.lemmas.Pieces.{below-first, below-left, below-none, below-pieces, below-somes, in-below, ofLayer, AskedPiece, reaches, taken-each, taken-left, taken-most, whole-row}
 
 -- A row made in slot p.
 pub record Made (j : Job) (p : ℕ) (asks : ℕ → Bool) (y : Row) : Type 0 where
@@ -38,7 +38,7 @@ madeOf j p rows asks x = takenOf p x (asksBelow j rows asks (layers j))
 
 pub all-made : (j : Job) (p : ℕ) (rows : List Row) (asks : ℕ → Bool) (x : ℕ) → All (Made j p asks) (madeOf j p rows asks x)
 all-made j p rows asks x =
-    taken-each (Piece j rows asks 0 (layers j) (chunks j)) (Made j p asks) p
+    taken-each (AskedPiece j rows asks 0 (layers j) (chunks j)) (Made j p asks) p
     (λ q b k g h. record {
       slot-is = refl;
       chunk-low = k .chunk-low;
