@@ -1,0 +1,134 @@
+use borrow.Author.Needs.{needs}
+use Rattle.programs.proofs.Planning.{plan-refused, plan-written}
+use Rattle.programs.proofs.plan_job.Statement.{statement}
+use Rattle.programs.proofs.plan_job.Tie as tie
+use Rattle.programs.proofs.plan_job.Reads as reads
+use Rattle.programs.proofs.plan_job.Lts as lts
+use Rattle.core_prefix.proofs.bytes.Reads as bytes-reads
+use Rattle.core_prefix.proofs.halves.Reads as halves-reads
+use Rattle.core_prefix.proofs.words.Reads as words-reads
+use Rattle.planfile.proofs.write_plan.Reads as write-plan-reads
+use Rattle.planner.proofs.plan.Reads as plan-reads
+
+-- src/lib.rt:43:9
+slice-aggregate-plan : tie.Need-slice-aggregate-plan
+slice-aggregate-plan c = search needs
+
+-- src/lib.rt:44:9
+slice-aggregate-plan-2 : tie.Need-slice-aggregate-plan-2
+slice-aggregate-plan-2 c = search needs
+
+-- src/lib.rt:45:9
+slice-aggregate-plan-3 : tie.Need-slice-aggregate-plan-3
+slice-aggregate-plan-3 c = search needs
+
+-- src/lib.rt:46:9
+slice-aggregate-plan-4 : tie.Need-slice-aggregate-plan-4
+slice-aggregate-plan-4 c = search needs
+
+-- src/lib.rt:47:9
+slice-aggregate-plan-5 : tie.Need-slice-aggregate-plan-5
+slice-aggregate-plan-5 c = search needs
+
+-- src/lib.rt:36:9
+plan-requires : tie.Need-plan-requires
+plan-requires c κs = search needs
+
+-- src/lib.rt:51:25
+enum-known-answer : tie.Need-enum-known-answer
+enum-known-answer c = search needs
+
+-- src/lib.rt:52:22
+enum-known-answer-2 : tie.Need-enum-known-answer-2
+enum-known-answer-2 c = search needs
+
+-- src/lib.rt:59:32
+slice-aggregate-bytes : tie.Need-slice-aggregate-bytes
+slice-aggregate-bytes c = search needs
+
+-- src/lib.rt:59:40
+cast-bytes : tie.Need-cast-bytes
+cast-bytes c = search needs
+
+-- src/lib.rt:59:13
+bytes-requires : tie.Need-bytes-requires
+bytes-requires c κs = search needs
+
+-- src/lib.rt:60:33
+slice-aggregate-halves : tie.Need-slice-aggregate-halves
+slice-aggregate-halves c = search needs
+
+-- src/lib.rt:60:13
+halves-requires : tie.Need-halves-requires
+halves-requires c κs = search needs
+
+-- src/lib.rt:61:33
+slice-aggregate-halves-2 : tie.Need-slice-aggregate-halves-2
+slice-aggregate-halves-2 c = search needs
+
+-- src/lib.rt:61:13
+halves-requires-2 : tie.Need-halves-requires-2
+halves-requires-2 c κs = search needs
+
+-- src/lib.rt:62:32
+slice-aggregate-bytes-2 : tie.Need-slice-aggregate-bytes-2
+slice-aggregate-bytes-2 c = search needs
+
+-- src/lib.rt:62:13
+bytes-requires-2 : tie.Need-bytes-requires-2
+bytes-requires-2 c κs = search needs
+
+-- src/lib.rt:63:32
+slice-aggregate-words : tie.Need-slice-aggregate-words
+slice-aggregate-words c = search needs
+
+-- src/lib.rt:63:13
+words-requires : tie.Need-words-requires
+words-requires c κs = search needs
+
+-- src/lib.rt:52:28
+write-plan-requires : tie.Need-write-plan-requires
+write-plan-requires c κs = search needs
+
+-- src/lib.rt:18:1
+returns : tie.Need-returns
+returns c = plan-refused _ _ _ _ (c .before .before .before .before .before .before .before .before .plan .ensures .0 .answer) (c .before .answer .given .1)
+
+-- src/lib.rt:18:1
+same-length : tie.Need-same-length
+same-length c = search needs
+
+-- src/lib.rt:18:1
+returns-2 : tie.Need-returns-2
+returns-2 c =
+    let written = c .before .before .write-plan .ensures in
+    plan-written _ _ _ _ _ _ _ _ _ _ _ _ (c .before .before .before .before .before .before .before .before .before .before .before .before .before .before .before .before .before .before .before .before .before .before .before .plan .ensures .0) (c .before .before .before .before .before .before .before .before .before .before .before .before .before .before .before .before .answer2 .given .1)
+    (c .before .before .before .before .before .before .before .before .before .before .before .before .bytes3 .ensures) (c .before .before .before .before .before .before .before .before .before .before .halves .ensures) (c .before .before .before .before .before .before .before .before .halves2 .ensures) (c .before .before .before .before .before .before .bytes4 .ensures) (c .before .before .before .before .words .ensures) (written .0) (written .1)
+
+pub plan-job-spec : {M : Type 1} → statement M
+plan-job-spec =
+    tie.close
+    (tie.spec
+    slice-aggregate-plan
+    slice-aggregate-plan-2
+    slice-aggregate-plan-3
+    slice-aggregate-plan-4
+    slice-aggregate-plan-5
+    plan-requires
+    enum-known-answer
+    enum-known-answer-2
+    slice-aggregate-bytes
+    cast-bytes
+    bytes-requires
+    slice-aggregate-halves
+    halves-requires
+    slice-aggregate-halves-2
+    halves-requires-2
+    slice-aggregate-bytes-2
+    bytes-requires-2
+    slice-aggregate-words
+    words-requires
+    write-plan-requires
+    returns
+    same-length
+    returns-2)

@@ -1,0 +1,139 @@
+use borrow.Author.Needs.{needs}
+use mathlib.Core.Path.{sym, _∙_}
+use Rattle.jobrecords.specs.Refusal.{oneSequence}
+use Rattle.reasons.specs.declared.Written.the-variants.{Bytes, Refused}
+use Rattle.theory_reasons.specs.Lines.{planText}
+use Rattle.programs.proofs.Reading.{empty, of-file, refused-one, taken}
+use Rattle.programs.proofs.Writing.{wrote-refused}
+use Rattle.programs.proofs.reasons_file.Statement.{statement}
+use Rattle.programs.proofs.reasons_file.Tie as tie
+use Rattle.programs.proofs.reasons_file.Reads as reads
+use Rattle.programs.proofs.reasons_file.Lts as lts
+use Rattle.core_prefix.proofs.bytes.Reads as bytes-reads
+use Rattle.core_prefix.proofs.halves.Reads as halves-reads
+use Rattle.core_prefix.proofs.words.Reads as words-reads
+use Rattle.jobfile.proofs.read_job.Reads as read-job-reads
+use Rattle.reasons.proofs.reasons.Reads as reasons-reads
+
+-- src/lib.rt:236:9
+slice-aggregate-read-job : tie.Need-slice-aggregate-read-job
+slice-aggregate-read-job c = search needs
+
+-- src/lib.rt:237:9
+slice-aggregate-read-job-2 : tie.Need-slice-aggregate-read-job-2
+slice-aggregate-read-job-2 c = search needs
+
+-- src/lib.rt:238:9
+slice-aggregate-read-job-3 : tie.Need-slice-aggregate-read-job-3
+slice-aggregate-read-job-3 c = search needs
+
+-- src/lib.rt:239:9
+slice-aggregate-read-job-4 : tie.Need-slice-aggregate-read-job-4
+slice-aggregate-read-job-4 c = search needs
+
+-- src/lib.rt:240:9
+slice-aggregate-read-job-5 : tie.Need-slice-aggregate-read-job-5
+slice-aggregate-read-job-5 c = search needs
+
+-- src/lib.rt:234:11
+read-job-requires : tie.Need-read-job-requires
+read-job-requires c κs = search needs
+
+-- src/lib.rt:242:26
+enum-known-n : tie.Need-enum-known-n
+enum-known-n c = search needs
+
+-- src/lib.rt:244:13
+enum-known-programme : tie.Need-enum-known-programme
+enum-known-programme c = search needs
+
+-- src/lib.rt:250:32
+slice-aggregate-words : tie.Need-slice-aggregate-words
+slice-aggregate-words c = search needs
+
+-- src/lib.rt:250:13
+words-requires : tie.Need-words-requires
+words-requires c κs = search needs
+
+-- src/lib.rt:251:33
+slice-aggregate-halves : tie.Need-slice-aggregate-halves
+slice-aggregate-halves c = search needs
+
+-- src/lib.rt:251:13
+halves-requires : tie.Need-halves-requires
+halves-requires c κs = search needs
+
+-- src/lib.rt:252:32
+slice-aggregate-bytes : tie.Need-slice-aggregate-bytes
+slice-aggregate-bytes c = search needs
+
+-- src/lib.rt:252:13
+bytes-requires : tie.Need-bytes-requires
+bytes-requires c κs = search needs
+
+-- src/lib.rt:253:32
+slice-aggregate-words-2 : tie.Need-slice-aggregate-words-2
+slice-aggregate-words-2 c = search needs
+
+-- src/lib.rt:253:13
+words-requires-2 : tie.Need-words-requires-2
+words-requires-2 c κs = search needs
+
+-- src/lib.rt:254:32
+slice-aggregate-words-3 : tie.Need-slice-aggregate-words-3
+slice-aggregate-words-3 c = search needs
+
+-- src/lib.rt:254:13
+words-requires-3 : tie.Need-words-requires-3
+words-requires-3 c κs = search needs
+
+-- src/lib.rt:248:14
+reasons-requires : tie.Need-reasons-requires
+reasons-requires c κs = search needs
+
+-- src/lib.rt:226:1
+returns : tie.Need-returns
+returns c =
+    let known = refused-one (c .before .before .before .before .before .before .before .before .before .before .before .before .before .before .before .before .args .job .now) _ _ (c .before .before .before .before .before .before .before .before .read-job .ensures .0) (c .before .n .given .1) in
+    wrote-refused Bytes Refused _ _ _ _ (known .0) (known .1)
+
+-- src/lib.rt:226:1
+same-length : tie.Need-same-length
+same-length c = search needs
+
+-- src/lib.rt:226:1
+returns-2 : tie.Need-returns-2
+returns-2 c =
+    let read = c .before .before .before .before .before .before .before .before .before .before .before .before .before .before .before .before .before .before .before .before .before .before .read-job .ensures in
+    let t =
+    taken oneSequence (c .before .before .before .before .before .before .before .before .before .before .before .before .before .before .before .before .before .before .before .before .before .before .before .before .before .before .before .before .before .before .args .job .now) empty _ _ _ _ _ _ _ _ _ _ _ _ _ _ _
+    (read .0) (c .before .before .before .before .before .before .before .before .before .before .before .before .before .before .before .programme .given .1) (read .1 .0) (read .1 .1 .0) (read .1 .1 .1 .0) (read .1 .1 .1 .1 .0) (read .1 .1 .1 .1 .1)
+    (c .before .before .before .before .before .before .before .before .before .before .before .before .words .ensures) (c .before .before .before .before .before .before .before .before .before .before .halves .ensures) (c .before .before .before .before .before .before .before .before .bytes .ensures) (c .before .before .before .before .before .before .words2 .ensures) (c .before .before .before .before .words3 .ensures) in
+    of-file Bytes Refused oneSequence _ _ planText _ _ _ t (record { answer = c .before .before .reasons .ensures .0 .result; buffer = c .before .before .reasons .ensures .0 .buffer })
+
+pub reasons-file-spec : {M : Type 1} → statement M
+reasons-file-spec =
+    tie.close
+    (tie.spec
+    slice-aggregate-read-job
+    slice-aggregate-read-job-2
+    slice-aggregate-read-job-3
+    slice-aggregate-read-job-4
+    slice-aggregate-read-job-5
+    read-job-requires
+    enum-known-n
+    enum-known-programme
+    slice-aggregate-words
+    words-requires
+    slice-aggregate-halves
+    halves-requires
+    slice-aggregate-bytes
+    bytes-requires
+    slice-aggregate-words-2
+    words-requires-2
+    slice-aggregate-words-3
+    words-requires-3
+    reasons-requires
+    returns
+    same-length
+    returns-2)
