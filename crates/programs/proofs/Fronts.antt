@@ -17,9 +17,9 @@ use Rattle.planfile.specs.PlanFile.{Plan}
 pub front : (refused : ℕ) (t old l : List ℕ) (n : ℕ) → refused ≡ 0 → n ≡ length t → l ≡ lentAfter refused t old → take n l ≡ t
 front refused t old l n z e b = rw (b, eq-eqb refused 0 z) (take-at t (drop (length t) old) n (sym e))
 
--- A buffer of so many zeros has room for so many.
-pub zeros : (n : ℕ) → n ≤ length (replicate {A = ℕ} n 0)
-zeros n = omega (arith, length-replicate {A = ℕ} n 0)
+-- A buffer filled with anything has room for so many.
+pub filled : (n v : ℕ) → n ≤ length (replicate {A = ℕ} n v)
+filled n v = omega (arith, length-replicate {A = ℕ} n v)
 
 -- ---- the slices of a plan
 

@@ -29,7 +29,7 @@ use Rattle.report.specs.lemmas.Again.{rows-again}
 use Rattle.programs.specs.Calls.{Prints, verdictAnswer, verdictOnFile}
 use Rattle.programs.specs.Printed.{filesRefusal, jobFileRefusal, jobSaid, refusedText, verdictOfFiles, verdictOfPlan, verdictPrinted, verdictText}
 use Rattle.programs.specs.lemmas.Marks.{marks-complete}
-use Rattle.programs.proofs.Fronts.{fronts, slicesOfPlan, whole-plan, zeros}
+use Rattle.programs.proofs.Fronts.{filled, fronts, slicesOfPlan, whole-plan}
 use Rattle.programs.proofs.Reading.{Taken}
 use Rattle.programs.proofs.Writing.{never-second, prints-refused}
 
@@ -71,8 +71,8 @@ module _ (h : HandedJob) (file : List ℕ) where
       λ z. never-second f u (λ e.
       let few : n ≤ 5957 = omega (arith, rows-inside count file e) in
       let small : count ≤ 500 = handed-iff h .0 z .1 .chunks-in .high in
-      let long = zeros 5957 in
-      holds-any empty count n (omega (arith, zeros 500)) (omega arith) (omega arith) (omega arith) (omega arith)) in
+      let long = filled 5957 0 in
+      holds-any empty count n (omega (arith, filled 500 0)) (omega arith) (omega arith) (omega arith) (omega arith)) in
       ⊎-elim
       (λ t. let z = eqb→eq a 0 t in rw (eq-eqb a 0 z) (never z))
       (λ t. let z = ne-eqb a 0 (λ z. T-not (eqb a 0) t (rw z (eqb-refl 0))) in rw z)

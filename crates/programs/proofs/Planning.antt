@@ -29,15 +29,12 @@ use Rattle.report.specs.lemmas.Again.{rows-again}
 use Rattle.programs.specs.Calls.{PlanOfJob, withRoom}
 use Rattle.programs.specs.Printed.{planOfJob}
 use Rattle.programs.specs.lemmas.Plans.{plan-file-fits, plan-marks-long, plan-rows-few}
-use Rattle.programs.proofs.Fronts.{fronts, slicesOfPlan, whole-plan, zeros}
+use Rattle.programs.proofs.Fronts.{filled, fronts, slicesOfPlan, whole-plan}
 use Rattle.programs.proofs.Writing.{never-second, wrote-refused}
 
 -- The slices that a plan is made into.
-abbrev pub empty : Slices
-empty = slicesOf (replicate 500 0) (replicate 5599 0) (replicate 5599 0) (replicate 5599 0) (replicate 5599 0)
-
-abbrev pub room : Lent
-room = lentOf (replicate 500 0) (replicate 5599 0) (replicate 5599 0) (replicate 5599 0) (replicate 5599 0)
+abbrev pub empty : (u v : ℕ) → Slices
+empty u v = slicesOf (replicate 500 0) (replicate 5599 u) (replicate 5599 u) (replicate 5599 0) (replicate 5599 v)
 
 holds-any : (j : Job) → Accepted j → (l : Lent) → 500 ≤ l .marks → 5599 ≤ l .slots → 5599 ≤ l .chunks → 5599 ≤ l .layers → 5599 ≤ l .bytes → unless 11 (holds j l) ≡ 0
 holds-any j a l m s c n b =
@@ -50,7 +47,10 @@ holds-any j a l m s c n b =
       le-leb (length (planRows j)) (l .bytes) (omega arith),
     )
 
-module _ (h : HandedJob) where
+module _ (h : HandedJob) (u v : ℕ) where
+  abbrev room : Lent
+  room = let s = empty u v in lentOf (s .marks) (s .slots) (s .chunks) (s .layers) (s .bytes)
+
   accepted : jobRefusal h ≡ 0 → Accepted (jobIn h)
   accepted z = handed-iff h .0 z .1
 
@@ -58,7 +58,7 @@ module _ (h : HandedJob) where
   job-alone : planRefusal h room ≡ jobRefusal h
   job-alone =
       never-second (jobRefusal h) (unless 11 (holds (jobIn h) room))
-      (λ z. holds-any (jobIn h) (accepted z) room (zeros 500) (zeros 5599) (zeros 5599) (zeros 5599) (zeros 5599))
+      (λ z. holds-any (jobIn h) (accepted z) room (filled 500 0) (filled 5599 u) (filled 5599 u) (filled 5599 0) (filled 5599 v))
 
   pub plan-refused : (a : Answer) (n : ℕ) (old : List ℕ) → a ≡ answerOf h room → a ≡ Refused n → PlanOfJob h old (planFile.Refused n) old
   plan-refused a n old e g =
@@ -84,7 +84,7 @@ module _ (h : HandedJob) where
 
   pub plan-written :
       (made : Planned) (new : Slices) (n : ℕ) (ms ss cs ls bs old : List ℕ) (r : Written) (out : List ℕ) →
-      Handed h (empty .marks) (empty .slots) (empty .chunks) (empty .layers) (empty .bytes) made (new .marks) (new .slots) (new .chunks) (new .layers) (new .bytes) →
+      Handed h (empty u v .marks) (empty u v .slots) (empty u v .chunks) (empty u v .layers) (empty u v .bytes) made (new .marks) (new .slots) (new .chunks) (new .layers) (new .bytes) →
       made .answer ≡ Rows n → ms ≡ take (chunks (jobIn h)) (new .marks) → ss ≡ take n (new .slots) → cs ≡ take n (new .chunks) → ls ≡ take n (new .layers) →
       bs ≡ take n (new .bytes) → r ≡ writeAnswer h (slicesOf ms ss cs ls bs) old → out ≡ writeLent h (slicesOf ms ss cs ls bs) old → PlanOfJob h old r out
   plan-written made new n ms ss cs ls bs old r out p g em es ec el eb ra oa =
@@ -95,7 +95,7 @@ module _ (h : HandedJob) where
       (λ t q. let z : _≡_ {A = ℕ} 0 1 = cc in absurd (omega arith))
       (sym (p .answer) ∙ g) in
       let z : jobRefusal h ≡ 0 = sym job-alone ∙ known .0 in
-      let same = fronts (planRefusal h room) (planOfJob j) (chunks j) n empty new ms ss cs ls bs (known .0) (plan-marks-long j (accepted z)) (known .1) (p .marks-are) (p .slots-are) (p .chunks-are) (p .layers-are) (p .bytes-are) em es ec el eb in
+      let same = fronts (planRefusal h room) (planOfJob j) (chunks j) n (empty u v) new ms ss cs ls bs (known .0) (plan-marks-long j (accepted z)) (known .1) (p .marks-are) (p .slots-are) (p .chunks-are) (p .layers-are) (p .bytes-are) em es ec el eb in
       let e : r ≡ writeAnswer h (slicesOfPlan (planOfJob j)) old = subst (λ (s : Slices). r ≡ writeAnswer h s old) same ra in
       let b : out ≡ writeLent h (slicesOfPlan (planOfJob j)) old = subst (λ (s : Slices). out ≡ writeLent h s old) same oa in
       record { answer = rw (written-refusal old z, file-same) at e; buffer = rw (written-refusal old z, file-same) at b }

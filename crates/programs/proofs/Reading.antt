@@ -26,7 +26,7 @@ use Rattle.jobfile.specs.declared.Written.the-variants as jobWritten
 use Rattle.jobrecords.specs.declared.JobRead.{JobRead}
 use Rattle.jobrecords.specs.declared.JobRead.the-variants as jobRead
 use Rattle.programs.specs.Calls.{Wrote}
-use Rattle.programs.proofs.Fronts.{front, zeros}
+use Rattle.programs.proofs.Fronts.{filled, front}
 use Rattle.programs.proofs.Writing.{never-second}
 
 -- A job as the slices that hand it over.
@@ -115,8 +115,8 @@ of-file bytes refusal sequenced file h f old r new t w =
 -- ---- the buffers that the calls read into hold any job
 
 -- Of a file in one sequence,
-abbrev pub empty : Buffers
-empty = buffers (replicate 4 0) (replicate 1996 0) (replicate 1996 0) (replicate 1996 0) (replicate 3600 0)
+abbrev pub empty : (u v : ℕ) → Buffers
+empty u v = buffers (replicate 4 0) (replicate 1996 u) (replicate 1996 0) (replicate 1996 v) (replicate 3600 v)
 
 holds-any : (j : Job) → Accepted j → (lent : Buffers) → 4 ≤ length (lent .sizes) → 1996 ≤ length (lent .size-chunks) → 1996 ≤ length (lent .size-layers) →
     1996 ≤ length (lent .size-bytes) → 3600 ≤ length (lent .forecast) → roomRefusal j lent ≡ 0
@@ -130,12 +130,12 @@ holds-any j a lent z c l b f =
       le-leb (length (j .forecast)) (length (lent .forecast)) (omega (arith, a .slots-in, a .last-in)),
     )
 
-room-any : (file : List ℕ) → refusalOf oneSequence file ≡ 0 → roomRefusal (jobOfFile oneSequence file) empty ≡ 0
-room-any file e =
-    holds-any (jobOfFile oneSequence file) (file-accepted oneSequence file e) empty (zeros 4) (zeros 1996) (zeros 1996) (zeros 1996) (zeros 3600)
+room-any : (u v : ℕ) (file : List ℕ) → refusalOf oneSequence file ≡ 0 → roomRefusal (jobOfFile oneSequence file) (empty u v) ≡ 0
+room-any u v file e =
+    holds-any (jobOfFile oneSequence file) (file-accepted oneSequence file e) (empty u v) (filled 4 0) (filled 1996 u) (filled 1996 0) (filled 1996 v) (filled 3600 v)
 
-pub refused-one : (file : List ℕ) (r : JobRead) (n : ℕ) → r ≡ readAnswer oneSequence file empty → r ≡ jobRead.Refused n → (refusalOf oneSequence file ≡ n) × (n ≡ 0 → ⊥)
-refused-one file r n e g = refused-file oneSequence file empty (room-any file) n (sym e ∙ g)
+pub refused-one : (u v : ℕ) (file : List ℕ) (r : JobRead) (n : ℕ) → r ≡ readAnswer oneSequence file (empty u v) → r ≡ jobRead.Refused n → (refusalOf oneSequence file ≡ n) × (n ≡ 0 → ⊥)
+refused-one u v file r n e g = refused-file oneSequence file (empty u v) (room-any u v file) n (sym e ∙ g)
 
 -- and of a mixed one, which has no SZ.
 abbrev pub emptyMixed : Buffers
@@ -151,7 +151,7 @@ holds-mixed j a none zs fs z f =
 
 room-mixed : (file : List ℕ) → refusalOf mixed file ≡ 0 → roomRefusal (jobOfFile mixed file) emptyMixed ≡ 0
 room-mixed file e =
-    holds-mixed (jobOfFile mixed file) (file-accepted mixed file e) (no-overrides file) (replicate 4 0) (replicate 3600 0) (zeros 4) (zeros 3600)
+    holds-mixed (jobOfFile mixed file) (file-accepted mixed file e) (no-overrides file) (replicate 4 0) (replicate 3600 0) (filled 4 0) (filled 3600 0)
 
 pub refused-mixed : (file : List ℕ) (r : JobRead) (n : ℕ) → r ≡ readAnswer mixed file emptyMixed → r ≡ jobRead.Refused n → (refusalOf mixed file ≡ n) × (n ≡ 0 → ⊥)
 refused-mixed file r n e g = refused-file mixed file emptyMixed (room-mixed file) n (sym e ∙ g)

@@ -38,11 +38,13 @@ fn plan_job(
         (handed p (now (sizes .entry)) (now («size_chunks» .entry)) (now («size_layers» .entry)) (now («size_bytes» .entry)) (now (forecast .entry)))
         (now (out .entry)) r (now (out .exit)) ⌝ }
 {
+    let unset = p.chunks;
+    let wide = unset as u32;
     let mut marks = [0u8; 500];
-    let mut slots = [0u16; 5599];
-    let mut chunks = [0u16; 5599];
+    let mut slots = [unset; 5599];
+    let mut chunks = [unset; 5599];
     let mut layers = [0u8; 5599];
-    let mut bytes = [0u32; 5599];
+    let mut bytes = [wide; 5599];
     let made = planner::plan(
         p,
         sizes,
@@ -131,11 +133,13 @@ fn verdict_job(
 pub fn plan_file(job: &[u8], out: &mut [u8]) -> planfile::Written
     ensures { λ r. ⌜ PlanOfFile (now (job .entry)) (now (out .entry)) r (now (out .exit)) ⌝ }
 {
+    let unset = (job.len() % 65536) as u16;
+    let wide = unset as u32;
     let mut sizes = [0u32; 4];
-    let mut size_chunks = [0u16; 1996];
+    let mut size_chunks = [unset; 1996];
     let mut size_layers = [0u8; 1996];
-    let mut size_bytes = [0u32; 1996];
-    let mut forecast = [0u32; 3600];
+    let mut size_bytes = [wide; 1996];
+    let mut forecast = [wide; 3600];
     match jobfile::read_job(
         job,
         &mut sizes,
@@ -166,11 +170,13 @@ pub fn plan_file(job: &[u8], out: &mut [u8]) -> planfile::Written
 pub fn verdict_files(job: &[u8], plan: &[u8]) -> Checked
     ensures { λ r. ⌜ r ≡ verdictAnswer (now (job .entry)) (now (plan .entry)) ⌝ }
 {
+    let unset = (job.len() % 65536) as u16;
+    let wide = unset as u32;
     let mut sizes = [0u32; 4];
-    let mut size_chunks = [0u16; 1996];
+    let mut size_chunks = [unset; 1996];
     let mut size_layers = [0u8; 1996];
-    let mut size_bytes = [0u32; 1996];
-    let mut forecast = [0u32; 3600];
+    let mut size_bytes = [wide; 1996];
+    let mut forecast = [wide; 3600];
     match jobfile::read_job(
         job,
         &mut sizes,
@@ -201,11 +207,13 @@ pub fn verdict_files(job: &[u8], plan: &[u8]) -> Checked
 pub fn report_file(job: &[u8], out: &mut [u8]) -> report::Written
     ensures { λ r. ⌜ ReportOfFile (now (job .entry)) (now (out .entry)) r (now (out .exit)) ⌝ }
 {
+    let unset = (job.len() % 65536) as u16;
+    let wide = unset as u32;
     let mut sizes = [0u32; 4];
-    let mut size_chunks = [0u16; 1996];
+    let mut size_chunks = [unset; 1996];
     let mut size_layers = [0u8; 1996];
-    let mut size_bytes = [0u32; 1996];
-    let mut forecast = [0u32; 3600];
+    let mut size_bytes = [wide; 1996];
+    let mut forecast = [wide; 3600];
     match jobfile::read_job(
         job,
         &mut sizes,
@@ -236,11 +244,13 @@ pub fn report_file(job: &[u8], out: &mut [u8]) -> report::Written
 pub fn reasons_file(job: &[u8], out: &mut [u8]) -> reasons::Written
     ensures { λ r. ⌜ ReasonsOfFile (now (job .entry)) (now (out .entry)) r (now (out .exit)) ⌝ }
 {
+    let unset = (job.len() % 65536) as u16;
+    let wide = unset as u32;
     let mut sizes = [0u32; 4];
-    let mut size_chunks = [0u16; 1996];
+    let mut size_chunks = [unset; 1996];
     let mut size_layers = [0u8; 1996];
-    let mut size_bytes = [0u32; 1996];
-    let mut forecast = [0u32; 3600];
+    let mut size_bytes = [wide; 1996];
+    let mut forecast = [wide; 3600];
     match jobfile::read_job(
         job,
         &mut sizes,

@@ -10,105 +10,110 @@ use Rattle.core_prefix.proofs.words.Reads as words-reads
 use Rattle.planfile.proofs.write_plan.Reads as write-plan-reads
 use Rattle.planner.proofs.plan.Reads as plan-reads
 
--- src/lib.rt:43:9
+-- src/lib.rt:42:16
+cast-wide : tie.Need-cast-wide
+cast-wide c = search needs
+
+-- src/lib.rt:55:9
 slice-aggregate-plan : tie.Need-slice-aggregate-plan
 slice-aggregate-plan c = search needs
 
--- src/lib.rt:44:9
+-- src/lib.rt:56:9
 slice-aggregate-plan-2 : tie.Need-slice-aggregate-plan-2
 slice-aggregate-plan-2 c = search needs
 
--- src/lib.rt:45:9
+-- src/lib.rt:57:9
 slice-aggregate-plan-3 : tie.Need-slice-aggregate-plan-3
 slice-aggregate-plan-3 c = search needs
 
--- src/lib.rt:46:9
+-- src/lib.rt:58:9
 slice-aggregate-plan-4 : tie.Need-slice-aggregate-plan-4
 slice-aggregate-plan-4 c = search needs
 
--- src/lib.rt:47:9
+-- src/lib.rt:59:9
 slice-aggregate-plan-5 : tie.Need-slice-aggregate-plan-5
 slice-aggregate-plan-5 c = search needs
 
--- src/lib.rt:36:9
+-- src/lib.rt:48:9
 plan-requires : tie.Need-plan-requires
 plan-requires c κs = search needs
 
--- src/lib.rt:51:25
+-- src/lib.rt:63:25
 enum-known-answer : tie.Need-enum-known-answer
 enum-known-answer c = search needs
 
--- src/lib.rt:52:22
+-- src/lib.rt:64:22
 enum-known-answer-2 : tie.Need-enum-known-answer-2
 enum-known-answer-2 c = search needs
 
--- src/lib.rt:59:32
+-- src/lib.rt:71:32
 slice-aggregate-bytes : tie.Need-slice-aggregate-bytes
 slice-aggregate-bytes c = search needs
 
--- src/lib.rt:59:40
+-- src/lib.rt:71:40
 cast-bytes : tie.Need-cast-bytes
 cast-bytes c = search needs
 
--- src/lib.rt:59:13
+-- src/lib.rt:71:13
 bytes-requires : tie.Need-bytes-requires
 bytes-requires c κs = search needs
 
--- src/lib.rt:60:33
+-- src/lib.rt:72:33
 slice-aggregate-halves : tie.Need-slice-aggregate-halves
 slice-aggregate-halves c = search needs
 
--- src/lib.rt:60:13
+-- src/lib.rt:72:13
 halves-requires : tie.Need-halves-requires
 halves-requires c κs = search needs
 
--- src/lib.rt:61:33
+-- src/lib.rt:73:33
 slice-aggregate-halves-2 : tie.Need-slice-aggregate-halves-2
 slice-aggregate-halves-2 c = search needs
 
--- src/lib.rt:61:13
+-- src/lib.rt:73:13
 halves-requires-2 : tie.Need-halves-requires-2
 halves-requires-2 c κs = search needs
 
--- src/lib.rt:62:32
+-- src/lib.rt:74:32
 slice-aggregate-bytes-2 : tie.Need-slice-aggregate-bytes-2
 slice-aggregate-bytes-2 c = search needs
 
--- src/lib.rt:62:13
+-- src/lib.rt:74:13
 bytes-requires-2 : tie.Need-bytes-requires-2
 bytes-requires-2 c κs = search needs
 
--- src/lib.rt:63:32
+-- src/lib.rt:75:32
 slice-aggregate-words : tie.Need-slice-aggregate-words
 slice-aggregate-words c = search needs
 
--- src/lib.rt:63:13
+-- src/lib.rt:75:13
 words-requires : tie.Need-words-requires
 words-requires c κs = search needs
 
--- src/lib.rt:52:28
+-- src/lib.rt:64:28
 write-plan-requires : tie.Need-write-plan-requires
 write-plan-requires c κs = search needs
 
--- src/lib.rt:18:1
+-- src/lib.rt:28:1
 returns : tie.Need-returns
-returns c = plan-refused _ _ _ _ (c .before .before .before .before .before .before .before .before .plan .ensures .0 .answer) (c .before .answer .given .1)
+returns c = plan-refused _ (c .before .before .before .before .before .before .before .before .before .before .before .before .before .before .before .before .before .before .before .before .args .p .chunks) (c .before .before .before .before .before .before .before .before .before .before .before .before .before .before .before .before .before .before .before .before .args .p .chunks) _ _ _ (c .before .before .before .before .before .before .before .before .plan .ensures .0 .answer) (c .before .answer .given .1)
 
--- src/lib.rt:18:1
+-- src/lib.rt:28:1
 same-length : tie.Need-same-length
 same-length c = search needs
 
--- src/lib.rt:18:1
+-- src/lib.rt:28:1
 returns-2 : tie.Need-returns-2
 returns-2 c =
     let written = c .before .before .write-plan .ensures in
-    plan-written _ _ _ _ _ _ _ _ _ _ _ _ (c .before .before .before .before .before .before .before .before .before .before .before .before .before .before .before .before .before .before .before .before .before .before .before .plan .ensures .0) (c .before .before .before .before .before .before .before .before .before .before .before .before .before .before .before .before .answer2 .given .1)
+    plan-written _ (c .before .before .before .before .before .before .before .before .before .before .before .before .before .before .before .before .before .before .before .before .before .before .before .before .before .before .before .before .before .before .before .before .before .before .before .args .p .chunks) (c .before .before .before .before .before .before .before .before .before .before .before .before .before .before .before .before .before .before .before .before .before .before .before .before .before .before .before .before .before .before .before .before .before .before .before .args .p .chunks) _ _ _ _ _ _ _ _ _ _ _ (c .before .before .before .before .before .before .before .before .before .before .before .before .before .before .before .before .before .before .before .before .before .before .before .plan .ensures .0) (c .before .before .before .before .before .before .before .before .before .before .before .before .before .before .before .before .answer2 .given .1)
     (c .before .before .before .before .before .before .before .before .before .before .before .before .bytes3 .ensures) (c .before .before .before .before .before .before .before .before .before .before .halves .ensures) (c .before .before .before .before .before .before .before .before .halves2 .ensures) (c .before .before .before .before .before .before .bytes4 .ensures) (c .before .before .before .before .words .ensures) (written .0) (written .1)
 
 pub plan-job-spec : {M : Type 1} → statement M
 plan-job-spec =
     tie.close
     (tie.spec
+    cast-wide
     slice-aggregate-plan
     slice-aggregate-plan-2
     slice-aggregate-plan-3

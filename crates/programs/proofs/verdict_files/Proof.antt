@@ -1,7 +1,7 @@
 use borrow.Author.Needs.{needs}
 use Rattle.jobrecords.specs.Refusal.{oneSequence}
 use Rattle.programs.proofs.Judging.{files-judged, files-refused}
-use Rattle.programs.proofs.Reading.{empty, refused-one, taken}
+use Rattle.programs.proofs.Reading.{refused-one, taken}
 use Rattle.programs.proofs.verdict_files.Statement.{statement}
 use Rattle.programs.proofs.verdict_files.Tie as tie
 use Rattle.programs.proofs.verdict_files.Reads as reads
@@ -12,93 +12,101 @@ use Rattle.core_prefix.proofs.words.Reads as words-reads
 use Rattle.jobfile.proofs.read_job.Reads as read-job-reads
 use Rattle.programs.proofs.verdict_job.Reads as verdict-job-reads
 
--- src/lib.rt:166:9
+-- src/lib.rt:173:17
+cast-unset : tie.Need-cast-unset
+cast-unset c = search needs
+
+-- src/lib.rt:174:16
+cast-wide : tie.Need-cast-wide
+cast-wide c = search needs
+
+-- src/lib.rt:182:9
 slice-aggregate-read-job : tie.Need-slice-aggregate-read-job
 slice-aggregate-read-job c = search needs
 
--- src/lib.rt:167:9
+-- src/lib.rt:183:9
 slice-aggregate-read-job-2 : tie.Need-slice-aggregate-read-job-2
 slice-aggregate-read-job-2 c = search needs
 
--- src/lib.rt:168:9
+-- src/lib.rt:184:9
 slice-aggregate-read-job-3 : tie.Need-slice-aggregate-read-job-3
 slice-aggregate-read-job-3 c = search needs
 
--- src/lib.rt:169:9
+-- src/lib.rt:185:9
 slice-aggregate-read-job-4 : tie.Need-slice-aggregate-read-job-4
 slice-aggregate-read-job-4 c = search needs
 
--- src/lib.rt:170:9
+-- src/lib.rt:186:9
 slice-aggregate-read-job-5 : tie.Need-slice-aggregate-read-job-5
 slice-aggregate-read-job-5 c = search needs
 
--- src/lib.rt:164:11
+-- src/lib.rt:180:11
 read-job-requires : tie.Need-read-job-requires
 read-job-requires c κs = search needs
 
--- src/lib.rt:172:26
+-- src/lib.rt:188:26
 enum-known-n : tie.Need-enum-known-n
 enum-known-n c = search needs
 
--- src/lib.rt:174:13
+-- src/lib.rt:190:13
 enum-known-programme : tie.Need-enum-known-programme
 enum-known-programme c = search needs
 
--- src/lib.rt:180:32
+-- src/lib.rt:196:32
 slice-aggregate-words : tie.Need-slice-aggregate-words
 slice-aggregate-words c = search needs
 
--- src/lib.rt:180:13
+-- src/lib.rt:196:13
 words-requires : tie.Need-words-requires
 words-requires c κs = search needs
 
--- src/lib.rt:181:33
+-- src/lib.rt:197:33
 slice-aggregate-halves : tie.Need-slice-aggregate-halves
 slice-aggregate-halves c = search needs
 
--- src/lib.rt:181:13
+-- src/lib.rt:197:13
 halves-requires : tie.Need-halves-requires
 halves-requires c κs = search needs
 
--- src/lib.rt:182:32
+-- src/lib.rt:198:32
 slice-aggregate-bytes : tie.Need-slice-aggregate-bytes
 slice-aggregate-bytes c = search needs
 
--- src/lib.rt:182:13
+-- src/lib.rt:198:13
 bytes-requires : tie.Need-bytes-requires
 bytes-requires c κs = search needs
 
--- src/lib.rt:183:32
+-- src/lib.rt:199:32
 slice-aggregate-words-2 : tie.Need-slice-aggregate-words-2
 slice-aggregate-words-2 c = search needs
 
--- src/lib.rt:183:13
+-- src/lib.rt:199:13
 words-requires-2 : tie.Need-words-requires-2
 words-requires-2 c κs = search needs
 
--- src/lib.rt:184:32
+-- src/lib.rt:200:32
 slice-aggregate-words-3 : tie.Need-slice-aggregate-words-3
 slice-aggregate-words-3 c = search needs
 
--- src/lib.rt:184:13
+-- src/lib.rt:200:13
 words-requires-3 : tie.Need-words-requires-3
 words-requires-3 c κs = search needs
 
--- src/lib.rt:178:14
+-- src/lib.rt:194:14
 verdict-job-requires : tie.Need-verdict-job-requires
 verdict-job-requires c κs = search needs
 
--- src/lib.rt:156:1
+-- src/lib.rt:170:1
 returns : tie.Need-returns
 returns c =
-    files-refused _ (c .before .before .before .before .before .before .before .before .before .before .before .before .before .before .before .before .args .plan .now) _ (refused-one (c .before .before .before .before .before .before .before .before .before .before .before .before .before .before .before .before .args .job .now) _ _ (c .before .before .before .before .before .before .before .before .read-job .ensures .0) (c .before .n .given .1))
+    files-refused _ (c .before .before .before .before .before .before .before .before .before .before .before .before .before .before .before .before .args .plan .now) _ (refused-one _ _ (c .before .before .before .before .before .before .before .before .before .before .before .before .before .before .before .before .args .job .now) _ _ (c .before .before .before .before .before .before .before .before .read-job .ensures .0) (c .before .n .given .1))
 
--- src/lib.rt:156:1
+-- src/lib.rt:170:1
 returns-2 : tie.Need-returns-2
 returns-2 c =
     let read = c .before .before .before .before .before .before .before .before .before .before .before .before .before .before .before .before .before .before .before .read-job .ensures in
     let t =
-    taken oneSequence (c .before .before .before .before .before .before .before .before .before .before .before .before .before .before .before .before .before .before .before .before .before .before .before .before .before .before .before .args .job .now) empty _ _ _ _ _ _ _ _ _ _ _ _ _ _ _
+    taken oneSequence (c .before .before .before .before .before .before .before .before .before .before .before .before .before .before .before .before .before .before .before .before .before .before .before .before .before .before .before .args .job .now) _ _ _ _ _ _ _ _ _ _ _ _ _ _ _ _
     (read .0) (c .before .before .before .before .before .before .before .before .before .before .before .before .programme .given .1) (read .1 .0) (read .1 .1 .0) (read .1 .1 .1 .0) (read .1 .1 .1 .1 .0) (read .1 .1 .1 .1 .1)
     (c .before .before .before .before .before .before .before .before .before .words .ensures) (c .before .before .before .before .before .before .before .halves .ensures) (c .before .before .before .before .before .bytes .ensures) (c .before .before .before .words2 .ensures) (c .before .words3 .ensures) in
     files-judged _ _ _ _ t (c .verdict-job .ensures)
@@ -107,6 +115,8 @@ pub verdict-files-spec : {M : Type 1} → statement M
 verdict-files-spec =
     tie.close
     (tie.spec
+    cast-unset
+    cast-wide
     slice-aggregate-read-job
     slice-aggregate-read-job-2
     slice-aggregate-read-job-3
