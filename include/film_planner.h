@@ -361,6 +361,27 @@ uint64_t film_reasons(
     const uint32_t *forecast, size_t forecast_len,
     uint8_t *out, size_t out_len);
 
+/* ---- whole files: what the programs do, for callers who have files */
+
+/* The plan file of the job of a job file in one sequence. Answers its bytes, at most FILM_PLAN_FILE. Refuses: the job file's number as
+ * film_read_job, then 11. */
+uint64_t film_plan_file(const uint8_t *job, size_t job_len, uint8_t *out, size_t out_len);
+
+/* The verdict on a plan file for the job of a job file. Answers as film_check: 0 for the file that film_plan_file writes. Refuses: the job
+ * file's number, then the plan file's as film_read_plan. */
+uint64_t film_verdict_files(const uint8_t *job, size_t job_len, const uint8_t *plan, size_t plan_len);
+
+/* The report of the job's plan, as film_report. Answers its bytes, at most FILM_REPORT. Refuses as film_plan_file. */
+uint64_t film_report_file(const uint8_t *job, size_t job_len, uint8_t *out, size_t out_len);
+
+/* The reasons under the layers that the job's plan lacks, as film_reasons. Answers their bytes, at most FILM_REASONS. Refuses as
+ * film_plan_file. */
+uint64_t film_reasons_file(const uint8_t *job, size_t job_len, uint8_t *out, size_t out_len);
+
+/* The job of a mixed file as a file in one sequence. Answers its bytes, at most FILM_JOB_FILE. Refuses: the file's number as
+ * film_read_mixed_job, then 11. */
+uint64_t film_convert_file(const uint8_t *job, size_t job_len, uint8_t *out, size_t out_len);
+
 /* ---- link traces */
 
 /* Reads a link trace for so many slots, 1 to 3,600: a line is a time in milliseconds, 1 to 7 digits and a line feed, and stands for 1,500

@@ -4,6 +4,7 @@ pub mod Lists
 pub mod Plans
 pub mod Texts
 pub mod Meters
+pub mod Programs
 pub mod Theorems
 pub mod Desk
 pub mod lemmas

@@ -6,3 +6,4 @@ mod lists;
 mod meters;
 mod plans;
 mod texts;
+mod whole_files;
