@@ -112,7 +112,7 @@ fn verdict_job(
         &mut bytes,
     ) {
         PlanRead::Refused(n) => Checked::Refused(n),
-        PlanRead::Rows(n) => checker::check(
+        PlanRead::Rows(rows) => checker::check(
             p,
             sizes,
             size_chunks,
@@ -120,10 +120,10 @@ fn verdict_job(
             size_bytes,
             forecast,
             core_prefix::bytes(&marks, p.chunks as usize),
-            core_prefix::halves(&slots, n),
-            core_prefix::halves(&chunks, n),
-            core_prefix::bytes(&layers, n),
-            core_prefix::words(&bytes, n),
+            core_prefix::halves(&slots, rows),
+            core_prefix::halves(&chunks, rows),
+            core_prefix::bytes(&layers, rows),
+            core_prefix::words(&bytes, rows),
         ),
     }
 }

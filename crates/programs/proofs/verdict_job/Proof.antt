@@ -39,8 +39,8 @@ enum-known-n : tie.Need-enum-known-n
 enum-known-n c = search needs
 
 -- src/lib.rt:103:24
-enum-known-n-2 : tie.Need-enum-known-n-2
-enum-known-n-2 c = search needs
+enum-known-rows : tie.Need-enum-known-rows
+enum-known-rows c = search needs
 
 -- src/lib.rt:110:32
 slice-aggregate-bytes : tie.Need-slice-aggregate-bytes
@@ -98,7 +98,7 @@ returns c = file-refused _ (c .before .before .before .before .before .before .b
 returns-2 : tie.Need-returns-2
 returns-2 c =
     let read = c .before .before .before .before .before .before .before .before .before .before .before .before .before .before .before .before .before .before .before .before .read-plan .ensures in
-    file-judged _ (c .before .before .before .before .before .before .before .before .before .before .before .before .before .before .before .before .before .before .before .before .before .before .before .before .before .before .before .before .before .before .before .before .args .plan .now) _ _ _ _ _ _ _ _ _ (read .0) (read .1) (c .before .before .before .before .before .before .before .before .before .before .before .before .before .n2 .given .1)
+    file-judged _ (c .before .before .before .before .before .before .before .before .before .before .before .before .before .before .before .before .before .before .before .before .before .before .before .before .before .before .before .before .before .before .before .before .args .plan .now) _ _ _ _ _ _ _ _ _ (read .0) (read .1) (c .before .before .before .before .before .before .before .before .before .before .before .before .before .rows .given .1)
     (c .before .before .before .before .before .before .before .before .before .bytes3 .ensures) (c .before .before .before .before .before .before .before .halves .ensures) (c .before .before .before .before .before .halves2 .ensures) (c .before .before .before .bytes4 .ensures) (c .before .words .ensures) (c .check .ensures)
 
 pub verdict-job-spec : {M : Type 1} → statement M
@@ -112,7 +112,7 @@ verdict-job-spec =
     slice-aggregate-read-plan-5
     read-plan-requires
     enum-known-n
-    enum-known-n-2
+    enum-known-rows
     slice-aggregate-bytes
     cast-bytes
     bytes-requires
