@@ -6,7 +6,7 @@
  * and slices it is handed, none keeps anything, none allocates, and each ends. What the caller owes is what C owes any function: a pointer
  * with at least so many elements behind it as its length says, aligned for its type and not null (a slice of length 0 may point anywhere
  * but to null), and no two slices of one call that overlap, if one of them is lent for writing. The calls may run on several threads at
- * once; none takes more than 256 KiB of stack (bench/run_stack measures it: film_reasons takes the most, 182 KiB).
+ * once; none takes more than 256 KiB of stack (bench/run_stack measures it: film_reasons_file takes the most, 210 KiB).
  *
  * ANSWERS. Every call answers one 64-bit number:
  *

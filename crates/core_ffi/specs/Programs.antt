@@ -1,6 +1,7 @@
--- Meaning. The programs' work for callers in C or Rust who have files: whole files in, the number of bytes of the plan file, the report, the
--- reasons or the job file out, and these in front of what the lent slice held; of two files the verdict. Refusals, texts and their order are
--- those of crate programs: what comes from the files, then 11.
+-- Meaning. The programs' work for callers in C or Rust who have files: whole files in, the number
+-- of bytes of the plan file, the report, the reasons or the job file out, and these in front of
+-- what the lent slice held; of two files the verdict. Refusals, texts and their order are those of
+-- crate programs: what comes from the files, then 11.
 use Prim.Native.Nat.{ℕ}
 use mathlib.Core.Path.{_≡_}
 use mathlib.Core.List.{List}

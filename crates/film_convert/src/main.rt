@@ -1,6 +1,7 @@
-// Reads a job file of either form on standard input and writes it in one sequence to standard output; on a refusal, `refused n`. What is
-// written for what was read is crate programs' print_converted. It reads by document 01's reader alone: a file in one sequence is a mixed
-// file too, if it has no SZ. One with an SZ has an unknown mark, 2.
+// Reads a job file of either form on standard input and writes it in one sequence to standard
+// output; on a refusal, `refused n`. What is written for what was read is crate programs'
+// print_converted. It reads by document 01's reader alone: a file in one sequence is a mixed file
+// too, if it has no SZ. One with an SZ has an unknown mark, 2.
 use libc::STDIN_FILENO;
 use libc::STDOUT_FILENO;
 

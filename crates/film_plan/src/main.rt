@@ -1,5 +1,5 @@
-// Reads a job on standard input and writes its plan file to standard output; on a refusal, `refused n`. What is written for what was read is
-// crate programs' print_plan.
+// Reads a job on standard input and writes its plan file to standard output; on a refusal, `refused
+// n`. What is written for what was read is crate programs' print_plan.
 use libc::STDIN_FILENO;
 use libc::STDOUT_FILENO;
 

@@ -1,5 +1,6 @@
-// Reads a job on standard input and prints the reason under each layer that its plan lacks (request 14); on a refusal, `refused n`. What is
-// printed for what was read is crate programs' print_reasons.
+// Reads a job on standard input and prints the reason under each layer that its plan lacks (request
+// 14); on a refusal, `refused n`. What is printed for what was read is crate programs'
+// print_reasons.
 use libc::STDIN_FILENO;
 use libc::STDOUT_FILENO;
 

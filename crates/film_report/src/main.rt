@@ -1,5 +1,5 @@
-// Reads a job on standard input and prints its report; on a refusal, `refused n`. What is printed for what was read is crate programs'
-// print_report.
+// Reads a job on standard input and prints its report; on a refusal, `refused n`. What is printed
+// for what was read is crate programs' print_report.
 use libc::STDIN_FILENO;
 use libc::STDOUT_FILENO;
 

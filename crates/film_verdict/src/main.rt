@@ -1,9 +1,9 @@
-// Reads the files `job`, then `plan`, and prints `verdict n`; on a refusal, `refused n`. What is printed for what was read is crate programs'
-// print_verdict.
+// Reads the files `job`, then `plan`, and prints `verdict n`; on a refusal, `refused n`. What is
+// printed for what was read is crate programs' print_verdict.
 use libc::STDOUT_FILENO;
 
-// The file's bytes go to the start of the buffer: one more than a file may have, so that a longer file is refused by 9. A file that can't be
-// opened is read as empty.
+// The file's bytes go to the start of the buffer: one more than a file may have, so that a longer
+// file is refused by 9. A file that can't be opened is read as empty.
 fn read_file(path: &[u8], file: &mut [u8; 65537]) -> usize {
     let fd = os::open_read(path);
     if fd < 0 {

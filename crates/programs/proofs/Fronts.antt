@@ -1,4 +1,5 @@
--- Laws on the front of a buffer that a result was put into, and on the rows of four such fronts. Assumes nothing.
+-- Laws on the front of a buffer that a result was put into, and on the rows of four such fronts.
+-- Assumes nothing.
 use Prim.Native.Nat.{ℕ, _≤_}
 use mathlib.Core.Path.{_≡_, sym, _∙_}
 use mathlib.Core.List.{List, map}

@@ -1,4 +1,5 @@
--- Laws on a plan file that is read for a job and then judged: its refusal, or the verdict on its marks and rows. Assumes nothing.
+-- Laws on a plan file that is read for a job and then judged: its refusal, or the verdict on its
+-- marks and rows. Assumes nothing.
 use Prim.Native.Nat.{ℕ, _≤_}
 use mathlib.Core.Path.{_≡_, refl, sym, ap, subst, _∙_}
 use mathlib.Core.Bool.{cond}

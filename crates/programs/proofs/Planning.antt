@@ -1,4 +1,5 @@
--- Laws on a job's plan that is made and then written: its refusal, or the plan's file. Assumes nothing.
+-- Laws on a job's plan that is made and then written: its refusal, or the plan's file. Assumes
+-- nothing.
 use Prim.Native.Nat.{ℕ, _≤_}
 use mathlib.Core.Path.{_≡_, refl, sym, ap, subst, _∙_}
 use mathlib.Core.Bool.{cond}

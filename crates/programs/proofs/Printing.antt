@@ -1,4 +1,5 @@
--- Laws on what is printed of an answer: the buffer holds the text of any accepted job, so 11 never is. Assumes nothing.
+-- Laws on what is printed of an answer: the buffer holds the text of any accepted job, so 11 never
+-- is. Assumes nothing.
 use Prim.Native.Nat.{ℕ, _≤_}
 use mathlib.Core.Path.{_≡_}
 use mathlib.Core.Bool.{Bool}

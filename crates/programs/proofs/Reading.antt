@@ -1,4 +1,5 @@
--- Laws on a job file that was read into buffers which hold any job: its refusal, or the job as slices. Assumes nothing.
+-- Laws on a job file that was read into buffers which hold any job: its refusal, or the job as
+-- slices. Assumes nothing.
 use Prim.Native.Nat.{ℕ, zero, suc, _≤_}
 use mathlib.Core.Path.{_≡_, refl, sym, ap, subst, _∙_}
 use mathlib.Core.Bool.{Bool, cond}

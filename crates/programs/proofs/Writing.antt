@@ -1,5 +1,6 @@
--- Laws on what a call writes: a refusal, what a job handed over gives for the file that it was read from, and what is printed of either. The
--- library's answers are told apart by `Apart`. Assumes nothing.
+-- Laws on what a call writes: a refusal, what a job handed over gives for the file that it was read
+-- from, and what is printed of either. The library's answers are told apart by `Apart`. Assumes
+-- nothing.
 use Prim.Native.Nat.{ℕ, _+_, _≤_, _<_}
 use mathlib.Core.Path.{_≡_, refl, sym, ap, subst, _∙_}
 use mathlib.Core.Bool.{cond}

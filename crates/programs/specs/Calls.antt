@@ -1,7 +1,8 @@
--- Meaning. What the calls answer, and the lent buffer afterwards. Those that a program makes are lent a buffer that holds whatever is
--- printed and answer how many bytes that is; those for callers who have files, the kit's, answer as the library's own calls do, the result
--- or a refusal, and are lent any buffer: "11. A lent buffer is shorter than the whole result, after all input refusals. In a longer one the
--- bytes past the result stay unchanged."
+-- Meaning. What the calls answer, and the lent buffer afterwards. Those that a program makes are
+-- lent a buffer that holds whatever is printed and answer how many bytes that is; those for callers
+-- who have files, the kit's, answer as the library's own calls do, the result or a refusal, and are
+-- lent any buffer: "11. A lent buffer is shorter than the whole result, after all input refusals.
+-- In a longer one the bytes past the result stay unchanged."
 use Prim.Native.Nat.{ℕ}
 use mathlib.Core.Path.{_≡_}
 use mathlib.Core.Bool.{cond}
@@ -59,12 +60,14 @@ PrintsConverted job old count new = Prints (convertPrinted job) old count new
 abbrev pub withRoom : ℕ → (text old : List ℕ) → ℕ
 withRoom refused text old = refused orElse unless 11 (leb (length text) (length old))
 
--- `bytes n` is the library's answer with a result of n bytes, `refusal n` its answer with refusal n.
+-- `bytes n` is the library's answer with a result of n bytes, `refusal n` its answer with refusal
+-- n.
 pub record Wrote {A : Type 0} (bytes refusal : ℕ → A) (refused : ℕ) (text old : List ℕ) (r : A) (new : List ℕ) : Type 0 where
   pub answer : r ≡ cond (eqb (withRoom refused text old) 0) (bytes (length text)) (refusal (withRoom refused text old))
   pub buffer : new ≡ lentAfter (withRoom refused text old) text old
 
--- The plan file, the report and the reasons of the job of a file; the job of a mixed file in one sequence.
+-- The plan file, the report and the reasons of the job of a file; the job of a mixed file in one
+-- sequence.
 abbrev pub PlanOfFile : (job old : List ℕ) → PlanWritten → (new : List ℕ) → Type 0
 PlanOfFile job old r new =
     Wrote planFile.Bytes planFile.Refused (jobFileRefusal job) (fileOf (planOfJob (jobSaid job))) old r new

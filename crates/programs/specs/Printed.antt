@@ -1,7 +1,9 @@
--- Meaning. What each program prints, byte by byte, for the files that it reads: document 01, "One reads a job on standard input and writes
--- the plan file to standard output; one reads the files `job`, then `plan`, and prints `verdict n`; one prints a report. On a refusal each
--- prints only `refused n`. Printed lines end in a line feed. A file that can't be opened is read as empty"; request 14's reasons and request
--- 6's program for mixed files likewise. A file is a list of bytes of any length; one of none stands for a file that can't be opened.
+-- Meaning. What each program prints, byte by byte, for the files that it reads: document 01, "One
+-- reads a job on standard input and writes the plan file to standard output; one reads the files
+-- `job`, then `plan`, and prints `verdict n`; one prints a report. On a refusal each prints only
+-- `refused n`. Printed lines end in a line feed. A file that can't be opened is read as empty";
+-- request 14's reasons and request 6's program for mixed files likewise. A file is a list of bytes
+-- of any length; one of none stands for a file that can't be opened.
 use Prim.Native.Nat.{ℕ}
 use mathlib.Core.Bool.{cond}
 use mathlib.Core.List.{List, [], _∷_}
@@ -36,7 +38,8 @@ printed refused text = cond (eqb refused 0) text (refusedText refused)
 
 -- ---- a job file
 
--- The refusal of a job file, and the job that it says: the programs but `convert` read it in one sequence.
+-- The refusal of a job file, and the job that it says: the programs but `convert` read it in one
+-- sequence.
 abbrev pub jobFileRefusal : List ℕ → ℕ
 jobFileRefusal file = refusalOf oneSequence file
 
@@ -65,7 +68,8 @@ convertPrinted job = printed (refusalOf mixed job) (jobFile (jobOfFile mixed job
 
 -- ---- a job file and a plan file
 
--- "reads the files `job`, then `plan`": the job file's refusal, then the plan file's. "C comes from the job."
+-- "reads the files `job`, then `plan`": the job file's refusal, then the plan file's. "C comes from
+-- the job."
 abbrev pub filesRefusal : (job plan : List ℕ) → ℕ
 filesRefusal job plan = jobFileRefusal job orElse fileRefusal (format (chunks (jobSaid job))) plan
 

@@ -1,6 +1,8 @@
--- Theorems. What a reader of document 01 expects of the programs together: the plan file that is printed reads back as the plan and passes,
--- and a refused job file gives one number in every program that reads it in one sequence. Then what `convert` prints: document 02, "The
--- mixed files of document 01 can be turned into the new form by a small program that still reads both." Assumes nothing.
+-- Theorems. What a reader of document 01 expects of the programs together: the plan file that is
+-- printed reads back as the plan and passes, and a refused job file gives one number in every
+-- program that reads it in one sequence. Then what `convert` prints: document 02, "The mixed files
+-- of document 01 can be turned into the new form by a small program that still reads both." Assumes
+-- nothing.
 use Prim.Native.Nat.{ℕ, _≤_}
 use mathlib.Core.Path.{_≡_, refl, sym, ap, _∙_}
 use mathlib.Core.List.{List, []}
@@ -30,8 +32,9 @@ use Rattle.programs.specs.lemmas.Plans.{plan-file-fits, plan-in-width, p
 pub said-accepted : (job : List ℕ) → jobFileRefusal job ≡ 0 → Accepted (jobSaid job)
 said-accepted job e = file-accepted oneSequence job e
 
--- "Job and plan files read back as the job and plan written": what `plan` prints for a job is a plan file that is not refused and says the
--- plan's marks and rows; and `verdict` prints verdict 0 for it.
+-- "Job and plan files read back as the job and plan written": what `plan` prints for a job is a
+-- plan file that is not refused and says the plan's marks and rows; and `verdict` prints verdict 0
+-- for it.
 pub record PlanPasses (job : List ℕ) : Type 0 where
   pub printed-file : planPrinted job ≡ fileOf (planOfJob (jobSaid job))
   pub not-refused : fileRefusal (format (chunks (jobSaid job))) (planPrinted job) ≡ 0
@@ -60,7 +63,8 @@ plan-passes job e =
 
 -- ---- a refused job file
 
--- "On a refusal each prints only `refused n`": with one number in all four, `verdict` whatever its plan file is.
+-- "On a refusal each prints only `refused n`": with one number in all four, `verdict` whatever its
+-- plan file is.
 pub record RefusedAlike (job : List ℕ) (n : ℕ) : Type 0 where
   pub by-plan : planPrinted job ≡ refusedText n
   pub by-verdict : (plan : List ℕ) → verdictPrinted job plan ≡ refusedText n
@@ -87,7 +91,8 @@ plan-file-refused job plan n e f z =
 
 -- ---- what `convert` prints
 
--- For a mixed file that is not refused: a file in one sequence that says the same job, of at most 46,800 bytes.
+-- For a mixed file that is not refused: a file in one sequence that says the same job, of at most
+-- 46,800 bytes.
 pub record Converts (job : List ℕ) : Type 0 where
   pub printed-file : convertPrinted job ≡ jobFile (jobOfFile mixed job)
   pub taken : refusalOf oneSequence (convertPrinted job) ≡ 0
@@ -106,8 +111,9 @@ converts job e =
       short = omega (arith, ap length file, file-short j a);
     }
 
--- The program reads both: a file in one sequence without SZ is not refused, and is printed as it is, byte for byte. "The program of request
--- 6 stays as it is": to it an SZ is an unknown mark (jobrecords, `unknown-mark`).
+-- The program reads both: a file in one sequence without SZ is not refused, and is printed as it
+-- is, byte for byte. "The program of request 6 stays as it is": to it an SZ is an unknown mark
+-- (jobrecords, `unknown-mark`).
 pub record Stays (job : List ℕ) : Type 0 where
   pub read : refusalOf mixed job ≡ 0
   pub unchanged : convertPrinted job ≡ job

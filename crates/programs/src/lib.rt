@@ -1,5 +1,6 @@
-// What the programs do, on whole files in memory: for each program the bytes to be printed, and the same work for callers who have files
-// and lend a buffer of any length. A program reads, calls its function here and writes; what is read and written no contract can say.
+// What the programs do, on whole files in memory: for each program the bytes to be printed, and the
+// same work for callers who have files and lend a buffer of any length. A program reads, calls its
+// function here and writes; what is read and written no contract can say.
 use checker::Checked;
 use job::Programme;
 use jobrecords::JobRead;
@@ -11,9 +12,12 @@ ghost use Prim.Native.Nat.{_≤_};
 ghost use lib.ListN.{length};
 ghost use Rattle.theory_basics.specs.Text.{digits};
 ghost use Rattle.job.specs.Handed.{handed};
-ghost use Rattle.programs.specs.Calls.{ConvertedFile, PlanOfFile, PlanOfJob, Prints, PrintsConverted, PrintsPlan, PrintsReasons, PrintsReport, PrintsVerdict, ReasonsOfFile, ReportOfFile, verdictAnswer, verdictOnFile};
+ghost use Rattle.programs.specs.Calls.{Prints, PrintsConverted, PrintsPlan, PrintsReasons, PrintsReport};
+ghost use Rattle.programs.specs.Calls.{ConvertedFile, PlanOfFile, ReasonsOfFile, ReportOfFile, verdictAnswer};
+ghost use Rattle.programs.specs.Calls.{PlanOfJob, PrintsVerdict, verdictOnFile};
 
-// No program prints more bytes: programs/specs/Theorems, lemmas and the libraries' own theorems say so of each.
+// What each program prints at most, by theorem: lemmas.Plans.plan-file-fits, report's
+// Answer.plan-report-fits, theory_reasons' text-fits, jobfile's file-short; a word and three digits.
 pub const PLAN_BYTES: usize = 64091;
 
 pub const VERDICT_BYTES: usize = 12;
@@ -24,7 +28,8 @@ pub const REASONS_BYTES: usize = 94000;
 
 pub const CONVERTED_BYTES: usize = 46800;
 
-// The plan file of a job. The local slices hold any plan: a mark a chunk, 5,599 rows.
+// The plan file of a job. The local slices hold any plan: a mark a chunk, 5,599 rows. What is filled
+// with no constant is stored in wide words, faster than cleared.
 fn plan_job(
     p: Programme,
     sizes: &[u32],
@@ -35,7 +40,8 @@ fn plan_job(
     out: &mut [u8],
 ) -> planfile::Written
     ensures { λ r. ⌜ PlanOfJob
-        (handed p (now (sizes .entry)) (now («size_chunks» .entry)) (now («size_layers» .entry)) (now («size_bytes» .entry)) (now (forecast .entry)))
+        (handed p (now (sizes .entry)) (now («size_chunks» .entry)) (now («size_layers» .entry))
+        (now («size_bytes» .entry)) (now (forecast .entry)))
         (now (out .entry)) r (now (out .exit)) ⌝ }
 {
     let unset = p.chunks;
@@ -89,7 +95,8 @@ fn verdict_job(
     plan: &[u8],
 ) -> Checked
     ensures { λ r. ⌜ r ≡ verdictOnFile
-        (handed p (now (sizes .entry)) (now («size_chunks» .entry)) (now («size_layers» .entry)) (now («size_bytes» .entry)) (now (forecast .entry)))
+        (handed p (now (sizes .entry)) (now («size_chunks» .entry)) (now («size_layers» .entry))
+        (now («size_bytes» .entry)) (now (forecast .entry)))
         (now (plan .entry)) ⌝ }
 {
     let mut marks = [0u8; 500];
@@ -128,8 +135,9 @@ fn verdict_job(
     }
 }
 
-// The plan file of the job of a file, into a lent buffer. Refused: the job file's number, then 11 where the buffer is shorter than the plan
-// file. On a refusal the buffer stays as it is.
+// The plan file of the job of a file, into a lent buffer. Refused: the job file's number, then 11
+// where the buffer is shorter than the plan file. On a refusal the buffer stays as it is. The local
+// slices hold any job; they are filled with no constant, as above.
 pub fn plan_file(job: &[u8], out: &mut [u8]) -> planfile::Written
     ensures { λ r. ⌜ PlanOfFile (now (job .entry)) (now (out .entry)) r (now (out .exit)) ⌝ }
 {
@@ -166,7 +174,8 @@ pub fn plan_file(job: &[u8], out: &mut [u8]) -> planfile::Written
     }
 }
 
-// The verdict on a plan file for the job of a job file. Refused: the job file's number, then the plan file's.
+// The verdict on a plan file for the job of a job file. Refused: the job file's number, then the
+// plan file's.
 pub fn verdict_files(job: &[u8], plan: &[u8]) -> Checked
     ensures { λ r. ⌜ r ≡ verdictAnswer (now (job .entry)) (now (plan .entry)) ⌝ }
 {
@@ -240,7 +249,8 @@ pub fn report_file(job: &[u8], out: &mut [u8]) -> report::Written
     }
 }
 
-// The reasons under the layers that the plan of the job of a file lacks, into a lent buffer. Refused as plan_file.
+// The reasons under the layers that the plan of the job of a file lacks, into a lent buffer.
+// Refused as plan_file.
 pub fn reasons_file(job: &[u8], out: &mut [u8]) -> reasons::Written
     ensures { λ r. ⌜ ReasonsOfFile (now (job .entry)) (now (out .entry)) r (now (out .exit)) ⌝ }
 {
@@ -277,8 +287,8 @@ pub fn reasons_file(job: &[u8], out: &mut [u8]) -> reasons::Written
     }
 }
 
-// The job of a mixed file in one sequence, into a lent buffer. Refused: the mixed file's number, then 11. A mixed file has no SZ: to its
-// reader an SZ is an unknown mark, 2.
+// The job of a mixed file in one sequence, into a lent buffer. Refused: the mixed file's number,
+// then 11. A mixed file has no SZ: to its reader an SZ is an unknown mark, 2.
 pub fn convert_file(job: &[u8], out: &mut [u8]) -> jobfile::Written
     ensures { λ r. ⌜ ConvertedFile (now (job .entry)) (now (out .entry)) r (now (out .exit)) ⌝ }
 {
@@ -303,16 +313,19 @@ pub fn convert_file(job: &[u8], out: &mut [u8]) -> jobfile::Written
     }
 }
 
-// A word with a space after it, a number and a line feed go to the front of a buffer: no such line has more than 12 bytes.
+// A word with a space after it, a number and a line feed go to the front of a buffer: no such line
+// has more than 12 bytes.
 fn put_line(out: &mut [u8], word: &[u8; 8], n: u8) -> usize
     requires { ⌜ 12 ≤ length (now out) ⌝ }
-    ensures { λ r. ⌜ Prints (now (word .entry) ++ (digits n ++ (10 ∷ []))) (now (out .entry)) r (now (out .exit)) ⌝ }
+    ensures { λ r. ⌜ Prints
+        (now (word .entry) ++ (digits n ++ (10 ∷ []))) (now (out .entry)) r (now (out .exit)) ⌝ }
 {
     let at = core_text::put_field(out, 0, word, n as u64);
     core_text::put_word(out, at, b"\n")
 }
 
-// What `plan` prints for its standard input, of which it reads one byte more than a file may have, so that a longer one is refused by 9.
+// What `plan` prints for its standard input, of which it reads one byte more than a file may have,
+// so that a longer one is refused by 9.
 pub fn print_plan(job: &[u8], out: &mut [u8; PLAN_BYTES]) -> usize
     ensures { λ r. ⌜ PrintsPlan (now (job .entry)) (now (out .entry)) r (now (out .exit)) ⌝ }
 {
@@ -322,9 +335,11 @@ pub fn print_plan(job: &[u8], out: &mut [u8; PLAN_BYTES]) -> usize
     }
 }
 
-// What `verdict` prints for the files `job` and `plan`, each read as above, and as empty if it can't be opened.
+// What `verdict` prints for the files `job` and `plan`, each read as above, and as empty if it
+// can't be opened.
 pub fn print_verdict(job: &[u8], plan: &[u8], out: &mut [u8; VERDICT_BYTES]) -> usize
-    ensures { λ r. ⌜ PrintsVerdict (now (job .entry)) (now (plan .entry)) (now (out .entry)) r (now (out .exit)) ⌝ }
+    ensures { λ r. ⌜ PrintsVerdict
+        (now (job .entry)) (now (plan .entry)) (now (out .entry)) r (now (out .exit)) ⌝ }
 {
     match verdict_files(job, plan) {
         Checked::Verdict(n) => put_line(out, b"verdict ", n),

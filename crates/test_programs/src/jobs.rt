@@ -1,7 +1,8 @@
 // A job file, printed by each of the four programs that read one.
 use libc::STDOUT_FILENO;
 
-// The bytes of a case file, one more than a file may have at most. A file that can't be opened is read as empty.
+// The bytes of a case file, one more than a file may have at most. A file that can't be opened is
+// read as empty.
 pub(crate) fn read_case(path: &[u8], file: &mut [u8; 65537]) -> usize {
     let fd = os::open_read(path);
     if fd < 0 {

@@ -1,4 +1,5 @@
--- Lemmas. A text's answer and slice as one number and a slice; how large the largest texts are. Assumes nothing.
+-- Lemmas. A text's answer and slice as one number and a slice; how large the largest texts are.
+-- Assumes nothing.
 use Prim.Native.Nat.{ℕ, _≤_}
 use mathlib.Core.Path.{_≡_, refl}
 use mathlib.Core.List.{List}

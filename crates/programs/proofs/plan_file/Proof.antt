@@ -1,3 +1,4 @@
+-- `programs::plan_file` meets its contract. Assumes nothing.
 use borrow.Author.Needs.{needs}
 use mathlib.Core.Path.{sym, _∙_}
 use Rattle.jobrecords.specs.Refusal.{oneSequence}
@@ -8,109 +9,78 @@ use Rattle.programs.proofs.Reading.{of-file, refused-one, taken}
 use Rattle.programs.proofs.Writing.{wrote-refused}
 use Rattle.programs.proofs.plan_file.Statement.{statement}
 use Rattle.programs.proofs.plan_file.Tie as tie
-use Rattle.programs.proofs.plan_file.Reads as reads
-use Rattle.programs.proofs.plan_file.Lts as lts
-use Rattle.core_prefix.proofs.bytes.Reads as bytes-reads
-use Rattle.core_prefix.proofs.halves.Reads as halves-reads
-use Rattle.core_prefix.proofs.words.Reads as words-reads
-use Rattle.jobfile.proofs.read_job.Reads as read-job-reads
-use Rattle.programs.proofs.plan_job.Reads as plan-job-reads
 
--- src/lib.rt:136:17
 cast-unset : tie.Need-cast-unset
 cast-unset c = search needs
 
--- src/lib.rt:137:16
 cast-wide : tie.Need-cast-wide
 cast-wide c = search needs
 
--- src/lib.rt:145:9
 slice-aggregate-read-job : tie.Need-slice-aggregate-read-job
 slice-aggregate-read-job c = search needs
 
--- src/lib.rt:146:9
 slice-aggregate-read-job-2 : tie.Need-slice-aggregate-read-job-2
 slice-aggregate-read-job-2 c = search needs
 
--- src/lib.rt:147:9
 slice-aggregate-read-job-3 : tie.Need-slice-aggregate-read-job-3
 slice-aggregate-read-job-3 c = search needs
 
--- src/lib.rt:148:9
 slice-aggregate-read-job-4 : tie.Need-slice-aggregate-read-job-4
 slice-aggregate-read-job-4 c = search needs
 
--- src/lib.rt:149:9
 slice-aggregate-read-job-5 : tie.Need-slice-aggregate-read-job-5
 slice-aggregate-read-job-5 c = search needs
 
--- src/lib.rt:143:11
 read-job-requires : tie.Need-read-job-requires
 read-job-requires c κs = search needs
 
--- src/lib.rt:151:26
 enum-known-n : tie.Need-enum-known-n
 enum-known-n c = search needs
 
--- src/lib.rt:153:13
 enum-known-programme : tie.Need-enum-known-programme
 enum-known-programme c = search needs
 
--- src/lib.rt:159:32
 slice-aggregate-words : tie.Need-slice-aggregate-words
 slice-aggregate-words c = search needs
 
--- src/lib.rt:159:13
 words-requires : tie.Need-words-requires
 words-requires c κs = search needs
 
--- src/lib.rt:160:33
 slice-aggregate-halves : tie.Need-slice-aggregate-halves
 slice-aggregate-halves c = search needs
 
--- src/lib.rt:160:13
 halves-requires : tie.Need-halves-requires
 halves-requires c κs = search needs
 
--- src/lib.rt:161:32
 slice-aggregate-bytes : tie.Need-slice-aggregate-bytes
 slice-aggregate-bytes c = search needs
 
--- src/lib.rt:161:13
 bytes-requires : tie.Need-bytes-requires
 bytes-requires c κs = search needs
 
--- src/lib.rt:162:32
 slice-aggregate-words-2 : tie.Need-slice-aggregate-words-2
 slice-aggregate-words-2 c = search needs
 
--- src/lib.rt:162:13
 words-requires-2 : tie.Need-words-requires-2
 words-requires-2 c κs = search needs
 
--- src/lib.rt:163:32
 slice-aggregate-words-3 : tie.Need-slice-aggregate-words-3
 slice-aggregate-words-3 c = search needs
 
--- src/lib.rt:163:13
 words-requires-3 : tie.Need-words-requires-3
 words-requires-3 c κs = search needs
 
--- src/lib.rt:157:14
 plan-job-requires : tie.Need-plan-job-requires
 plan-job-requires c κs = search needs
 
--- src/lib.rt:133:1
 returns : tie.Need-returns
 returns c =
     let known = refused-one _ _ (c .before .before .before .before .before .before .before .before .before .before .before .before .before .before .before .before .args .job .now) _ _ (c .before .before .before .before .before .before .before .before .read-job .ensures .0) (c .before .n .given .1) in
     wrote-refused Bytes Refused _ _ _ _ (known .0) (known .1)
 
--- src/lib.rt:133:1
 same-length : tie.Need-same-length
 same-length c = search needs
 
--- src/lib.rt:133:1
 returns-2 : tie.Need-returns-2
 returns-2 c =
     let read = c .before .before .before .before .before .before .before .before .before .before .before .before .before .before .before .before .before .before .before .before .before .before .read-job .ensures in

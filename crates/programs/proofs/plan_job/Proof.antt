@@ -1,108 +1,78 @@
+-- `programs::plan_job` meets its contract. Assumes nothing.
 use borrow.Author.Needs.{needs}
 use Rattle.programs.proofs.Planning.{plan-refused, plan-written}
 use Rattle.programs.proofs.plan_job.Statement.{statement}
 use Rattle.programs.proofs.plan_job.Tie as tie
-use Rattle.programs.proofs.plan_job.Reads as reads
-use Rattle.programs.proofs.plan_job.Lts as lts
-use Rattle.core_prefix.proofs.bytes.Reads as bytes-reads
-use Rattle.core_prefix.proofs.halves.Reads as halves-reads
-use Rattle.core_prefix.proofs.words.Reads as words-reads
-use Rattle.planfile.proofs.write_plan.Reads as write-plan-reads
-use Rattle.planner.proofs.plan.Reads as plan-reads
 
--- src/lib.rt:42:16
 cast-wide : tie.Need-cast-wide
 cast-wide c = search needs
 
--- src/lib.rt:55:9
 slice-aggregate-plan : tie.Need-slice-aggregate-plan
 slice-aggregate-plan c = search needs
 
--- src/lib.rt:56:9
 slice-aggregate-plan-2 : tie.Need-slice-aggregate-plan-2
 slice-aggregate-plan-2 c = search needs
 
--- src/lib.rt:57:9
 slice-aggregate-plan-3 : tie.Need-slice-aggregate-plan-3
 slice-aggregate-plan-3 c = search needs
 
--- src/lib.rt:58:9
 slice-aggregate-plan-4 : tie.Need-slice-aggregate-plan-4
 slice-aggregate-plan-4 c = search needs
 
--- src/lib.rt:59:9
 slice-aggregate-plan-5 : tie.Need-slice-aggregate-plan-5
 slice-aggregate-plan-5 c = search needs
 
--- src/lib.rt:48:9
 plan-requires : tie.Need-plan-requires
 plan-requires c κs = search needs
 
--- src/lib.rt:63:25
 enum-known-answer : tie.Need-enum-known-answer
 enum-known-answer c = search needs
 
--- src/lib.rt:64:22
 enum-known-answer-2 : tie.Need-enum-known-answer-2
 enum-known-answer-2 c = search needs
 
--- src/lib.rt:71:32
 slice-aggregate-bytes : tie.Need-slice-aggregate-bytes
 slice-aggregate-bytes c = search needs
 
--- src/lib.rt:71:40
 cast-bytes : tie.Need-cast-bytes
 cast-bytes c = search needs
 
--- src/lib.rt:71:13
 bytes-requires : tie.Need-bytes-requires
 bytes-requires c κs = search needs
 
--- src/lib.rt:72:33
 slice-aggregate-halves : tie.Need-slice-aggregate-halves
 slice-aggregate-halves c = search needs
 
--- src/lib.rt:72:13
 halves-requires : tie.Need-halves-requires
 halves-requires c κs = search needs
 
--- src/lib.rt:73:33
 slice-aggregate-halves-2 : tie.Need-slice-aggregate-halves-2
 slice-aggregate-halves-2 c = search needs
 
--- src/lib.rt:73:13
 halves-requires-2 : tie.Need-halves-requires-2
 halves-requires-2 c κs = search needs
 
--- src/lib.rt:74:32
 slice-aggregate-bytes-2 : tie.Need-slice-aggregate-bytes-2
 slice-aggregate-bytes-2 c = search needs
 
--- src/lib.rt:74:13
 bytes-requires-2 : tie.Need-bytes-requires-2
 bytes-requires-2 c κs = search needs
 
--- src/lib.rt:75:32
 slice-aggregate-words : tie.Need-slice-aggregate-words
 slice-aggregate-words c = search needs
 
--- src/lib.rt:75:13
 words-requires : tie.Need-words-requires
 words-requires c κs = search needs
 
--- src/lib.rt:64:28
 write-plan-requires : tie.Need-write-plan-requires
 write-plan-requires c κs = search needs
 
--- src/lib.rt:28:1
 returns : tie.Need-returns
 returns c = plan-refused _ (c .before .before .before .before .before .before .before .before .before .before .before .before .before .before .before .before .before .before .before .before .args .p .chunks) (c .before .before .before .before .before .before .before .before .before .before .before .before .before .before .before .before .before .before .before .before .args .p .chunks) _ _ _ (c .before .before .before .before .before .before .before .before .plan .ensures .0 .answer) (c .before .answer .given .1)
 
--- src/lib.rt:28:1
 same-length : tie.Need-same-length
 same-length c = search needs
 
--- src/lib.rt:28:1
 returns-2 : tie.Need-returns-2
 returns-2 c =
     let written = c .before .before .write-plan .ensures in

@@ -1,3 +1,4 @@
+-- `programs::print_plan` meets its contract. Assumes nothing.
 use borrow.Author.Needs.{needs}
 use native.Mathlib.Omega.{arith}
 use Rattle.jobrecords.specs.Refusal.{oneSequence}
@@ -8,34 +9,24 @@ use Rattle.programs.specs.lemmas.Plans.{plan-file-fits}
 use Rattle.programs.proofs.Printing.{plan-apart, printed-refusal, printed-text}
 use Rattle.programs.proofs.print_plan.Statement.{statement}
 use Rattle.programs.proofs.print_plan.Tie as tie
-use Rattle.programs.proofs.print_plan.Reads as reads
-use Rattle.programs.proofs.print_plan.Lts as lts
-use Rattle.programs.proofs.plan_file.Reads as plan-file-reads
-use Rattle.programs.proofs.put_line.Reads as put-line-reads
 
--- src/lib.rt:299:11
 plan-file-requires : tie.Need-plan-file-requires
 plan-file-requires c κs = search needs
 
--- src/lib.rt:300:34
 enum-known-n : tie.Need-enum-known-n
 enum-known-n c = search needs
 
--- src/lib.rt:301:36
 enum-known-n-2 : tie.Need-enum-known-n-2
 enum-known-n-2 c = search needs
 
--- src/lib.rt:301:42
 put-line-requires : tie.Need-put-line-requires
 put-line-requires c κs = search needs
 
--- src/lib.rt:296:1
 returns : tie.Need-returns
 returns c =
     printed-text Bytes Refused plan-apart oneSequence (λ j. fileOf (planOfJob j)) 64091 plan-file-fits (c .before .before .before .before .before .before .args .job .now) _ _ _ _
     (c .before .before .before .plan-file .ensures) (c .before .n .given .1) (omega arith)
 
--- src/lib.rt:296:1
 returns-2 : tie.Need-returns-2
 returns-2 c =
     printed-refusal Bytes Refused plan-apart oneSequence (λ j. fileOf (planOfJob j)) 64091 plan-file-fits (c .before .before .before .before .before .before .before .before .before .args .job .now) _ _ _ _ _ _

@@ -1,3 +1,4 @@
+-- `programs::print_reasons` meets its contract. Assumes nothing.
 use borrow.Author.Needs.{needs}
 use native.Mathlib.Omega.{arith}
 use Rattle.jobrecords.specs.Refusal.{oneSequence}
@@ -7,34 +8,24 @@ use Rattle.theory_reasons.specs.Theorems.{text-fits}
 use Rattle.programs.proofs.Printing.{reasons-apart, printed-refusal, printed-text}
 use Rattle.programs.proofs.print_reasons.Statement.{statement}
 use Rattle.programs.proofs.print_reasons.Tie as tie
-use Rattle.programs.proofs.print_reasons.Reads as reads
-use Rattle.programs.proofs.print_reasons.Lts as lts
-use Rattle.programs.proofs.put_line.Reads as put-line-reads
-use Rattle.programs.proofs.reasons_file.Reads as reasons-file-reads
 
--- src/lib.rt:329:11
 reasons-file-requires : tie.Need-reasons-file-requires
 reasons-file-requires c κs = search needs
 
--- src/lib.rt:330:33
 enum-known-n : tie.Need-enum-known-n
 enum-known-n c = search needs
 
--- src/lib.rt:331:35
 enum-known-n-2 : tie.Need-enum-known-n-2
 enum-known-n-2 c = search needs
 
--- src/lib.rt:331:41
 put-line-requires : tie.Need-put-line-requires
 put-line-requires c κs = search needs
 
--- src/lib.rt:326:1
 returns : tie.Need-returns
 returns c =
     printed-text Bytes Refused reasons-apart oneSequence planText 94000 text-fits (c .before .before .before .before .before .before .args .job .now) _ _ _ _
     (c .before .before .before .reasons-file .ensures) (c .before .n .given .1) (omega arith)
 
--- src/lib.rt:326:1
 returns-2 : tie.Need-returns-2
 returns-2 c =
     printed-refusal Bytes Refused reasons-apart oneSequence planText 94000 text-fits (c .before .before .before .before .before .before .before .before .before .args .job .now) _ _ _ _ _ _

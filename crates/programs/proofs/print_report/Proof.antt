@@ -1,3 +1,4 @@
+-- `programs::print_report` meets its contract. Assumes nothing.
 use borrow.Author.Needs.{needs}
 use native.Mathlib.Omega.{arith}
 use Rattle.jobrecords.specs.Refusal.{oneSequence}
@@ -6,34 +7,24 @@ use Rattle.report.specs.Answer.{plan-report-fits, planReport}
 use Rattle.programs.proofs.Printing.{report-apart, printed-refusal, printed-text}
 use Rattle.programs.proofs.print_report.Statement.{statement}
 use Rattle.programs.proofs.print_report.Tie as tie
-use Rattle.programs.proofs.print_report.Reads as reads
-use Rattle.programs.proofs.print_report.Lts as lts
-use Rattle.programs.proofs.put_line.Reads as put-line-reads
-use Rattle.programs.proofs.report_file.Reads as report-file-reads
 
--- src/lib.rt:319:11
 report-file-requires : tie.Need-report-file-requires
 report-file-requires c κs = search needs
 
--- src/lib.rt:320:32
 enum-known-n : tie.Need-enum-known-n
 enum-known-n c = search needs
 
--- src/lib.rt:321:34
 enum-known-n-2 : tie.Need-enum-known-n-2
 enum-known-n-2 c = search needs
 
--- src/lib.rt:321:40
 put-line-requires : tie.Need-put-line-requires
 put-line-requires c κs = search needs
 
--- src/lib.rt:316:1
 returns : tie.Need-returns
 returns c =
     printed-text Bytes Refused report-apart oneSequence planReport 7633 plan-report-fits (c .before .before .before .before .before .before .args .job .now) _ _ _ _
     (c .before .before .before .report-file .ensures) (c .before .n .given .1) (omega arith)
 
--- src/lib.rt:316:1
 returns-2 : tie.Need-returns-2
 returns-2 c =
     printed-refusal Bytes Refused report-apart oneSequence planReport 7633 plan-report-fits (c .before .before .before .before .before .before .before .before .before .args .job .now) _ _ _ _ _ _

@@ -1,31 +1,23 @@
+-- `programs::put_line` meets its contract. Assumes nothing.
 use borrow.Author.Needs.{needs}
 use native.Mathlib.Omega.{arith}
 use Rattle.programs.proofs.Writing.{prints-line, short-line}
 use Rattle.core_text.specs.lemmas.Places.{put-length}
 use Rattle.programs.proofs.put_line.Statement.{statement}
 use Rattle.programs.proofs.put_line.Tie as tie
-use Rattle.programs.proofs.put_line.Reads as reads
-use Rattle.programs.proofs.put_line.Lts as lts
-use Rattle.core_text.proofs.put_field.Reads as put-field-reads
-use Rattle.core_text.proofs.put_word.Reads as put-word-reads
 
--- src/lib.rt:291:9
 put-field-requires : tie.Need-put-field-requires
 put-field-requires c κs = omega (arith, short-line (c .before .before .before .args .word .now) (c .before .before .before .args .n) (omega arith))
 
--- src/lib.rt:292:34
 slice-aggregate-put-word : tie.Need-slice-aggregate-put-word
 slice-aggregate-put-word c = search needs
 
--- src/lib.rt:292:5
 put-word-requires : tie.Need-put-word-requires
 put-word-requires c κs = omega (arith, short-line (c .before .before .before .before .before .before .before .before .args .word .now) (c .before .before .before .before .before .before .before .before .args .n) (omega arith), put-length (c .before .before .before .before .put-field .ensures), c .before .before .before .before .put-field .ensures .place)
 
--- src/lib.rt:287:1
 same-length : tie.Need-same-length
 same-length c = search needs
 
--- src/lib.rt:287:1
 returns : tie.Need-returns
 returns c =
     let short = short-line (c .before .before .before .before .before .before .before .before .before .before .before .args .word .now) (c .before .before .before .before .before .before .before .before .before .before .before .args .n) (omega arith) in

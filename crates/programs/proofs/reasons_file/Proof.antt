@@ -1,3 +1,4 @@
+-- `programs::reasons_file` meets its contract. Assumes nothing.
 use borrow.Author.Needs.{needs}
 use mathlib.Core.Path.{sym, _∙_}
 use Rattle.jobrecords.specs.Refusal.{oneSequence}
@@ -7,109 +8,78 @@ use Rattle.programs.proofs.Reading.{of-file, refused-one, taken}
 use Rattle.programs.proofs.Writing.{wrote-refused}
 use Rattle.programs.proofs.reasons_file.Statement.{statement}
 use Rattle.programs.proofs.reasons_file.Tie as tie
-use Rattle.programs.proofs.reasons_file.Reads as reads
-use Rattle.programs.proofs.reasons_file.Lts as lts
-use Rattle.core_prefix.proofs.bytes.Reads as bytes-reads
-use Rattle.core_prefix.proofs.halves.Reads as halves-reads
-use Rattle.core_prefix.proofs.words.Reads as words-reads
-use Rattle.jobfile.proofs.read_job.Reads as read-job-reads
-use Rattle.reasons.proofs.reasons.Reads as reasons-reads
 
--- src/lib.rt:247:17
 cast-unset : tie.Need-cast-unset
 cast-unset c = search needs
 
--- src/lib.rt:248:16
 cast-wide : tie.Need-cast-wide
 cast-wide c = search needs
 
--- src/lib.rt:256:9
 slice-aggregate-read-job : tie.Need-slice-aggregate-read-job
 slice-aggregate-read-job c = search needs
 
--- src/lib.rt:257:9
 slice-aggregate-read-job-2 : tie.Need-slice-aggregate-read-job-2
 slice-aggregate-read-job-2 c = search needs
 
--- src/lib.rt:258:9
 slice-aggregate-read-job-3 : tie.Need-slice-aggregate-read-job-3
 slice-aggregate-read-job-3 c = search needs
 
--- src/lib.rt:259:9
 slice-aggregate-read-job-4 : tie.Need-slice-aggregate-read-job-4
 slice-aggregate-read-job-4 c = search needs
 
--- src/lib.rt:260:9
 slice-aggregate-read-job-5 : tie.Need-slice-aggregate-read-job-5
 slice-aggregate-read-job-5 c = search needs
 
--- src/lib.rt:254:11
 read-job-requires : tie.Need-read-job-requires
 read-job-requires c κs = search needs
 
--- src/lib.rt:262:26
 enum-known-n : tie.Need-enum-known-n
 enum-known-n c = search needs
 
--- src/lib.rt:264:13
 enum-known-programme : tie.Need-enum-known-programme
 enum-known-programme c = search needs
 
--- src/lib.rt:270:32
 slice-aggregate-words : tie.Need-slice-aggregate-words
 slice-aggregate-words c = search needs
 
--- src/lib.rt:270:13
 words-requires : tie.Need-words-requires
 words-requires c κs = search needs
 
--- src/lib.rt:271:33
 slice-aggregate-halves : tie.Need-slice-aggregate-halves
 slice-aggregate-halves c = search needs
 
--- src/lib.rt:271:13
 halves-requires : tie.Need-halves-requires
 halves-requires c κs = search needs
 
--- src/lib.rt:272:32
 slice-aggregate-bytes : tie.Need-slice-aggregate-bytes
 slice-aggregate-bytes c = search needs
 
--- src/lib.rt:272:13
 bytes-requires : tie.Need-bytes-requires
 bytes-requires c κs = search needs
 
--- src/lib.rt:273:32
 slice-aggregate-words-2 : tie.Need-slice-aggregate-words-2
 slice-aggregate-words-2 c = search needs
 
--- src/lib.rt:273:13
 words-requires-2 : tie.Need-words-requires-2
 words-requires-2 c κs = search needs
 
--- src/lib.rt:274:32
 slice-aggregate-words-3 : tie.Need-slice-aggregate-words-3
 slice-aggregate-words-3 c = search needs
 
--- src/lib.rt:274:13
 words-requires-3 : tie.Need-words-requires-3
 words-requires-3 c κs = search needs
 
--- src/lib.rt:268:14
 reasons-requires : tie.Need-reasons-requires
 reasons-requires c κs = search needs
 
--- src/lib.rt:244:1
 returns : tie.Need-returns
 returns c =
     let known = refused-one _ _ (c .before .before .before .before .before .before .before .before .before .before .before .before .before .before .before .before .args .job .now) _ _ (c .before .before .before .before .before .before .before .before .read-job .ensures .0) (c .before .n .given .1) in
     wrote-refused Bytes Refused _ _ _ _ (known .0) (known .1)
 
--- src/lib.rt:244:1
 same-length : tie.Need-same-length
 same-length c = search needs
 
--- src/lib.rt:244:1
 returns-2 : tie.Need-returns-2
 returns-2 c =
     let read = c .before .before .before .before .before .before .before .before .before .before .before .before .before .before .before .before .before .before .before .before .before .before .read-job .ensures in

@@ -1,107 +1,78 @@
+-- `programs::verdict_files` meets its contract. Assumes nothing.
 use borrow.Author.Needs.{needs}
 use Rattle.jobrecords.specs.Refusal.{oneSequence}
 use Rattle.programs.proofs.Judging.{files-judged, files-refused}
 use Rattle.programs.proofs.Reading.{refused-one, taken}
 use Rattle.programs.proofs.verdict_files.Statement.{statement}
 use Rattle.programs.proofs.verdict_files.Tie as tie
-use Rattle.programs.proofs.verdict_files.Reads as reads
-use Rattle.programs.proofs.verdict_files.Lts as lts
-use Rattle.core_prefix.proofs.bytes.Reads as bytes-reads
-use Rattle.core_prefix.proofs.halves.Reads as halves-reads
-use Rattle.core_prefix.proofs.words.Reads as words-reads
-use Rattle.jobfile.proofs.read_job.Reads as read-job-reads
-use Rattle.programs.proofs.verdict_job.Reads as verdict-job-reads
 
--- src/lib.rt:173:17
 cast-unset : tie.Need-cast-unset
 cast-unset c = search needs
 
--- src/lib.rt:174:16
 cast-wide : tie.Need-cast-wide
 cast-wide c = search needs
 
--- src/lib.rt:182:9
 slice-aggregate-read-job : tie.Need-slice-aggregate-read-job
 slice-aggregate-read-job c = search needs
 
--- src/lib.rt:183:9
 slice-aggregate-read-job-2 : tie.Need-slice-aggregate-read-job-2
 slice-aggregate-read-job-2 c = search needs
 
--- src/lib.rt:184:9
 slice-aggregate-read-job-3 : tie.Need-slice-aggregate-read-job-3
 slice-aggregate-read-job-3 c = search needs
 
--- src/lib.rt:185:9
 slice-aggregate-read-job-4 : tie.Need-slice-aggregate-read-job-4
 slice-aggregate-read-job-4 c = search needs
 
--- src/lib.rt:186:9
 slice-aggregate-read-job-5 : tie.Need-slice-aggregate-read-job-5
 slice-aggregate-read-job-5 c = search needs
 
--- src/lib.rt:180:11
 read-job-requires : tie.Need-read-job-requires
 read-job-requires c κs = search needs
 
--- src/lib.rt:188:26
 enum-known-n : tie.Need-enum-known-n
 enum-known-n c = search needs
 
--- src/lib.rt:190:13
 enum-known-programme : tie.Need-enum-known-programme
 enum-known-programme c = search needs
 
--- src/lib.rt:196:32
 slice-aggregate-words : tie.Need-slice-aggregate-words
 slice-aggregate-words c = search needs
 
--- src/lib.rt:196:13
 words-requires : tie.Need-words-requires
 words-requires c κs = search needs
 
--- src/lib.rt:197:33
 slice-aggregate-halves : tie.Need-slice-aggregate-halves
 slice-aggregate-halves c = search needs
 
--- src/lib.rt:197:13
 halves-requires : tie.Need-halves-requires
 halves-requires c κs = search needs
 
--- src/lib.rt:198:32
 slice-aggregate-bytes : tie.Need-slice-aggregate-bytes
 slice-aggregate-bytes c = search needs
 
--- src/lib.rt:198:13
 bytes-requires : tie.Need-bytes-requires
 bytes-requires c κs = search needs
 
--- src/lib.rt:199:32
 slice-aggregate-words-2 : tie.Need-slice-aggregate-words-2
 slice-aggregate-words-2 c = search needs
 
--- src/lib.rt:199:13
 words-requires-2 : tie.Need-words-requires-2
 words-requires-2 c κs = search needs
 
--- src/lib.rt:200:32
 slice-aggregate-words-3 : tie.Need-slice-aggregate-words-3
 slice-aggregate-words-3 c = search needs
 
--- src/lib.rt:200:13
 words-requires-3 : tie.Need-words-requires-3
 words-requires-3 c κs = search needs
 
--- src/lib.rt:194:14
 verdict-job-requires : tie.Need-verdict-job-requires
 verdict-job-requires c κs = search needs
 
--- src/lib.rt:170:1
 returns : tie.Need-returns
 returns c =
     files-refused _ (c .before .before .before .before .before .before .before .before .before .before .before .before .before .before .before .before .args .plan .now) _ (refused-one _ _ (c .before .before .before .before .before .before .before .before .before .before .before .before .before .before .before .before .args .job .now) _ _ (c .before .before .before .before .before .before .before .before .read-job .ensures .0) (c .before .n .given .1))
 
--- src/lib.rt:170:1
 returns-2 : tie.Need-returns-2
 returns-2 c =
     let read = c .before .before .before .before .before .before .before .before .before .before .before .before .before .before .before .before .before .before .before .read-job .ensures in

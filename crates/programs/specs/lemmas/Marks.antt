@@ -1,4 +1,5 @@
--- Lemmas. A plan file that is not refused has a mark for each chunk: its records end at EN, where none may lack. Assumes nothing.
+-- Lemmas. A plan file that is not refused has a mark for each chunk: its records end at EN, where
+-- none may lack. Assumes nothing.
 use Prim.Native.Nat.{ℕ, zero, suc, _+_, _≤_}
 use mathlib.Core.Path.{_≡_}
 use mathlib.Core.List.{List}

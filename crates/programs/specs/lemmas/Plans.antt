@@ -1,4 +1,5 @@
--- Lemmas. The plan of an accepted job as its file has it: a mark a chunk, at most 5,599 rows, every field within its width. Assumes nothing.
+-- Lemmas. The plan of an accepted job as its file has it: a mark a chunk, at most 5,599 rows, every
+-- field within its width. Assumes nothing.
 use Prim.Native.Nat.{ℕ, zero, suc, _+_, _-_, _^_, _≤_, _<_}
 use mathlib.Core.Path.{_≡_}
 use mathlib.Core.Bool.{Bool}
