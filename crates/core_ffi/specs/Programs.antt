@@ -12,8 +12,8 @@ use Rattle.jobfile.specs.Writer.{jobFile}
 use Rattle.planfile.specs.PlanFile.{fileOf}
 use Rattle.report.specs.Answer.{planReport}
 use Rattle.theory_reasons.specs.Lines.{planText}
-use Rattle.programs.specs.Calls.{withRoom}
-use Rattle.programs.specs.Printed.{filesRefusal, jobFileRefusal, jobSaid, planOfJob, verdictOfFiles}
+use Rattle.whole_files.specs.Calls.{withRoom}
+use Rattle.whole_files.specs.Files.{filesRefusal, jobFileRefusal, jobSaid, planOfJob, verdictOfFiles}
 use Rattle.core_ffi.specs.Convention.{answered}
 
 -- The answer, and the lent slice afterwards.

@@ -40,9 +40,9 @@ use Rattle.trace.specs.Trace.{traceRefusal}
 use Rattle.meter.specs.Forecast.{bytesOf, forecastOf, forecastRefusal as meterRefusal}
 use Rattle.meter.specs.Meter.{samplesOf}
 use Rattle.meter.specs.Promises.{forecast-iff, forecast-says}
-use Rattle.programs.specs.Printed.{jobFileRefusal, jobSaid, planOfJob}
+use Rattle.whole_files.specs.Files.{jobFileRefusal, jobSaid, planOfJob}
 use Rattle.programs.specs.Theorems.{said-accepted}
-use Rattle.programs.specs.lemmas.Plans.{plan-file-fits}
+use Rattle.whole_files.specs.lemmas.Plans.{plan-file-fits}
 use Rattle.core_ffi.specs.Meters.{Storage, cellsRefusal, meanRefusal, meterIn}
 use Rattle.core_ffi.specs.lemmas.Largest.{marks-long}
 pub use Rattle.core_ffi.specs.lemmas.Largest.{verdict-few, verdict-from-few, word-few}

@@ -1,6 +1,3 @@
-pub mod Fronts
 pub mod Judging
-pub mod Planning
 pub mod Printing
-pub mod Reading
 pub mod Writing

@@ -13,7 +13,8 @@ use Rattle.jobfile.specs.declared.Written.the-variants as jobFile
 use Rattle.planfile.specs.declared.Written.the-variants as planFile
 use Rattle.report.specs.declared.Written.the-variants as reported
 use Rattle.reasons.specs.declared.Written.the-variants as told
-use Rattle.programs.specs.Calls.{Prints, Wrote}
+use Rattle.whole_files.specs.Calls.{Wrote}
+use Rattle.programs.specs.Calls.{Prints}
 use Rattle.programs.specs.Printed.{printed, refusedText}
 use Rattle.programs.proofs.Writing.{Apart, prints-refusal, prints-text}
 

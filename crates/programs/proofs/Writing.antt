@@ -17,12 +17,10 @@ use Rattle.theory_basics.specs.lemmas.Digits.{digits-few}
 use Rattle.theory_basics.specs.lemmas.Refusals.{orElse-some}
 use Rattle.theory_basics.specs.lemmas.Tests.{by-cond, test}
 use Rattle.core_text.specs.lemmas.Places.{Put, put-then, put-whole}
-use Rattle.programs.specs.Calls.{Prints, Wrote, withRoom}
+use Rattle.whole_files.specs.Calls.{Wrote, withRoom}
+use Rattle.whole_files.proofs.Writing.{never-second}
+use Rattle.programs.specs.Calls.{Prints}
 use Rattle.programs.specs.Printed.{printed, refusedText}
-
--- A second refusal that never applies where the first doesn't.
-pub never-second : (a b : ℕ) → (a ≡ 0 → b ≡ 0) → (a orElse b) ≡ a
-never-second a b h = by-cond (λ (r : ℕ). r ≡ a) (eqb a 0) (λ t. let e = eqb→eq a 0 t in h e ∙ sym e) (λ t. refl)
 
 -- A library's two kinds of answer.
 pub record Apart {A : Type 0} (bytes refusal : ℕ → A) : Type 0 where
@@ -31,13 +29,6 @@ pub record Apart {A : Type 0} (bytes refusal : ℕ → A) : Type 0 where
   pub never : (m n : ℕ) → bytes m ≡ refusal n → ⊥
 
 module _ {A : Type 0} (bytes refusal : ℕ → A) where
-  -- A refusal that comes from the input leaves the buffer as it is.
-  pub wrote-refused : (refused n : ℕ) (text old : List ℕ) → refused ≡ n → (n ≡ 0 → ⊥) → Wrote bytes refusal refused text old (refusal n) old
-  wrote-refused refused n text old e z =
-      let s : refused ≡ 0 → ⊥ = λ o. z (sym e ∙ o) in
-      let r : withRoom refused text old ≡ n = orElse-some refused (unless 11 (leb (length text) (length old))) s ∙ e in
-      record { answer = rw (r, ne-eqb n 0 z); buffer = rw (r, ne-eqb n 0 z) }
-
   module _ (apart : Apart bytes refusal) (refused : ℕ) (text old new : List ℕ) (room : refused ≡ 0 → length text ≤ length old) where
     -- A buffer that holds the text is never refused by 11.
     never-eleven : withRoom refused text old ≡ refused

@@ -1,37 +1,11 @@
--- Meaning. What the calls answer, and the lent buffer afterwards. Those that a program makes are
--- lent a buffer that holds whatever is printed and answer how many bytes that is; those for callers
--- who have files, the kit's, answer as the library's own calls do, the result or a refusal, and are
--- lent any buffer: "11. A lent buffer is shorter than the whole result, after all input refusals.
--- In a longer one the bytes past the result stay unchanged."
+-- Meaning. What the function of each program answers, and the lent buffer afterwards: how many bytes
+-- are to be printed, and these in front of what the buffer held.
 use Prim.Native.Nat.{ℕ}
 use mathlib.Core.Path.{_≡_}
-use mathlib.Core.Bool.{cond}
 use mathlib.Core.List.{List}
 use lib.ListN.{length}
-use lib.Dec.{leb, eqb}
-use Rattle.theory_basics.specs.Lent.{over, lentAfter}
-use Rattle.theory_basics.specs.Refusals.{unless, _orElse_}
-use Rattle.job.specs.Job.{chunks}
-use Rattle.job.specs.Handed.{HandedJob, jobIn, jobRefusal}
-use Rattle.records.specs.File.{fileRefusal}
-use Rattle.jobrecords.specs.Refusal.{mixed, refusalOf, jobOfFile}
-use Rattle.jobfile.specs.Writer.{jobFile}
-use Rattle.planfile.specs.PlanFile.{format, planIn, fileOf}
-use Rattle.report.specs.Answer.{planReport}
-use Rattle.theory_reasons.specs.Lines.{planText}
-use Rattle.planfile.specs.declared.Written.{Written as PlanWritten}
-use Rattle.planfile.specs.declared.Written.the-variants as planFile
-use Rattle.report.specs.declared.Written.{Written as Reported}
-use Rattle.report.specs.declared.Written.the-variants as reported
-use Rattle.reasons.specs.declared.Written.{Written as Told}
-use Rattle.reasons.specs.declared.Written.the-variants as told
-use Rattle.jobfile.specs.declared.Written.{Written as JobWritten}
-use Rattle.jobfile.specs.declared.Written.the-variants as jobFile
-use Rattle.checker.specs.declared.Checked.{Checked}
-use Rattle.checker.specs.Checked.{answer}
-use Rattle.programs.specs.Printed.{jobFileRefusal, jobSaid, planOfJob, filesRefusal, verdictOfPlan, verdictOfFiles, planPrinted, verdictPrinted, reportPrinted, reasonsPrinted, convertPrinted}
-
--- ---- what a program prints
+use Rattle.theory_basics.specs.Lent.{over}
+use Rattle.programs.specs.Printed.{planPrinted, verdictPrinted, reportPrinted, reasonsPrinted, convertPrinted}
 
 -- The number of bytes of a text, and the text in front of what the buffer held.
 pub record Prints (text old : List ℕ) (count : ℕ) (new : List ℕ) : Type 0 where
@@ -53,48 +27,3 @@ PrintsReasons job old count new = Prints (reasonsPrinted job) old count new
 
 abbrev pub PrintsConverted : (job old : List ℕ) (count : ℕ) (new : List ℕ) → Type 0
 PrintsConverted job old count new = Prints (convertPrinted job) old count new
-
--- ---- what a caller who has files is answered
-
--- The refusal that comes from the input, then 11.
-abbrev pub withRoom : ℕ → (text old : List ℕ) → ℕ
-withRoom refused text old = refused orElse unless 11 (leb (length text) (length old))
-
--- `bytes n` is the library's answer with a result of n bytes, `refusal n` its answer with refusal
--- n.
-pub record Wrote {A : Type 0} (bytes refusal : ℕ → A) (refused : ℕ) (text old : List ℕ) (r : A) (new : List ℕ) : Type 0 where
-  pub answer : r ≡ cond (eqb (withRoom refused text old) 0) (bytes (length text)) (refusal (withRoom refused text old))
-  pub buffer : new ≡ lentAfter (withRoom refused text old) text old
-
--- The plan file, the report and the reasons of the job of a file; the job of a mixed file in one
--- sequence.
-abbrev pub PlanOfFile : (job old : List ℕ) → PlanWritten → (new : List ℕ) → Type 0
-PlanOfFile job old r new =
-    Wrote planFile.Bytes planFile.Refused (jobFileRefusal job) (fileOf (planOfJob (jobSaid job))) old r new
-
-abbrev pub ReportOfFile : (job old : List ℕ) → Reported → (new : List ℕ) → Type 0
-ReportOfFile job old r new =
-    Wrote reported.Bytes reported.Refused (jobFileRefusal job) (planReport (jobSaid job)) old r new
-
-abbrev pub ReasonsOfFile : (job old : List ℕ) → Told → (new : List ℕ) → Type 0
-ReasonsOfFile job old r new =
-    Wrote told.Bytes told.Refused (jobFileRefusal job) (planText (jobSaid job)) old r new
-
-abbrev pub ConvertedFile : (job old : List ℕ) → JobWritten → (new : List ℕ) → Type 0
-ConvertedFile job old r new =
-    Wrote jobFile.Bytes jobFile.Refused (refusalOf mixed job) (jobFile (jobOfFile mixed job)) old r new
-
--- The verdict on a plan file, or the refusal of either file.
-abbrev pub verdictAnswer : (job plan : List ℕ) → Checked
-verdictAnswer job plan = answer (filesRefusal job plan) (verdictOfFiles job plan)
-
--- ---- the same for a job as a direct call hands it over
-
-abbrev pub PlanOfJob : HandedJob → (old : List ℕ) → PlanWritten → (new : List ℕ) → Type 0
-PlanOfJob h old r new = Wrote planFile.Bytes planFile.Refused (jobRefusal h) (fileOf (planOfJob (jobIn h))) old r new
-
-abbrev pub verdictOnFile : HandedJob → (plan : List ℕ) → Checked
-verdictOnFile h plan =
-    answer
-    (jobRefusal h orElse fileRefusal (format (chunks (jobIn h))) plan)
-    (verdictOfPlan (jobIn h) (planIn (chunks (jobIn h)) plan))

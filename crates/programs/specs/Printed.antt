@@ -8,19 +8,13 @@ use Prim.Native.Nat.{ℕ}
 use mathlib.Core.Bool.{cond}
 use mathlib.Core.List.{List, [], _∷_}
 use lib.Dec.{eqb}
-use Rattle.theory_basics.specs.Refusals.{_orElse_}
 use Rattle.theory_basics.specs.Text.{ascii, digits, line}
-use Rattle.records.specs.File.{fileRefusal}
-use Rattle.job.specs.Job.{Job, chunks}
-use Rattle.jobrecords.specs.Refusal.{oneSequence, mixed, refusalOf, jobOfFile}
+use Rattle.jobrecords.specs.Refusal.{mixed, refusalOf, jobOfFile}
 use Rattle.jobfile.specs.Writer.{jobFile}
-use Rattle.fetch.specs.Verdict.{verdict}
-use Rattle.planfile.specs.PlanFile.{format, Plan, planIn, fileOf}
-use Rattle.theory_plan.specs.Plan.{plan}
-use Rattle.theory_plan.specs.Statement.{marksOf}
-use Rattle.planner.specs.Answer.{planRows}
+use Rattle.planfile.specs.PlanFile.{fileOf}
 use Rattle.report.specs.Answer.{planReport}
 use Rattle.theory_reasons.specs.Lines.{planText}
+use Rattle.whole_files.specs.Files.{filesRefusal, jobFileRefusal, jobSaid, planOfJob, verdictOfFiles}
 
 -- ---- the two short lines
 
@@ -37,18 +31,6 @@ abbrev pub printed : ℕ → List ℕ → List ℕ
 printed refused text = cond (eqb refused 0) text (refusedText refused)
 
 -- ---- a job file
-
--- The refusal of a job file, and the job that it says: the programs but `convert` read it in one
--- sequence.
-abbrev pub jobFileRefusal : List ℕ → ℕ
-jobFileRefusal file = refusalOf oneSequence file
-
-abbrev pub jobSaid : List ℕ → Job
-jobSaid file = jobOfFile oneSequence file
-
--- "its plan is the marks, rows and counts that the planner .. hands over": what of it goes on file.
-abbrev pub planOfJob : Job → Plan
-planOfJob j = record { marks = marksOf j (plan j); rows = planRows j }
 
 -- `plan`: the plan file of the job.
 abbrev pub planPrinted : (job : List ℕ) → List ℕ
@@ -67,18 +49,6 @@ abbrev pub convertPrinted : (job : List ℕ) → List ℕ
 convertPrinted job = printed (refusalOf mixed job) (jobFile (jobOfFile mixed job))
 
 -- ---- a job file and a plan file
-
--- "reads the files `job`, then `plan`": the job file's refusal, then the plan file's. "C comes from
--- the job."
-abbrev pub filesRefusal : (job plan : List ℕ) → ℕ
-filesRefusal job plan = jobFileRefusal job orElse fileRefusal (format (chunks (jobSaid job))) plan
-
--- The verdict on the marks and rows of the plan file.
-abbrev pub verdictOfPlan : Job → Plan → ℕ
-verdictOfPlan j plan = verdict j (plan .marks) (plan .rows)
-
-abbrev pub verdictOfFiles : (job plan : List ℕ) → ℕ
-verdictOfFiles job plan = verdictOfPlan (jobSaid job) (planIn (chunks (jobSaid job)) plan)
 
 -- `verdict`: the verdict's line.
 abbrev pub verdictPrinted : (job plan : List ℕ) → List ℕ

@@ -23,8 +23,9 @@ use Rattle.planfile.specs.Theorems.{ReadsBackAs, plan-reads-back}
 use Rattle.theory_plan.specs.Plan.{plan}
 use Rattle.theory_plan.specs.Statement.{marksOf}
 use Rattle.planner.specs.Answer.{planRows}
-use Rattle.programs.specs.Printed.{convertPrinted, filesRefusal, jobFileRefusal, jobSaid, planOfJob, planPrinted, reasonsPrinted, refusedText, reportPrinted, verdictOfFiles, verdictOfPlan, verdictPrinted, verdictText}
-use Rattle.programs.specs.lemmas.Plans.{plan-file-fits, plan-in-width, plan-keeps, plan-marks-long}
+use Rattle.whole_files.specs.Files.{filesRefusal, jobFileRefusal, jobSaid, planOfJob, verdictOfFiles, verdictOfPlan}
+use Rattle.programs.specs.Printed.{convertPrinted, planPrinted, reasonsPrinted, refusedText, reportPrinted, verdictPrinted, verdictText}
+use Rattle.whole_files.specs.lemmas.Plans.{plan-file-fits, plan-in-width, plan-keeps, plan-marks-long}
 
 -- ---- the plan file that is printed
 

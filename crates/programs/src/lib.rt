@@ -1,20 +1,13 @@
-// What the programs do, on whole files in memory: for each program the bytes to be printed, and the
-// same work for callers who have files and lend a buffer of any length. A program reads, calls its
-// function here and writes; what is read and written no contract can say.
+// What each program prints for the files that it reads, into a buffer that holds it whatever the files
+// are. A program reads, calls its function here and writes; what is read and written no contract can
+// say.
 use checker::Checked;
-use job::Programme;
-use jobrecords::JobRead;
-use planfile::PlanRead;
-use planner::Answer;
-ghost use mathlib.Core.Path.{_≡_};
 ghost use mathlib.Core.List.{[], _∷_, _++_};
 ghost use Prim.Native.Nat.{_≤_};
 ghost use lib.ListN.{length};
 ghost use Rattle.theory_basics.specs.Text.{digits};
-ghost use Rattle.job.specs.Handed.{handed};
 ghost use Rattle.programs.specs.Calls.{Prints, PrintsConverted, PrintsPlan, PrintsReasons, PrintsReport};
-ghost use Rattle.programs.specs.Calls.{ConvertedFile, PlanOfFile, ReasonsOfFile, ReportOfFile, verdictAnswer};
-ghost use Rattle.programs.specs.Calls.{PlanOfJob, PrintsVerdict, verdictOnFile};
+ghost use Rattle.programs.specs.Calls.{PrintsVerdict};
 
 // What each program prints at most, by theorem: lemmas.Plans.plan-file-fits, report's
 // Answer.plan-report-fits, theory_reasons' text-fits, jobfile's file-short; a word and three digits.
@@ -27,291 +20,6 @@ pub const REPORT_BYTES: usize = 7633;
 pub const REASONS_BYTES: usize = 94000;
 
 pub const CONVERTED_BYTES: usize = 46800;
-
-// The plan file of a job. The local slices hold any plan: a mark a chunk, 5,599 rows. What is filled
-// with no constant is stored in wide words, faster than cleared.
-fn plan_job(
-    p: Programme,
-    sizes: &[u32],
-    size_chunks: &[u16],
-    size_layers: &[u8],
-    size_bytes: &[u32],
-    forecast: &[u32],
-    out: &mut [u8],
-) -> planfile::Written
-    ensures { λ r. ⌜ PlanOfJob
-        (handed p (now (sizes .entry)) (now («size_chunks» .entry)) (now («size_layers» .entry))
-        (now («size_bytes» .entry)) (now (forecast .entry)))
-        (now (out .entry)) r (now (out .exit)) ⌝ }
-{
-    let unset = p.chunks;
-    let wide = unset as u32;
-    let mut marks = [0u8; 500];
-    let mut slots = [unset; 5599];
-    let mut chunks = [unset; 5599];
-    let mut layers = [0u8; 5599];
-    let mut bytes = [wide; 5599];
-    let made = planner::plan(
-        p,
-        sizes,
-        size_chunks,
-        size_layers,
-        size_bytes,
-        forecast,
-        &mut marks,
-        &mut slots,
-        &mut chunks,
-        &mut layers,
-        &mut bytes,
-    );
-    let answer = made.answer;
-    match answer {
-        Answer::Refused(n) => planfile::Written::Refused(n),
-        Answer::Rows(n) => planfile::write_plan(
-            p,
-            sizes,
-            size_chunks,
-            size_layers,
-            size_bytes,
-            forecast,
-            core_prefix::bytes(&marks, p.chunks as usize),
-            core_prefix::halves(&slots, n),
-            core_prefix::halves(&chunks, n),
-            core_prefix::bytes(&layers, n),
-            core_prefix::words(&bytes, n),
-            out,
-        ),
-    }
-}
-
-// The verdict on a plan file of a job. The local slices hold any plan file: 500 marks, 5,957 rows.
-fn verdict_job(
-    p: Programme,
-    sizes: &[u32],
-    size_chunks: &[u16],
-    size_layers: &[u8],
-    size_bytes: &[u32],
-    forecast: &[u32],
-    plan: &[u8],
-) -> Checked
-    ensures { λ r. ⌜ r ≡ verdictOnFile
-        (handed p (now (sizes .entry)) (now («size_chunks» .entry)) (now («size_layers» .entry))
-        (now («size_bytes» .entry)) (now (forecast .entry)))
-        (now (plan .entry)) ⌝ }
-{
-    let mut marks = [0u8; 500];
-    let mut slots = [0u16; 5957];
-    let mut chunks = [0u16; 5957];
-    let mut layers = [0u8; 5957];
-    let mut bytes = [0u32; 5957];
-    match planfile::read_plan(
-        p,
-        sizes,
-        size_chunks,
-        size_layers,
-        size_bytes,
-        forecast,
-        plan,
-        &mut marks,
-        &mut slots,
-        &mut chunks,
-        &mut layers,
-        &mut bytes,
-    ) {
-        PlanRead::Refused(n) => Checked::Refused(n),
-        PlanRead::Rows(rows) => checker::check(
-            p,
-            sizes,
-            size_chunks,
-            size_layers,
-            size_bytes,
-            forecast,
-            core_prefix::bytes(&marks, p.chunks as usize),
-            core_prefix::halves(&slots, rows),
-            core_prefix::halves(&chunks, rows),
-            core_prefix::bytes(&layers, rows),
-            core_prefix::words(&bytes, rows),
-        ),
-    }
-}
-
-// The plan file of the job of a file, into a lent buffer. Refused: the job file's number, then 11
-// where the buffer is shorter than the plan file. On a refusal the buffer stays as it is. The local
-// slices hold any job; they are filled with no constant, as above.
-pub fn plan_file(job: &[u8], out: &mut [u8]) -> planfile::Written
-    ensures { λ r. ⌜ PlanOfFile (now (job .entry)) (now (out .entry)) r (now (out .exit)) ⌝ }
-{
-    let unset = (job.len() % 65536) as u16;
-    let wide = unset as u32;
-    let mut sizes = [0u32; 4];
-    let mut size_chunks = [unset; 1996];
-    let mut size_layers = [0u8; 1996];
-    let mut size_bytes = [wide; 1996];
-    let mut forecast = [wide; 3600];
-    match jobfile::read_job(
-        job,
-        &mut sizes,
-        &mut size_chunks,
-        &mut size_layers,
-        &mut size_bytes,
-        &mut forecast,
-    ) {
-        JobRead::Refused(n) => planfile::Written::Refused(n),
-        JobRead::Job {
-            programme,
-            layers,
-            overrides,
-            slots,
-        } => plan_job(
-            programme,
-            core_prefix::words(&sizes, layers),
-            core_prefix::halves(&size_chunks, overrides),
-            core_prefix::bytes(&size_layers, overrides),
-            core_prefix::words(&size_bytes, overrides),
-            core_prefix::words(&forecast, slots),
-            out,
-        ),
-    }
-}
-
-// The verdict on a plan file for the job of a job file. Refused: the job file's number, then the
-// plan file's.
-pub fn verdict_files(job: &[u8], plan: &[u8]) -> Checked
-    ensures { λ r. ⌜ r ≡ verdictAnswer (now (job .entry)) (now (plan .entry)) ⌝ }
-{
-    let unset = (job.len() % 65536) as u16;
-    let wide = unset as u32;
-    let mut sizes = [0u32; 4];
-    let mut size_chunks = [unset; 1996];
-    let mut size_layers = [0u8; 1996];
-    let mut size_bytes = [wide; 1996];
-    let mut forecast = [wide; 3600];
-    match jobfile::read_job(
-        job,
-        &mut sizes,
-        &mut size_chunks,
-        &mut size_layers,
-        &mut size_bytes,
-        &mut forecast,
-    ) {
-        JobRead::Refused(n) => Checked::Refused(n),
-        JobRead::Job {
-            programme,
-            layers,
-            overrides,
-            slots,
-        } => verdict_job(
-            programme,
-            core_prefix::words(&sizes, layers),
-            core_prefix::halves(&size_chunks, overrides),
-            core_prefix::bytes(&size_layers, overrides),
-            core_prefix::words(&size_bytes, overrides),
-            core_prefix::words(&forecast, slots),
-            plan,
-        ),
-    }
-}
-
-// The report of the job of a file, into a lent buffer. Refused as plan_file.
-pub fn report_file(job: &[u8], out: &mut [u8]) -> report::Written
-    ensures { λ r. ⌜ ReportOfFile (now (job .entry)) (now (out .entry)) r (now (out .exit)) ⌝ }
-{
-    let unset = (job.len() % 65536) as u16;
-    let wide = unset as u32;
-    let mut sizes = [0u32; 4];
-    let mut size_chunks = [unset; 1996];
-    let mut size_layers = [0u8; 1996];
-    let mut size_bytes = [wide; 1996];
-    let mut forecast = [wide; 3600];
-    match jobfile::read_job(
-        job,
-        &mut sizes,
-        &mut size_chunks,
-        &mut size_layers,
-        &mut size_bytes,
-        &mut forecast,
-    ) {
-        JobRead::Refused(n) => report::Written::Refused(n),
-        JobRead::Job {
-            programme,
-            layers,
-            overrides,
-            slots,
-        } => report::report(
-            programme,
-            core_prefix::words(&sizes, layers),
-            core_prefix::halves(&size_chunks, overrides),
-            core_prefix::bytes(&size_layers, overrides),
-            core_prefix::words(&size_bytes, overrides),
-            core_prefix::words(&forecast, slots),
-            out,
-        ),
-    }
-}
-
-// The reasons under the layers that the plan of the job of a file lacks, into a lent buffer.
-// Refused as plan_file.
-pub fn reasons_file(job: &[u8], out: &mut [u8]) -> reasons::Written
-    ensures { λ r. ⌜ ReasonsOfFile (now (job .entry)) (now (out .entry)) r (now (out .exit)) ⌝ }
-{
-    let unset = (job.len() % 65536) as u16;
-    let wide = unset as u32;
-    let mut sizes = [0u32; 4];
-    let mut size_chunks = [unset; 1996];
-    let mut size_layers = [0u8; 1996];
-    let mut size_bytes = [wide; 1996];
-    let mut forecast = [wide; 3600];
-    match jobfile::read_job(
-        job,
-        &mut sizes,
-        &mut size_chunks,
-        &mut size_layers,
-        &mut size_bytes,
-        &mut forecast,
-    ) {
-        JobRead::Refused(n) => reasons::Written::Refused(n),
-        JobRead::Job {
-            programme,
-            layers,
-            overrides,
-            slots,
-        } => reasons::reasons(
-            programme,
-            core_prefix::words(&sizes, layers),
-            core_prefix::halves(&size_chunks, overrides),
-            core_prefix::bytes(&size_layers, overrides),
-            core_prefix::words(&size_bytes, overrides),
-            core_prefix::words(&forecast, slots),
-            out,
-        ),
-    }
-}
-
-// The job of a mixed file in one sequence, into a lent buffer. Refused: the mixed file's number,
-// then 11. A mixed file has no SZ: to its reader an SZ is an unknown mark, 2.
-pub fn convert_file(job: &[u8], out: &mut [u8]) -> jobfile::Written
-    ensures { λ r. ⌜ ConvertedFile (now (job .entry)) (now (out .entry)) r (now (out .exit)) ⌝ }
-{
-    let mut sizes = [0u32; 4];
-    let mut forecast = [0u32; 3600];
-    match jobfile::read_mixed_job(job, &mut sizes, &mut forecast) {
-        JobRead::Refused(n) => jobfile::Written::Refused(n),
-        JobRead::Job {
-            programme,
-            layers,
-            overrides: _,
-            slots,
-        } => jobfile::write_job(
-            programme,
-            core_prefix::words(&sizes, layers),
-            &[],
-            &[],
-            &[],
-            core_prefix::words(&forecast, slots),
-            out,
-        ),
-    }
-}
 
 // A word with a space after it, a number and a line feed go to the front of a buffer: no such line
 // has more than 12 bytes.
@@ -329,7 +37,7 @@ fn put_line(out: &mut [u8], word: &[u8; 8], n: u8) -> usize
 pub fn print_plan(job: &[u8], out: &mut [u8; PLAN_BYTES]) -> usize
     ensures { λ r. ⌜ PrintsPlan (now (job .entry)) (now (out .entry)) r (now (out .exit)) ⌝ }
 {
-    match plan_file(job, out) {
+    match whole_files::plan_file(job, out) {
         planfile::Written::Bytes(n) => n,
         planfile::Written::Refused(n) => put_line(out, b"refused ", n),
     }
@@ -341,7 +49,7 @@ pub fn print_verdict(job: &[u8], plan: &[u8], out: &mut [u8; VERDICT_BYTES]) -> 
     ensures { λ r. ⌜ PrintsVerdict
         (now (job .entry)) (now (plan .entry)) (now (out .entry)) r (now (out .exit)) ⌝ }
 {
-    match verdict_files(job, plan) {
+    match whole_files::verdict_files(job, plan) {
         Checked::Verdict(n) => put_line(out, b"verdict ", n),
         Checked::Refused(n) => put_line(out, b"refused ", n),
     }
@@ -351,7 +59,7 @@ pub fn print_verdict(job: &[u8], plan: &[u8], out: &mut [u8; VERDICT_BYTES]) -> 
 pub fn print_report(job: &[u8], out: &mut [u8; REPORT_BYTES]) -> usize
     ensures { λ r. ⌜ PrintsReport (now (job .entry)) (now (out .entry)) r (now (out .exit)) ⌝ }
 {
-    match report_file(job, out) {
+    match whole_files::report_file(job, out) {
         report::Written::Bytes(n) => n,
         report::Written::Refused(n) => put_line(out, b"refused ", n),
     }
@@ -361,7 +69,7 @@ pub fn print_report(job: &[u8], out: &mut [u8; REPORT_BYTES]) -> usize
 pub fn print_reasons(job: &[u8], out: &mut [u8; REASONS_BYTES]) -> usize
     ensures { λ r. ⌜ PrintsReasons (now (job .entry)) (now (out .entry)) r (now (out .exit)) ⌝ }
 {
-    match reasons_file(job, out) {
+    match whole_files::reasons_file(job, out) {
         reasons::Written::Bytes(n) => n,
         reasons::Written::Refused(n) => put_line(out, b"refused ", n),
     }
@@ -371,7 +79,7 @@ pub fn print_reasons(job: &[u8], out: &mut [u8; REASONS_BYTES]) -> usize
 pub fn print_converted(job: &[u8], out: &mut [u8; CONVERTED_BYTES]) -> usize
     ensures { λ r. ⌜ PrintsConverted (now (job .entry)) (now (out .entry)) r (now (out .exit)) ⌝ }
 {
-    match convert_file(job, out) {
+    match whole_files::convert_file(job, out) {
         jobfile::Written::Bytes(n) => n,
         jobfile::Written::Refused(n) => put_line(out, b"refused ", n),
     }

@@ -4,7 +4,7 @@ use Prim.Native.Nat.{ℕ, _≤_}
 use mathlib.Core.Path.{_≡_, refl}
 use mathlib.Core.List.{List}
 use lib.ListN.{length}
-use Rattle.programs.specs.Calls.{Wrote, withRoom}
+use Rattle.whole_files.specs.Calls.{Wrote, withRoom}
 use Rattle.core_ffi.specs.Programs.{TextHanded}
 use Rattle.core_ffi.specs.lemmas.Numbers.{is-answered, refusedNumber}
 

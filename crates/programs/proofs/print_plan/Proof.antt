@@ -4,8 +4,8 @@ use native.Mathlib.Omega.{arith}
 use Rattle.jobrecords.specs.Refusal.{oneSequence}
 use Rattle.planfile.specs.declared.Written.the-variants.{Bytes, Refused}
 use Rattle.planfile.specs.PlanFile.{fileOf}
-use Rattle.programs.specs.Printed.{planOfJob}
-use Rattle.programs.specs.lemmas.Plans.{plan-file-fits}
+use Rattle.whole_files.specs.Files.{planOfJob}
+use Rattle.whole_files.specs.lemmas.Plans.{plan-file-fits}
 use Rattle.programs.proofs.Printing.{plan-apart, printed-refusal, printed-text}
 use Rattle.programs.proofs.print_plan.Statement.{statement}
 use Rattle.programs.proofs.print_plan.Tie as tie
