@@ -9,7 +9,8 @@
  * at least so many elements behind it as its length says, aligned for its type and not null (a
  * slice of length 0 may point anywhere but to null), and no two slices of one call that overlap, if
  * one of them is lent for writing. The calls may run on several threads at once; none takes more
- * than 256 KiB of stack (bench/run_stack measures it: film_reasons takes the most, 182 KiB).
+ * than 256 KiB of stack (bench/run_stack measures it: film_reasons_file takes the most, 210
+ * KiB).
  *
  * ANSWERS. Every call answers one 64-bit number:
  *
@@ -408,6 +409,28 @@ uint64_t film_reasons(
     const uint32_t *size_bytes, size_t size_bytes_len,
     const uint32_t *forecast, size_t forecast_len,
     uint8_t *out, size_t out_len);
+
+/* ---- whole files: what the programs do, for callers who have files */
+
+/* The plan file of the job of a job file in one sequence. Answers its bytes, at most
+ * FILM_PLAN_FILE. Refuses: the job file's number as film_read_job, then 11. */
+uint64_t film_plan_file(const uint8_t *job, size_t job_len, uint8_t *out, size_t out_len);
+
+/* The verdict on a plan file for the job of a job file. Answers as film_check: 0 for the file that
+ * film_plan_file writes. Refuses: the job file's number, then the plan file's as film_read_plan. */
+uint64_t film_verdict_files(const uint8_t *job, size_t job_len, const uint8_t *plan, size_t plan_len);
+
+/* The report of the job's plan, as film_report. Answers its bytes, at most FILM_REPORT. Refuses as
+ * film_plan_file. */
+uint64_t film_report_file(const uint8_t *job, size_t job_len, uint8_t *out, size_t out_len);
+
+/* The reasons under the layers that the job's plan lacks, as film_reasons. Answers their bytes, at
+ * most FILM_REASONS. Refuses as film_plan_file. */
+uint64_t film_reasons_file(const uint8_t *job, size_t job_len, uint8_t *out, size_t out_len);
+
+/* The job of a mixed file as a file in one sequence. Answers its bytes, at most FILM_JOB_FILE.
+ * Refuses: the file's number as film_read_mixed_job, then 11. */
+uint64_t film_convert_file(const uint8_t *job, size_t job_len, uint8_t *out, size_t out_len);
 
 /* ---- link traces */
 

@@ -45,6 +45,11 @@ CALLS = {
     "film_wait": "h h h I H B I I",
     "film_report": f"{JOB} B!",
     "film_reasons": f"{JOB} B!",
+    "film_plan_file": "B B!",
+    "film_verdict_files": "B B",
+    "film_report_file": "B B!",
+    "film_reasons_file": "B B!",
+    "film_convert_file": "B B!",
     "film_read_trace": "B z I!",
     "film_write_trace": "I B!",
     "film_book": f"{JOB[:-1]}I? B {ROWS}",
@@ -231,12 +236,16 @@ def film_read_plan(*args):
     return len(rows), by_place(10, [marks] + columns_of(rows))
 
 
+def plan_file(marks, rows):
+    return b"".join(kp(i, m) for i, m in enumerate(marks, 1)) + b"".join(ft(*x) for x in rows) + b"EN"
+
+
 def film_write_plan(*args):
     job = job_of(args)
     rows, marks = listed(*args[10:14]), args[9]
     if len(marks) != job.chunks:
         raise Refused(8)
-    text = b"".join(kp(i, m) for i, m in enumerate(marks, 1)) + b"".join(ft(*x) for x in rows) + b"EN"
+    text = plan_file(marks, rows)
     if len(text) > 65536:
         raise Refused(9)
     return len(text), {14: list(text)}
@@ -323,6 +332,36 @@ def film_reasons(*args):
     job = job_of(args)
     text = reasons(job, planned(job)).encode()
     return len(text), {9: list(text)}
+
+
+def film_plan_file(file, lent):
+    job = read_job(bytes(file))
+    levels, rows = planned(job)
+    text = plan_file(marks_of(levels), rows)
+    return len(text), {1: list(text)}
+
+
+def film_verdict_files(file, plan_bytes):
+    job = read_job(bytes(file))
+    marks, rows = read_plan(job, bytes(plan_bytes))
+    return judged(job, rows, marks), {}
+
+
+def film_report_file(file, lent):
+    job = read_job(bytes(file))
+    text = report(job, planned(job)).encode()
+    return len(text), {1: list(text)}
+
+
+def film_reasons_file(file, lent):
+    job = read_job(bytes(file))
+    text = reasons(job, planned(job)).encode()
+    return len(text), {1: list(text)}
+
+
+def film_convert_file(file, lent):
+    text = convert(bytes(file))
+    return len(text), {1: list(text)}
 
 
 def film_read_trace(trace, slots, lent):
@@ -586,8 +625,7 @@ class Cases:
     def film_read_plan(self):
         job = self.some_job()
         rows, marks = self.rows(job)
-        data = b"".join(kp(i, m) for i, m in enumerate(marks, 1)) + b"".join(ft(*x) for x in rows) + b"EN"
-        return self.handed(job, 0.1) + [self.spoiled_file(data, (b"KP", b"FT", b"EN"))] + [None] * 5
+        return self.handed(job, 0.1) + [self.spoiled_file(plan_file(marks, rows), (b"KP", b"FT", b"EN"))] + [None] * 5
 
     def film_write_plan(self):
         job = self.some_job()
@@ -678,6 +716,25 @@ class Cases:
 
     def film_report(self):
         return self.handed(self.some_job()) + [None]
+
+    def film_plan_file(self):
+        return self.film_read_job()[:1] + [None]
+
+    def film_verdict_files(self):
+        job = self.some_job()
+        rows, marks = self.rows(job)
+        spoil = self.odds(0.3)
+        file = self.spoiled_file(write_job(job), (b"PG", b"LY", b"SZ", b"BW", b"EN")) if spoil else list(write_job(job))
+        return [file, self.spoiled_file(plan_file(marks, rows), (b"KP", b"FT", b"EN")) if self.odds(0.5) else list(plan_file(marks, rows))]
+
+    def film_report_file(self):
+        return self.film_plan_file()
+
+    def film_reasons_file(self):
+        return self.film_plan_file()
+
+    def film_convert_file(self):
+        return self.film_read_mixed_job()[:1] + [None]
 
     def film_read_trace(self):
         r, slots = self.r, self.r.choice((1, 2, 3, 5, 3600, 0, 3601, 1 << 40))
@@ -815,11 +872,12 @@ def said(answer):
 WEIGHTS = {"film_read_job": 10, "film_read_mixed_job": 6, "film_write_job": 6, "film_read_plan": 8, "film_write_plan": 5, "film_check": 12,
            "film_check_from": 8, "film_plan": 8, "film_compare": 2, "film_wait": 4, "film_report": 5, "film_read_trace": 5, "film_write_trace": 3,
            "film_book": 6, "film_release": 5, "film_count_marks": 3, "film_count_word": 3, "film_meter_new": 1, "film_meter_take": 8,
-           "film_meter_forecast": 6, "film_replan": 6, "film_search": 5, "film_reasons": 5}
+           "film_meter_forecast": 6, "film_replan": 6, "film_search": 5, "film_reasons": 5, "film_plan_file": 6, "film_verdict_files": 8,
+           "film_report_file": 4, "film_reasons_file": 4, "film_convert_file": 5}
 
 
 # Calls whose few answers are counted one by one: verdicts, and counts compared.
-SHOWN = ("film_check", "film_check_from", "film_compare")
+SHOWN = ("film_check", "film_check_from", "film_verdict_files", "film_compare")
 
 
 def run(library, calls, seed, only):

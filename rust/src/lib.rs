@@ -26,6 +26,7 @@
 #![deny(unsafe_code)]
 
 mod ffi;
+mod files;
 mod job;
 mod list;
 mod meter;
@@ -34,6 +35,7 @@ mod trace;
 
 use std::cmp::Ordering;
 
+pub use files::{convert_file, plan_file, reasons_file, report_file, verdict_files};
 pub use job::{Job, Override};
 pub use list::{FetchList, Row};
 pub use meter::Meter;
@@ -75,6 +77,8 @@ largest! {
     FILE_ROWS = 5957;
     /// Bytes of a job file as written.
     JOB_FILE = 46800;
+    /// Bytes of the file of a plan of at most `ROWS` rows.
+    PLAN_FILE = 64091;
     /// Bytes of a report.
     REPORT = 7633;
     /// Bytes of the reasons.

@@ -5,6 +5,7 @@ pub mod Plans
 pub mod Asks
 pub mod Texts
 pub mod Meters
+pub mod Programs
 pub mod Theorems
 pub mod Desk
 pub mod lemmas

@@ -3,6 +3,7 @@
 // and the refusal's number more; whatever else it hands over stands in lent slices, which a refusal
 // leaves as they are. include/film_planner.h says what each call needs and answers.
 mod asks;
+mod by_file;
 mod files;
 mod lists;
 mod meters;
