@@ -32,24 +32,24 @@ printed refused text = cond (eqb refused 0) text (refusedText refused)
 
 -- ---- a job file
 
--- `plan`: the plan file of the job.
+-- `film_plan`: the plan file of the job.
 abbrev pub planPrinted : (job : List ℕ) → List ℕ
 planPrinted job = printed (jobFileRefusal job) (fileOf (planOfJob (jobSaid job)))
 
--- `report`: the report of the job's plan.
+-- `film_report`: the report of the job's plan.
 abbrev pub reportPrinted : (job : List ℕ) → List ℕ
 reportPrinted job = printed (jobFileRefusal job) (planReport (jobSaid job))
 
--- `reasons`: the reason under each layer that the job's plan lacks.
+-- `film_reasons`: the reason under each layer that the job's plan lacks.
 abbrev pub reasonsPrinted : (job : List ℕ) → List ℕ
 reasonsPrinted job = printed (jobFileRefusal job) (planText (jobSaid job))
 
--- `convert`: the job of a mixed file, "turned into the new form".
+-- `film_convert`: the job of a mixed file, "turned into the new form".
 abbrev pub convertPrinted : (job : List ℕ) → List ℕ
 convertPrinted job = printed (refusalOf mixed job) (jobFile (jobOfFile mixed job))
 
 -- ---- a job file and a plan file
 
--- `verdict`: the verdict's line.
+-- `film_verdict`: the verdict's line.
 abbrev pub verdictPrinted : (job plan : List ℕ) → List ℕ
 verdictPrinted job plan = printed (filesRefusal job plan) (verdictText (verdictOfFiles job plan))

@@ -1,6 +1,6 @@
 -- Theorems. What a reader of document 01 expects of the programs together: the plan file that is
 -- printed reads back as the plan and passes, and a refused job file gives one number in every
--- program that reads it in one sequence. Then what `convert` prints: document 02, "The mixed files
+-- program that reads it in one sequence. Then what `film_convert` prints: document 02, "The mixed files
 -- of document 01 can be turned into the new form by a small program that still reads both." Assumes
 -- nothing.
 use Prim.Native.Nat.{ℕ, _≤_}
@@ -90,7 +90,7 @@ plan-file-refused job plan n e f z =
     let r : filesRefusal job plan ≡ n = orElse-none (jobFileRefusal job) (fileRefusal (format (chunks (jobSaid job))) plan) e ∙ f in
     rw (r, ne-eqb n 0 z)
 
--- ---- what `convert` prints
+-- ---- what `film_convert` prints
 
 -- For a mixed file that is not refused: a file in one sequence that says the same job, of at most
 -- 46,800 bytes.

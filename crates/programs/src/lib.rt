@@ -35,8 +35,8 @@ fn put_line(out: &mut [u8], word: &[u8; 8], n: u8) -> usize
     core_text::put_word(out, at, b"\n")
 }
 
-// What `plan` prints for its standard input, of which it reads one byte more than a file may have,
-// so that a longer one is refused by 9.
+// What `film_plan` prints for its standard input, of which it reads READ_BYTES, so that a longer
+// one is refused by 9.
 pub fn print_plan(job: &[u8], out: &mut [u8; PLAN_BYTES]) -> usize
     ensures { λ r. ⌜ PrintsPlan (now (job .entry)) (now (out .entry)) r (now (out .exit)) ⌝ }
 {
@@ -46,8 +46,8 @@ pub fn print_plan(job: &[u8], out: &mut [u8; PLAN_BYTES]) -> usize
     }
 }
 
-// What `verdict` prints for the files `job` and `plan`, each read as above, and as empty if it
-// can't be opened.
+// What `film_verdict` prints for the files `job` and `plan`. Of each it reads READ_BYTES, and none
+// of a file that can't be opened.
 pub fn print_verdict(job: &[u8], plan: &[u8], out: &mut [u8; VERDICT_BYTES]) -> usize
     ensures { λ r. ⌜ PrintsVerdict
         (now (job .entry)) (now (plan .entry)) (now (out .entry)) r (now (out .exit)) ⌝ }
@@ -58,7 +58,7 @@ pub fn print_verdict(job: &[u8], plan: &[u8], out: &mut [u8; VERDICT_BYTES]) -> 
     }
 }
 
-// What `report` prints for its standard input.
+// What `film_report` prints for its standard input.
 pub fn print_report(job: &[u8], out: &mut [u8; REPORT_BYTES]) -> usize
     ensures { λ r. ⌜ PrintsReport (now (job .entry)) (now (out .entry)) r (now (out .exit)) ⌝ }
 {
@@ -68,7 +68,7 @@ pub fn print_report(job: &[u8], out: &mut [u8; REPORT_BYTES]) -> usize
     }
 }
 
-// What `reasons` prints for its standard input.
+// What `film_reasons` prints for its standard input.
 pub fn print_reasons(job: &[u8], out: &mut [u8; REASONS_BYTES]) -> usize
     ensures { λ r. ⌜ PrintsReasons (now (job .entry)) (now (out .entry)) r (now (out .exit)) ⌝ }
 {
@@ -78,7 +78,7 @@ pub fn print_reasons(job: &[u8], out: &mut [u8; REASONS_BYTES]) -> usize
     }
 }
 
-// What `convert` prints for its standard input.
+// What `film_convert` prints for its standard input.
 pub fn print_converted(job: &[u8], out: &mut [u8; CONVERTED_BYTES]) -> usize
     ensures { λ r. ⌜ PrintsConverted (now (job .entry)) (now (out .entry)) r (now (out .exit)) ⌝ }
 {
