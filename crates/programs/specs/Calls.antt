@@ -1,5 +1,5 @@
--- Meaning. What the function of each program answers, and the lent buffer afterwards: how many bytes
--- are to be printed, and these in front of what the buffer held.
+-- Meaning. What the function of each program answers, and the lent buffer afterwards: how many
+-- bytes are to be printed, and these in front of what the buffer held.
 use Prim.Native.Nat.{ℕ}
 use mathlib.Core.Path.{_≡_}
 use mathlib.Core.List.{List}

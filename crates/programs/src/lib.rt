@@ -1,6 +1,6 @@
-// What each program prints for the files that it reads, into a buffer that holds it whatever the files
-// are. A program reads, calls its function here and writes; what is read and written no contract can
-// say.
+// What each program prints for the files that it reads, into a buffer that holds it whatever the
+// files are. A program reads, calls its function here and writes; what is read and written no
+// contract can say.
 use checker::Checked;
 ghost use mathlib.Core.List.{[], _∷_, _++_};
 ghost use Prim.Native.Nat.{_≤_};
@@ -13,7 +13,8 @@ ghost use Rattle.programs.specs.Calls.{PrintsVerdict};
 pub const READ_BYTES: usize = 65537;
 
 // What each program prints at most, by theorem: lemmas.Plans.plan-file-fits, report's
-// Answer.plan-report-fits, theory_reasons' text-fits, jobfile's file-short; a word and three digits.
+// Answer.plan-report-fits, theory_reasons' text-fits, jobfile's file-short; a word and three
+// digits.
 pub const PLAN_BYTES: usize = 64091;
 
 pub const VERDICT_BYTES: usize = 12;

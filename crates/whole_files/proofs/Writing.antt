@@ -1,4 +1,5 @@
--- Laws on refusals: one that never applies, and one that leaves the buffer as it is. Assumes nothing.
+-- Laws on refusals: one that never applies, and one that leaves the buffer as it is. Assumes
+-- nothing.
 use Prim.Native.Nat.{ℕ}
 use mathlib.Core.Path.{_≡_, refl, sym, _∙_}
 use mathlib.Core.List.{List}

@@ -1,6 +1,6 @@
-// The programs' work for callers who have files: whole files in, the plan file, the verdict, the report,
-// the reasons or the job file in one sequence out. A refusal comes from the files, then 11 by the lent
-// buffer, which it leaves as it is.
+// The programs' work for callers who have files: whole files in, the plan file, the verdict, the
+// report, the reasons or the job file in one sequence out. A refusal comes from the files, then 11
+// by the lent buffer, which it leaves as it is.
 use checker::Checked;
 use job::CHUNKS;
 use job::OVERRIDES;
@@ -15,8 +15,8 @@ ghost use Rattle.job.specs.Input.{jobInput};
 ghost use Rattle.whole_files.specs.Calls.{ConvertedFile, PlanOfFile, ReasonsOfFile, ReportOfFile, verdictAnswer};
 ghost use Rattle.whole_files.specs.Calls.{PlanOfJob, verdictOnFile};
 
-// The plan file of a job. The local slices hold any plan: a mark a chunk, 5,599 rows. What is filled
-// with no constant is stored in wide words, faster than cleared.
+// The plan file of a job. The local slices hold any plan: a mark a chunk, 5,599 rows. What is
+// filled with no constant is stored in wide words, faster than cleared.
 fn plan_job(
     p: Programme,
     sizes: &[u32],
