@@ -51,6 +51,7 @@ enum {
     FILM_SLOTS = 3600,         /* slots of a forecast */
     FILM_MARKS = 500,          /* marks of a plan: one a chunk */
     FILM_ROWS = 5599,          /* rows that planning hands over, also afresh */
+    FILM_PIECES = 2000,        /* pieces to ask the link for: four layers of 500 chunks */
     FILM_SZS = 1996,           /* SZs of a job: four layers of 499 chunks */
     FILM_PROGRAMME = 4,        /* C, L, s and the limit */
     FILM_LENGTHS = 2,          /* how many layers, how many SZs */
@@ -318,6 +319,33 @@ uint64_t film_replan(
     uint8_t *row_layers, size_t row_layers_len,
     uint32_t *row_bytes, size_t row_bytes_len,
     uint16_t *counts, size_t counts_len);
+
+/* What to fetch next in slot p (`from`), during the act and whatever the link brings: from the
+ * rows fetched before p, in any order, and a rate in bytes a slot, any number, the pieces to ask
+ * the link for one after the other, as far as the slot goes. They are by layer from the base up,
+ * and in a layer by chunk: the bytes not yet fetched of each chunk asked. docs/LIVE.md has the
+ * rule that says which chunks are asked, and the loop around the call. The job's forecast before p
+ * says what those slots could carry: write into it what each slot that is over has brought; from p
+ * on it is not used. Answers the number of pieces, at most FILM_PIECES, 0 where nothing is to be
+ * asked. Whatever part of them the link brings, in their order, the rows fetched and that part as
+ * rows of slot p are not refused at p + 1, here or in film_replan, if the forecast of slot p is
+ * then at least the bytes brought. Lent: the pieces. Refuses: 5, 6, 18, 7, 8, 21, 22, 11. */
+uint64_t film_live(
+    uint16_t chunks, uint16_t span, uint16_t delay, uint16_t limit,
+    const uint32_t *sizes, size_t sizes_len,
+    const uint16_t *size_chunks, size_t size_chunks_len,
+    const uint8_t *size_layers, size_t size_layers_len,
+    const uint32_t *size_bytes, size_t size_bytes_len,
+    const uint32_t *forecast, size_t forecast_len,
+    uint16_t from,
+    const uint16_t *fetched_slots, size_t fetched_slots_len,
+    const uint16_t *fetched_chunks, size_t fetched_chunks_len,
+    const uint8_t *fetched_layers, size_t fetched_layers_len,
+    const uint32_t *fetched_bytes, size_t fetched_bytes_len,
+    uint32_t rate,
+    uint16_t *piece_chunks, size_t piece_chunks_len,
+    uint8_t *piece_layers, size_t piece_layers_len,
+    uint32_t *piece_bytes, size_t piece_bytes_len);
 
 /* Searches the best set of bases within a budget of steps, and plans over it: each chunk from the
  * last is tried kept and then skipped, each try is a step. Answers the number of rows, at most
