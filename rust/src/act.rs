@@ -43,8 +43,9 @@ pub struct Act {
 impl Act {
     /// An act in slot 1, nothing fetched: 5, 6, 18, 7 for the job.
     pub fn new(job: Job) -> Result<Act, Refusal> {
+        job.live(1, &FetchList::new(), SLOT_MOST)?;
         let mut act = Act { job, slot: 1, fetched: FetchList::new(), meter: Meter::new(), asks: Vec::new() };
-        act.asks = act.job.live(1, &act.fetched, act.rate()).map(within_a_slot)?;
+        act.asks = act.next_asks();
         Ok(act)
     }
 
@@ -73,10 +74,17 @@ impl Act {
         &self.meter
     }
 
-    /// The meter's forecast. Before its first sample it is the most that a slot can bring: every
-    /// base is then in time, so none is passed over on no evidence.
+    /// The rate by which the act asks, at most 16,777,216: the meter's forecast, or its last sample
+    /// where that is more. The forecast is a harmonic mean: one slot far below the others holds it
+    /// down for ten samples, and what is passed over then, on a link that is back, is lost. Before
+    /// the first sample it is the most that a slot can bring: every base is then in time, so none
+    /// is passed over on no evidence.
     pub fn rate(&self) -> u32 {
-        self.meter.forecast().unwrap_or(SLOT_MOST)
+        let samples = &self.meter.bytes[..usize::from(self.meter.kept)];
+        match (self.meter.forecast(), samples.last()) {
+            (Ok(forecast), Some(last)) => forecast.max(*last),
+            _ => SLOT_MOST,
+        }
     }
 
     /// What to ask the link for in this slot, one piece after the other, as far as the slot goes;
@@ -88,11 +96,26 @@ impl Act {
     /// The same by a rate that the desk knows better than the meter, for this slot alone: to be
     /// called before the slot's first piece is asked for. Any number does.
     pub fn asks_at(&mut self, rate: u32) -> &[Piece] {
-        self.asks = match self.is_over() {
+        self.asks = self.asks_by(rate);
+        &self.asks
+    }
+
+    /// By the rate of the act. Where this asks for no base, it may be that a chunk is passed over
+    /// for a later one that cannot begin yet, since the first one keeps its place in the buffer:
+    /// then the slot goes to the first one, as at the highest rate, by which none is passed over.
+    fn next_asks(&self) -> Vec<Piece> {
+        let asks = self.asks_by(self.rate());
+        match asks.iter().any(|piece| piece.layer == 0) {
+            true => asks,
+            false => self.asks_by(SLOT_MOST),
+        }
+    }
+
+    fn asks_by(&self, rate: u32) -> Vec<Piece> {
+        match self.is_over() {
             true => Vec::new(),
             false => within_a_slot(self.job.live(self.slot, &self.fetched, rate).expect("what an act fetched is never refused")),
-        };
-        &self.asks
+        }
     }
 
     /// The slot is over: the first so many bytes of the asks came in it, in their order. On to the
@@ -114,8 +137,7 @@ impl Act {
         }
         self.job.forecast[usize::from(self.slot) - 1] = came;
         self.slot += 1;
-        let rate = self.rate();
-        self.asks_at(rate);
+        self.asks = self.next_asks();
     }
 
     /// The meter has to say what the link carries, not what the desk fetched; so it does not get
