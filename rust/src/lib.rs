@@ -7,11 +7,15 @@
 //! ```
 //! use film_planner::{Job, Refusal, Verdict};
 //!
-//! let job = Job { chunks: 3, span: 2, delay: 2, limit: 2, sizes: vec![2, 1], overrides: vec![],
-//! forecast: vec![3, 0, 1, 0, 2, 0] }; let plan = job.plan()?; assert_eq!(plan.counts, [2, 1, 0,
-//! 0]); assert_eq!(job.check(&plan.marks, &plan.list)?, Verdict::Passes); print!("{}",
-//! job.reasons()?); // chunk 1 layer 0: slots 2 to 4 carry 1, need 2 ..
-//! assert_eq!(Job::read(b"").unwrap_err(), Refusal::EndsEarly); # Ok::<(), Refusal>(()) ```
+//! # let (sizes, overrides, forecast) = (vec![2, 1], vec![], vec![3, 0, 1, 0, 2, 0]);
+//! let job = Job { chunks: 3, span: 2, delay: 2, limit: 2, sizes, overrides, forecast };
+//! let plan = job.plan()?;
+//! assert_eq!(plan.counts, [2, 1, 0, 0]);
+//! assert_eq!(job.check(&plan.marks, &plan.list)?, Verdict::Passes);
+//! print!("{}", job.reasons()?); // chunk 1 layer 0: slots 2 to 4 carry 1, need 2 ..
+//! assert_eq!(Job::read(b"").unwrap_err(), Refusal::EndsEarly);
+//! # Ok::<(), Refusal>(())
+//! ```
 #![deny(unsafe_code)]
 
 mod act;

@@ -114,15 +114,7 @@ impl Film {
             }
         }
         let forecast = link.iter().map(|hundredths| hundredths * (BASE / 100)).collect();
-        Job {
-            chunks: self.chunks,
-            span: self.span,
-            delay: self.delay(),
-            limit: self.held * self.span,
-            sizes,
-            overrides,
-            forecast,
-        }
+        Job { chunks: self.chunks, span: self.span, delay: self.delay(), limit: self.held * self.span, sizes, overrides, forecast }
     }
 
     fn delay(&self) -> u16 {
@@ -270,15 +262,7 @@ fn an_act_is_never_refused_whatever_comes() {
 }
 
 fn one_chunk(size: u32, slots: u16) -> Job {
-    Job {
-        chunks: 1,
-        span: 1,
-        delay: slots,
-        limit: 1,
-        sizes: vec![size],
-        overrides: vec![],
-        forecast: vec![0; usize::from(slots)],
-    }
+    Job { chunks: 1, span: 1, delay: slots, limit: 1, sizes: vec![size], overrides: vec![], forecast: vec![0; usize::from(slots)] }
 }
 
 /// The meter gets what the link carries: no slot without bytes, and one in which all asks came only
