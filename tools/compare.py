@@ -685,9 +685,27 @@ class Cases:
             rows += came
         return rows, forecast
 
+    def one_behind(self):
+        """A begun chunk that is late, a whole one behind it, and a third that may come in time: what
+        an act meets too seldom by chance."""
+        r = self.r
+        chunks, span = r.randint(3, 5), r.randint(1, 2)
+        sizes = [r.randint(3, 9)] + [r.randint(1, 4) for _ in range(r.randint(0, 2))]
+        job = Job(chunks, span, r.randint(2, 4), span * r.randint(2, 4), sizes, [], [])
+        job = job._replace(forecast=[40] * due(job, chunks))
+        k = r.randint(1, chunks - 2)
+        p = max(2, due(job, k) - r.choice((0, 0, 1)))
+        t = r.randint(1, p - 1)
+        rows = [Row(t, k, 0, r.randint(1, sizes[0] - 1)), Row(t, k + 1, 0, sizes[0])]
+        if k < chunks - 2 and self.odds(0.3):
+            rows.append(Row(r.randint(t, p - 1), k + 2, 0, r.randint(1, sizes[0])))
+        return self.handed(job, 0) + [p] + columns_of(rows) + [self.rate(job, p)] + [None] * 3
+
     def film_live(self):
         """The rows of an act, or of a plan, before p, changed or not."""
         r = self.r
+        if self.odds(0.05):
+            return self.one_behind()
         job = self.job(r.choices(("small", "middle", "large"), (980, 19, 1))[0])
         p = r.choice((1, r.randint(1, len(job.forecast)), r.randint(1, len(job.forecast)), len(job.forecast)))
         if self.odds(0.6):
@@ -877,7 +895,7 @@ def said(answer):
 WEIGHTS = {"film_read_job": 10, "film_read_mixed_job": 6, "film_write_job": 6, "film_read_plan": 8, "film_write_plan": 5, "film_check": 12,
            "film_check_from": 8, "film_plan": 8, "film_compare": 2, "film_wait": 4, "film_report": 5, "film_read_trace": 5, "film_write_trace": 3,
            "film_book": 6, "film_release": 5, "film_count_marks": 3, "film_count_word": 3, "film_meter_new": 1, "film_meter_take": 8,
-           "film_meter_forecast": 6, "film_replan": 6, "film_search": 5, "film_reasons": 5, "film_live": 8}
+           "film_meter_forecast": 6, "film_replan": 6, "film_search": 5, "film_reasons": 5, "film_live": 10}
 
 
 # Calls whose few answers are counted one by one: verdicts, and counts compared.
