@@ -1,69 +1,74 @@
-// What to ask the link for next in plain C, to measure the proved call against: the tables of the
-// handed rows as in planning afresh, then one pass over the chunks for who is open and lacks bytes,
-// one for who is asked, one a layer for the pieces; no checks of bounds, no proof.
-#include "replan.c"
+// What to fetch next in plain C, to measure the proved call against: the same tables of the rows
+// fetched and the same scans, no checks of bounds, no proof.
 #include "live.h"
+#include "replan.c"
 
-static uint16_t open_of[500], asked_of[500];
+static uint8_t open_now[501], asked_now[501];
 
-static int is_in_time(const struct job *j, uint16_t start, uint32_t rate, int i, uint64_t need)
+// The chunks due in the slot or later that are begun or not overtaken.
+static void set_open(const struct job *j, uint16_t slot)
 {
-    return need <= (uint64_t)rate * (due_of(j, i) - start + 1);
-}
-
-// The open chunks, in playing order: due in the slot or later, and begun or not overtaken.
-static int find_open(const struct job *j, uint16_t start)
-{
-    int opened = 0, last = j->chunks;
-    while (last > 0 && first_slot[last] == 65535) last--;
-    for (int i = 1; i <= j->chunks; i++)
-        if (due_of(j, i) >= start && (first_slot[i] != 65535 || i > last)) open_of[opened++] = i;
-    return opened;
-}
-
-// Which of the open chunks are passed over if they lack base bytes: places from *a to before the
-// place answered.
-static int find_passed(const struct job *j, uint16_t start, uint32_t rate, int hold, int opened, int *a)
-{
-    int k = 0;
-    while (k < opened && left_of[open_of[k] - 1][0] == 0) k++;
-    *a = k;
-    if (k == opened || is_in_time(j, start, rate, open_of[k], left_of[open_of[k] - 1][0])) return k;
-    for (int m = k + 1; m < opened && m <= k + hold; m++) {
-        uint64_t need = left_of[open_of[m] - 1][0];
-        if (need == 0 || !is_in_time(j, start, rate, open_of[m], need)) continue;
-        return is_in_time(j, start, rate, open_of[m], left_of[open_of[k] - 1][0] + need) ? k : m;
+    int overtaken = 0;
+    for (int i = j->chunks; i >= 1; i--) {
+        int begun = first_slot[i] != 65535;
+        open_now[i] = due_of(j, i) >= slot && (begun || !overtaken);
+        overtaken |= begun;
     }
-    return k;
 }
 
-size_t live_c(const struct job *j, uint16_t start, const struct fetched *f, uint32_t rate, struct pieces *out)
+static uint64_t brings(const struct job *j, uint16_t slot, uint32_t rate, int i)
 {
-    int hold = j->limit / j->span, room = hold, asked = 0, from, to;
-    size_t n = 0;
-    if (refused(j) || start < 1 || start > j->slots) return (size_t)-1;
+    return (uint64_t)rate * (due_of(j, i) - slot + 1);
+}
+
+// The first open chunk that lacks base bytes, and where the chunks passed over from it on end.
+static int passed_until(const struct job *j, uint16_t slot, uint32_t rate, int *first)
+{
+    int k = 1, near = j->limit / j->span;
+    while (k <= j->chunks && !(open_now[k] && left_of[k - 1][0])) k++;
+    *first = k;
+    if (k > j->chunks || left_of[k - 1][0] <= brings(j, slot, rate, k)) return 0;
+    for (int i = k + 1; i <= j->chunks; i++) {
+        uint64_t missing = left_of[i - 1][0], due = brings(j, slot, rate, i);
+        if (!open_now[i]) continue;
+        if (near-- == 0) return 0;
+        if (missing && missing <= due) return left_of[k - 1][0] + missing > due ? i : 0;
+    }
+    return 0;
+}
+
+static void set_asked(const struct job *j, uint16_t slot, int first, int until)
+{
+    int hold = j->limit / j->span, held = 0;
+    for (int i = 1; i <= j->chunks; i++) held += first_slot[i] != 65535 && due_of(j, i) > slot;
+    for (int i = 1; i <= j->chunks; i++) {
+        int passed = first <= i && i < until && left_of[i - 1][0];
+        int line = open_now[i] && !passed;
+        int fresh = line && first_slot[i] == 65535 && due_of(j, i) > slot;
+        held += fresh;
+        asked_now[i] = line && (!fresh || held <= hold);
+    }
+}
+
+size_t live_c(const struct job *j, uint16_t slot, const struct fetched *f, uint32_t rate, struct pieces *out)
+{
+    size_t rows = 0;
+    int first, until;
+    if (refused(j) || slot < 1 || slot > j->slots) return (size_t)-1;
     for (size_t k = 0; k < f->rows; k++)
-        if (f->slots[k] >= start) return (size_t)-1;
+        if (f->slots[k] >= slot) return (size_t)-1;
     fill_sizes(j);
-    if (!tally(j, f) || !kept(j, start) || !few_held(j, hold)) return (size_t)-1;
-    int opened = find_open(j, start);
-    to = find_passed(j, start, rate, hold, opened, &from);
-    for (int q = 0; q < opened; q++) room -= first_slot[open_of[q]] != 65535 && due_of(j, open_of[q]) > start;
-    for (int q = 0; q < opened; q++) {
-        int i = open_of[q];
-        if (from <= q && q < to && left_of[i - 1][0] > 0) continue;
-        if (first_slot[i] == 65535 && due_of(j, i) > start) {
-            if (room == 0) break;
-            room--;
+    if (!tally(j, f) || !kept(j, slot) || !few_held(j, j->limit / j->span)) return (size_t)-1;
+    set_open(j, slot);
+    until = passed_until(j, slot, rate, &first);
+    set_asked(j, slot, first, until);
+    for (size_t n = 0; n < j->layers; n++)
+        for (int i = 1; i <= j->chunks; i++) {
+            uint32_t bytes = left_of[i - 1][n];
+            if (!asked_now[i] || !bytes) continue;
+            out->chunks[rows] = i;
+            out->layers[rows] = n;
+            out->bytes[rows++] = bytes;
         }
-        asked_of[asked++] = i;
-    }
-    for (size_t layer = 0; layer < j->layers; layer++)
-        for (int q = 0; q < asked; q++)
-            if (left_of[asked_of[q] - 1][layer] > 0) {
-                out->chunks[n] = asked_of[q];
-                out->layers[n] = layer;
-                out->bytes[n++] = left_of[asked_of[q] - 1][layer];
-            }
-    return n;
+    return rows;
 }
