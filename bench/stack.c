@@ -35,6 +35,7 @@ static uint8_t plan_file[FILM_FILE];
     X(film_check, film_check(FILM_JOB(job), marks, C, FILM_LIST(list))) \
     X(film_check_from, film_check_from(FILM_JOB(job), 1800, marks, C, FILM_LIST(list))) \
     X(film_replan, film_replan(FILM_JOB(job), 1800, row_slots, rows, row_chunks, rows, row_layers, rows, row_bytes, rows, forecast + 1799, SLOTS - 1799, OUT(n))) \
+    X(film_live, film_live(FILM_JOB(job), 1800, row_slots, rows, row_chunks, rows, row_layers, rows, row_bytes, rows, 1300, other_chunks, n ? FILM_PIECES : 0, other_layers, FILM_PIECES, other_bytes, FILM_PIECES)) \
     X(film_wait, film_wait(FILM_WAIT(job))) \
     X(film_report, film_report(FILM_JOB(job), text, n ? FILM_REPORT : 0)) \
     X(film_reasons, film_reasons(FILM_JOB(job), text, n ? FILM_REASONS : FILM_REASONS - 1)) \

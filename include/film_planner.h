@@ -321,14 +321,16 @@ uint64_t film_replan(
     uint32_t *row_bytes, size_t row_bytes_len,
     uint16_t *counts, size_t counts_len);
 
-/* What to fetch next in slot p (`from`), during the act: from the rows fetched before p, in any
- * order, and a rate in bytes a slot, the pieces to ask the link for, one after the other, as far as
- * the slot goes: for each layer from the base up, for each asked chunk in playing order, the bytes
- * not yet fetched. The job's forecast before p says what those slots could carry; from p on it is
- * not used. Answers the number of pieces, at most FILM_PIECES, 0 where nothing is to be asked.
- * Whatever part of them the link brings, the rows fetched and that part as rows of slot p are not
- * refused at p + 1, here or in film_replan, if the forecast of slot p is at least the bytes
- * brought. Lent: the pieces. Refuses: 5, 6, 18, 7, 8, 21, 22, 11. */
+/* What to fetch next in slot p (`from`), during the act and whatever the link brings: from the
+ * rows fetched before p, in any order, and a rate in bytes a slot, any number, the pieces to ask
+ * the link for one after the other, as far as the slot goes. They are by layer from the base up,
+ * and in a layer by chunk: the bytes not yet fetched of each chunk asked. docs/LIVE.md has the
+ * rule that says which chunks are asked, and the loop around the call. The job's forecast before p
+ * says what those slots could carry: write into it what each slot that is over has brought; from p
+ * on it is not used. Answers the number of pieces, at most FILM_PIECES, 0 where nothing is to be
+ * asked. Whatever part of them the link brings, in their order, the rows fetched and that part as
+ * rows of slot p are not refused at p + 1, here or in film_replan, if the forecast of slot p is
+ * then at least the bytes brought. Lent: the pieces. Refuses: 5, 6, 18, 7, 8, 21, 22, 11. */
 uint64_t film_live(
     uint16_t chunks, uint16_t span, uint16_t delay, uint16_t limit,
     const uint32_t *sizes, size_t sizes_len,

@@ -25,6 +25,7 @@
 //! ```
 #![deny(unsafe_code)]
 
+mod act;
 mod ffi;
 mod files;
 mod job;
@@ -35,9 +36,10 @@ mod trace;
 
 use std::cmp::Ordering;
 
+pub use act::Act;
 pub use files::{convert_file, plan_file, reasons_file, report_file, verdict_files};
 pub use job::{Job, Override};
-pub use list::{FetchList, Row};
+pub use list::{FetchList, Piece, Row};
 pub use meter::Meter;
 pub use refusal::Refusal;
 pub use trace::{read_trace, write_trace};
@@ -61,6 +63,8 @@ largest! {
     MARKS = 500;
     /// Rows that planning hands over, also afresh.
     ROWS = 5599;
+    /// Pieces to ask the link for: four layers of 500 chunks.
+    PIECES = 2000;
     /// `SZ`s of a job: four layers of 499 chunks.
     SZS = 1996;
     /// C, L, s and the limit.
