@@ -307,6 +307,18 @@ fn no_slot_is_left_to_nobody() {
     assert_eq!(again.asks(), [Piece { chunk: 1, layer: 0, bytes: 7 }]);
 }
 
+/// 500 chunks, 3,600 slots, every size its own: the rows stay few, a slot cuts at most one piece.
+#[test]
+fn the_largest_act() {
+    let mut r = Random(500);
+    let film = Film { chunks: 500, span: 7, held: 4, uneven: true };
+    let link = wandering(&mut r, 3600, 20, 200, 30, 50, 10);
+    let job = Job { delay: 107, ..film.job(&mut r, &link) };
+    let act = run(&job);
+    assert!(act.fetched().len() <= film_planner::PIECES + film_planner::SLOTS);
+    assert!(act.shown().counts[0] > 300, "{:?}", act.shown().counts);
+}
+
 /// A slot's forecast goes up to 16,777,216 bytes, and so do a slot's asks.
 #[test]
 fn a_slot_asks_for_no_more_than_a_forecast_can_say() {
