@@ -1,8 +1,8 @@
 -- Theorems. What a reader of document 01 expects of the programs together: the plan file that is
 -- printed reads back as the plan and passes, and a refused job file gives one number in every
--- program that reads it in one sequence. Then what `film_convert` prints: document 02, "The mixed files
--- of document 01 can be turned into the new form by a small program that still reads both." Assumes
--- nothing.
+-- program that reads it in one sequence. Then what `film_convert` prints: document 02, "The mixed
+-- files of document 01 can be turned into the new form by a small program that still reads both."
+-- Assumes nothing.
 use Prim.Native.Nat.{ℕ, _≤_}
 use mathlib.Core.Path.{_≡_, refl, sym, ap, _∙_}
 use mathlib.Core.List.{List, []}

@@ -12,8 +12,8 @@ use Rattle.theory_plan.specs.Plan.{plan}
 use Rattle.theory_plan.specs.Statement.{marksOf}
 use Rattle.planner.specs.Answer.{planRows}
 
--- The refusal of a job file, and the job that it says: the programs but `film_convert` read it in one
--- sequence.
+-- The refusal of a job file, and the job that it says: the programs but `film_convert` read it in
+-- one sequence.
 abbrev pub jobFileRefusal : List ℕ → ℕ
 jobFileRefusal file = refusalOf oneSequence file
 
