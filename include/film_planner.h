@@ -234,11 +234,15 @@ uint64_t film_write_plan(
 /* ---- the checker */
 
 /* Judges a fetch list with its marks. Answers the verdict: 0 if rules 1 to 7 all hold, else the
- * lowest broken rule. 1  Slot 1 to d(C), chunk 1 to C, layer below the layer count, bytes at least
- * 1. 2  Each layer of each chunk sums to 0 or its full size. 3  A carried layer has the layer below
- * carried. 4  A slot's rows sum to at most the forecast of the slot. 5  No row is later than its
- * chunk's due slot. 6  At the end of each slot at most H chunks are held. 7  The marks of the plan
- * say the layers carried. Refuses: 5, 6, 18, 7, 8. */
+ * lowest broken rule.
+ *   1  Slot 1 to d(C), chunk 1 to C, layer below the layer count, bytes at least 1.
+ *   2  Each layer of each chunk sums to 0 or its full size.
+ *   3  A carried layer has the layer below carried.
+ *   4  A slot's rows sum to at most the forecast of the slot.
+ *   5  No row is later than its chunk's due slot.
+ *   6  At the end of each slot at most H chunks are held.
+ *   7  The marks of the plan say the layers carried.
+ * Refuses: 5, 6, 18, 7, 8. */
 uint64_t film_check(
     uint16_t chunks, uint16_t span, uint16_t delay, uint16_t limit,
     const uint32_t *sizes, size_t sizes_len,
@@ -400,9 +404,11 @@ uint64_t film_report(
     uint8_t *out, size_t out_len);
 
 /* The reason under each layer of the job that its plan doesn't carry, by chunk and then layer,
- * lines ended by a line feed: chunk 1 layer 0: slots 2 to 4 carry 1, need 2 chunk 1 layer 1: layer
- * 0 is missing Answers its bytes, at most FILM_REASONS; 0 for a plan that lacks nothing. Refuses:
- * 5, 6, 18, 7, 11. */
+ * lines ended by a line feed:
+ *   chunk 1 layer 0: slots 2 to 4 carry 1, need 2
+ *   chunk 1 layer 1: layer 0 is missing
+ * Answers its bytes, at most FILM_REASONS; 0 for a plan that lacks nothing. Refuses: 5, 6, 18, 7,
+ * 11. */
 uint64_t film_reasons(
     uint16_t chunks, uint16_t span, uint16_t delay, uint16_t limit,
     const uint32_t *sizes, size_t sizes_len,
@@ -491,8 +497,9 @@ uint64_t film_count_word(uint64_t word, uint8_t n);
 
 /* ---- the link meter, in the caller's own storage: ten slots, ten bytes, and how many samples are
  * kept. Only the first `kept` cells mean anything, the newest sample last. A slice shorter than its
- * part of the meter holds no meter: 11. In longer ones the cells past the tenth, and past the first
- * `kept`, are not looked at and stay as they are. */
+ * part of the meter holds no meter: 11. Cells past the first `kept` are not looked at; film_meter_new
+ * clears all ten, film_meter_take writes the next one. In longer slices the cells past the tenth,
+ * and past the first of `kept`, stay as they are. */
 
 /* Makes the storage a meter without samples. Answers 0. Refuses: 11. */
 uint64_t film_meter_new(uint16_t *slots, size_t slots_len, uint32_t *bytes, size_t bytes_len, uint8_t *kept, size_t kept_len);
