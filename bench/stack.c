@@ -20,7 +20,8 @@ static uint64_t lengths[FILM_LENGTHS];
 static struct film_job job;
 static struct film_list list;
 static struct film_meter meter;
-static size_t length, rows;
+static size_t length, rows, plan_length;
+static uint8_t plan_file[FILM_FILE];
 
 #define OUT(n) other_marks, (n) ? FILM_MARKS : 0, other_slots, (n), other_chunks, (n), other_layers, (n), other_bytes, (n), counts, FILM_COUNTS
 
@@ -34,6 +35,7 @@ static size_t length, rows;
     X(film_check, film_check(FILM_JOB(job), marks, C, FILM_LIST(list))) \
     X(film_check_from, film_check_from(FILM_JOB(job), 1800, marks, C, FILM_LIST(list))) \
     X(film_replan, film_replan(FILM_JOB(job), 1800, row_slots, rows, row_chunks, rows, row_layers, rows, row_bytes, rows, forecast + 1799, SLOTS - 1799, OUT(n))) \
+    X(film_live, film_live(FILM_JOB(job), 1800, row_slots, rows, row_chunks, rows, row_layers, rows, row_bytes, rows, 1300, other_chunks, n ? FILM_PIECES : 0, other_layers, FILM_PIECES, other_bytes, FILM_PIECES)) \
     X(film_wait, film_wait(FILM_WAIT(job))) \
     X(film_report, film_report(FILM_JOB(job), text, n ? FILM_REPORT : 0)) \
     X(film_reasons, film_reasons(FILM_JOB(job), text, n ? FILM_REASONS : FILM_REASONS - 1)) \
@@ -41,6 +43,11 @@ static size_t length, rows;
     X(film_release, film_release(FILM_JOB(job), FILM_LIST(list))) \
     X(film_write_plan, film_write_plan(FILM_JOB(job), marks, C, FILM_LIST(list), file, n ? FILM_FILE : 0)) \
     X(film_read_plan, film_read_plan(FILM_JOB(job), file, length, other_marks, FILM_MARKS, other_slots, n, other_chunks, n, other_layers, n, other_bytes, n)) \
+    X(film_plan_file, film_plan_file(file, length, text, n ? FILM_PLAN_FILE : 0)) \
+    X(film_verdict_files, film_verdict_files(file, length, plan_file, plan_length)) \
+    X(film_report_file, film_report_file(file, length, text, n ? FILM_REPORT : 0)) \
+    X(film_reasons_file, film_reasons_file(file, length, text, n ? FILM_REASONS : FILM_REASONS - 1)) \
+    X(film_convert_file, film_convert_file(file, length, text, n ? FILM_JOB_FILE : 0)) \
     X(film_read_trace, film_read_trace((const uint8_t *)"0\n5\n", 4, FILM_SLOTS, other_bytes, n)) \
     X(film_write_trace, film_write_trace(other_bytes, FILM_SLOTS, text, n ? sizeof text : 0)) \
     X(film_compare, film_compare(counts, FILM_COUNTS, counts, FILM_COUNTS)) \
@@ -98,6 +105,7 @@ int main(void)
             film(k & 1 ? FILM_SZS : 0, k & 2 ? 65535 : 28); \
             n = 0; \
             length = !strcmp(#name, "film_read_plan") ? film_write_plan(FILM_JOB(job), marks, C, FILM_LIST(list), file, FILM_FILE) : film_write_job(FILM_JOB(job), file, FILM_FILE); \
+            plan_length = film_write_plan(FILM_JOB(job), marks, C, FILM_LIST(list), plan_file, FILM_FILE); \
             memset(other_bytes, 0, sizeof other_bytes); \
             film_meter_new(FILM_METER(meter)); \
             n = k & 4 ? FILM_ROWS : 0; \

@@ -9,7 +9,8 @@
  * at least so many elements behind it as its length says, aligned for its type and not null (a
  * slice of length 0 may point anywhere but to null), and no two slices of one call that overlap, if
  * one of them is lent for writing. The calls may run on several threads at once; none takes more
- * than 256 KiB of stack (bench/run_stack measures it: film_reasons takes the most, 182 KiB).
+ * than 256 KiB of stack (bench/run_stack measures it: film_reasons_file takes the most, 210
+ * KiB).
  *
  * ANSWERS. Every call answers one 64-bit number:
  *
@@ -51,6 +52,7 @@ enum {
     FILM_SLOTS = 3600,         /* slots of a forecast */
     FILM_MARKS = 500,          /* marks of a plan: one a chunk */
     FILM_ROWS = 5599,          /* rows that planning hands over, also afresh */
+    FILM_PIECES = 2000,        /* pieces to ask the link for: four layers of 500 chunks */
     FILM_SZS = 1996,           /* SZs of a job: four layers of 499 chunks */
     FILM_PROGRAMME = 4,        /* C, L, s and the limit */
     FILM_LENGTHS = 2,          /* how many layers, how many SZs */
@@ -232,11 +234,15 @@ uint64_t film_write_plan(
 /* ---- the checker */
 
 /* Judges a fetch list with its marks. Answers the verdict: 0 if rules 1 to 7 all hold, else the
- * lowest broken rule. 1  Slot 1 to d(C), chunk 1 to C, layer below the layer count, bytes at least
- * 1. 2  Each layer of each chunk sums to 0 or its full size. 3  A carried layer has the layer below
- * carried. 4  A slot's rows sum to at most the forecast of the slot. 5  No row is later than its
- * chunk's due slot. 6  At the end of each slot at most H chunks are held. 7  The marks of the plan
- * say the layers carried. Refuses: 5, 6, 18, 7, 8. */
+ * lowest broken rule.
+ *   1  Slot 1 to d(C), chunk 1 to C, layer below the layer count, bytes at least 1.
+ *   2  Each layer of each chunk sums to 0 or its full size.
+ *   3  A carried layer has the layer below carried.
+ *   4  A slot's rows sum to at most the forecast of the slot.
+ *   5  No row is later than its chunk's due slot.
+ *   6  At the end of each slot at most H chunks are held.
+ *   7  The marks of the plan say the layers carried.
+ * Refuses: 5, 6, 18, 7, 8. */
 uint64_t film_check(
     uint16_t chunks, uint16_t span, uint16_t delay, uint16_t limit,
     const uint32_t *sizes, size_t sizes_len,
@@ -319,6 +325,33 @@ uint64_t film_replan(
     uint32_t *row_bytes, size_t row_bytes_len,
     uint16_t *counts, size_t counts_len);
 
+/* What to fetch next in slot p (`from`), during the act and whatever the link brings: from the
+ * rows fetched before p, in any order, and a rate in bytes a slot, any number, the pieces to ask
+ * the link for one after the other, as far as the slot goes. They are by layer from the base up,
+ * and in a layer by chunk: the bytes not yet fetched of each chunk asked. docs/LIVE.md has the
+ * rule that says which chunks are asked, and the loop around the call. The job's forecast before p
+ * says what those slots could carry: write into it what each slot that is over has brought; from p
+ * on it is not used. Answers the number of pieces, at most FILM_PIECES, 0 where nothing is to be
+ * asked. Whatever part of them the link brings, in their order, the rows fetched and that part as
+ * rows of slot p are not refused at p + 1, here or in film_replan, if the forecast of slot p is
+ * then at least the bytes brought. Lent: the pieces. Refuses: 5, 6, 18, 7, 8, 21, 22, 11. */
+uint64_t film_live(
+    uint16_t chunks, uint16_t span, uint16_t delay, uint16_t limit,
+    const uint32_t *sizes, size_t sizes_len,
+    const uint16_t *size_chunks, size_t size_chunks_len,
+    const uint8_t *size_layers, size_t size_layers_len,
+    const uint32_t *size_bytes, size_t size_bytes_len,
+    const uint32_t *forecast, size_t forecast_len,
+    uint16_t from,
+    const uint16_t *fetched_slots, size_t fetched_slots_len,
+    const uint16_t *fetched_chunks, size_t fetched_chunks_len,
+    const uint8_t *fetched_layers, size_t fetched_layers_len,
+    const uint32_t *fetched_bytes, size_t fetched_bytes_len,
+    uint32_t rate,
+    uint16_t *piece_chunks, size_t piece_chunks_len,
+    uint8_t *piece_layers, size_t piece_layers_len,
+    uint32_t *piece_bytes, size_t piece_bytes_len);
+
 /* Searches the best set of bases within a budget of steps, and plans over it: each chunk from the
  * last is tried kept and then skipped, each try is a step. Answers the number of rows, at most
  * FILM_ROWS; with the marks, whose bit 0 is the set, they pass film_check. Lent: the marks, the
@@ -371,9 +404,11 @@ uint64_t film_report(
     uint8_t *out, size_t out_len);
 
 /* The reason under each layer of the job that its plan doesn't carry, by chunk and then layer,
- * lines ended by a line feed: chunk 1 layer 0: slots 2 to 4 carry 1, need 2 chunk 1 layer 1: layer
- * 0 is missing Answers its bytes, at most FILM_REASONS; 0 for a plan that lacks nothing. Refuses:
- * 5, 6, 18, 7, 11. */
+ * lines ended by a line feed:
+ *   chunk 1 layer 0: slots 2 to 4 carry 1, need 2
+ *   chunk 1 layer 1: layer 0 is missing
+ * Answers its bytes, at most FILM_REASONS; 0 for a plan that lacks nothing. Refuses: 5, 6, 18, 7,
+ * 11. */
 uint64_t film_reasons(
     uint16_t chunks, uint16_t span, uint16_t delay, uint16_t limit,
     const uint32_t *sizes, size_t sizes_len,
@@ -382,6 +417,28 @@ uint64_t film_reasons(
     const uint32_t *size_bytes, size_t size_bytes_len,
     const uint32_t *forecast, size_t forecast_len,
     uint8_t *out, size_t out_len);
+
+/* ---- whole files: what the programs do, for callers who have files */
+
+/* The plan file of the job of a job file in one sequence. Answers its bytes, at most
+ * FILM_PLAN_FILE. Refuses: the job file's number as film_read_job, then 11. */
+uint64_t film_plan_file(const uint8_t *job, size_t job_len, uint8_t *out, size_t out_len);
+
+/* The verdict on a plan file for the job of a job file. Answers as film_check: 0 for the file that
+ * film_plan_file writes. Refuses: the job file's number, then the plan file's as film_read_plan. */
+uint64_t film_verdict_files(const uint8_t *job, size_t job_len, const uint8_t *plan, size_t plan_len);
+
+/* The report of the job's plan, as film_report. Answers its bytes, at most FILM_REPORT. Refuses as
+ * film_plan_file. */
+uint64_t film_report_file(const uint8_t *job, size_t job_len, uint8_t *out, size_t out_len);
+
+/* The reasons under the layers that the job's plan lacks, as film_reasons. Answers their bytes, at
+ * most FILM_REASONS. Refuses as film_plan_file. */
+uint64_t film_reasons_file(const uint8_t *job, size_t job_len, uint8_t *out, size_t out_len);
+
+/* The job of a mixed file as a file in one sequence. Answers its bytes, at most FILM_JOB_FILE.
+ * Refuses: the file's number as film_read_mixed_job, then 11. */
+uint64_t film_convert_file(const uint8_t *job, size_t job_len, uint8_t *out, size_t out_len);
 
 /* ---- link traces */
 
@@ -440,8 +497,9 @@ uint64_t film_count_word(uint64_t word, uint8_t n);
 
 /* ---- the link meter, in the caller's own storage: ten slots, ten bytes, and how many samples are
  * kept. Only the first `kept` cells mean anything, the newest sample last. A slice shorter than its
- * part of the meter holds no meter: 11. In longer ones the cells past the tenth, and past the first
- * `kept`, are not looked at and stay as they are. */
+ * part of the meter holds no meter: 11. Cells past the first `kept` are not looked at; film_meter_new
+ * clears all ten, film_meter_take writes the next one. In longer slices the cells past the tenth,
+ * and past the first of `kept`, stay as they are. */
 
 /* Makes the storage a meter without samples. Answers 0. Refuses: 11. */
 uint64_t film_meter_new(uint16_t *slots, size_t slots_len, uint32_t *bytes, size_t bytes_len, uint8_t *kept, size_t kept_len);

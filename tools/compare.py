@@ -41,10 +41,16 @@ CALLS = {
     "film_plan": f"{JOB} {LENT_ROWS} H!",
     "film_compare": "H H",
     "film_replan": f"{JOB} h {ROWS} I {LENT_ROWS} H!",
+    "film_live": f"{JOB} h {ROWS} w H! B! I!",
     "film_search": f"{JOB} w {LENT_ROWS} H! I!",
     "film_wait": "h h h I H B I I",
     "film_report": f"{JOB} B!",
     "film_reasons": f"{JOB} B!",
+    "film_plan_file": "B B!",
+    "film_verdict_files": "B B",
+    "film_report_file": "B B!",
+    "film_reasons_file": "B B!",
+    "film_convert_file": "B B!",
     "film_read_trace": "B z I!",
     "film_write_trace": "I B!",
     "film_book": f"{JOB[:-1]}I? B {ROWS}",
@@ -231,12 +237,16 @@ def film_read_plan(*args):
     return len(rows), by_place(10, [marks] + columns_of(rows))
 
 
+def plan_file(marks, rows):
+    return b"".join(kp(i, m) for i, m in enumerate(marks, 1)) + b"".join(ft(*x) for x in rows) + b"EN"
+
+
 def film_write_plan(*args):
     job = job_of(args)
     rows, marks = listed(*args[10:14]), args[9]
     if len(marks) != job.chunks:
         raise Refused(8)
-    text = b"".join(kp(i, m) for i, m in enumerate(marks, 1)) + b"".join(ft(*x) for x in rows) + b"EN"
+    text = plan_file(marks, rows)
     if len(text) > 65536:
         raise Refused(9)
     return len(text), {14: list(text)}
@@ -278,6 +288,17 @@ def film_replan(*args):
     levels, rows = plan_fast(job)
     assert not by_moore_hodgson(job) and onward == job.forecast[p - 1:] and sorted(listed(*columns)) == [x for x in rows if x.slot < p]
     return plan_handed(levels, [x for x in rows if x.slot >= p], 15)
+
+
+def film_live(*args):
+    job = job_of(args)
+    p, columns, rate = args[9], args[10:14], args[14]
+    if not small(job) or len(columns[0]) > 60:
+        pieces = live_fast(job, p, rate, *columns)
+    else:
+        pieces = live(job, p, rate, *columns)
+        assert pieces == live_fast(job, p, rate, *columns), (job, p, rate, columns)
+    return len(pieces), by_place(15, [list(c) for c in zip(*pieces)] if pieces else [[], [], []])
 
 
 def by_moore_hodgson(job):
@@ -323,6 +344,36 @@ def film_reasons(*args):
     job = job_of(args)
     text = reasons(job, planned(job)).encode()
     return len(text), {9: list(text)}
+
+
+def film_plan_file(file, lent):
+    job = read_job(bytes(file))
+    levels, rows = planned(job)
+    text = plan_file(marks_of(levels), rows)
+    return len(text), {1: list(text)}
+
+
+def film_verdict_files(file, plan_bytes):
+    job = read_job(bytes(file))
+    marks, rows = read_plan(job, bytes(plan_bytes))
+    return judged(job, rows, marks), {}
+
+
+def film_report_file(file, lent):
+    job = read_job(bytes(file))
+    text = report(job, planned(job)).encode()
+    return len(text), {1: list(text)}
+
+
+def film_reasons_file(file, lent):
+    job = read_job(bytes(file))
+    text = reasons(job, planned(job)).encode()
+    return len(text), {1: list(text)}
+
+
+def film_convert_file(file, lent):
+    text = convert(bytes(file))
+    return len(text), {1: list(text)}
 
 
 def film_read_trace(trace, slots, lent):
@@ -586,8 +637,7 @@ class Cases:
     def film_read_plan(self):
         job = self.some_job()
         rows, marks = self.rows(job)
-        data = b"".join(kp(i, m) for i, m in enumerate(marks, 1)) + b"".join(ft(*x) for x in rows) + b"EN"
-        return self.handed(job, 0.1) + [self.spoiled_file(data, (b"KP", b"FT", b"EN"))] + [None] * 5
+        return self.handed(job, 0.1) + [self.spoiled_file(plan_file(marks, rows), (b"KP", b"FT", b"EN"))] + [None] * 5
 
     def film_write_plan(self):
         job = self.some_job()
@@ -651,6 +701,74 @@ class Cases:
             r.shuffle(rows)
         return self.handed(job, 0) + [p] + columns_of(rows) + [job.forecast[p - 1:]] + [None] * 6
 
+    def rate(self, job, p):
+        """A rate that just brings the base of a chunk by its due slot, by itself or behind another
+        one, or one byte less; or any number."""
+        r = self.r
+        if self.odds(0.3):
+            return r.choice((0, 1, r.randint(0, 9), r.randint(0, 99), 1 << 24, (1 << 32) - 1))
+        i = r.choice([i for i in range(1, job.chunks + 1) if due(job, i) >= p] or [1])
+        need = size(job, i, 0) + (size(job, r.randint(1, i), 0) if self.odds(0.3) else 0)
+        return max(0, -(-need // max(1, due(job, i) - p + 1)) - r.choice((0, 0, 1)))
+
+    def act(self, job, last):
+        """The rows of an act before slot last, and what each slot brought: what the rule asks for,
+        as far as the job's forecast goes, at any rates."""
+        rows, forecast = [], list(job.forecast)
+        for p in range(1, last):
+            on = job._replace(forecast=forecast)
+            pieces = live_fast(on, p, self.rate(job, p), *columns_of(rows))
+            came = taken(p, pieces, forecast[p - 1])
+            forecast[p - 1] = sum(x.bytes for x in came)
+            rows += came
+        return rows, forecast
+
+    def one_behind(self):
+        """A begun chunk that is late, a whole one behind it, and a third that may come in time: what
+        an act meets too seldom by chance."""
+        r = self.r
+        chunks, span = r.randint(3, 5), r.randint(1, 2)
+        sizes = [r.randint(3, 9)] + [r.randint(1, 4) for _ in range(r.randint(0, 2))]
+        job = Job(chunks, span, r.randint(2, 4), span * r.randint(2, 4), sizes, [], [])
+        job = job._replace(forecast=[40] * due(job, chunks))
+        k = r.randint(1, chunks - 2)
+        p = max(2, due(job, k) - r.choice((0, 0, 1)))
+        t = r.randint(1, p - 1)
+        rows = [Row(t, k, 0, r.randint(1, sizes[0] - 1)), Row(t, k + 1, 0, sizes[0])]
+        if k < chunks - 2 and self.odds(0.3):
+            rows.append(Row(r.randint(t, p - 1), k + 2, 0, r.randint(1, sizes[0])))
+        return self.handed(job, 0) + [p] + columns_of(rows) + [self.rate(job, p)] + [None] * 3
+
+    def film_live(self):
+        """The rows of an act, or of a plan, before p, changed or not."""
+        r = self.r
+        if self.odds(0.05):
+            return self.one_behind()
+        job = self.job(r.choices(("small", "middle", "large"), (980, 19, 1))[0])
+        p = r.choice((1, r.randint(1, len(job.forecast)), r.randint(1, len(job.forecast)), len(job.forecast)))
+        if self.odds(0.6):
+            rows, forecast = self.act(job, min(p, 40))
+            job = job._replace(forecast=forecast)
+        else:
+            rows = [x for x in plan_fast(job if self.odds(0.8) else job._replace(limit=65535))[1] if x.slot < p]
+        while self.odds(0.3):
+            how = r.randrange(5)
+            if how == 0 and rows:
+                rows.pop(r.randrange(len(rows)))
+            elif how == 1 and rows:
+                k = r.randrange(len(rows))
+                rows[k] = rows[k]._replace(bytes=max(1, rows[k].bytes - 1))
+            elif how == 2:
+                rows.append(Row(*self.row(job)))
+            elif how == 3:
+                # A slot gone, maybe, that says less than it brought.
+                job.forecast[r.randrange(len(job.forecast))] //= 2
+            else:
+                r.shuffle(rows)
+        if self.odds(0.06):
+            p = r.choice((0, len(job.forecast) + 1, 65535))
+        return self.handed(job, 0.1) + [p] + self.columns(rows) + [self.rate(job, p)] + [None] * 3
+
     def film_search(self):
         job = self.job(self.r.choices(("small", "middle"), (97, 3))[0])
         top = 2000 if job.chunks > 5 else 70
@@ -678,6 +796,25 @@ class Cases:
 
     def film_report(self):
         return self.handed(self.some_job()) + [None]
+
+    def film_plan_file(self):
+        return self.film_read_job()[:1] + [None]
+
+    def film_verdict_files(self):
+        job = self.some_job()
+        rows, marks = self.rows(job)
+        spoil = self.odds(0.3)
+        file = self.spoiled_file(write_job(job), (b"PG", b"LY", b"SZ", b"BW", b"EN")) if spoil else list(write_job(job))
+        return [file, self.spoiled_file(plan_file(marks, rows), (b"KP", b"FT", b"EN")) if self.odds(0.5) else list(plan_file(marks, rows))]
+
+    def film_report_file(self):
+        return self.film_plan_file()
+
+    def film_reasons_file(self):
+        return self.film_plan_file()
+
+    def film_convert_file(self):
+        return self.film_read_mixed_job()[:1] + [None]
 
     def film_read_trace(self):
         r, slots = self.r, self.r.choice((1, 2, 3, 5, 3600, 0, 3601, 1 << 40))
@@ -815,11 +952,12 @@ def said(answer):
 WEIGHTS = {"film_read_job": 10, "film_read_mixed_job": 6, "film_write_job": 6, "film_read_plan": 8, "film_write_plan": 5, "film_check": 12,
            "film_check_from": 8, "film_plan": 8, "film_compare": 2, "film_wait": 4, "film_report": 5, "film_read_trace": 5, "film_write_trace": 3,
            "film_book": 6, "film_release": 5, "film_count_marks": 3, "film_count_word": 3, "film_meter_new": 1, "film_meter_take": 8,
-           "film_meter_forecast": 6, "film_replan": 6, "film_search": 5, "film_reasons": 5}
+           "film_meter_forecast": 6, "film_replan": 6, "film_search": 5, "film_reasons": 5, "film_plan_file": 6, "film_verdict_files": 8,
+           "film_report_file": 4, "film_reasons_file": 4, "film_convert_file": 5, "film_live": 10}
 
 
 # Calls whose few answers are counted one by one: verdicts, and counts compared.
-SHOWN = ("film_check", "film_check_from", "film_compare")
+SHOWN = ("film_check", "film_check_from", "film_verdict_files", "film_compare")
 
 
 def run(library, calls, seed, only):

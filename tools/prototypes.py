@@ -1,6 +1,7 @@
 """The calls of crate `film_planner` as C declarations, from its own sources: a C file that includes
-the header and declares each call once more, so that the compiler refuses a header that says
-otherwise, and that names each, so that the linker refuses an archive that lacks one.
+the header and declares each call once more, so that the compiler refuses a header with other types,
+and that names each, so that the linker refuses an archive that lacks one. A header whose arguments
+have other names, or two of one type in another order, is refused here: the compiler takes it.
 Run it at the root of the repository: python3 tools/prototypes.py > target/kit/prototypes.c"""
 import glob
 import re
@@ -38,6 +39,11 @@ def main():
     lacking = in_header ^ {name for name, _, _ in found}
     if lacking:
         sys.exit(f"in the header or in the crate alone: {', '.join(sorted(lacking))}")
+    said = dict(re.findall(r"^uint64_t (film_\w+)\((.*?)\);", header, re.M | re.S))
+    for call in found:
+        wanted = " ".join(declared(*call).split())
+        if " ".join(f"uint64_t {call[0]}({said[call[0]]});".split()).replace("( ", "(") != wanted:
+            sys.exit(f"the header says otherwise than the crate: {wanted}")
     print('#include "film_planner.h"\n')
     for call in found:
         print(declared(*call))

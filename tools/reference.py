@@ -1,8 +1,8 @@
 """Documents 01 and 02 once more, in plain Python and independent of the proved crates: job and plan
-files, the seven rules, the plan, the report, link traces, bookings, plans made afresh, the search,
-the reasons, the wait, counts, the meter. `cases.py`, `traces.py`, `waits.py`, `bookings.py` and
-`replans.py` compute from it what the test programs have to print; `compare.py` compares it with the
-library, call by call."""
+files, the seven rules, the plan, the report, link traces, bookings, plans made afresh, what to ask
+for next in a slot of the act, the search, the reasons, the wait, counts, the meter. `cases.py`,
+`traces.py`, `waits.py`, `bookings.py`, `replans.py` and `lives.py` compute from it what the test
+programs have to print; `compare.py` compares it with the library, call by call."""
 from collections import namedtuple
 
 Job = namedtuple("Job", "chunks span delay limit sizes overrides forecast")
@@ -667,3 +667,135 @@ def replan(job, p, onward, *columns):
     check_fetched(job, p, rows)
     levels = settle_afresh(job, p, rows, lambda tried: fits(job, tried, p, rows))
     return levels, own_list(job, levels, p, rows)
+
+
+# ---- live: what to ask for next in slot p, from the rows fetched before it and a rate. What stands
+# in quotes is the rule, as docs/LIVE.md has it.
+
+Piece = namedtuple("Piece", "chunk layer bytes")
+
+
+def is_open(job, p, rows, i):
+    """The rule: "A chunk is open if it is due in p or later, and either it is begun or no chunk
+    after it is"."""
+    is_begun = any(x.chunk == i for x in rows)
+    return due(job, i) >= p and (is_begun or not any(x.chunk > i for x in rows))
+
+
+def remaining(job, rows, i, n):
+    """A layer's bytes not yet fetched."""
+    return size(job, i, n) - layer_sum(rows, i, n)
+
+
+def missing(job, rows, i):
+    """The rule: "the base's bytes not yet fetched"."""
+    return remaining(job, rows, i, 0)
+
+
+def rate_brings(job, p, rate, i):
+    return rate * (due(job, i) - p + 1)
+
+
+def in_time(job, p, rows, rate, i):
+    """The rule: "missing(i) ≤ r × (d(i) − p + 1)"."""
+    return missing(job, rows, i) <= rate_brings(job, p, rate, i)
+
+
+def passed_over(job, p, rows, rate):
+    """The rule: "Let k be the first open chunk with missing bytes. If k is not in time, let j be
+    the first of the next H open chunks that has missing bytes and is in time. If there is one, and
+    it would not be in time behind k, the open chunks from k to before j that have missing bytes are
+    passed over in this slot. Else none is"."""
+    opened = [i for i in range(1, job.chunks + 1) if is_open(job, p, rows, i)]
+    lacking = [i for i in opened if missing(job, rows, i) > 0]
+    if not lacking or in_time(job, p, rows, rate, lacking[0]):
+        return []
+    k = lacking[0]
+    next_open = [i for i in opened if i > k][:job.limit // job.span]
+    could_come = [i for i in next_open if missing(job, rows, i) > 0 and in_time(job, p, rows, rate, i)]
+    if not could_come:
+        return []
+    j = could_come[0]
+    if missing(job, rows, k) + missing(job, rows, j) <= rate_brings(job, p, rate, j):
+        return []
+    return [i for i in lacking if k <= i < j]
+
+
+def asked(job, p, rows, rate):
+    """The rule: "Asked are the open chunks that are not passed over, in playing order, as many as
+    rule 6 allows at the end of p beside all that are begun". Rule 6 is asked of the rows with a
+    byte of each in slot p."""
+    over, chunks, now = passed_over(job, p, rows, rate), [], list(rows)
+    for i in range(1, job.chunks + 1):
+        if is_open(job, p, rows, i) and i not in over:
+            then = now + [Row(p, i, 0, 1)]
+            if held(job, then, p) <= job.limit // job.span:
+                chunks, now = chunks + [i], then
+    return chunks
+
+
+def asks(job, p, rows, rate):
+    """The rule: "for each layer from the base up, for each asked chunk in playing order, the
+    layer's bytes not yet fetched"."""
+    chunks = asked(job, p, rows, rate)
+    pieces = [Piece(i, n, remaining(job, rows, i, n)) for n in range(len(job.sizes)) for i in chunks]
+    return [x for x in pieces if x.bytes > 0]
+
+
+def taken(p, pieces, x):
+    """The rows that the first x bytes of the asks make in slot p."""
+    rows = []
+    for piece in pieces:
+        if x > 0:
+            rows.append(Row(p, piece.chunk, piece.layer, min(x, piece.bytes)))
+            x -= piece.bytes
+    return rows
+
+
+def live(job, p, rate, *columns):
+    """The asks, after the checks of planning afresh, in their order. The job's forecast says what
+    the slots before p could carry, and is not used from p on."""
+    check_job(job)
+    rows = listed(*columns)
+    check_slot(job, p)
+    if any(x.slot >= p for x in rows):
+        raise Refused(21)
+    check_fetched(job, p, rows)
+    return asks(job, p, rows, rate)
+
+
+def live_fast(job, p, rate, *columns):
+    """The same for large jobs, by tables of the rows."""
+    check_job(job)
+    rows = listed(*columns)
+    check_slot(job, p)
+    if any(x.slot >= p for x in rows):
+        raise Refused(21)
+    left, first, most = sizes_by_chunk(job), {}, job.limit // job.span
+    for x in rows:
+        if 1 <= x.chunk <= job.chunks and x.layer < len(job.sizes):
+            left[x.chunk - 1][x.layer] -= x.bytes
+        first[x.chunk] = min(first.get(x.chunk, x.slot), x.slot)
+    marks = [sum(1 << n for n, bytes in enumerate(z) if bytes == 0) for z in left]
+    turns = [first[i] for i in sorted(first)]
+    if verdict_fast(job, rows, marks, p) or turns != sorted(turns):
+        raise Refused(22)
+    last = max(first, default=0)
+    opened = [i for i in range(1, job.chunks + 1) if due(job, i) >= p and (i in first or i > last)]
+    lacking = [i for i in opened if left[i - 1][0]]
+    late = [i for i in lacking if left[i - 1][0] > rate * (due(job, i) - p + 1)]
+    over = set()
+    if late and late[0] == lacking[0]:
+        k = lacking[0]
+        near = set(opened[opened.index(k) + 1:][:most])
+        j = next((i for i in lacking if i in near and i not in late), None)
+        if j and left[k - 1][0] + left[j - 1][0] > rate * (due(job, j) - p + 1):
+            over = {i for i in lacking if k <= i < j}
+    room, chunks = most - sum(due(job, i) > p for i in first), []
+    for i in opened:
+        if i not in over:
+            fresh = i not in first and due(job, i) > p
+            if not fresh or room > 0:
+                chunks.append(i)
+                room -= fresh
+    return [Piece(i, n, left[i - 1][n]) for n in range(len(job.sizes)) for i in chunks if left[i - 1][n]]

@@ -89,6 +89,12 @@ calls! {
         fetched_chunks: handed u16, fetched_layers: handed u8, fetched_bytes: handed u32, onward: handed u32, marks: lent u8,
         row_slots: lent u16, row_chunks: lent u16, row_layers: lent u8, row_bytes: lent u32, counts: lent u16,
     );
+    fn live = film_live(
+        chunks: number u16, span: number u16, delay: number u16, limit: number u16, sizes: handed u32, size_chunks: handed u16,
+        size_layers: handed u8, size_bytes: handed u32, forecast: handed u32, from: number u16, fetched_slots: handed u16,
+        fetched_chunks: handed u16, fetched_layers: handed u8, fetched_bytes: handed u32, rate: number u32, piece_chunks: lent u16,
+        piece_layers: lent u8, piece_bytes: lent u32,
+    );
     fn search = film_search(
         chunks: number u16, span: number u16, delay: number u16, limit: number u16, sizes: handed u32, size_chunks: handed u16,
         size_layers: handed u8, size_bytes: handed u32, forecast: handed u32, budget: number u32, marks: lent u8,
@@ -106,6 +112,11 @@ calls! {
         chunks: number u16, span: number u16, delay: number u16, limit: number u16, sizes: handed u32, size_chunks: handed u16,
         size_layers: handed u8, size_bytes: handed u32, forecast: handed u32, out: lent u8,
     );
+    fn plan_file = film_plan_file(job: handed u8, out: lent u8);
+    fn verdict_files = film_verdict_files(job: handed u8, plan: handed u8);
+    fn report_file = film_report_file(job: handed u8, out: lent u8);
+    fn reasons_file = film_reasons_file(job: handed u8, out: lent u8);
+    fn convert_file = film_convert_file(job: handed u8, out: lent u8);
     fn read_trace = film_read_trace(trace: handed u8, slots: number usize, forecast: lent u32);
     fn write_trace = film_write_trace(forecast: handed u32, out: lent u8);
     fn book = film_book(

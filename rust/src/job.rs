@@ -1,6 +1,6 @@
 use crate::{
-    ffi, FetchList, Found, Plan, Refusal, Verdict, COUNTS, FILE, FILE_ROWS, JOB_FILE, LAYERS, LENGTHS, MARKS, PROGRAMME, REASONS, REPORT,
-    ROWS, SLOTS, SZS, WALK,
+    ffi, FetchList, Found, Piece, Plan, Refusal, Verdict, COUNTS, FILE, FILE_ROWS, JOB_FILE, LAYERS, LENGTHS, MARKS, PIECES, PROGRAMME,
+    REASONS, REPORT, ROWS, SLOTS, SZS, WALK,
 };
 
 /// A size of one layer of one chunk that differs from the layer's own (`SZ`).
@@ -154,6 +154,29 @@ impl Job {
         )?;
         marks.truncate(usize::from(self.chunks));
         Ok(Plan { marks, list: list.cut(rows), counts })
+    }
+
+    /// What to ask the link for in slot p, from the rows fetched before it and a rate in bytes a
+    /// slot, any number: the pieces, one after the other, as far as the slot goes. The forecast of
+    /// the slots before p says what they brought, from p on it is not used. `Act` runs this slot by
+    /// slot. 5, 6, 18, 7, 8, 21, 22.
+    pub fn live(&self, p: u16, fetched: &FetchList, rate: u32) -> Result<Vec<Piece>, Refusal> {
+        let (mut chunks, mut layers, mut bytes) = (vec![0; PIECES], vec![0; PIECES], vec![0; PIECES]);
+        let n = with_job!(
+            live,
+            self,
+            &self.forecast,
+            p,
+            &fetched.slots,
+            &fetched.chunks,
+            &fetched.layers,
+            &fetched.bytes,
+            rate,
+            &mut chunks,
+            &mut layers,
+            &mut bytes
+        )?;
+        Ok((0..n).map(|k| Piece { chunk: chunks[k], layer: layers[k], bytes: bytes[k] }).collect())
     }
 
     /// Searches the best set of bases within a budget of steps, and plans over it: 5, 6, 18, 7.

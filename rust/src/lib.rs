@@ -25,7 +25,9 @@
 //! ```
 #![deny(unsafe_code)]
 
+mod act;
 mod ffi;
+mod files;
 mod job;
 mod list;
 mod meter;
@@ -34,8 +36,10 @@ mod trace;
 
 use std::cmp::Ordering;
 
+pub use act::Act;
+pub use files::{convert_file, plan_file, reasons_file, report_file, verdict_files};
 pub use job::{Job, Override};
-pub use list::{FetchList, Row};
+pub use list::{FetchList, Piece, Row};
 pub use meter::Meter;
 pub use refusal::Refusal;
 pub use trace::{read_trace, write_trace};
@@ -59,6 +63,8 @@ largest! {
     MARKS = 500;
     /// Rows that planning hands over, also afresh.
     ROWS = 5599;
+    /// Pieces to ask the link for: four layers of 500 chunks.
+    PIECES = 2000;
     /// `SZ`s of a job: four layers of 499 chunks.
     SZS = 1996;
     /// C, L, s and the limit.
@@ -75,6 +81,8 @@ largest! {
     FILE_ROWS = 5957;
     /// Bytes of a job file as written.
     JOB_FILE = 46800;
+    /// Bytes of the file of a plan of at most `ROWS` rows.
+    PLAN_FILE = 64091;
     /// Bytes of a report.
     REPORT = 7633;
     /// Bytes of the reasons.

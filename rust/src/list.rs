@@ -13,6 +13,14 @@ impl Row {
     }
 }
 
+/// A piece to ask the link for: so many bytes of a layer of a chunk.
+#[derive(Clone, Copy, Debug, PartialEq, Eq, PartialOrd, Ord, Hash)]
+pub struct Piece {
+    pub chunk: u16,
+    pub layer: u8,
+    pub bytes: u32,
+}
+
 /// A fetch list: any number of rows in any order, kept by column as the calls take them.
 #[derive(Clone, Debug, Default, PartialEq, Eq)]
 pub struct FetchList {

@@ -196,7 +196,8 @@ fn the_largest_job() {
     let job = Job { chunks: 500, span: 7, delay: 107, limit: 28, sizes: vec![9000, 7000, 5000, 4000], overrides, forecast };
     assert_eq!(job.write().unwrap().len(), 46_800);
     let plan = job.plan().unwrap();
-    assert!(plan.list.len() <= film_planner::ROWS);
+    assert_eq!(plan.counts[0] as usize, plan.marks.iter().filter(|mark| *mark & 1 == 1).count());
+    assert!(plan.list.len() > usize::from(plan.counts[0]), "a row a base is too few for this forecast");
     assert_eq!(job.check(&plan.marks, &plan.list), Ok(Verdict::Passes));
     assert_eq!(Job::read(&job.write().unwrap()).unwrap(), job);
 }

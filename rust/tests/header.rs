@@ -54,7 +54,7 @@ fn every_call_is_declared_as_in_the_header() {
         calls.sort();
         calls
     };
-    assert_eq!(in_header.len(), 23);
+    assert_eq!(in_header.len(), 29);
     assert_eq!(sorted(in_ffi), sorted(in_header));
 }
 

@@ -2,8 +2,10 @@ pub mod Convention
 pub mod Files
 pub mod Lists
 pub mod Plans
+pub mod Asks
 pub mod Texts
 pub mod Meters
+pub mod Programs
 pub mod Theorems
 pub mod Desk
 pub mod lemmas

@@ -15,7 +15,7 @@ use Rattle.job.specs.Input.{JobInput, input-iff, jobIn, jobRefusal}
 use Rattle.job.specs.Job.{Accepted, Job, layers}
 use Rattle.job.specs.Uneven.{overrides-few}
 use Rattle.fetch.specs.Input.{listRefusal}
-use Rattle.jobrecords.specs.Refusal.{jobOfFile, refusalOf}
+use Rattle.jobrecords.specs.Refusal.{jobOfFile, mixed, refusalOf}
 use Rattle.jobrecords.specs.Theorems.{file-accepted}
 use Rattle.jobfile.specs.Theorems.{file-short}
 use Rattle.jobfile.specs.Writer.{jobFile}
@@ -41,6 +41,9 @@ use Rattle.trace.specs.Trace.{traceRefusal}
 use Rattle.meter.specs.Forecast.{bytesOf, forecastOf, meterForecastRefusal as meterRefusal}
 use Rattle.meter.specs.Meter.{samplesOf}
 use Rattle.meter.specs.Promises.{forecast-iff, forecast-says}
+use Rattle.whole_files.specs.Files.{jobFileRefusal, jobSaid, planOfJob}
+use Rattle.programs.specs.Theorems.{said-accepted}
+use Rattle.whole_files.specs.lemmas.Plans.{plan-file-fits}
 use Rattle.core_ffi.specs.Meters.{Storage, cellsRefusal, meanRefusal, meterIn}
 use Rattle.core_ffi.specs.lemmas.Largest.{marks-long}
 pub use Rattle.core_ffi.specs.lemmas.Largest.{verdict-few, verdict-from-few, word-few}
@@ -74,6 +77,24 @@ rows-read count file e = omega (arith, rows-inside count file e)
 -- FILM_FILE: a longer file is 9, before 11.
 pub plan-written : (h : JobInput) (s : ListSlices) (out : List ℕ) → writeRefusal h s out ≡ 0 → length (fileOf (planOf s)) ≤ 65536
 plan-written h s out e = accepts h s out e .fits
+
+-- Whole files: FILM_PLAN_FILE, FILM_REPORT, FILM_REASONS; and FILM_JOB_FILE for a mixed one.
+pub record FilesSmall (job : List ℕ) : Type 0 where
+  pub plan-file : length (fileOf (planOfJob (jobSaid job))) ≤ 64091
+  pub report-text : length (planReport (jobSaid job)) ≤ 7633
+  pub reasons-text : length (planText (jobSaid job)) ≤ 94000
+
+pub files-small : (job : List ℕ) → jobFileRefusal job ≡ 0 → FilesSmall job
+files-small job e =
+    let a = said-accepted job e in
+    record {
+      plan-file = plan-file-fits (jobSaid job) a;
+      report-text = plan-report-fits (jobSaid job) a;
+      reasons-text = text-fits (jobSaid job) a;
+    }
+
+pub converted-small : (job : List ℕ) → refusalOf mixed job ≡ 0 → length (jobFile (jobOfFile mixed job)) ≤ 46800
+converted-small job e = file-short (jobOfFile mixed job) (file-accepted mixed job e)
 
 -- ---- plans
 

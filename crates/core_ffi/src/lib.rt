@@ -14,6 +14,7 @@ ghost use Rattle.theory_basics.specs.Refusals.{_orElse_};
 ghost use Rattle.core_ffi.specs.Meters.{meterIn, storage};
 ghost use Rattle.core_ffi.specs.Plans.{fourCounts, orderNumber};
 ghost use Rattle.core_ffi.specs.lemmas.Numbers.{bookedNumber, checkedNumber, countsStored, forecastNumber, jobReadNumber, jobWrittenNumber, lengthsRead, planNumber, planReadNumber, planWrittenNumber, programmeRead, reasonNumber, refusedNumber, reportNumber, traceReadNumber, traceWrittenNumber, waitNumber, walkStored};
+ghost use Rattle.core_ffi.specs.lemmas.Asking.{liveNumber};
 ghost use Rattle.core_ffi.specs.lemmas.Planning.{replanShort};
 ghost use Rattle.job.specs.Input.{jobInput};
 ghost use Rattle.jobrecords.specs.Refusal.{mixed, oneSequence, refusalOf};
@@ -389,5 +390,15 @@ pub fn wait_number(answer: wait::Answer) -> u64
     match answer {
         wait::Answer::Delay(s) => s as u64,
         wait::Answer::Refused(n) => refused(n),
+    }
+}
+
+// The number of pieces, or the refusal.
+pub fn live_number(answer: live::Answer) -> u64
+    ensures { λ r. ⌜ r ≡ liveNumber answer ⌝ }
+{
+    match answer {
+        live::Answer::Pieces(n) => n as u64,
+        live::Answer::Refused(n) => refused(n),
     }
 }

@@ -35,7 +35,7 @@ fn fewer(a: usize, b: usize) -> usize
 }
 
 // The last begun chunk, or 0.
-fn last_begun(p: Programme, begun: &[u8; CHUNKS]) -> u16
+pub fn last_begun(p: Programme, begun: &[u8; CHUNKS]) -> u16
     requires { ⌜ (p .chunks ≤ 500) × (length (now begun) ≡ 500) ⌝ }
     ensures { λ r. ⌜ LastBegunPost p (now (begun .entry)) r ⌝ }
 {

@@ -1,79 +1,17 @@
-// Reads a job on standard input and prints its report; on a refusal, `refused n`.
-use job::OVERRIDES;
-use job::Programme;
-use job::SLOTS;
-use jobrecords::JobRead;
+// Reads a job on standard input and prints its report; on a refusal, `refused n`. What is printed
+// for what was read is crate programs' print_report.
 use libc::STDIN_FILENO;
 use libc::STDOUT_FILENO;
-use report::Written;
 
-fn refused(n: u8) {
-    io::write_all(STDOUT_FILENO, b"refused ");
-    io::print_decimal(STDOUT_FILENO, n as u64);
-    io::write_all(STDOUT_FILENO, b"\n");
-}
-
-fn write_first(out: &[u8; 8192], n: usize) {
-    io::write_all(STDOUT_FILENO, core_prefix::bytes(out, n));
-}
-
-fn print_report(
-    p: Programme,
-    sizes: &[u32],
-    size_chunks: &[u16],
-    size_layers: &[u8],
-    size_bytes: &[u32],
-    forecast: &[u32],
-) {
-    let mut out = [0u8; 8192];
-    match report::report(
-        p,
-        sizes,
-        size_chunks,
-        size_layers,
-        size_bytes,
-        forecast,
-        &mut out,
-    ) {
-        Written::Refused(n) => refused(n),
-        Written::Bytes(n) => write_first(&out, n),
-    }
-}
-
-fn job_file(file: &[u8; 65537], n: usize) {
-    let mut sizes = [0u32; 4];
-    let mut size_chunks = [0u16; OVERRIDES];
-    let mut size_layers = [0u8; OVERRIDES];
-    let mut size_bytes = [0u32; OVERRIDES];
-    let mut forecast = [0u32; SLOTS];
-    match jobfile::read_job(
-        core_prefix::bytes(file, n),
-        &mut sizes,
-        &mut size_chunks,
-        &mut size_layers,
-        &mut size_bytes,
-        &mut forecast,
-    ) {
-        JobRead::Refused(r) => refused(r),
-        JobRead::Job {
-            programme,
-            layers,
-            overrides,
-            slots,
-        } => print_report(
-            programme,
-            core_prefix::words(&sizes, layers),
-            core_prefix::halves(&size_chunks, overrides),
-            core_prefix::bytes(&size_layers, overrides),
-            core_prefix::words(&size_bytes, overrides),
-            core_prefix::words(&forecast, slots),
-        ),
-    }
+fn write_first(out: &[u8; programs::REPORT_BYTES], count: usize) {
+    io::write_all(STDOUT_FILENO, core_prefix::bytes(out, count));
 }
 
 // One byte more than a file may have is read, so that a longer input is refused by 9.
 fn main() {
-    let mut file = [0u8; 65537];
-    let n = io::read_full(STDIN_FILENO, &mut file);
-    job_file(&file, n);
+    let mut job = [0u8; programs::READ_BYTES];
+    let n = io::read_full(STDIN_FILENO, &mut job);
+    let mut out = [0u8; programs::REPORT_BYTES];
+    let count = programs::print_report(core_prefix::bytes(&job, n), &mut out);
+    write_first(&out, count);
 }

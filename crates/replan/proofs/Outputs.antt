@@ -130,10 +130,10 @@ module _ (h : JobInput) (o : ReplanInput) (z : askedRefusal h o ≡ 0) where
   module _
       {table : List ℕ} (filled : table ≡ sizesTable (h .sizes) (jobIn h .overrides)) {kept : Bool} {left begun whole : List ℕ}
       (g : GatherPost (h .programme) table (length (h .sizes)) earlier (fetched o) kept left begun whole) where
-    shown-on : Shown table (length (h .sizes)) (jobOn h o)
+    pub shown-on : Shown table (length (h .sizes)) (jobOn h o)
     shown-on = record { accepted = accepted-on; sizes-are = ap tableAt filled ∙ table-is (jobOn h o) accepted-on; depth-is = refl }
 
-    kept-is : kept ≡ fetchedKept (jobOn h o) (fetched o)
+    pub kept-is : kept ≡ fetchedKept (jobOn h o) (fetched o)
     kept-is = g .kept (h .sizes) (jobIn h .overrides) (o .onward) shown-on (subst (λ (p : ℕ). All (λ (x : Row). x .slot < p) (fetched o)) starts (asked .before))
 
     -- 22.

@@ -42,7 +42,7 @@ fn part_refusal(p: Programme, from: u16, onward: &[u32]) -> u8
 }
 
 // 5, 6, 18, 7, 8, 21, and 7 of the handed forecast.
-fn asked_refusal(
+pub fn asked_refusal(
     p: Programme,
     sizes: &[u32],
     size_chunks: &[u16],

@@ -1,0 +1,37 @@
+-- Meaning. The programs' work for callers in C or Rust who have files: whole files in, the number
+-- of bytes of the plan file, the report, the reasons or the job file out, and these in front of
+-- what the lent slice held; of two files the verdict. Refusals, texts and their order are those of
+-- crate programs: what comes from the files, then 11.
+use Prim.Native.Nat.{ℕ}
+use mathlib.Core.Path.{_≡_}
+use mathlib.Core.List.{List}
+use lib.ListN.{length}
+use Rattle.theory_basics.specs.Lent.{lentAfter}
+use Rattle.jobrecords.specs.Refusal.{jobOfFile, mixed, refusalOf}
+use Rattle.jobfile.specs.Writer.{jobFile}
+use Rattle.planfile.specs.PlanFile.{fileOf}
+use Rattle.report.specs.Answer.{planReport}
+use Rattle.theory_reasons.specs.Lines.{planText}
+use Rattle.whole_files.specs.Calls.{withRoom}
+use Rattle.whole_files.specs.Files.{filesRefusal, jobFileRefusal, jobSaid, planOfJob, verdictOfFiles}
+use Rattle.core_ffi.specs.Convention.{answered}
+
+-- The answer, and the lent slice afterwards.
+pub record TextHanded (refused : ℕ) (text old : List ℕ) (r : ℕ) (new : List ℕ) : Type 0 where
+  pub number : r ≡ answered (withRoom refused text old) (length text)
+  pub buffer : new ≡ lentAfter (withRoom refused text old) text old
+
+abbrev pub PlanOfFile : (job old : List ℕ) (r : ℕ) (new : List ℕ) → Type 0
+PlanOfFile job old r new = TextHanded (jobFileRefusal job) (fileOf (planOfJob (jobSaid job))) old r new
+
+abbrev pub ReportOfFile : (job old : List ℕ) (r : ℕ) (new : List ℕ) → Type 0
+ReportOfFile job old r new = TextHanded (jobFileRefusal job) (planReport (jobSaid job)) old r new
+
+abbrev pub ReasonsOfFile : (job old : List ℕ) (r : ℕ) (new : List ℕ) → Type 0
+ReasonsOfFile job old r new = TextHanded (jobFileRefusal job) (planText (jobSaid job)) old r new
+
+abbrev pub ConvertedFile : (job old : List ℕ) (r : ℕ) (new : List ℕ) → Type 0
+ConvertedFile job old r new = TextHanded (refusalOf mixed job) (jobFile (jobOfFile mixed job)) old r new
+
+abbrev pub verdictAnswer : (job plan : List ℕ) → ℕ
+verdictAnswer job plan = answered (filesRefusal job plan) (verdictOfFiles job plan)

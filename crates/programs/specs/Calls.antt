@@ -1,0 +1,29 @@
+-- Meaning. What the function of each program answers, and the lent buffer afterwards: how many
+-- bytes are to be printed, and these in front of what the buffer held.
+use Prim.Native.Nat.{ℕ}
+use mathlib.Core.Path.{_≡_}
+use mathlib.Core.List.{List}
+use lib.ListN.{length}
+use Rattle.theory_basics.specs.Lent.{over}
+use Rattle.programs.specs.Printed.{planPrinted, verdictPrinted, reportPrinted, reasonsPrinted, convertPrinted}
+
+-- The number of bytes of a text, and the text in front of what the buffer held.
+pub record Prints (text old : List ℕ) (count : ℕ) (new : List ℕ) : Type 0 where
+  pub counted : count ≡ length text
+  pub buffer : new ≡ over text old
+
+-- Of each program, for the files as its function is handed them.
+abbrev pub PrintsPlan : (job old : List ℕ) (count : ℕ) (new : List ℕ) → Type 0
+PrintsPlan job old count new = Prints (planPrinted job) old count new
+
+abbrev pub PrintsVerdict : (job plan old : List ℕ) (count : ℕ) (new : List ℕ) → Type 0
+PrintsVerdict job plan old count new = Prints (verdictPrinted job plan) old count new
+
+abbrev pub PrintsReport : (job old : List ℕ) (count : ℕ) (new : List ℕ) → Type 0
+PrintsReport job old count new = Prints (reportPrinted job) old count new
+
+abbrev pub PrintsReasons : (job old : List ℕ) (count : ℕ) (new : List ℕ) → Type 0
+PrintsReasons job old count new = Prints (reasonsPrinted job) old count new
+
+abbrev pub PrintsConverted : (job old : List ℕ) (count : ℕ) (new : List ℕ) → Type 0
+PrintsConverted job old count new = Prints (convertPrinted job) old count new

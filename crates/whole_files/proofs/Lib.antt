@@ -1,0 +1,5 @@
+pub mod Fronts
+pub mod Judging
+pub mod Planning
+pub mod Reading
+pub mod Writing
