@@ -1,5 +1,5 @@
 -- Lemmas. What the functions of this crate hand each other: tables of 500 places, and the search of
--- crate budget over what they hold.
+-- crate theory_search over what they hold.
 use Prim.Native.Nat.{ℕ, _+_, _-_, _/_, _≤_, _<_}
 use mathlib.Core.Path.{_≡_}
 use mathlib.Core.Bool.{Bool}
