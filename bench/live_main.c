@@ -1,7 +1,8 @@
-// Runs an act of the largest job (500 chunks, 4 layers, 3,600 slots) of equal or of uneven chunks to a
-// slot, each slot bringing what its forecast says of the asks, and asks there what to fetch next, by
-// the call named on the command line; prints the number of pieces and a checksum over them, so that
-// both did the same work. With a limit of its own, so that few or all chunks are asked.
+// Runs an act of the largest job (500 chunks, 4 layers, 3,600 slots) of equal or of uneven chunks
+// to a slot, each slot bringing what its forecast says of the asks, and asks there what to fetch
+// next, by the call named on the command line; prints the number of pieces and a checksum over
+// them, so that both did the same work. With a limit of its own, so that few or all chunks are
+// asked.
 #include "film_planner.h"
 #include "live.h"
 #include <stdio.h>

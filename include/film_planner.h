@@ -497,9 +497,9 @@ uint64_t film_count_word(uint64_t word, uint8_t n);
 
 /* ---- the link meter, in the caller's own storage: ten slots, ten bytes, and how many samples are
  * kept. Only the first `kept` cells mean anything, the newest sample last. A slice shorter than its
- * part of the meter holds no meter: 11. Cells past the first `kept` are not looked at; film_meter_new
- * clears all ten, film_meter_take writes the next one. In longer slices the cells past the tenth,
- * and past the first of `kept`, stay as they are. */
+ * part of the meter holds no meter: 11. Cells past the first `kept` are not looked at;
+ * film_meter_new clears all ten, film_meter_take writes the next one. In longer slices the cells
+ * past the tenth, and past the first of `kept`, stay as they are. */
 
 /* Makes the storage a meter without samples. Answers 0. Refuses: 11. */
 uint64_t film_meter_new(uint16_t *slots, size_t slots_len, uint32_t *bytes, size_t bytes_len, uint8_t *kept, size_t kept_len);
