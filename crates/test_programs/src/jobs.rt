@@ -3,7 +3,7 @@ use libc::STDOUT_FILENO;
 
 // The bytes of a case file, one more than a file may have at most. A file that can't be opened is
 // read as empty.
-pub(crate) fn read_case(path: &[u8], file: &mut [u8; 65537]) -> usize {
+pub(crate) fn read_case(path: &[u8], file: &mut [u8; programs::READ_BYTES]) -> usize {
     let fd = os::open_read(path);
     if fd < 0 {
         return 0;
@@ -68,14 +68,14 @@ fn print_each(job: &[u8]) {
     convert(job);
 }
 
-fn print_first(file: &[u8; 65537], n: usize) {
+fn print_first(file: &[u8; programs::READ_BYTES], n: usize) {
     print_each(core_prefix::bytes(file, n));
 }
 
 fn case(path: &[u8]) {
     word(path);
     word(b"\n");
-    let mut file = [0u8; 65537];
+    let mut file = [0u8; programs::READ_BYTES];
     let n = read_case(path, &mut file);
     print_first(&file, n);
 }

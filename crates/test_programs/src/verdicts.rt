@@ -6,7 +6,12 @@ fn put_line(out: &[u8; programs::VERDICT_BYTES], n: usize) {
     word(core_prefix::bytes(out, n));
 }
 
-fn print_first(job: &[u8; 65537], m: usize, plan: &[u8; 65537], n: usize) {
+fn print_first(
+    job: &[u8; programs::READ_BYTES],
+    m: usize,
+    plan: &[u8; programs::READ_BYTES],
+    n: usize,
+) {
     let mut out = [35u8; programs::VERDICT_BYTES];
     let count = programs::print_verdict(
         core_prefix::bytes(job, m),
@@ -21,9 +26,9 @@ fn case(job_path: &[u8], plan_path: &[u8]) {
     word(b" ");
     word(plan_path);
     word(b" ");
-    let mut job = [0u8; 65537];
+    let mut job = [0u8; programs::READ_BYTES];
     let m = read_case(job_path, &mut job);
-    let mut plan = [0u8; 65537];
+    let mut plan = [0u8; programs::READ_BYTES];
     let n = read_case(plan_path, &mut plan);
     print_first(&job, m, &plan, n);
 }
