@@ -83,8 +83,11 @@ fn mark_late(
     bytes: &[u32],
     late: &mut [u8; SIZES],
 )
-    requires { ⌜ InTables last count depth (now slots) (now chunks) (now layers) (now bytes) × (now late ≡ replicate 2000 0) ⌝ }
-    ensures { λ _. ⌜ MarkLatePost from (rowsOf (now (slots .entry)) (now (chunks .entry)) (now (layers .entry)) (now (bytes .entry))) (now (late .exit)) ⌝ }
+    requires { ⌜ InTables last count depth (now slots) (now chunks) (now layers) (now bytes)
+        × (now late ≡ replicate 2000 0) ⌝ }
+    ensures { λ _. ⌜ MarkLatePost from
+        (rowsOf (now (slots .entry)) (now (chunks .entry)) (now (layers .entry)) (now (bytes .entry)))
+        (now (late .exit)) ⌝ }
 {
     let mut k: usize = 0;
     while k < slots.len() {
@@ -110,7 +113,8 @@ fn allowed_chunk(
     i: u16,
 ) -> bool
     requires { ⌜ (depth ≤ 4) × (1 ≤ i) × (i ≤ 500) ⌝ }
-    ensures { λ r. ⌜ r ≡ allBelow depth (allowedBy (tableAt (now (table .entry))) (now (layersum .entry)) (early (now (late .entry))) i) ⌝ }
+    ensures { λ r. ⌜ r ≡ allBelow depth
+        (allowedBy (tableAt (now (table .entry))) (now (layersum .entry)) (early (now (late .entry))) i) ⌝ }
 {
     let from = 4 * (core_rules::wide(i) - 1);
     let mut all = true;
@@ -133,7 +137,10 @@ fn allowed_all(
     count: u16,
 ) -> bool
     requires { ⌜ (depth ≤ 4) × (count ≤ 500) ⌝ }
-    ensures { λ r. ⌜ r ≡ allTo count (λ i. allBelow depth (allowedBy (tableAt (now (table .entry))) (now (layersum .entry)) (early (now (late .entry))) i)) ⌝ }
+    ensures { λ r. ⌜ r ≡ allTo count
+        (λ i.
+        allBelow depth
+        (allowedBy (tableAt (now (table .entry))) (now (layersum .entry)) (early (now (late .entry))) i)) ⌝ }
 {
     let mut all = true;
     let mut i: u16 = 0;
@@ -160,7 +167,14 @@ fn whole_from(
     bytes: &[u32],
 ) -> bool
     requires { ⌜ InTables last count depth (now slots) (now chunks) (now layers) (now bytes) ⌝ }
-    ensures { λ r. ⌜ r ≡ whole || allTo count (λ i. allBelow depth (allowedBy (tableAt (now (table .entry))) (now (layersum .entry)) (layerBefore from (rowsOf (now (slots .entry)) (now (chunks .entry)) (now (layers .entry)) (now (bytes .entry)))) i)) ⌝ }
+    ensures { λ r. ⌜ r ≡ whole
+        || allTo count
+        (λ i.
+        allBelow depth
+        (allowedBy (tableAt (now (table .entry))) (now (layersum .entry))
+        (layerBefore from
+        (rowsOf (now (slots .entry)) (now (chunks .entry)) (now (layers .entry)) (now (bytes .entry))))
+        i)) ⌝ }
 {
     if whole {
         return true;
@@ -194,8 +208,14 @@ fn verdict_of(
     layers: &[u8],
     bytes: &[u32],
 ) -> u8
-    requires { ⌜ (p .chunks ≤ 500) × (lastDue p ≤ 3600) × (depth ≤ 4) × (length (now forecast) ≤ 3600) × Whole (p .chunks) (now marks) (now slots) (now chunks) (now layers) (now bytes) ⌝ }
-    ensures { λ r. ⌜ Judged p (now (table .entry)) depth (now (forecast .entry)) from (now (marks .entry)) (rowsOf (now (slots .entry)) (now (chunks .entry)) (now (layers .entry)) (now (bytes .entry))) r ⌝ }
+    requires { ⌜ (p .chunks ≤ 500)
+        × (lastDue p ≤ 3600)
+        × (depth ≤ 4)
+        × (length (now forecast) ≤ 3600)
+        × Whole (p .chunks) (now marks) (now slots) (now chunks) (now layers) (now bytes) ⌝ }
+    ensures { λ r. ⌜ Judged p (now (table .entry)) depth (now (forecast .entry)) from (now (marks .entry))
+        (rowsOf (now (slots .entry)) (now (chunks .entry)) (now (layers .entry)) (now (bytes .entry)))
+        r ⌝ }
 {
     let last = job::last_due(p);
     let mut slotsum = [0u64; SUMS];
@@ -250,7 +270,10 @@ pub fn check(
     layers: &[u8],
     bytes: &[u32],
 ) -> Checked
-    ensures { λ r. ⌜ r ≡ checked (jobInput p (now (sizes .entry)) (now («size_chunks» .entry)) (now («size_layers» .entry)) (now («size_bytes» .entry)) (now (forecast .entry))) (now (marks .entry)) (now (slots .entry)) (now (chunks .entry)) (now (layers .entry)) (now (bytes .entry)) ⌝ }
+    ensures { λ r. ⌜ r ≡ checked
+        (jobInput p (now (sizes .entry)) (now («size_chunks» .entry)) (now («size_layers» .entry))
+        (now («size_bytes» .entry)) (now (forecast .entry))) (now (marks .entry)) (now (slots .entry))
+        (now (chunks .entry)) (now (layers .entry)) (now (bytes .entry)) ⌝ }
 {
     let job = job::refusal(p, sizes, size_chunks, size_layers, size_bytes, forecast);
     if job != 0 {
@@ -294,7 +317,10 @@ pub fn check_from(
     layers: &[u8],
     bytes: &[u32],
 ) -> Checked
-    ensures { λ r. ⌜ r ≡ checkedFrom (jobInput p (now (sizes .entry)) (now («size_chunks» .entry)) (now («size_layers» .entry)) (now («size_bytes» .entry)) (now (forecast .entry))) from (now (marks .entry)) (now (slots .entry)) (now (chunks .entry)) (now (layers .entry)) (now (bytes .entry)) ⌝ }
+    ensures { λ r. ⌜ r ≡ checkedFrom
+        (jobInput p (now (sizes .entry)) (now («size_chunks» .entry)) (now («size_layers» .entry))
+        (now («size_bytes» .entry)) (now (forecast .entry))) from (now (marks .entry)) (now (slots .entry))
+        (now (chunks .entry)) (now (layers .entry)) (now (bytes .entry)) ⌝ }
 {
     let job = job::refusal(p, sizes, size_chunks, size_layers, size_bytes, forecast);
     if job != 0 {

@@ -13,7 +13,11 @@ ghost use Rattle.theory_basics.specs.Lent.{over};
 ghost use Rattle.theory_basics.specs.Refusals.{_orElse_};
 ghost use Rattle.core_ffi.specs.Meters.{meterIn, storage};
 ghost use Rattle.core_ffi.specs.Plans.{fourCounts, orderNumber};
-ghost use Rattle.core_ffi.specs.lemmas.Numbers.{bookedNumber, checkedNumber, countsStored, forecastNumber, jobReadNumber, jobWrittenNumber, lengthsRead, planNumber, planReadNumber, planWrittenNumber, programmeRead, reasonNumber, refusedNumber, reportNumber, traceReadNumber, traceWrittenNumber, waitNumber, walkStored};
+ghost use Rattle.core_ffi.specs.lemmas.Numbers.{bookedNumber, checkedNumber, countsStored, forecastNumber};
+ghost use Rattle.core_ffi.specs.lemmas.Numbers.{jobReadNumber, jobWrittenNumber, lengthsRead, planNumber};
+ghost use Rattle.core_ffi.specs.lemmas.Numbers.{planReadNumber, planWrittenNumber, programmeRead, reasonNumber};
+ghost use Rattle.core_ffi.specs.lemmas.Numbers.{refusedNumber, reportNumber, traceReadNumber, traceWrittenNumber};
+ghost use Rattle.core_ffi.specs.lemmas.Numbers.{waitNumber, walkStored};
 ghost use Rattle.core_ffi.specs.lemmas.Asking.{liveNumber};
 ghost use Rattle.core_ffi.specs.lemmas.Planning.{replanShort};
 ghost use Rattle.job.specs.Input.{jobInput};
@@ -61,7 +65,8 @@ pub fn job_number(read: JobRead) -> u64
 // The programme of a job that was read, and how many layers and SZs it has.
 pub fn store_job(read: JobRead, programme: &mut [u16], lengths: &mut [u64])
     requires { ⌜ (4 ≤ length (now programme)) × (2 ≤ length (now lengths)) ⌝ }
-    ensures { λ _. ⌜ (now (programme .exit) ≡ programmeRead read (now (programme .entry))) × (now (lengths .exit) ≡ lengthsRead read (now (lengths .entry))) ⌝ }
+    ensures { λ _. ⌜ (now (programme .exit) ≡ programmeRead read (now (programme .entry)))
+        × (now (lengths .exit) ≡ lengthsRead read (now (lengths .entry))) ⌝ }
 {
     match read {
         JobRead::Job {
@@ -215,7 +220,9 @@ pub fn store(
     kept: &mut [u8],
 )
     requires { ⌜ (10 ≤ length (now slots)) × (10 ≤ length (now bytes)) × (1 ≤ length (now kept)) ⌝ }
-    ensures { λ _. ⌜ (now (slots .exit) ≡ over first (now (slots .entry))) × (now (bytes .exit) ≡ over second (now (bytes .entry))) × (now (kept .exit) ≡ over (count ∷ []) (now (kept .entry))) ⌝ }
+    ensures { λ _. ⌜ (now (slots .exit) ≡ over first (now (slots .entry)))
+        × (now (bytes .exit) ≡ over second (now (bytes .entry)))
+        × (now (kept .exit) ≡ over (count ∷ []) (now (kept .entry))) ⌝ }
 {
     core_slices::copy16(&first, 10, slots);
     core_slices::copy32(&second, 10, bytes);
@@ -284,7 +291,11 @@ pub fn replan_refused(
     fetched_bytes: &[u32],
     onward: &[u32],
 ) -> u64
-    ensures { λ r. ⌜ r ≡ replanShort (jobInput p (now (sizes .entry)) (now («size_chunks» .entry)) (now («size_layers» .entry)) (now («size_bytes» .entry)) (now (forecast .entry))) (replanInput from (now («fetched_slots» .entry)) (now («fetched_chunks» .entry)) (now («fetched_layers» .entry)) (now («fetched_bytes» .entry)) (now (onward .entry))) ⌝ }
+    ensures { λ r. ⌜ r ≡ replanShort
+        (jobInput p (now (sizes .entry)) (now («size_chunks» .entry)) (now («size_layers» .entry))
+        (now («size_bytes» .entry)) (now (forecast .entry)))
+        (replanInput from (now («fetched_slots» .entry)) (now («fetched_chunks» .entry))
+        (now («fetched_layers» .entry)) (now («fetched_bytes» .entry)) (now (onward .entry))) ⌝ }
 {
     let made = replan::replan(
         p,

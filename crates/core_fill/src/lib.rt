@@ -8,7 +8,8 @@ ghost use mathlib.Core.Path.{_≡_};
 ghost use Prim.Native.Nat.{ℕ, _+_, _*_, _-_, _<_, _≤_};
 ghost use lib.ListN.{length, drop, set};
 ghost use Rattle.job.specs.Table.{tableAt};
-ghost use Rattle.core_fill.specs.lemmas.Filling.{PutPiecePre, PutPiecePost, PutPost, begun, lastOf, leftAt, layersOf, queueOf, PutChunkPre, PutAllPre};
+ghost use Rattle.core_fill.specs.lemmas.Filling.{PutPiecePre, PutPiecePost, PutPost, begun, lastOf, leftAt};
+ghost use Rattle.core_fill.specs.lemmas.Filling.{layersOf, queueOf, PutChunkPre, PutAllPre};
 ghost use Rattle.theory_plan.specs.lemmas.Parts.{ForecastPart};
 
 // The slot t, the bytes left in it, and the rows made.
@@ -30,8 +31,15 @@ fn put_row(
     layer: u8,
     b: u32,
 )
-    requires { ⌜ (n < length (now slots)) × (n < length (now chunks)) × (n < length (now layers)) × (n < length (now bytes)) × (t ≤ 3600) ⌝ }
-    ensures { λ _. ⌜ (now (slots .exit) ≡ set (now (slots .entry)) n t) × (now (chunks .exit) ≡ set (now (chunks .entry)) n chunk) × (now (layers .exit) ≡ set (now (layers .entry)) n layer) × (now (bytes .exit) ≡ set (now (bytes .entry)) n b) ⌝ }
+    requires { ⌜ (n < length (now slots))
+        × (n < length (now chunks))
+        × (n < length (now layers))
+        × (n < length (now bytes))
+        × (t ≤ 3600) ⌝ }
+    ensures { λ _. ⌜ (now (slots .exit) ≡ set (now (slots .entry)) n t)
+        × (now (chunks .exit) ≡ set (now (chunks .entry)) n chunk)
+        × (now (layers .exit) ≡ set (now (layers .entry)) n layer)
+        × (now (bytes .exit) ≡ set (now (bytes .entry)) n b) ⌝ }
 {
     slots[n] = t as u16;
     chunks[n] = chunk;
@@ -70,8 +78,12 @@ pub fn put_piece(
     layers: &mut [u8],
     bytes: &mut [u32],
 ) -> Position
-    requires { ⌜ PutPiecePre start (now part) 1 at (now slots) (now chunks) (now layers) (now bytes) × (1 ≤ size) × (size ≤ at .left + leftAt start (now part) (at .slot)) ⌝ }
-    ensures { λ r. ⌜ PutPiecePost start (now (part .entry)) chunk layer size at (now (slots .entry)) (now (chunks .entry)) (now (layers .entry)) (now (bytes .entry)) r (now (slots .exit)) (now (chunks .exit)) (now (layers .exit)) (now (bytes .exit)) ⌝ }
+    requires { ⌜ PutPiecePre start (now part) 1 at (now slots) (now chunks) (now layers) (now bytes)
+        × (1 ≤ size)
+        × (size ≤ at .left + leftAt start (now part) (at .slot)) ⌝ }
+    ensures { λ r. ⌜ PutPiecePost start (now (part .entry)) chunk layer size at (now (slots .entry))
+        (now (chunks .entry)) (now (layers .entry)) (now (bytes .entry))
+        r (now (slots .exit)) (now (chunks .exit)) (now (layers .exit)) (now (bytes .exit)) ⌝ }
 {
     let mut t = at.slot;
     let mut c = at.left;
@@ -115,8 +127,11 @@ pub fn put_chunk(
     layers: &mut [u8],
     bytes: &mut [u32],
 ) -> Position
-    requires { ⌜ PutChunkPre start (now part) (tableAt (now table)) from ready chunk mark (now slots) (now chunks) (now layers) (now bytes) ⌝ }
-    ensures { λ r. ⌜ PutPost start (now (part .entry)) (layersOf (tableAt (now (table .entry))) chunk ready mark) 4 from (now (slots .entry)) (now (chunks .entry)) (now (layers .entry)) (now (bytes .entry)) r (now (slots .exit)) (now (chunks .exit)) (now (layers .exit)) (now (bytes .exit)) ⌝ }
+    requires { ⌜ PutChunkPre start (now part) (tableAt (now table)) from ready chunk mark (now slots) (now chunks)
+        (now layers) (now bytes) ⌝ }
+    ensures { λ r. ⌜ PutPost start (now (part .entry)) (layersOf (tableAt (now (table .entry))) chunk ready mark) 4 from
+        (now (slots .entry)) (now (chunks .entry)) (now (layers .entry)) (now (bytes .entry))
+        r (now (slots .exit)) (now (chunks .exit)) (now (layers .exit)) (now (bytes .exit)) ⌝ }
 {
     let mut at = begin(part, start, from, ready);
     let mut n: u8 = 0;
@@ -143,8 +158,13 @@ pub fn put_all(
     layers: &mut [u8],
     bytes: &mut [u32],
 ) -> Position
-    requires { ⌜ PutAllPre start (now part) (tableAt (now table)) (now ids) (now ready) (now mark) first from (now slots) (now chunks) (now layers) (now bytes) ⌝ }
-    ensures { λ r. ⌜ PutPost start (now (part .entry)) (queueOf (tableAt (now (table .entry))) (drop first (now (ids .entry))) (drop first (now (ready .entry))) (drop first (now (mark .entry)))) (4 * (500 - first)) from (now (slots .entry)) (now (chunks .entry)) (now (layers .entry)) (now (bytes .entry)) r (now (slots .exit)) (now (chunks .exit)) (now (layers .exit)) (now (bytes .exit)) ⌝ }
+    requires { ⌜ PutAllPre start (now part) (tableAt (now table)) (now ids) (now ready) (now mark) first from
+        (now slots) (now chunks) (now layers) (now bytes) ⌝ }
+    ensures { λ r. ⌜ PutPost start (now (part .entry))
+        (queueOf (tableAt (now (table .entry))) (drop first (now (ids .entry))) (drop first (now (ready .entry)))
+        (drop first (now (mark .entry)))) (4 * (500 - first)) from (now (slots .entry)) (now (chunks .entry))
+        (now (layers .entry)) (now (bytes .entry))
+        r (now (slots .exit)) (now (chunks .exit)) (now (layers .exit)) (now (bytes .exit)) ⌝ }
 {
     let mut at = from;
     let mut q = first;

@@ -15,7 +15,9 @@ ghost use mathlib.Core.Bool.{not};
 ghost use Prim.Native.Nat.{_≤_, max};
 ghost use Rattle.job.specs.Table.{tableAt};
 ghost use Rattle.theory_plan.specs.lemmas.Parts.{at};
-ghost use Rattle.core_moore_hodgson.specs.lemmas.Tables.{Maxima, LeafPre, LeafPost, FindLargestPost, KeepOrDropPre, KeepOrDropPost, GatherPre, GatherPost, KeepMostPre, KeptIn, equalIn, mooreHodgsonIn, appliesIn};
+ghost use Rattle.core_moore_hodgson.specs.lemmas.Tables.{Maxima, LeafPre, LeafPost, FindLargestPost};
+ghost use Rattle.core_moore_hodgson.specs.lemmas.Tables.{KeepOrDropPre, KeepOrDropPost, GatherPre, GatherPost};
+ghost use Rattle.core_moore_hodgson.specs.lemmas.Tables.{KeepMostPre, KeptIn, equalIn, mooreHodgsonIn, appliesIn};
 
 fn larger(a: u32, b: u32) -> u32
     ensures { λ r. ⌜ r ≡ max a b ⌝ }
@@ -185,7 +187,9 @@ pub fn keep_most(
     bytes: &mut [u32; CHUNKS],
 ) -> usize
     requires { ⌜ KeepMostPre p (tableAt (now table)) (now after) (now ids) (now dues) (now bytes) ⌝ }
-    ensures { λ r. ⌜ KeptIn p (tableAt (now (table .entry))) (mooreHodgsonIn p (tableAt (now (table .entry))) (at (now (after .entry)))) r (now (ids .exit)) (now (dues .exit)) (now (bytes .exit)) ⌝ }
+    ensures { λ r. ⌜ KeptIn p (tableAt (now (table .entry)))
+        (mooreHodgsonIn p (tableAt (now (table .entry))) (at (now (after .entry))))
+        r (now (ids .exit)) (now (dues .exit)) (now (bytes .exit)) ⌝ }
 {
     let mut tree = [0u32; 1024];
     keep_or_drop(p, table, after, &mut tree);

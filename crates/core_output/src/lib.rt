@@ -47,8 +47,14 @@ fn is_at(ids: &[u16; CHUNKS], q: usize, chunk: usize) -> bool
 
 // A mark for each chunk: the one at its place among the kept chunks, or 0.
 fn spread(ids: &[u16; CHUNKS], mark: &[u8; CHUNKS], first: usize, count: usize, marks: &mut [u8])
-    requires { ⌜ (first ≤ 500) × (count ≤ length (now marks)) × Asc 1 count (drop first (now ids)) × (length (now ids) ≡ 500) × (length (now mark) ≡ 500) ⌝ }
-    ensures { λ _. ⌜ now (marks .exit) ≡ over (upTo (λ i. markOr 0 (i + 1) (drop first (now (ids .entry))) (drop first (now (mark .entry)))) count) (now (marks .entry)) ⌝ }
+    requires { ⌜ (first ≤ 500)
+        × (count ≤ length (now marks))
+        × Asc 1 count (drop first (now ids))
+        × (length (now ids) ≡ 500)
+        × (length (now mark) ≡ 500) ⌝ }
+    ensures { λ _. ⌜ now (marks .exit) ≡ over
+        (upTo (λ i. markOr 0 (i + 1) (drop first (now (ids .entry))) (drop first (now (mark .entry)))) count)
+        (now (marks .entry)) ⌝ }
 {
     let mut q = first;
     let mut i: usize = 0;
@@ -80,8 +86,15 @@ fn fill(
     layers: &mut [u8],
     bytes: &mut [u32],
 ) -> Filled
-    requires { ⌜ FillPre count (now forecast) (tableAt (now table)) first (now ids) (now ready) (now mark) (now marks) (now slots) (now chunks) (now layers) (now bytes) ⌝ }
-    ensures { λ r. ⌜ Each count (now (forecast .entry)) (tableAt (now (table .entry))) first (now (ids .entry)) (now (ready .entry)) (now (mark .entry)) (λ j x. FillPost j x (now (marks .entry)) (now (slots .entry)) (now (chunks .entry)) (now (layers .entry)) (now (bytes .entry)) r (now (marks .exit)) (now (slots .exit)) (now (chunks .exit)) (now (layers .exit)) (now (bytes .exit))) ⌝ }
+    requires { ⌜ FillPre count (now forecast) (tableAt (now table)) first (now ids) (now ready) (now mark) (now marks)
+        (now slots) (now chunks) (now layers) (now bytes) ⌝ }
+    ensures { λ r. ⌜ Each count (now (forecast .entry)) (tableAt (now (table .entry))) first (now (ids .entry))
+        (now (ready .entry)) (now (mark .entry))
+        (λ j x.
+        FillPost j x (now (marks .entry)) (now (slots .entry)) (now (chunks .entry)) (now (layers .entry))
+        (now (bytes .entry))
+        r (now (marks .exit)) (now (slots .exit)) (now (chunks .exit)) (now (layers .exit)) (now (bytes .exit)))
+        ⌝ }
 {
     let c = forecast[0];
     let from = core_fill::Position {
@@ -126,8 +139,15 @@ fn write_aside(
     layers: &mut [u8],
     bytes: &mut [u32],
 ) -> Output
-    requires { ⌜ WritePre count (now forecast) (tableAt (now table)) first (now ids) (now ready) (now mark) (now marks) ⌝ }
-    ensures { λ r. ⌜ Each count (now (forecast .entry)) (tableAt (now (table .entry))) first (now (ids .entry)) (now (ready .entry)) (now (mark .entry)) (λ j x. WritePost j x (now (marks .entry)) (now (slots .entry)) (now (chunks .entry)) (now (layers .entry)) (now (bytes .entry)) r (now (marks .exit)) (now (slots .exit)) (now (chunks .exit)) (now (layers .exit)) (now (bytes .exit))) ⌝ }
+    requires { ⌜ WritePre count (now forecast) (tableAt (now table)) first (now ids) (now ready) (now mark) (now marks)
+        ⌝ }
+    ensures { λ r. ⌜ Each count (now (forecast .entry)) (tableAt (now (table .entry))) first (now (ids .entry))
+        (now (ready .entry)) (now (mark .entry))
+        (λ j x.
+        WritePost j x (now (marks .entry)) (now (slots .entry)) (now (chunks .entry)) (now (layers .entry))
+        (now (bytes .entry))
+        r (now (marks .exit)) (now (slots .exit)) (now (chunks .exit)) (now (layers .exit)) (now (bytes .exit)))
+        ⌝ }
 {
     let mut own_marks = [0u8; CHUNKS];
     let mut own_slots = [0u16; ROWS];
@@ -186,8 +206,15 @@ pub fn write_plan(
     layers: &mut [u8],
     bytes: &mut [u32],
 ) -> Output
-    requires { ⌜ WritePre count (now forecast) (tableAt (now table)) first (now ids) (now ready) (now mark) (now marks) ⌝ }
-    ensures { λ r. ⌜ Each count (now (forecast .entry)) (tableAt (now (table .entry))) first (now (ids .entry)) (now (ready .entry)) (now (mark .entry)) (λ j x. WritePost j x (now (marks .entry)) (now (slots .entry)) (now (chunks .entry)) (now (layers .entry)) (now (bytes .entry)) r (now (marks .exit)) (now (slots .exit)) (now (chunks .exit)) (now (layers .exit)) (now (bytes .exit))) ⌝ }
+    requires { ⌜ WritePre count (now forecast) (tableAt (now table)) first (now ids) (now ready) (now mark) (now marks)
+        ⌝ }
+    ensures { λ r. ⌜ Each count (now (forecast .entry)) (tableAt (now (table .entry))) first (now (ids .entry))
+        (now (ready .entry)) (now (mark .entry))
+        (λ j x.
+        WritePost j x (now (marks .entry)) (now (slots .entry)) (now (chunks .entry)) (now (layers .entry))
+        (now (bytes .entry))
+        r (now (marks .exit)) (now (slots .exit)) (now (chunks .exit)) (now (layers .exit)) (now (bytes .exit)))
+        ⌝ }
 {
     if core_slices::all_at_least(ROWS, slots.len(), chunks.len(), layers.len(), bytes.len()) {
         let made = fill(

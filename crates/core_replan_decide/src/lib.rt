@@ -16,7 +16,9 @@ ghost use Rattle.theory_basics.specs.Lists.{upTo};
 ghost use Rattle.theory_basics.specs.Lent.{over};
 ghost use Rattle.job.specs.Table.{tableAt};
 ghost use Rattle.theory_plan.specs.lemmas.Ascending.{Asc};
-ghost use Rattle.core_replan_decide.specs.lemmas.Tables.{Falls, NeedCapPost, PlacesBelowPost, LastBegunPost, FindFrontPre, FindFrontPost, CanKeepPre, CanKeepPost, NewBasesPre, NewBasesPost};
+ghost use Rattle.core_replan_decide.specs.lemmas.Tables.{Falls, NeedCapPost, PlacesBelowPost, LastBegunPost};
+ghost use Rattle.core_replan_decide.specs.lemmas.Tables.{FindFrontPre, FindFrontPost, CanKeepPre, CanKeepPost};
+ghost use Rattle.core_replan_decide.specs.lemmas.Tables.{NewBasesPre, NewBasesPost};
 ghost use Rattle.core_replan_decide.specs.lemmas.Begun.{choose, KeepBegunPre, KeepBegunPost};
 ghost use Rattle.core_decide.specs.lemmas.Marks.{markOr};
 ghost use Rattle.core_replan_decide.specs.lemmas.Decision.{DecidePre, DecidePost};
@@ -72,7 +74,8 @@ fn find_front(
     caps: &mut [u64; CHUNKS],
 ) -> usize
     requires { ⌜ FindFrontPre p last (now begun) (now after) (now front) (now caps) ⌝ }
-    ensures { λ r. ⌜ FindFrontPost p start last (now (begun .entry)) (now (after .entry)) r (now (front .exit)) (now (caps .exit)) ⌝ }
+    ensures { λ r. ⌜ FindFrontPost p start last (now (begun .entry)) (now (after .entry))
+        r (now (front .exit)) (now (caps .exit)) ⌝ }
 {
     let mut head: usize = CHUNKS;
     let mut i = last;
@@ -163,7 +166,9 @@ fn can_keep(
     needs: &mut [u64; CHUNKS],
 ) -> bool
     requires { ⌜ CanKeepPre p held (tableAt (now left)) (now after) i first (now needs) ⌝ }
-    ensures { λ r. ⌜ CanKeepPost p start held (tableAt (now (left .entry))) (now (after .entry)) cap lowest i first (now (needs .entry)) (now (needs .exit)) r ⌝ }
+    ensures { λ r. ⌜ CanKeepPost p start held (tableAt (now (left .entry))) (now (after .entry)) cap lowest i first
+        (now (needs .entry))
+        (now (needs .exit)) r ⌝ }
 {
     let d = job::due_slot(p, i);
     let e = d - 1;
@@ -202,8 +207,11 @@ fn new_bases(
     mark: &mut [u8; CHUNKS],
     needs: &mut [u64; CHUNKS],
 ) -> usize
-    requires { ⌜ NewBasesPre p held last (tableAt (now left)) (now after) (now caps) head (now ids) (now dues) (now bytes) (now mark) (now needs) ⌝ }
-    ensures { λ r. ⌜ NewBasesPost p start held last (tableAt (now (left .entry))) (now (after .entry)) (now (caps .entry)) head r (now (ids .exit)) (now (dues .exit)) (now (bytes .exit)) (now (mark .exit)) (now (needs .exit)) ⌝ }
+    requires { ⌜ NewBasesPre p held last (tableAt (now left)) (now after) (now caps) head (now ids) (now dues)
+        (now bytes) (now mark) (now needs) ⌝ }
+    ensures { λ r. ⌜ NewBasesPost p start held last (tableAt (now (left .entry))) (now (after .entry))
+        (now (caps .entry)) head
+        r (now (ids .exit)) (now (dues .exit)) (now (bytes .exit)) (now (mark .exit)) (now (needs .exit)) ⌝ }
 {
     let cap = need_cap(caps, head, held);
     let mut first: usize = CHUNKS;
@@ -282,8 +290,12 @@ fn keep_begun(
     bytes: &mut [u32; CHUNKS],
     mark: &mut [u8; CHUNKS],
 ) -> usize
-    requires { ⌜ KeepBegunPre p (tableAt (now left)) (now whole) (now after) (now front) head need from (now ids) (now dues) (now bytes) (now mark) ⌝ }
-    ensures { λ r. ⌜ KeepBegunPost p (tableAt (now (left .entry))) (now (whole .entry)) (now (after .entry)) (now (front .entry)) head need from (now (ids .entry)) (now (dues .entry)) (now (bytes .entry)) (now (mark .entry)) r (now (ids .exit)) (now (dues .exit)) (now (bytes .exit)) (now (mark .exit)) ⌝ }
+    requires { ⌜ KeepBegunPre p (tableAt (now left)) (now whole) (now after) (now front) head need from (now ids)
+        (now dues) (now bytes) (now mark) ⌝ }
+    ensures { λ r. ⌜ KeepBegunPost p (tableAt (now (left .entry))) (now (whole .entry)) (now (after .entry))
+        (now (front .entry)) head need from (now (ids .entry)) (now (dues .entry)) (now (bytes .entry))
+        (now (mark .entry))
+        r (now (ids .exit)) (now (dues .exit)) (now (bytes .exit)) (now (mark .exit)) ⌝ }
 {
     let all = after[0];
     let mut used = need;
@@ -335,8 +347,18 @@ pub fn spread(
     count: usize,
     marks: &mut [u8],
 )
-    requires { ⌜ (first ≤ 500) × (count ≤ 500) × (count ≤ length (now marks)) × Asc 1 count (drop first (now ids)) × (length (now ids) ≡ 500) × (length (now mark) ≡ 500) × (length (now whole) ≡ 500) ⌝ }
-    ensures { λ _. ⌜ now (marks .exit) ≡ over (upTo (λ i. markOr (getD (now (whole .entry)) i 0) (i + 1) (drop first (now (ids .entry))) (drop first (now (mark .entry)))) count) (now (marks .entry)) ⌝ }
+    requires { ⌜ (first ≤ 500)
+        × (count ≤ 500)
+        × (count ≤ length (now marks))
+        × Asc 1 count (drop first (now ids))
+        × (length (now ids) ≡ 500)
+        × (length (now mark) ≡ 500)
+        × (length (now whole) ≡ 500) ⌝ }
+    ensures { λ _. ⌜ now (marks .exit) ≡ over
+        (upTo
+        (λ i.
+        markOr (getD (now (whole .entry)) i 0) (i + 1) (drop first (now (ids .entry)))
+        (drop first (now (mark .entry)))) count) (now (marks .entry)) ⌝ }
 {
     let mut q = first;
     let mut i: usize = 0;
@@ -369,8 +391,11 @@ pub fn decide(
     ready: &mut [u16; CHUNKS],
     mark: &mut [u8; CHUNKS],
 ) -> usize
-    requires { ⌜ DecidePre p layers start (now part) (tableAt (now left)) (now begun) (now whole) (now ids) (now ready) (now mark) ⌝ }
-    ensures { λ r. ⌜ DecidePost p layers start (now (part .entry)) (tableAt (now (left .entry))) (now (begun .entry)) (now (whole .entry)) r (now (ids .exit)) (now (ready .exit)) (now (mark .exit)) ⌝ }
+    requires { ⌜ DecidePre p layers start (now part) (tableAt (now left)) (now begun) (now whole) (now ids) (now ready)
+        (now mark) ⌝ }
+    ensures { λ r. ⌜ DecidePost p layers start (now (part .entry)) (tableAt (now (left .entry))) (now (begun .entry))
+        (now (whole .entry))
+        r (now (ids .exit)) (now (ready .exit)) (now (mark .exit)) ⌝ }
 {
     let held = job::held_most(p) as usize;
     // These tables are written before they are read. A filling that is no constant is stored in

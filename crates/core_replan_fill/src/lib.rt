@@ -28,7 +28,9 @@ fn put_layer(
     bytes: &mut [u32],
 ) -> Position
     requires { ⌜ PutLayerPre start (now part) from ready size (now slots) (now chunks) (now layers) (now bytes) ⌝ }
-    ensures { λ r. ⌜ PutPost start (now (part .entry)) (piece chunk layer size ready ∷ []) 1 from (now (slots .entry)) (now (chunks .entry)) (now (layers .entry)) (now (bytes .entry)) r (now (slots .exit)) (now (chunks .exit)) (now (layers .exit)) (now (bytes .exit)) ⌝ }
+    ensures { λ r. ⌜ PutPost start (now (part .entry)) (piece chunk layer size ready ∷ []) 1 from (now (slots .entry))
+        (now (chunks .entry)) (now (layers .entry)) (now (bytes .entry))
+        r (now (slots .exit)) (now (chunks .exit)) (now (layers .exit)) (now (bytes .exit)) ⌝ }
 {
     let at = core_fill::begin(part, start, from, ready);
     core_fill::put_piece(
@@ -59,8 +61,11 @@ fn put_chunk(
     layers: &mut [u8],
     bytes: &mut [u32],
 ) -> Position
-    requires { ⌜ PutChunkPre start (now part) (tableAt (now left)) from ready chunk mark (now slots) (now chunks) (now layers) (now bytes) ⌝ }
-    ensures { λ r. ⌜ PutPost start (now (part .entry)) (layersLeft (tableAt (now (left .entry))) chunk ready mark) 4 from (now (slots .entry)) (now (chunks .entry)) (now (layers .entry)) (now (bytes .entry)) r (now (slots .exit)) (now (chunks .exit)) (now (layers .exit)) (now (bytes .exit)) ⌝ }
+    requires { ⌜ PutChunkPre start (now part) (tableAt (now left)) from ready chunk mark (now slots) (now chunks)
+        (now layers) (now bytes) ⌝ }
+    ensures { λ r. ⌜ PutPost start (now (part .entry)) (layersLeft (tableAt (now (left .entry))) chunk ready mark) 4
+        from (now (slots .entry)) (now (chunks .entry)) (now (layers .entry)) (now (bytes .entry))
+        r (now (slots .exit)) (now (chunks .exit)) (now (layers .exit)) (now (bytes .exit)) ⌝ }
 {
     let mut at = from;
     let mut n: u8 = 0;
@@ -103,8 +108,13 @@ fn put_all(
     layers: &mut [u8],
     bytes: &mut [u32],
 ) -> Position
-    requires { ⌜ PutAllPre start (now part) (tableAt (now left)) (now ids) (now ready) (now mark) first from (now slots) (now chunks) (now layers) (now bytes) ⌝ }
-    ensures { λ r. ⌜ PutPost start (now (part .entry)) (leftQueue (tableAt (now (left .entry))) (drop first (now (ids .entry))) (drop first (now (ready .entry))) (drop first (now (mark .entry)))) (4 * (500 - first)) from (now (slots .entry)) (now (chunks .entry)) (now (layers .entry)) (now (bytes .entry)) r (now (slots .exit)) (now (chunks .exit)) (now (layers .exit)) (now (bytes .exit)) ⌝ }
+    requires { ⌜ PutAllPre start (now part) (tableAt (now left)) (now ids) (now ready) (now mark) first from (now slots)
+        (now chunks) (now layers) (now bytes) ⌝ }
+    ensures { λ r. ⌜ PutPost start (now (part .entry))
+        (leftQueue (tableAt (now (left .entry))) (drop first (now (ids .entry))) (drop first (now (ready .entry)))
+        (drop first (now (mark .entry)))) (4 * (500 - first)) from (now (slots .entry)) (now (chunks .entry))
+        (now (layers .entry)) (now (bytes .entry))
+        r (now (slots .exit)) (now (chunks .exit)) (now (layers .exit)) (now (bytes .exit)) ⌝ }
 {
     let mut at = from;
     let mut q = first;
@@ -143,8 +153,12 @@ pub fn write_rest(
     layers: &mut [u8],
     bytes: &mut [u32],
 ) -> usize
-    requires { ⌜ WriteRestPre p depth start (now part) (tableAt (now left)) (now begun) (now whole) (now marks) (now slots) (now chunks) (now layers) (now bytes) ⌝ }
-    ensures { λ r. ⌜ WriteRestPost p depth start (now (part .entry)) (tableAt (now (left .entry))) (now (begun .entry)) (now (whole .entry)) (now (marks .entry)) (now (slots .entry)) (now (chunks .entry)) (now (layers .entry)) (now (bytes .entry)) r (now (marks .exit)) (now (slots .exit)) (now (chunks .exit)) (now (layers .exit)) (now (bytes .exit)) ⌝ }
+    requires { ⌜ WriteRestPre p depth start (now part) (tableAt (now left)) (now begun) (now whole) (now marks)
+        (now slots) (now chunks) (now layers) (now bytes) ⌝ }
+    ensures { λ r. ⌜ WriteRestPost p depth start (now (part .entry)) (tableAt (now (left .entry))) (now (begun .entry))
+        (now (whole .entry)) (now (marks .entry)) (now (slots .entry)) (now (chunks .entry)) (now (layers .entry))
+        (now (bytes .entry))
+        r (now (marks .exit)) (now (slots .exit)) (now (chunks .exit)) (now (layers .exit)) (now (bytes .exit)) ⌝ }
 {
     let mut ids = [0u16; CHUNKS];
     let mut ready = [0u16; CHUNKS];

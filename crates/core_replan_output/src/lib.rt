@@ -30,8 +30,15 @@ fn fill(
     layers: &mut [u8],
     bytes: &mut [u32],
 ) -> Filled
-    requires { ⌜ WriteRestPre p depth start (now part) (tableAt (now left)) (now begun) (now whole) (now marks) (now slots) (now chunks) (now layers) (now bytes) ⌝ }
-    ensures { λ r. ⌜ Each p depth start (now (part .entry)) (tableAt (now (left .entry))) (now (begun .entry)) (now (whole .entry)) (λ j fetched plan. FillPost j start fetched plan (now (marks .entry)) (now (slots .entry)) (now (chunks .entry)) (now (layers .entry)) (now (bytes .entry)) r (now (marks .exit)) (now (slots .exit)) (now (chunks .exit)) (now (layers .exit)) (now (bytes .exit))) ⌝ }
+    requires { ⌜ WriteRestPre p depth start (now part) (tableAt (now left)) (now begun) (now whole) (now marks)
+        (now slots) (now chunks) (now layers) (now bytes) ⌝ }
+    ensures { λ r. ⌜ Each p depth start (now (part .entry)) (tableAt (now (left .entry))) (now (begun .entry))
+        (now (whole .entry))
+        (λ j fetched plan.
+        FillPost j start fetched plan (now (marks .entry)) (now (slots .entry)) (now (chunks .entry))
+        (now (layers .entry)) (now (bytes .entry))
+        r (now (marks .exit)) (now (slots .exit)) (now (chunks .exit)) (now (layers .exit)) (now (bytes .exit)))
+        ⌝ }
 {
     let rows = core_replan_fill::write_rest(
         p,
@@ -69,7 +76,13 @@ fn write_aside(
     bytes: &mut [u32],
 ) -> Planned
     requires { ⌜ WritePre p depth start (now part) (tableAt (now left)) (now begun) (now whole) (now marks) ⌝ }
-    ensures { λ r. ⌜ Each p depth start (now (part .entry)) (tableAt (now (left .entry))) (now (begun .entry)) (now (whole .entry)) (λ j fetched plan. WritePost j start fetched plan (now (marks .entry)) (now (slots .entry)) (now (chunks .entry)) (now (layers .entry)) (now (bytes .entry)) r (now (marks .exit)) (now (slots .exit)) (now (chunks .exit)) (now (layers .exit)) (now (bytes .exit))) ⌝ }
+    ensures { λ r. ⌜ Each p depth start (now (part .entry)) (tableAt (now (left .entry))) (now (begun .entry))
+        (now (whole .entry))
+        (λ j fetched plan.
+        WritePost j start fetched plan (now (marks .entry)) (now (slots .entry)) (now (chunks .entry))
+        (now (layers .entry)) (now (bytes .entry))
+        r (now (marks .exit)) (now (slots .exit)) (now (chunks .exit)) (now (layers .exit)) (now (bytes .exit)))
+        ⌝ }
 {
     let mut own_marks = [0u8; CHUNKS];
     let mut own_slots = [0u16; ROWS];
@@ -124,7 +137,13 @@ pub fn write_plan(
     bytes: &mut [u32],
 ) -> Planned
     requires { ⌜ WritePre p depth start (now part) (tableAt (now left)) (now begun) (now whole) (now marks) ⌝ }
-    ensures { λ r. ⌜ Each p depth start (now (part .entry)) (tableAt (now (left .entry))) (now (begun .entry)) (now (whole .entry)) (λ j fetched plan. WritePost j start fetched plan (now (marks .entry)) (now (slots .entry)) (now (chunks .entry)) (now (layers .entry)) (now (bytes .entry)) r (now (marks .exit)) (now (slots .exit)) (now (chunks .exit)) (now (layers .exit)) (now (bytes .exit))) ⌝ }
+    ensures { λ r. ⌜ Each p depth start (now (part .entry)) (tableAt (now (left .entry))) (now (begun .entry))
+        (now (whole .entry))
+        (λ j fetched plan.
+        WritePost j start fetched plan (now (marks .entry)) (now (slots .entry)) (now (chunks .entry))
+        (now (layers .entry)) (now (bytes .entry))
+        r (now (marks .exit)) (now (slots .exit)) (now (chunks .exit)) (now (layers .exit)) (now (bytes .exit)))
+        ⌝ }
 {
     if core_slices::all_at_least(ROWS, slots.len(), chunks.len(), layers.len(), bytes.len()) {
         let made = fill(

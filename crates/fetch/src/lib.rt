@@ -140,7 +140,8 @@ pub fn list_refusal(
     layers: &[u8],
     bytes: &[u32],
 ) -> u8
-    ensures { λ r. ⌜ r ≡ listRefusal count (now (marks .entry)) (now (slots .entry)) (now (chunks .entry)) (now (layers .entry)) (now (bytes .entry)) ⌝ }
+    ensures { λ r. ⌜ r ≡ listRefusal count (now (marks .entry)) (now (slots .entry)) (now (chunks .entry))
+        (now (layers .entry)) (now (bytes .entry)) ⌝ }
 {
     if marks.len() != (count as usize) {
         return 8;

@@ -4,7 +4,8 @@ ghost use mathlib.Core.Path.{_≡_};
 ghost use Rattle.fetch.specs.Counts.{wordCount};
 ghost use Rattle.planner.specs.Answer.{compared};
 ghost use Rattle.core_ffi.specs.Convention.{answered, film};
-ghost use Rattle.core_ffi.specs.Lists.{bookAnswer, checkAnswer, checkFromAnswer, countAfter, countRefusal, forecastBooked, forecastReleased, releaseAnswer};
+ghost use Rattle.core_ffi.specs.Lists.{bookAnswer, checkAnswer, checkFromAnswer, countAfter, countRefusal};
+ghost use Rattle.core_ffi.specs.Lists.{forecastBooked, forecastReleased, releaseAnswer};
 ghost use Rattle.core_ffi.specs.Plans.{fourCounts, orderNumber};
 
 // `checker::check` for C.
@@ -25,7 +26,10 @@ pub extern "C" fn film_check(
     row_layers: &[u8],
     row_bytes: &[u32],
 ) -> u64
-    ensures { λ r. ⌜ r ≡ checkAnswer (film chunks span delay limit (now (sizes .entry)) (now («size_chunks» .entry)) (now («size_layers» .entry)) (now («size_bytes» .entry)) (now (forecast .entry))) (now (marks .entry)) (now («row_slots» .entry)) (now («row_chunks» .entry)) (now («row_layers» .entry)) (now («row_bytes» .entry)) ⌝ }
+    ensures { λ r. ⌜ r ≡ checkAnswer
+        (film chunks span delay limit (now (sizes .entry)) (now («size_chunks» .entry)) (now («size_layers» .entry))
+        (now («size_bytes» .entry)) (now (forecast .entry))) (now (marks .entry)) (now («row_slots» .entry))
+        (now («row_chunks» .entry)) (now («row_layers» .entry)) (now («row_bytes» .entry)) ⌝ }
 {
     let p = Programme {
         chunks,
@@ -67,7 +71,10 @@ pub extern "C" fn film_check_from(
     row_layers: &[u8],
     row_bytes: &[u32],
 ) -> u64
-    ensures { λ r. ⌜ r ≡ checkFromAnswer (film chunks span delay limit (now (sizes .entry)) (now («size_chunks» .entry)) (now («size_layers» .entry)) (now («size_bytes» .entry)) (now (forecast .entry))) from (now (marks .entry)) (now («row_slots» .entry)) (now («row_chunks» .entry)) (now («row_layers» .entry)) (now («row_bytes» .entry)) ⌝ }
+    ensures { λ r. ⌜ r ≡ checkFromAnswer
+        (film chunks span delay limit (now (sizes .entry)) (now («size_chunks» .entry)) (now («size_layers» .entry))
+        (now («size_bytes» .entry)) (now (forecast .entry))) from (now (marks .entry)) (now («row_slots» .entry))
+        (now («row_chunks» .entry)) (now («row_layers» .entry)) (now («row_bytes» .entry)) ⌝ }
 {
     let p = Programme {
         chunks,
@@ -109,8 +116,14 @@ pub extern "C" fn film_book(
     row_layers: &[u8],
     row_bytes: &[u32],
 ) -> u64
-    ensures number { λ r. ⌜ r ≡ bookAnswer (film chunks span delay limit (now (sizes .entry)) (now («size_chunks» .entry)) (now («size_layers» .entry)) (now («size_bytes» .entry)) (now (forecast .entry))) (now (marks .entry)) (now («row_slots» .entry)) (now («row_chunks» .entry)) (now («row_layers» .entry)) (now («row_bytes» .entry)) ⌝ }
-    ensures left { λ _. ⌜ now (forecast .exit) ≡ forecastBooked (film chunks span delay limit (now (sizes .entry)) (now («size_chunks» .entry)) (now («size_layers» .entry)) (now («size_bytes» .entry)) (now (forecast .entry))) (now (marks .entry)) (now («row_slots» .entry)) (now («row_chunks» .entry)) (now («row_layers» .entry)) (now («row_bytes» .entry)) ⌝ }
+    ensures number { λ r. ⌜ r ≡ bookAnswer
+        (film chunks span delay limit (now (sizes .entry)) (now («size_chunks» .entry)) (now («size_layers» .entry))
+        (now («size_bytes» .entry)) (now (forecast .entry))) (now (marks .entry)) (now («row_slots» .entry))
+        (now («row_chunks» .entry)) (now («row_layers» .entry)) (now («row_bytes» .entry)) ⌝ }
+    ensures left { λ _. ⌜ now (forecast .exit) ≡ forecastBooked
+        (film chunks span delay limit (now (sizes .entry)) (now («size_chunks» .entry)) (now («size_layers» .entry))
+        (now («size_bytes» .entry)) (now (forecast .entry))) (now (marks .entry)) (now («row_slots» .entry))
+        (now («row_chunks» .entry)) (now («row_layers» .entry)) (now («row_bytes» .entry)) ⌝ }
 {
     let p = Programme {
         chunks,
@@ -150,8 +163,14 @@ pub extern "C" fn film_release(
     row_layers: &[u8],
     row_bytes: &[u32],
 ) -> u64
-    ensures number { λ r. ⌜ r ≡ releaseAnswer (film chunks span delay limit (now (sizes .entry)) (now («size_chunks» .entry)) (now («size_layers» .entry)) (now («size_bytes» .entry)) (now (forecast .entry))) (now («row_slots» .entry)) (now («row_chunks» .entry)) (now («row_layers» .entry)) (now («row_bytes» .entry)) ⌝ }
-    ensures left { λ _. ⌜ now (forecast .exit) ≡ forecastReleased (film chunks span delay limit (now (sizes .entry)) (now («size_chunks» .entry)) (now («size_layers» .entry)) (now («size_bytes» .entry)) (now (forecast .entry))) (now («row_slots» .entry)) (now («row_chunks» .entry)) (now («row_layers» .entry)) (now («row_bytes» .entry)) ⌝ }
+    ensures number { λ r. ⌜ r ≡ releaseAnswer
+        (film chunks span delay limit (now (sizes .entry)) (now («size_chunks» .entry)) (now («size_layers» .entry))
+        (now («size_bytes» .entry)) (now (forecast .entry))) (now («row_slots» .entry))
+        (now («row_chunks» .entry)) (now («row_layers» .entry)) (now («row_bytes» .entry)) ⌝ }
+    ensures left { λ _. ⌜ now (forecast .exit) ≡ forecastReleased
+        (film chunks span delay limit (now (sizes .entry)) (now («size_chunks» .entry)) (now («size_layers» .entry))
+        (now («size_bytes» .entry)) (now (forecast .entry))) (now («row_slots» .entry))
+        (now («row_chunks» .entry)) (now («row_layers» .entry)) (now («row_bytes» .entry)) ⌝ }
 {
     let p = Programme {
         chunks,
@@ -198,7 +217,8 @@ pub extern "C" fn film_count_word(word: u64, n: u8) -> u64
 // `planner::compare` for C.
 #[no_mangle]
 pub extern "C" fn film_compare(counts: &[u16], others: &[u16]) -> u64
-    ensures { λ r. ⌜ r ≡ orderNumber (compared (fourCounts (now (counts .entry))) (fourCounts (now (others .entry)))) ⌝ }
+    ensures { λ r. ⌜ r ≡ orderNumber (compared (fourCounts (now (counts .entry))) (fourCounts (now (others .entry))))
+        ⌝ }
 {
     let a = core_ffi::four_counts(counts);
     let b = core_ffi::four_counts(others);

@@ -3,7 +3,8 @@ use job::Programme;
 ghost use mathlib.Core.Path.{_≡_};
 ghost use Rattle.wait.specs.Answer.{waitInput};
 ghost use Rattle.core_ffi.specs.Convention.{film};
-ghost use Rattle.core_ffi.specs.Texts.{forecastRead, reasonsAfter, reasonsAnswer, reportAfter, reportAnswer, traceAfter, traceReadAnswer, traceWriteAnswer, waitAnswer};
+ghost use Rattle.core_ffi.specs.Texts.{forecastRead, reasonsAfter, reasonsAnswer, reportAfter, reportAnswer};
+ghost use Rattle.core_ffi.specs.Texts.{traceAfter, traceReadAnswer, traceWriteAnswer, waitAnswer};
 
 // `report::report` for C.
 #[no_mangle]
@@ -19,8 +20,12 @@ pub extern "C" fn film_report(
     forecast: &[u32],
     out: &mut [u8],
 ) -> u64
-    ensures number { λ r. ⌜ r ≡ reportAnswer (film chunks span delay limit (now (sizes .entry)) (now («size_chunks» .entry)) (now («size_layers» .entry)) (now («size_bytes» .entry)) (now (forecast .entry))) (now (out .entry)) ⌝ }
-    ensures text { λ _. ⌜ now (out .exit) ≡ reportAfter (film chunks span delay limit (now (sizes .entry)) (now («size_chunks» .entry)) (now («size_layers» .entry)) (now («size_bytes» .entry)) (now (forecast .entry))) (now (out .entry)) ⌝ }
+    ensures number { λ r. ⌜ r ≡ reportAnswer
+        (film chunks span delay limit (now (sizes .entry)) (now («size_chunks» .entry)) (now («size_layers» .entry))
+        (now («size_bytes» .entry)) (now (forecast .entry))) (now (out .entry)) ⌝ }
+    ensures text { λ _. ⌜ now (out .exit) ≡ reportAfter
+        (film chunks span delay limit (now (sizes .entry)) (now («size_chunks» .entry)) (now («size_layers» .entry))
+        (now («size_bytes» .entry)) (now (forecast .entry))) (now (out .entry)) ⌝ }
 {
     let p = Programme {
         chunks,
@@ -53,8 +58,12 @@ pub extern "C" fn film_reasons(
     forecast: &[u32],
     out: &mut [u8],
 ) -> u64
-    ensures number { λ r. ⌜ r ≡ reasonsAnswer (film chunks span delay limit (now (sizes .entry)) (now («size_chunks» .entry)) (now («size_layers» .entry)) (now («size_bytes» .entry)) (now (forecast .entry))) (now (out .entry)) ⌝ }
-    ensures lines { λ _. ⌜ now (out .exit) ≡ reasonsAfter (film chunks span delay limit (now (sizes .entry)) (now («size_chunks» .entry)) (now («size_layers» .entry)) (now («size_bytes» .entry)) (now (forecast .entry))) (now (out .entry)) ⌝ }
+    ensures number { λ r. ⌜ r ≡ reasonsAnswer
+        (film chunks span delay limit (now (sizes .entry)) (now («size_chunks» .entry)) (now («size_layers» .entry))
+        (now («size_bytes» .entry)) (now (forecast .entry))) (now (out .entry)) ⌝ }
+    ensures lines { λ _. ⌜ now (out .exit) ≡ reasonsAfter
+        (film chunks span delay limit (now (sizes .entry)) (now («size_chunks» .entry)) (now («size_layers» .entry))
+        (now («size_bytes» .entry)) (now (forecast .entry))) (now (out .entry)) ⌝ }
 {
     let p = Programme {
         chunks,
@@ -103,7 +112,9 @@ pub extern "C" fn film_wait(
     size_bytes: &[u32],
     forecast: &[u32],
 ) -> u64
-    ensures { λ r. ⌜ r ≡ waitAnswer (waitInput chunks span limit (now (sizes .entry)) (now («size_chunks» .entry)) (now («size_layers» .entry)) (now («size_bytes» .entry)) (now (forecast .entry))) ⌝ }
+    ensures { λ r. ⌜ r ≡ waitAnswer
+        (waitInput chunks span limit (now (sizes .entry)) (now («size_chunks» .entry)) (now («size_layers» .entry))
+        (now («size_bytes» .entry)) (now (forecast .entry))) ⌝ }
 {
     core_ffi::wait_number(wait::wait(
         chunks,

@@ -8,7 +8,9 @@ ghost use lib.ListN.{length, getD};
 ghost use Rattle.theory_basics.specs.Tests.{all};
 ghost use Rattle.theory_basics.specs.Refusals.{unless, _orElse_};
 ghost use Rattle.job.specs.Job.{dueSlot, lastDue};
-ghost use Rattle.job.specs.Refusal.{within, filmRefusal, delayRefusal, fieldsRefusal, lastDueRefusal, sizesRefusal, named, sized, comes, overridesRefusal, bytesRefusal, slotsRefusal, forecastRefusal};
+ghost use Rattle.job.specs.Refusal.{within, filmRefusal, delayRefusal, fieldsRefusal, lastDueRefusal};
+ghost use Rattle.job.specs.Refusal.{sizesRefusal, named, sized, comes, overridesRefusal, bytesRefusal};
+ghost use Rattle.job.specs.Refusal.{slotsRefusal, forecastRefusal};
 ghost use Rattle.job.specs.Input.{overridesOf, wholeRefusal, jobInput, jobRefusal};
 ghost use Rattle.job.specs.lemmas.Greatest.{greatest};
 ghost use Rattle.job.specs.Table.{spot, ownSizes, overriddenBy, sizesTable, tableAt};
@@ -265,7 +267,9 @@ fn comes_before(c: u16, l: u8, chunk: u16, layer: u8) -> bool
 // An SZ that is in order: its chunk after the first and its layer, both in the job, its size in
 // range and not the layer's own, and it comes after layer l of chunk c, the one before it.
 fn in_order(p: Programme, sizes: &[u32], c: u16, l: u8, chunk: u16, layer: u8, size: u32) -> bool
-    ensures { λ r. ⌜ r ≡ (named p (now (sizes .entry)) (record { chunk = chunk; layer = layer; bytes = size }) && sized (record { chunk = chunk; layer = layer; bytes = size })) && comes c l chunk layer ⌝ }
+    ensures { λ r. ⌜ r ≡ (named p (now (sizes .entry)) (record { chunk = chunk; layer = layer; bytes = size })
+        && sized (record { chunk = chunk; layer = layer; bytes = size }))
+        && comes c l chunk layer ⌝ }
 {
     let n = layer as usize;
     let own = own_size(sizes, n);
@@ -279,7 +283,8 @@ fn in_order(p: Programme, sizes: &[u32], c: u16, l: u8, chunk: u16, layer: u8, s
 
 // 18: an SZ's numbers, in one pass over the three slices.
 pub fn overrides_refusal(p: Programme, sizes: &[u32], cs: &[u16], ls: &[u8], bs: &[u32]) -> u8
-    ensures { λ r. ⌜ r ≡ overridesRefusal p (now (sizes .entry)) (overridesOf (now (cs .entry)) (now (ls .entry)) (now (bs .entry))) ⌝ }
+    ensures { λ r. ⌜ r ≡ overridesRefusal p (now (sizes .entry))
+        (overridesOf (now (cs .entry)) (now (ls .entry)) (now (bs .entry))) ⌝ }
 {
     let n = fewest(cs.len(), ls.len(), bs.len());
     let mut chunk: u16 = 0;
@@ -309,7 +314,9 @@ pub fn refusal(
     size_bytes: &[u32],
     forecast: &[u32],
 ) -> u8
-    ensures { λ r. ⌜ r ≡ jobRefusal (jobInput p (now (sizes .entry)) (now («size_chunks» .entry)) (now («size_layers» .entry)) (now («size_bytes» .entry)) (now (forecast .entry))) ⌝ }
+    ensures { λ r. ⌜ r ≡ jobRefusal
+        (jobInput p (now (sizes .entry)) (now («size_chunks» .entry)) (now («size_layers» .entry))
+        (now («size_bytes» .entry)) (now (forecast .entry))) ⌝ }
 {
     let seven = forecast_refusal(p, forecast);
     let named = overrides_refusal(p, sizes, size_chunks, size_layers, size_bytes);
@@ -356,7 +363,9 @@ fn fill_own(sizes: &[u32], table: &mut SizeTable)
 
 // The SZs, from the last to the first. One that has no place is not written.
 fn write_over(cs: &[u16], ls: &[u8], bs: &[u32], table: &mut SizeTable)
-    ensures { λ _. ⌜ (length (now (table .entry)) ≡ 2000 → now (table .exit) ≡ overriddenBy (overridesOf (now (cs .entry)) (now (ls .entry)) (now (bs .entry))) (now (table .entry))) ⌝ }
+    ensures { λ _. ⌜ (length (now (table .entry)) ≡ 2000
+        → now (table .exit) ≡ overriddenBy (overridesOf (now (cs .entry)) (now (ls .entry)) (now (bs .entry)))
+        (now (table .entry))) ⌝ }
 {
     let mut i = fewest(cs.len(), ls.len(), bs.len());
     while 0 < i {
@@ -373,7 +382,9 @@ fn write_over(cs: &[u16], ls: &[u8], bs: &[u32], table: &mut SizeTable)
 
 // The table of all sizes, which a call fills once: read it by size_at.
 pub fn fill_sizes(sizes: &[u32], cs: &[u16], ls: &[u8], bs: &[u32], table: &mut SizeTable)
-    ensures { λ _. ⌜ (length (now (table .entry)) ≡ 2000 → now (table .exit) ≡ sizesTable (now (sizes .entry)) (overridesOf (now (cs .entry)) (now (ls .entry)) (now (bs .entry)))) ⌝ }
+    ensures { λ _. ⌜ (length (now (table .entry)) ≡ 2000
+        → now (table .exit) ≡ sizesTable (now (sizes .entry))
+        (overridesOf (now (cs .entry)) (now (ls .entry)) (now (bs .entry)))) ⌝ }
 {
     fill_own(sizes, table);
     write_over(cs, ls, bs, table);

@@ -33,8 +33,19 @@ fn put_plan(
     forecast: &[u32],
     out: &mut [u8],
 ) -> usize
-    requires { ⌜ Accepted (jobIn (jobInput p (now sizes) (now «size_chunks») (now «size_layers») (now «size_bytes») (now forecast))) × (length (planText (jobIn (jobInput p (now sizes) (now «size_chunks») (now «size_layers») (now «size_bytes») (now forecast)))) ≤ length (now out)) ⌝ }
-    ensures { λ r. ⌜ Put (now (out .entry)) 0 (planText (jobIn (jobInput p (now (sizes .entry)) (now («size_chunks» .entry)) (now («size_layers» .entry)) (now («size_bytes» .entry)) (now (forecast .entry))))) (now (out .exit)) r ⌝ }
+    requires { ⌜ Accepted
+        (jobIn (jobInput p (now sizes) (now «size_chunks») (now «size_layers») (now «size_bytes») (now forecast)))
+        × (length
+        (planText
+        (jobIn
+        (jobInput p (now sizes) (now «size_chunks») (now «size_layers») (now «size_bytes») (now forecast)))) ≤ length
+        (now out)) ⌝ }
+    ensures { λ r. ⌜ Put (now (out .entry)) 0
+        (planText
+        (jobIn
+        (jobInput p (now (sizes .entry)) (now («size_chunks» .entry)) (now («size_layers» .entry))
+        (now («size_bytes» .entry)) (now (forecast .entry)))))
+        (now (out .exit)) r ⌝ }
 {
     // Every place is written before it is read. A filling that is no constant is stored in wide
     // words, faster than cleared.
@@ -76,8 +87,12 @@ fn put_tight(
     forecast: &[u32],
     out: &mut [u8],
 ) -> Written
-    requires { ⌜ jobRefusal (jobInput p (now sizes) (now «size_chunks») (now «size_layers») (now «size_bytes») (now forecast)) ≡ 0 ⌝ }
-    ensures { λ r. ⌜ Told (jobInput p (now (sizes .entry)) (now («size_chunks» .entry)) (now («size_layers» .entry)) (now («size_bytes» .entry)) (now (forecast .entry))) (now (out .entry)) (now (out .exit)) r ⌝ }
+    requires { ⌜ jobRefusal
+        (jobInput p (now sizes) (now «size_chunks») (now «size_layers») (now «size_bytes») (now forecast)) ≡ 0 ⌝ }
+    ensures { λ r. ⌜ Told
+        (jobInput p (now (sizes .entry)) (now («size_chunks» .entry)) (now («size_layers» .entry))
+        (now («size_bytes» .entry)) (now (forecast .entry))) (now (out .entry))
+        (now (out .exit)) r ⌝ }
 {
     let mut text = [0u8; 94000];
     let n = put_plan(
@@ -107,8 +122,13 @@ pub fn reasons(
     forecast: &[u32],
     out: &mut [u8],
 ) -> Written
-    ensures told { λ r. ⌜ Told (jobInput p (now (sizes .entry)) (now («size_chunks» .entry)) (now («size_layers» .entry)) (now («size_bytes» .entry)) (now (forecast .entry))) (now (out .entry)) (now (out .exit)) r ⌝ }
-    ensures lines { λ _. ⌜ LinesOfPlan (jobInput p (now (sizes .entry)) (now («size_chunks» .entry)) (now («size_layers» .entry)) (now («size_bytes» .entry)) (now (forecast .entry))) ⌝ }
+    ensures told { λ r. ⌜ Told
+        (jobInput p (now (sizes .entry)) (now («size_chunks» .entry)) (now («size_layers» .entry))
+        (now («size_bytes» .entry)) (now (forecast .entry))) (now (out .entry))
+        (now (out .exit)) r ⌝ }
+    ensures lines { λ _. ⌜ LinesOfPlan
+        (jobInput p (now (sizes .entry)) (now («size_chunks» .entry)) (now («size_layers» .entry))
+        (now («size_bytes» .entry)) (now (forecast .entry))) ⌝ }
 {
     let no = job::refusal(p, sizes, size_chunks, size_layers, size_bytes, forecast);
     if 0 < no {

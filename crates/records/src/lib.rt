@@ -85,7 +85,8 @@ pub fn put(out: &mut [u8], at: usize, bytes: &[u8])
 // Bytes go to a place of a buffer that has room for them.
 fn put_whole(out: &mut [u8], at: usize, bytes: &[u8])
     requires { ⌜ at + length (now bytes) ≤ length (now out) ⌝ }
-    ensures { λ _. ⌜ now (out .exit) ≡ paste (now (out .entry)) at (now (bytes .entry)) (length (now (bytes .entry))) ⌝ }
+    ensures { λ _. ⌜ now (out .exit) ≡ paste (now (out .entry)) at (now (bytes .entry)) (length (now (bytes .entry)))
+        ⌝ }
 {
     let mut i: usize = 0;
     while i < bytes.len() {

@@ -37,8 +37,13 @@ fn chunk_lines(
     table: &[u64; SIZES],
     count: u16,
 ) -> usize
-    requires { ⌜ (depth ≤ 4) × (count ≤ 500) × (at + length (text (upTo (λ k. chunkLineBy (now sizes) (now table) depth (k + 1)) count)) ≤ length (now out)) × SizesIn (now sizes) ⌝ }
-    ensures { λ r. ⌜ Put (now (out .entry)) at (text (upTo (λ k. chunkLineBy (now (sizes .entry)) (now (table .entry)) depth (k + 1)) count)) (now (out .exit)) r ⌝ }
+    requires { ⌜ (depth ≤ 4)
+        × (count ≤ 500)
+        × (at + length (text (upTo (λ k. chunkLineBy (now sizes) (now table) depth (k + 1)) count)) ≤ length (now out))
+        × SizesIn (now sizes) ⌝ }
+    ensures { λ r. ⌜ Put (now (out .entry)) at
+        (text (upTo (λ k. chunkLineBy (now (sizes .entry)) (now (table .entry)) depth (k + 1)) count))
+        (now (out .exit)) r ⌝ }
 {
     let mut next = at;
     let mut i: u16 = 0;
@@ -60,8 +65,13 @@ fn layer_counts(
     table: &[u64; SIZES],
     count: u16,
 ) -> usize
-    requires { ⌜ (depth ≤ 4) × (count ≤ 500) × (at + length (text (upTo (λ n. 32 ∷ digits (countBy (now sizes) (now table) count n)) depth)) ≤ length (now out)) ⌝ }
-    ensures { λ r. ⌜ Put (now (out .entry)) at (text (upTo (λ n. 32 ∷ digits (countBy (now (sizes .entry)) (now (table .entry)) count n)) depth)) (now (out .exit)) r ⌝ }
+    requires { ⌜ (depth ≤ 4)
+        × (count ≤ 500)
+        × (at + length (text (upTo (λ n. 32 ∷ digits (countBy (now sizes) (now table) count n)) depth)) ≤ length
+        (now out)) ⌝ }
+    ensures { λ r. ⌜ Put (now (out .entry)) at
+        (text (upTo (λ n. 32 ∷ digits (countBy (now (sizes .entry)) (now (table .entry)) count n)) depth))
+        (now (out .exit)) r ⌝ }
 {
     let mut next = at;
     let mut n: usize = 0;
@@ -82,8 +92,13 @@ fn layers_line(
     table: &[u64; SIZES],
     count: u16,
 ) -> usize
-    requires { ⌜ (depth ≤ 4) × (count ≤ 500) × (at + length (line (ascii "layers") (upTo (λ n. digits (countBy (now sizes) (now table) count n)) depth)) ≤ length (now out)) ⌝ }
-    ensures { λ r. ⌜ Put (now (out .entry)) at (line (ascii "layers") (upTo (λ n. digits (countBy (now (sizes .entry)) (now (table .entry)) count n)) depth)) (now (out .exit)) r ⌝ }
+    requires { ⌜ (depth ≤ 4)
+        × (count ≤ 500)
+        × (at + length (line (ascii "layers") (upTo (λ n. digits (countBy (now sizes) (now table) count n)) depth))
+        ≤ length (now out)) ⌝ }
+    ensures { λ r. ⌜ Put (now (out .entry)) at
+        (line (ascii "layers") (upTo (λ n. digits (countBy (now (sizes .entry)) (now (table .entry)) count n)) depth))
+        (now (out .exit)) r ⌝ }
 {
     records::put(out, at, b"layers");
     let from = at + 6;
@@ -120,8 +135,14 @@ fn put_lines(
     left: u64,
     out: &mut [u8],
 ) -> usize
-    requires { ⌜ (depth ≤ 4) × (1 ≤ p .chunks) × (p .chunks ≤ 500) × (1 ≤ p .span) × (length (linesBy p (now sizes) depth (now table) spent left) ≤ length (now out)) × SizesIn (now sizes) ⌝ }
-    ensures { λ r. ⌜ Put (now (out .entry)) 0 (linesBy p (now (sizes .entry)) depth (now (table .entry)) spent left) (now (out .exit)) r ⌝ }
+    requires { ⌜ (depth ≤ 4)
+        × (1 ≤ p .chunks)
+        × (p .chunks ≤ 500)
+        × (1 ≤ p .span)
+        × (length (linesBy p (now sizes) depth (now table) spent left) ≤ length (now out))
+        × SizesIn (now sizes) ⌝ }
+    ensures { λ r. ⌜ Put (now (out .entry)) 0 (linesBy p (now (sizes .entry)) depth (now (table .entry)) spent left)
+        (now (out .exit)) r ⌝ }
 {
     let count = p.chunks;
     let film = film_slots(p);
@@ -157,8 +178,14 @@ fn write_lines(
     left: u64,
     out: &mut [u8],
 ) -> Written
-    requires { ⌜ (depth ≤ 4) × (1 ≤ p .chunks) × (p .chunks ≤ 500) × (1 ≤ p .span) × (length (linesBy p (now sizes) depth (now table) spent left) ≤ 7633) × SizesIn (now sizes) ⌝ }
-    ensures { λ r. ⌜ Answered (linesBy p (now (sizes .entry)) depth (now (table .entry)) spent left) (now (out .entry)) (now (out .exit)) r ⌝ }
+    requires { ⌜ (depth ≤ 4)
+        × (1 ≤ p .chunks)
+        × (p .chunks ≤ 500)
+        × (1 ≤ p .span)
+        × (length (linesBy p (now sizes) depth (now table) spent left) ≤ 7633)
+        × SizesIn (now sizes) ⌝ }
+    ensures { λ r. ⌜ Answered (linesBy p (now (sizes .entry)) depth (now (table .entry)) spent left) (now (out .entry))
+        (now (out .exit)) r ⌝ }
 {
     let mut text = [0u8; 7633];
     let n = put_lines(p, sizes, depth, table, spent, left, &mut text);
@@ -177,7 +204,10 @@ fn plan_table(
     table: &mut [u64; SIZES],
 ) -> table::Spent
     requires { ⌜ now table ≡ replicate 2000 0 ⌝ }
-    ensures { λ r. ⌜ Tabled (jobInput p (now (sizes .entry)) (now («size_chunks» .entry)) (now («size_layers» .entry)) (now («size_bytes» .entry)) (now (forecast .entry))) (now (table .exit)) r ⌝ }
+    ensures { λ r. ⌜ Tabled
+        (jobInput p (now (sizes .entry)) (now («size_chunks» .entry)) (now («size_layers» .entry))
+        (now («size_bytes» .entry)) (now (forecast .entry)))
+        (now (table .exit)) r ⌝ }
 {
     let mut marks = [0u8; CHUNKS];
     let mut slots = [0u16; ROWS];
@@ -219,7 +249,10 @@ pub fn report(
     forecast: &[u32],
     out: &mut [u8],
 ) -> Written
-    ensures { λ r. ⌜ Reported (jobInput p (now (sizes .entry)) (now («size_chunks» .entry)) (now («size_layers» .entry)) (now («size_bytes» .entry)) (now (forecast .entry))) (now (out .entry)) (now (out .exit)) r ⌝ }
+    ensures { λ r. ⌜ Reported
+        (jobInput p (now (sizes .entry)) (now («size_chunks» .entry)) (now («size_layers» .entry))
+        (now («size_bytes» .entry)) (now (forecast .entry))) (now (out .entry))
+        (now (out .exit)) r ⌝ }
 {
     let mut table = [0u64; SIZES];
     let made = plan_table(

@@ -147,7 +147,10 @@ fn few_lines(counts: &[u32; SLOTS], slots: usize) -> bool
 
 // 1,500 bytes for each line.
 fn put_forecast(counts: &[u32; SLOTS], slots: usize, out: &mut [u32])
-    requires { ⌜ (slots ≤ 3600) × (slots ≤ length (now out)) × (length (now counts) ≡ 3600) × (fewLines (take slots (now counts)) ≡ true) ⌝ }
+    requires { ⌜ (slots ≤ 3600)
+        × (slots ≤ length (now out))
+        × (length (now counts) ≡ 3600)
+        × (fewLines (take slots (now counts)) ≡ true) ⌝ }
     ensures { λ _. ⌜ now (out .exit) ≡ over (linesForecast (take slots (now (counts .entry)))) (now (out .entry)) ⌝ }
 {
     let mut k: usize = 0;
