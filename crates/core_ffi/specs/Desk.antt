@@ -14,8 +14,8 @@ use Rattle.fetch.specs.Input.{Whole, whole-iff, listRefusal}
 use Rattle.fetch.specs.Rows.{Row, rowAt, rowBytes, rowChunk, rowLayer, rowSlot, rowsOf}
 use Rattle.fetch.specs.Verdict.{verdict, verdict-iff}
 use Rattle.fetch.specs.VerdictFrom.{slot-iff, slotRefusal, verdictFrom}
+use Rattle.fetch.specs.Slices.{slicesOf}
 use Rattle.checker.specs.Checked.{checkFromRefusal, checkRefusal}
-use Rattle.planfile.specs.Calls.{slicesOf}
 use Rattle.planfile.specs.lemmas.Back.{field}
 use Rattle.theory_plan.specs.Plan.{plan}
 use Rattle.theory_plan.specs.Statement.{marksOf}

@@ -12,8 +12,9 @@ use Rattle.theory_basics.specs.Lent.{lentAfter}
 use Rattle.theory_basics.specs.Refusals.{_orElse_, unless}
 use Rattle.job.specs.Input.{JobInput, jobIn}
 use Rattle.job.specs.Job.{Job, chunks, layers}
+use Rattle.fetch.specs.Slices.{ListSlices}
 use Rattle.jobfile.specs.Writer.{jobFile, writeRefusal as jobWriteRefusal}
-use Rattle.planfile.specs.Calls.{ListSlices, planOf, planReadRefusal, writeRefusal as planWriteRefusal}
+use Rattle.planfile.specs.Calls.{planOf, planReadRefusal, writeRefusal as planWriteRefusal}
 use Rattle.planfile.specs.PlanFile.{fileOf, planIn}
 use Rattle.jobrecords.specs.Refusal.{jobOfFile}
 use Rattle.jobrecords.specs.Reader.{Buffers, lentBy, jobReadRefusal}

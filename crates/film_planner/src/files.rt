@@ -5,7 +5,8 @@ ghost use mathlib.Core.List.{[]};
 ghost use Rattle.jobrecords.specs.Reader.{buffers};
 ghost use Rattle.jobrecords.specs.Refusal.{mixed, oneSequence};
 ghost use Rattle.jobfile.specs.Writer.{fileWritten};
-ghost use Rattle.planfile.specs.Calls.{readLent, slicesOf, writeLent};
+ghost use Rattle.fetch.specs.Slices.{slicesOf};
+ghost use Rattle.planfile.specs.Calls.{readLent, writeLent};
 ghost use Rattle.core_ffi.specs.Convention.{film};
 ghost use Rattle.core_ffi.specs.Files.{JobReturned, jobWriteAnswer, planReadAnswer, planWriteAnswer};
 

@@ -18,8 +18,9 @@ use Rattle.records.specs.File.{fileRefusal}
 use Rattle.job.specs.Job.{chunks}
 use Rattle.job.specs.Input.{JobInput, jobIn, jobRefusal}
 use Rattle.fetch.specs.Rows.{Row}
+use Rattle.fetch.specs.Slices.{ListSlices, room, slicesOf}
 use Rattle.planfile.specs.PlanFile.{format, planIn}
-use Rattle.planfile.specs.Calls.{ListSlices, slicesOf, room, planReadRefusal, readAnswer, readLent}
+use Rattle.planfile.specs.Calls.{planReadRefusal, readAnswer, readLent}
 use Rattle.planfile.specs.lemmas.Scan.{answerOf, markOn, rowOn, Laid, FileRowsPost, filled}
 use Rattle.planfile.specs.lemmas.Writing.{map-upTo}
 use Rattle.planfile.specs.declared.PlanRead.{PlanRead}

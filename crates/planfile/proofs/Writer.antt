@@ -18,9 +18,10 @@ use Rattle.fetch.specs.Rows.{rowAt, rowsOf}
 use Rattle.fetch.specs.Input.{Whole, listRefusal, whole-iff}
 use Rattle.planfile.specs.Records.{en}
 use Rattle.planfile.specs.PlanFile.{kps, ftOf, fileOf}
-use Rattle.planfile.specs.Calls.{ListSlices, planOf, writeRest, writeRefusal, writtenBy}
+use Rattle.planfile.specs.Calls.{planOf, writeRest, writeRefusal, writtenBy}
 use Rattle.planfile.specs.lemmas.Writing.{planRecordsBytes, file-parts, length-file, length-kps, length-fts, two-puts}
 use Rattle.records.specs.lemmas.Puts.{written-whole}
+use Rattle.fetch.specs.Slices.{ListSlices}
 use Rattle.planfile.specs.declared.Written.{Written}
 use Rattle.planfile.specs.declared.Written.the-variants.{Bytes, Refused}
 

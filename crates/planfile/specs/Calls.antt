@@ -14,29 +14,14 @@ use Rattle.job.specs.Job.{chunks}
 use Rattle.job.specs.Input.{JobInput, jobIn, jobRefusal}
 use Rattle.fetch.specs.Rows.{rowsOf}
 use Rattle.fetch.specs.Input.{listRefusal}
+use Rattle.fetch.specs.Slices.{ListSlices, room}
 use Rattle.planfile.specs.PlanFile.{format, Plan, planIn, fileOf}
 use Rattle.planfile.specs.declared.PlanRead.{PlanRead}
 use Rattle.planfile.specs.declared.Written.{Written}
 use Rattle.planfile.specs.declared.PlanRead.the-variants as planRead
 use Rattle.planfile.specs.declared.Written.the-variants as written
 
--- The five slices of a plan, handed or lent: the marks, and the rows field by field.
-pub record ListSlices : Type 0 where
-  pub marks : List ℕ
-  pub slots : List ℕ
-  pub chunks : List ℕ
-  pub layers : List ℕ
-  pub bytes : List ℕ
-
-abbrev pub slicesOf : List ℕ → List ℕ → List ℕ → List ℕ → List ℕ → ListSlices
-slicesOf marks slots chunks layers bytes = record { marks = marks; slots = slots; chunks = chunks; layers = layers; bytes = bytes }
-
 -- ---- reading
-
--- The slices hold so many marks and so many rows.
-abbrev pub room : ListSlices → ℕ → ℕ → Bool
-room lent marks rows =
-    leb marks (length (lent .marks)) && (leb rows (length (lent .slots)) && (leb rows (length (lent .chunks)) && (leb rows (length (lent .layers)) && leb rows (length (lent .bytes)))))
 
 -- The handed job's 5, 6, 18, 7, then the file's refusal, then 11.
 unfoldable pub planReadRefusal : JobInput → List ℕ → ListSlices → ℕ

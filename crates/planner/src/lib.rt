@@ -9,8 +9,8 @@ ghost use Prim.Native.Nat.{_≤_};
 ghost use lib.ListN.{length};
 ghost use mathlib.Core.Bool.{cond};
 ghost use Rattle.job.specs.Input.{jobInput, jobRefusal};
-ghost use Rattle.planner.specs.Answer.{PlanOutput, DecidedByLists, PicturesOfLists, BestOfLists, SteadyBases};
-ghost use Rattle.planner.specs.Answer.{compared};
+ghost use Rattle.fetch.specs.Slices.{slicesOf};
+ghost use Rattle.planner.specs.Answer.{PlanOutput, PlanPromise, compared};
 
 // How many rows the plan has, or the refusal's number.
 pub enum Answer {
@@ -92,9 +92,12 @@ fn write_decided(
         × (p .chunks ≤ length (now marks)) ⌝ }
     ensures { λ r. ⌜ PlanOutput
         (jobInput p (now (sizes .entry)) (now («size_chunks» .entry)) (now («size_layers» .entry))
-        (now («size_bytes» .entry)) (now (forecast .entry))) (now (marks .entry)) (now (slots .entry))
-        (now (chunks .entry)) (now (layers .entry)) (now (bytes .entry))
-        r (now (marks .exit)) (now (slots .exit)) (now (chunks .exit)) (now (layers .exit)) (now (bytes .exit)) ⌝ }
+        (now («size_bytes» .entry)) (now (forecast .entry)))
+        (slicesOf (now (marks .entry)) (now (slots .entry)) (now (chunks .entry))
+        (now (layers .entry)) (now (bytes .entry)))
+        r
+        (slicesOf (now (marks .exit)) (now (slots .exit)) (now (chunks .exit))
+        (now (layers .exit)) (now (bytes .exit))) ⌝ }
 {
     // Every place is written before it is read. A filling that is no constant is stored in wide
     // words, faster than cleared.
@@ -147,23 +150,14 @@ pub fn plan(
     layers: &mut [u8],
     bytes: &mut [u32],
 ) -> Planned
-    ensures output { λ r. ⌜ PlanOutput
+    ensures { λ r. ⌜ PlanPromise
         (jobInput p (now (sizes .entry)) (now («size_chunks» .entry)) (now («size_layers» .entry))
-        (now («size_bytes» .entry)) (now (forecast .entry))) (now (marks .entry)) (now (slots .entry))
-        (now (chunks .entry)) (now (layers .entry)) (now (bytes .entry))
-        r (now (marks .exit)) (now (slots .exit)) (now (chunks .exit)) (now (layers .exit)) (now (bytes .exit)) ⌝ }
-    ensures decided { λ _. ⌜ DecidedByLists
-        (jobInput p (now (sizes .entry)) (now («size_chunks» .entry)) (now («size_layers» .entry))
-        (now («size_bytes» .entry)) (now (forecast .entry))) ⌝ }
-    ensures pictures { λ _. ⌜ PicturesOfLists
-        (jobInput p (now (sizes .entry)) (now («size_chunks» .entry)) (now («size_layers» .entry))
-        (now («size_bytes» .entry)) (now (forecast .entry))) ⌝ }
-    ensures best { λ _. ⌜ BestOfLists
-        (jobInput p (now (sizes .entry)) (now («size_chunks» .entry)) (now («size_layers» .entry))
-        (now («size_bytes» .entry)) (now (forecast .entry))) ⌝ }
-    ensures steady { λ _. ⌜ SteadyBases
-        (jobInput p (now (sizes .entry)) (now («size_chunks» .entry)) (now («size_layers» .entry))
-        (now («size_bytes» .entry)) (now (forecast .entry))) ⌝ }
+        (now («size_bytes» .entry)) (now (forecast .entry)))
+        (slicesOf (now (marks .entry)) (now (slots .entry)) (now (chunks .entry))
+        (now (layers .entry)) (now (bytes .entry)))
+        r
+        (slicesOf (now (marks .exit)) (now (slots .exit)) (now (chunks .exit))
+        (now (layers .exit)) (now (bytes .exit))) ⌝ }
 {
     let no = job::refusal(p, sizes, size_chunks, size_layers, size_bytes, forecast);
     if 0 < no {

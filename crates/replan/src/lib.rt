@@ -12,7 +12,8 @@ ghost use Rattle.theory_basics.specs.Refusals.{unless};
 ghost use Rattle.theory_basics.specs.Tests.{all};
 ghost use Rattle.job.specs.Input.{jobInput};
 ghost use Rattle.job.specs.Job.{lastDue};
-ghost use Rattle.replan.specs.Answer.{replanInput, ReplanOutput, SettledAfresh, StandingGoesOn};
+ghost use Rattle.replan.specs.Answer.{ReplanPromise, replanInput};
+ghost use Rattle.fetch.specs.Slices.{slicesOf};
 ghost use Rattle.replan.specs.lemmas.Asked.{partRefusal, askedRefusal};
 
 // 21: a handed row not before the slot.
@@ -111,23 +112,16 @@ pub fn replan(
     layers: &mut [u8],
     bytes: &mut [u32],
 ) -> Planned
-    ensures output { λ r. ⌜ ReplanOutput
+    ensures { λ r. ⌜ ReplanPromise
         (jobInput p (now (sizes .entry)) (now («size_chunks» .entry)) (now («size_layers» .entry))
         (now («size_bytes» .entry)) (now (forecast .entry)))
         (replanInput from (now («fetched_slots» .entry)) (now («fetched_chunks» .entry))
-        (now («fetched_layers» .entry)) (now («fetched_bytes» .entry)) (now (onward .entry))) (now (marks .entry))
-        (now (slots .entry)) (now (chunks .entry)) (now (layers .entry)) (now (bytes .entry))
-        r (now (marks .exit)) (now (slots .exit)) (now (chunks .exit)) (now (layers .exit)) (now (bytes .exit)) ⌝ }
-    ensures settled { λ _. ⌜ SettledAfresh
-        (jobInput p (now (sizes .entry)) (now («size_chunks» .entry)) (now («size_layers» .entry))
-        (now («size_bytes» .entry)) (now (forecast .entry)))
-        (replanInput from (now («fetched_slots» .entry)) (now («fetched_chunks» .entry))
-        (now («fetched_layers» .entry)) (now («fetched_bytes» .entry)) (now (onward .entry))) ⌝ }
-    ensures standing { λ _. ⌜ StandingGoesOn
-        (jobInput p (now (sizes .entry)) (now («size_chunks» .entry)) (now («size_layers» .entry))
-        (now («size_bytes» .entry)) (now (forecast .entry)))
-        (replanInput from (now («fetched_slots» .entry)) (now («fetched_chunks» .entry))
-        (now («fetched_layers» .entry)) (now («fetched_bytes» .entry)) (now (onward .entry))) ⌝ }
+        (now («fetched_layers» .entry)) (now («fetched_bytes» .entry)) (now (onward .entry)))
+        (slicesOf (now (marks .entry)) (now (slots .entry)) (now (chunks .entry))
+        (now (layers .entry)) (now (bytes .entry)))
+        r
+        (slicesOf (now (marks .exit)) (now (slots .exit)) (now (chunks .exit))
+        (now (layers .exit)) (now (bytes .exit))) ⌝ }
 {
     let no = asked_refusal(
         p,

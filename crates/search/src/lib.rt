@@ -15,10 +15,11 @@ ghost use Prim.Native.Nat.{_-_, _≤_};
 ghost use lib.ListN.{length};
 ghost use Rattle.job.specs.Input.{jobInput, jobRefusal};
 ghost use Rattle.job.specs.Table.{tableAt};
+ghost use Rattle.fetch.specs.Slices.{slicesOf};
 ghost use Rattle.theory_plan.specs.lemmas.Parts.{at};
 ghost use Rattle.core_moore_hodgson.specs.lemmas.Tables.{mooreHodgsonIn};
 ghost use Rattle.core_decide.specs.lemmas.Decision.{DecidePre};
-ghost use Rattle.search.specs.Answer.{SearchOutput, FoundByWalk, GoodEnoughFound, MoreSteps};
+ghost use Rattle.search.specs.Answer.{SearchOutput, SearchPromise};
 ghost use Rattle.search.specs.lemmas.Deciding.{AnsweredPost, DecidePost, OnlyNumber, ShortfallPre};
 
 // The number of rows or the refusal's number, how many chunks carry each layer, the steps taken,
@@ -157,9 +158,13 @@ fn write_found(
         × (p .chunks ≤ length (now marks)) ⌝ }
     ensures { λ r. ⌜ SearchOutput
         (jobInput p (now (sizes .entry)) (now («size_chunks» .entry)) (now («size_layers» .entry))
-        (now («size_bytes» .entry)) (now (forecast .entry))) budget (now (marks .entry)) (now (slots .entry))
-        (now (chunks .entry)) (now (layers .entry)) (now (bytes .entry))
-        r (now (marks .exit)) (now (slots .exit)) (now (chunks .exit)) (now (layers .exit)) (now (bytes .exit)) ⌝ }
+        (now («size_bytes» .entry)) (now (forecast .entry)))
+        budget
+        (slicesOf (now (marks .entry)) (now (slots .entry)) (now (chunks .entry))
+        (now (layers .entry)) (now (bytes .entry)))
+        r
+        (slicesOf (now (marks .exit)) (now (slots .exit)) (now (chunks .exit))
+        (now (layers .exit)) (now (bytes .exit))) ⌝ }
 {
     let mut table = [0u32; SIZES];
     job::fill_sizes(sizes, size_chunks, size_layers, size_bytes, &mut table);
@@ -212,20 +217,15 @@ pub fn search(
     layers: &mut [u8],
     bytes: &mut [u32],
 ) -> Searched
-    ensures output { λ r. ⌜ SearchOutput
+    ensures { λ r. ⌜ SearchPromise
         (jobInput p (now (sizes .entry)) (now («size_chunks» .entry)) (now («size_layers» .entry))
-        (now («size_bytes» .entry)) (now (forecast .entry))) budget (now (marks .entry)) (now (slots .entry))
-        (now (chunks .entry)) (now (layers .entry)) (now (bytes .entry))
-        r (now (marks .exit)) (now (slots .exit)) (now (chunks .exit)) (now (layers .exit)) (now (bytes .exit)) ⌝ }
-    ensures found { λ _. ⌜ FoundByWalk
-        (jobInput p (now (sizes .entry)) (now («size_chunks» .entry)) (now («size_layers» .entry))
-        (now («size_bytes» .entry)) (now (forecast .entry))) budget ⌝ }
-    ensures enough { λ _. ⌜ GoodEnoughFound
-        (jobInput p (now (sizes .entry)) (now («size_chunks» .entry)) (now («size_layers» .entry))
-        (now («size_bytes» .entry)) (now (forecast .entry))) budget ⌝ }
-    ensures steps { λ _. ⌜ MoreSteps
-        (jobInput p (now (sizes .entry)) (now («size_chunks» .entry)) (now («size_layers» .entry))
-        (now («size_bytes» .entry)) (now (forecast .entry))) budget ⌝ }
+        (now («size_bytes» .entry)) (now (forecast .entry)))
+        budget
+        (slicesOf (now (marks .entry)) (now (slots .entry)) (now (chunks .entry))
+        (now (layers .entry)) (now (bytes .entry)))
+        r
+        (slicesOf (now (marks .exit)) (now (slots .exit)) (now (chunks .exit))
+        (now (layers .exit)) (now (bytes .exit))) ⌝ }
 {
     let no = job::refusal(p, sizes, size_chunks, size_layers, size_bytes, forecast);
     if 0 < no {

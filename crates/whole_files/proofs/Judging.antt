@@ -17,8 +17,9 @@ use Rattle.job.specs.Input.{JobInput, input-iff, jobIn, jobRefusal}
 use Rattle.job.specs.Job.{Accepted, Job, chunks}
 use Rattle.fetch.specs.Input as rows
 use Rattle.fetch.specs.Rows.{Row, rowBytes, rowChunk, rowLayer, rowSlot, rowsOf}
+use Rattle.fetch.specs.Slices.{ListSlices, room, slicesOf}
 use Rattle.jobrecords.specs.Refusal.{oneSequence}
-use Rattle.planfile.specs.Calls.{ListSlices, readAnswer, readLent, planReadRefusal, room, slicesOf}
+use Rattle.planfile.specs.Calls.{readAnswer, readLent, planReadRefusal}
 use Rattle.planfile.specs.PlanFile.{Plan, format, planIn}
 use Rattle.planfile.specs.lemmas.Few.{rows-inside}
 use Rattle.planfile.specs.declared.PlanRead.{PlanRead}
