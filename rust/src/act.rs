@@ -27,8 +27,9 @@ const SLOT_MOST: u32 = 16_777_216;
 /// docs/LIVE.md, and whatever part of them comes, in their order, the rows that it makes are
 /// refused neither by it nor by planning afresh in the next slot. What this type adds is not
 /// proved: that it keeps the rows and the forecast of the slots gone so that this holds, which
-/// samples the meter gets, and the rate before the first. The tests of `rust/tests/live.rs` try it.
-/// That the most pictures are shown is promised by neither: no rule without a forecast can.
+/// samples the meter gets, the rate before the first, and what it asks for by itself where the rule
+/// would begin a chunk that cannot come. The tests of `rust/tests/live.rs` try it. That the most
+/// pictures are shown is promised by neither: no rule without a forecast can.
 #[derive(Clone, Debug, PartialEq, Eq)]
 pub struct Act {
     /// Its forecast says what each slot gone brought. One that said less would make the rows
@@ -93,8 +94,9 @@ impl Act {
         &self.asks
     }
 
-    /// The same by a rate that the desk knows better than the meter, for this slot alone: to be
-    /// called before the slot's first piece is asked for. Any number does.
+    /// By a rate that the desk knows better than the meter, for this slot alone: to be called
+    /// before the slot's first piece is asked for. Any number does. The pieces are the rule's at
+    /// that rate and no others: what the act does beside the rule it settles by its own samples.
     pub fn asks_at(&mut self, rate: u32) -> &[Piece] {
         self.asks = self.asks_by(rate);
         &self.asks
@@ -130,7 +132,8 @@ impl Act {
     /// would come in time, and the screen may stand. So the chunk c that the asks would begin gives
     /// way to a later one, m, if
     /// - the meter is full, and not even its largest sample in every slot brings c's base behind
-    ///   the bases asked before it: less is a dip, and giving way in dips loses more than it wins;
+    ///   the bases asked before it: a low rate alone may be a dip, and giving way in dips loses
+    ///   more than it wins;
     /// - m is the first after c whose base the rate brings behind those bases, it would not bring
     ///   it behind c, and there is a place for m.
     ///
@@ -149,14 +152,17 @@ impl Act {
         let (layers, left) = (self.job.sizes.len(), self.left());
         let lacks = |chunk: u16, layer: usize| left[(usize::from(chunk) - 1) * layers + layer];
 
+        let rate = self.rate();
         let mut before = 0;
         let late = asks.iter().take_while(|piece| piece.layer == 0).find(|piece| {
             let with_it = before + u64::from(piece.bytes);
             let late = !is_begun(piece.chunk) && with_it > brings(*most, piece.chunk);
-            before = if late { before } else { with_it };
+            if !late {
+                // It takes no bytes after its due slot, whole or not.
+                before = with_it.min(brings(rate, piece.chunk));
+            }
             late
         })?;
-        let rate = self.rate();
         let later = (late.chunk + 1..=self.job.chunks).find(|m| before + u64::from(lacks(*m, 0)) <= brings(rate, *m))?;
         if before + u64::from(late.bytes) + u64::from(lacks(later, 0)) <= brings(rate, later) {
             return None;
