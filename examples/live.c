@@ -46,7 +46,9 @@ static uint32_t rate_of(const struct film_meter *m)
 }
 
 /* The asks of a slot. Where the rate asks for no base, a chunk may be passed over for one that
- * cannot begin yet: then the slot goes to the first one. */
+ * cannot begin yet: then the slot goes to the first one. With few places on a slow link one thing
+ * more is worth doing, and the Rust type Act does it: docs/LIVE.md, "A place kept by a chunk that
+ * cannot come". */
 static size_t ask(const struct film_job *job, const struct film_list *rows, uint16_t slot, uint32_t rate)
 {
     for (;; rate = SLOT_MOST) {
