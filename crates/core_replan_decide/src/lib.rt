@@ -260,17 +260,18 @@ fn try_begun(w: u8, z: u32, want: u64, all: u64) -> Chosen
         };
     }
     let more = core_decide::wide(z) + want;
+    let tried = fetch::with(0, 0);
     if more <= all {
         return Chosen {
             need: more,
             bytes: z,
-            mark: 1,
+            mark: tried,
         };
     }
     Chosen {
         need: want,
         bytes: 0,
-        mark: 0,
+        mark: fetch::without(tried, 0),
     }
 }
 
