@@ -170,7 +170,7 @@ impl Act {
 
         let taken = (1..late.chunk).filter(|i| due(*i) > self.slot && (is_begun(*i) || asks.iter().any(|piece| piece.chunk == *i))).count();
         let places = (self.job.limit / self.job.span).checked_sub(taken as u16).filter(|places| *places > 0)?;
-        let from_later = later..=self.job.chunks.min(later + places - 1);
+        let from_later = later..=self.job.chunks.min(later.saturating_add(places - 1));
         let of_layer = |layer: usize| {
             let kept = asks.iter().filter(move |piece| piece.chunk < late.chunk && usize::from(piece.layer) == layer).copied();
             kept.chain(from_later.clone().map(move |chunk| Piece { chunk, layer: layer as u8, bytes: lacks(chunk, layer) }))
