@@ -3,11 +3,11 @@
 -- that takes no list. What a plan is says Statement (`IsPlan`); that this is it, and the only one,
 -- say `plan-exists` and `plan-unique` of Theorems, and that the test says whether some list can
 -- carry the choice, `decision`. So nobody has to believe the test.
-use Prim.Native.Nat.{ℕ, zero, suc, _+_, _-_, max}
+use Prim.Native.Nat.{ℕ, zero, suc, _+_, _-_, max, min}
 use mathlib.Core.Bool.{Bool, true, not, cond, _&&_}
 use mathlib.Core.List.{List, [], _∷_}
 use lib.ListN.{drop}
-use lib.Dec.{leb, eqb}
+use lib.Dec.{leb, ltb, eqb}
 use Rattle.theory_basics.specs.Sums.{pre, sum}
 use Rattle.theory_basics.specs.Tests.{allTo}
 use Rattle.job.specs.Job.{Job, chunks, due, forecast, heldMost, lastSlot, layers, size}
@@ -58,6 +58,15 @@ unfolding feas
 fits j lv = feas (bytes j lv) (due j) (after j) (heldMost j) (kept j lv)
 
 -- ---- the trials
+
+-- What chunk k carries of the layers settled before layer n of chunk i.
+abbrev pub settled : (ℕ → ℕ) → ℕ → ℕ → ℕ → ℕ
+settled plan n i k = min (plan k) (cond (ltb i k) (suc n) n)
+
+-- The layers settled as carried so far, and layer n of chunk i: the choice that is tried
+-- (Statement, `Trial`).
+abbrev pub tried : (ℕ → ℕ) → ℕ → ℕ → ℕ → ℕ
+tried plan n i k = cond (eqb k i) (suc n) (settled plan n i k)
 
 -- One layer more for chunk i.
 abbrev pub raise : (ℕ → ℕ) → ℕ → ℕ → ℕ

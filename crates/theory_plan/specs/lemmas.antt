@@ -25,6 +25,7 @@ pub mod Stretches
 pub mod Sufficiency
 pub mod Totals
 pub mod Trials
+pub mod Tried
 pub mod Unique
 pub mod Upper
 pub mod KeepOrDrop

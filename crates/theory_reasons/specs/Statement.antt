@@ -12,8 +12,7 @@ use Rattle.theory_basics.specs.Sums.{pre, sum}
 use Rattle.job.specs.Job.{Job, Layer, chunks, due, forecast, heldMost, lastSlot, layers}
 use Rattle.theory_basics.specs.Tests.{All}
 use Rattle.theory_basics.specs.Text.{ascii, digits, line, text}
-use Rattle.theory_plan.specs.Plan.{byMooreHodgson, bytes, kept}
-use Rattle.theory_plan.specs.Statement.{tried}
+use Rattle.theory_plan.specs.Plan.{byMooreHodgson, bytes, kept, tried}
 
 -- ---- carry and need
 

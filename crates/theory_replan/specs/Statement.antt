@@ -20,7 +20,8 @@ use Rattle.fetch.specs.Rows.{Row, Carried, begun, bytesOfLayer, layersCarried}
 use Rattle.fetch.specs.Rules.{FewHeld, RowInRange, LowerCarried, OnTime, PlayingOrder, WithinForecast}
 use Rattle.fetch.specs.RulesFrom.{PassesFrom}
 use Rattle.theory_plan.specs.Own.{ownList}
-use Rattle.theory_plan.specs.Statement.{CarriesExactly, Choice, Same, settled}
+use Rattle.theory_plan.specs.Statement.{CarriesExactly, Choice, Same}
+use Rattle.theory_plan.specs.Plan.{settled}
 use Rattle.theory_replan.specs.Own.{ownRest}
 
 -- ---- what is handed on

@@ -21,8 +21,8 @@ use Rattle.fetch.specs.Rules.{RowInRange, Keeps, OnTime, PlayingOrder}
 use Rattle.fetch.specs.RulesFrom.{PassesFrom}
 use Rattle.fetch.specs.lemmas.Rows.{bytes-append, row-counts, some-row}
 use Rattle.theory_plan.specs.Own.{carriedTo, Fetched, fetchedBy, ownList, Piece, slotTakes}
-use Rattle.theory_plan.specs.Plan.{after, bytes, kept}
-use Rattle.theory_plan.specs.Statement.{CanCarry, CarriesExactly, Choice, SettledByTrials, marksOf, Same, tried}
+use Rattle.theory_plan.specs.Plan.{after, bytes, kept, tried}
+use Rattle.theory_plan.specs.Statement.{CanCarry, CarriesExactly, Choice, SettledByTrials, marksOf, Same}
 use Rattle.theory_plan.specs.Theorems.{trials-carried}
 use Rattle.theory_plan.specs.lemmas.Ascending.{Asc}
 use Rattle.theory_plan.specs.lemmas.Choice.{Fits, fits-can-carry, kept-asc}
