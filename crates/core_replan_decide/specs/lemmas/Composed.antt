@@ -24,8 +24,8 @@ use Rattle.theory_plan.specs.lemmas.Linear.{map-map}
 use Rattle.theory_plan.specs.lemmas.Queue.{releases}
 use Rattle.theory_plan.specs.lemmas.Trials.{back, bytesKept, Kept, levelMark, onLayer, onLayers, rooms, Tried}
 use Rattle.theory_plan.specs.lemmas.Words.{accepted-sized, carries, layer-of, Sized}
-use Rattle.theory_replan.specs.Plan.{afterFrom, busy, bytesLeft}
-use Rattle.theory_replan.specs.Statement.{Acceptable, IsReplan, triedFrom}
+use Rattle.theory_replan.specs.Plan.{afterFrom, busy, bytesLeft, triedFrom}
+use Rattle.theory_replan.specs.Statement.{Acceptable, IsReplan}
 use Rattle.theory_replan.specs.lemmas.Base.{base-begun, whole-begun, whole-left}
 use Rattle.theory_replan.specs.lemmas.Criterion.{busyFrom}
 use Rattle.theory_replan.specs.lemmas.Fits.{FitsFrom}

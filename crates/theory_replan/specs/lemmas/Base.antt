@@ -30,8 +30,8 @@ use Rattle.theory_plan.specs.lemmas.Level.{level, level-choice, level-iff}
 use Rattle.theory_plan.specs.lemmas.Linear.{needs-of}
 use Rattle.theory_plan.specs.lemmas.Need.{Feas, need-mono, Tails}
 use Rattle.theory_plan.specs.lemmas.Words.{carries, due-mono, layer-of, Sized}
-use Rattle.theory_replan.specs.Plan.{afterFrom, busy, busyChunks, bytesLeft}
-use Rattle.theory_replan.specs.Statement.{Acceptable, triedFrom}
+use Rattle.theory_replan.specs.Plan.{afterFrom, busy, busyChunks, bytesLeft, triedFrom}
+use Rattle.theory_replan.specs.Statement.{Acceptable}
 use Rattle.theory_replan.specs.lemmas.Criterion.{all-has, begun-few, busyFrom, feas-from-due, front-feas, front-need, FrontOk}
 use Rattle.theory_replan.specs.lemmas.Fits.{FitsFrom}
 use Rattle.theory_replan.specs.lemmas.Held.{carries-row}

@@ -22,8 +22,8 @@ use Rattle.theory_plan.specs.lemmas.Level.{level}
 use Rattle.theory_plan.specs.lemmas.Linear.{needs-at, needs-of}
 use Rattle.theory_plan.specs.lemmas.Trials.{candidate, keeps, Stack}
 use Rattle.theory_plan.specs.lemmas.Words.{carries, Sized}
-use Rattle.theory_replan.specs.Plan.{afterFrom, busy}
-use Rattle.theory_replan.specs.Statement.{Acceptable, triedFrom}
+use Rattle.theory_replan.specs.Plan.{afterFrom, busy, triedFrom}
+use Rattle.theory_replan.specs.Statement.{Acceptable}
 use Rattle.theory_replan.specs.lemmas.Base.{afterBases, base-begun, base-new, need-cong, no-base, no-bytes, picked-split, whole-left}
 use Rattle.theory_replan.specs.lemmas.Criterion.{FrontOk}
 use Rattle.theory_replan.specs.lemmas.Fits.{FitsFrom}

@@ -22,10 +22,11 @@ use Rattle.theory_plan.specs.lemmas.Kept.{feas-picked, picked-cong}
 use Rattle.theory_plan.specs.lemmas.Level.{level, level-choice, level-iff}
 use Rattle.theory_plan.specs.lemmas.Need.{Feas, feas-iff}
 use Rattle.theory_plan.specs.lemmas.Words.{carries, layer-of, Sized}
-use Rattle.theory_replan.specs.Plan.{afterFrom, busy, busyChunks, bytesLeft, fitsFrom, openTo, planTo, replan}
-use Rattle.theory_replan.specs.Statement.{Acceptable, CanCarryFrom, IsReplan, settledFrom, triedFrom}
+use Rattle.theory_replan.specs.Plan.{afterFrom, busy, busyChunks, bytesLeft, fitsFrom, openTo, planTo, replan, settledFrom, triedFrom}
+use Rattle.theory_replan.specs.Statement.{Acceptable, CanCarryFrom, IsReplan}
 use Rattle.theory_replan.specs.lemmas.Decision.{can-carry-from-iff, fits-can-carry-from}
 use Rattle.theory_replan.specs.lemmas.Fits.{can-carry-fits-from, FitsFrom, InFront}
+use Rattle.theory_replan.specs.lemmas.Tried.{settles-tried-from-iff}
 use Rattle.theory_replan.specs.lemmas.Settle.{plan-holds, Settles, settles-computed, settles-once}
 
 -- ---- the test
@@ -141,7 +142,7 @@ module _ (j : Job) (p : ℕ) (fetched : List Row) (ok : Acceptable j p fetched) 
         decided = λ i n u v h.
             let r = layer-of j i n u v h in
             let w = level-iff j fetched (ok .lower) i n r in
-            let e = d .decided i n r in (
+            let e = settles-tried-from-iff j p fetched (ok .lower) plan .0 (d .decided) i n r in (
               λ l. ⊎-elim (λ x. inl (w .0 x)) (λ x. inr (x .1, (x .0, x .2))) (e .0 l),
               λ s. e .1 (⊎-elim (λ x. inl (w .1 x)) (λ x. inr (x .1 .0, x .0, x .1 .1)) s),
             );
@@ -161,13 +162,13 @@ module _ (j : Job) (p : ℕ) (fetched : List Row) (ok : Acceptable j p fetched) 
     replan-is-replan =
         record {
           choice = computed .most;
-          decided = λ i n r.
+          decided = settles-tried-from-iff j p fetched (ok .lower) (replan j p fetched) .1 (λ i n r.
               let w = level-iff j fetched (ok .lower) i n r in
               let e = computed .decided i n (r .chunk-low) (r .chunk-high) (r .layer-in) in
               let c = can-carry-from-iff j sized p fetched ok (triedFrom j fetched (replan j p fetched) n i) (tried-from-choice j fetched (replan j p fetched) i n (computed .most) (r .layer-in)) in (
                 λ l. ⊎-elim (λ x. inl (w .1 x)) (λ x. inr (x .1 .0, x .0, c .1 (x .1 .1))) (e .0 l),
                 λ s. e .1 (⊎-elim (λ x. inl (w .0 x)) (λ x. inr (x .1, (x .0, c .0 (x .2)))) s),
-              );
+              ));
         }
 
     replan-fits : FitsFrom j p fetched (replan j p fetched)
@@ -186,7 +187,7 @@ module _ (j : Job) (p : ℕ) (fetched : List Row) (ok : Acceptable j p fetched) 
         (n < plan i) ↔ ((n < level j fetched i) ⊎ ((p ≤ due j i) × (n ≤ plan i) × FitsFrom j p fetched (triedFrom j fetched plan n i)))
     is-replan-accepts plan d i n r =
         let w = level-iff j fetched (ok .lower) i n r in
-        let e = d .decided i n r in
+        let e = settles-tried-from-iff j p fetched (ok .lower) plan .0 (d .decided) i n r in
         let c = can-carry-from-iff j sized p fetched ok (triedFrom j fetched plan n i) (tried-from-choice j fetched plan i n (d .choice) (r .layer-in)) in (
           λ l. ⊎-elim (λ x. inl (w .0 x)) (λ x. inr (x .0, x .1, c .0 (x .2))) (e .0 l),
           λ s. e .1 (⊎-elim (λ x. inl (w .1 x)) (λ x. inr (x .0, x .1, c .1 (x .2))) s),

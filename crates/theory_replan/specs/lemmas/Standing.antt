@@ -22,6 +22,7 @@ use Rattle.fetch.specs.RulesFrom.{PassesFrom}
 use Rattle.fetch.specs.lemmas.Rows.{bytes-append, row-counts, some-row}
 use Rattle.theory_plan.specs.Own.{carriedTo, Fetched, fetchedBy, ownList, Piece, slotTakes}
 use Rattle.theory_plan.specs.Plan.{after, bytes, kept, tried}
+use Rattle.theory_plan.specs.lemmas.Tried.{settles-tried-iff}
 use Rattle.theory_plan.specs.Statement.{CanCarry, CarriesExactly, Choice, SettledByTrials, marksOf, Same}
 use Rattle.theory_plan.specs.Theorems.{trials-carried}
 use Rattle.theory_plan.specs.lemmas.Ascending.{Asc}
@@ -34,9 +35,10 @@ use Rattle.theory_plan.specs.lemmas.Need.{Feas}
 use Rattle.theory_plan.specs.lemmas.Plan.{tried-choice}
 use Rattle.theory_plan.specs.lemmas.Queue.{at-layer}
 use Rattle.theory_plan.specs.lemmas.Words.{accepted-sized, bytesOfChunk, carries, layer-of, Sized}
-use Rattle.theory_replan.specs.Plan.{afterFrom}
+use Rattle.theory_replan.specs.Plan.{afterFrom, triedFrom}
 use Rattle.theory_replan.specs.Own.{fetchedFrom, ownRest, unfetched}
-use Rattle.theory_replan.specs.Statement.{Acceptable, CanCarryFrom, IsReplan, rowsBefore, rowsFrom, triedFrom, GoesOn}
+use Rattle.theory_replan.specs.lemmas.Tried.{settles-tried-from-iff}
+use Rattle.theory_replan.specs.Statement.{Acceptable, CanCarryFrom, IsReplan, rowsBefore, rowsFrom, GoesOn}
 use Rattle.theory_replan.specs.lemmas.Decision.{drop-first, fits-can-carry-from}
 use Rattle.theory_replan.specs.lemmas.Fits.{between-from, can-carry-fits-below, can-carry-fits-from, FitsFrom}
 use Rattle.theory_replan.specs.lemmas.Held.{begun-by, begun-more, begun-row}
@@ -274,18 +276,18 @@ module _ (j : Job) (sized : Sized j) (q : ℕ → ℕ) (plan : SettledByTrials j
   standing-is-replan =
       record {
         choice = plan .choice;
-        decided = λ i n r. (
+        decided = settles-tried-from-iff j p old old-lower q .1 (λ i n r. (
           λ h. ⊎-elim (λ u. inl (eqb→eq _ _ u)) (λ u. inr (kept-again i n r h (λ c. T-not (carried j old i n) u (eqb-iff _ _ .1 c)))) (test (carried j old i n)),
           ⊎-elim
               (λ c. old-of-plan i n r (omega (arith, c, sized i n r)))
               (λ u.
               let z = triedFrom j old q n i in
-              plan .decided n i r .1 (
+              settles-tried-iff j q n .0 (plan .decided n) i r .1 (
                 u .1,
                 fits-can-carry j sized (tried q n i) (tried-choice j q i n (plan .choice) (r .layer-in))
                     (fits-from-start j sized p old z (tried q n i) (tried-from-choice j old q i n (plan .choice) (r .layer-in)) (u .2) (λ k a b. tried-under j old q n i k)),
               )),
-        );
+        ));
       }
 
   -- ---- its own rows from p on are the rest of its list

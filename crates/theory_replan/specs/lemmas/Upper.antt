@@ -29,8 +29,8 @@ use Rattle.theory_plan.specs.lemmas.Need.{Feas, need-mono}
 use Rattle.theory_plan.specs.lemmas.Queue.{releases, RelOk}
 use Rattle.theory_plan.specs.lemmas.Trials.{back, Kept, levelMark, rooms, Tried, tryOne}
 use Rattle.theory_plan.specs.lemmas.Words.{carries, layer-of}
-use Rattle.theory_replan.specs.Plan.{afterFrom, busy, busyChunks, bytesLeft}
-use Rattle.theory_replan.specs.Statement.{Acceptable, triedFrom}
+use Rattle.theory_replan.specs.Plan.{afterFrom, busy, busyChunks, bytesLeft, triedFrom}
+use Rattle.theory_replan.specs.Statement.{Acceptable}
 use Rattle.theory_replan.specs.lemmas.Criterion.{all-has, busyFrom, feas-from-due}
 use Rattle.theory_replan.specs.lemmas.Fits.{FitsFrom}
 
