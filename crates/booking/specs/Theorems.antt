@@ -17,7 +17,8 @@ use Rattle.fetch.specs.Rows.{Row, bytesInSlot, rowsOf}
 use Rattle.fetch.specs.Input.{Whole, listRefusal}
 use Rattle.fetch.specs.Input
 use Rattle.fetch.specs.Rules.{Keeps}
-use Rattle.fetch.specs.Verdict.{verdict, verdict-iff}
+use Rattle.fetch.specs.Verdict.{verdict}
+use Rattle.fetch.specs.Theorems.{verdict-iff}
 use Rattle.theory_plan.specs.Statement.{Best, IsPlan, MostPictures, marksOf}
 use Rattle.theory_plan.specs.Pictures.{most-pictures}
 use Rattle.theory_plan.specs.Own.{ownList}

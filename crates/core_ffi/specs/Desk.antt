@@ -12,8 +12,9 @@ use Rattle.job.specs.Input.{JobInput, jobInput, input-iff, jobIn, jobRefusal}
 use Rattle.job.specs.Job.{Job, chunks}
 use Rattle.fetch.specs.Input.{Whole, whole-iff, listRefusal}
 use Rattle.fetch.specs.Rows.{Row, rowAt, rowBytes, rowChunk, rowLayer, rowSlot, rowsOf}
-use Rattle.fetch.specs.Verdict.{verdict, verdict-iff}
-use Rattle.fetch.specs.VerdictFrom.{slot-iff, slotRefusal, verdictFrom}
+use Rattle.fetch.specs.Verdict.{verdict}
+use Rattle.fetch.specs.Theorems.{verdict-iff, slot-iff}
+use Rattle.fetch.specs.VerdictFrom.{slotRefusal, verdictFrom}
 use Rattle.checker.specs.Checked.{checkFromRefusal, checkRefusal}
 use Rattle.planfile.specs.Calls.{slicesOf}
 use Rattle.planfile.specs.lemmas.Back.{field}

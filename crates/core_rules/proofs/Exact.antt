@@ -22,7 +22,8 @@ use Rattle.job.specs.Uneven.{table-is}
 use Rattle.job.specs.lemmas.Within.{all-most, size-most}
 use Rattle.fetch.specs.Rows.{Row, begun, held, heldCount, carried, markByte, bytesInSlot, bytesOfLayer}
 use Rattle.fetch.specs.lemmas.Marks.{mark-cong}
-use Rattle.fetch.specs.Verdict.{rule1, rule2, rule3, rule4, rule6, rule7, lowerCarried, same, same-iff}
+use Rattle.fetch.specs.Verdict.{rule1, rule2, rule3, rule4, rule6, rule7, lowerCarried, same}
+use Rattle.fetch.specs.Theorems.{same-iff}
 use Rattle.core_rules.specs.declared.Pass.{Pass}
 use Rattle.core_rules.specs.lemmas.Tables.{cap, firstOf, Tallied, TallyPost, carriedBy, wholeBy, under, lowerBy, heldBy, Shown}
 use Rattle.theory_basics.specs.lemmas.Ranges.{count-cong}

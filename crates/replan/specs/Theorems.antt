@@ -15,7 +15,7 @@ use Rattle.job.specs.Input.{JobInput, input-iff, jobIn, jobRefusal}
 use Rattle.job.specs.Job.{Accepted, Job, chunks}
 use Rattle.fetch.specs.Input.{listRefusal}
 use Rattle.fetch.specs.Rows.{Permuted, Row, rowBytes, rowChunk, rowLayer, rowSlot, rowsOf}
-use Rattle.fetch.specs.VerdictFrom.{verdict-from-iff}
+use Rattle.fetch.specs.Theorems.{verdict-from-iff}
 use Rattle.theory_plan.specs.Statement.{Same, countsOf, marksOf}
 use Rattle.theory_plan.specs.Theorems.{same-counts, same-marks}
 use Rattle.planner.specs.Answer.{Lent, lentOf}

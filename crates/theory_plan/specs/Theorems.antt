@@ -12,7 +12,8 @@ use Rattle.theory_basics.specs.lemmas.Lists.{upTo-cong}
 use Rattle.theory_basics.specs.lemmas.Tests.{test}
 use Rattle.fetch.specs.Rows.{Row, layerCount, markByte, marksGiven}
 use Rattle.fetch.specs.Rules.{Keeps, Passes, PlayingOrder}
-use Rattle.fetch.specs.Verdict.{verdict, verdict-iff}
+use Rattle.fetch.specs.Verdict.{verdict}
+use Rattle.fetch.specs.Theorems.{verdict-iff}
 use Rattle.job.specs.Job.{Accepted, EqualBases, EqualChunks, Job, Layer, chunks, layers, size}
 use Rattle.job.specs.Uneven.{equal-chunks-bases}
 use Rattle.theory_plan.specs.lemmas.Best.{by-trials-fits, first-difference, is-plan-fits, most-bases, most-of-layer}

@@ -11,7 +11,7 @@ use borrow.Author.Tests.{ne-eqb, eq-eqb}
 use Rattle.job.specs.Input.{jobInput, jobIn, input-iff}
 use Rattle.fetch.specs.Input as rows
 use Rattle.fetch.specs.Rows.{rowsOf}
-use Rattle.fetch.specs.VerdictFrom.{first-slot}
+use Rattle.fetch.specs.Theorems.{first-slot}
 use Rattle.checker.specs.declared.Checked.the-variants.{Verdict}
 use Rattle.core_rules.proofs.Exact.{shown}
 

@@ -17,7 +17,8 @@ use Rattle.job.specs.Job.{Accepted, chunks, due, forecast, heldMost, Job, lastS
 use Rattle.fetch.specs.Rows.{begun, bytesIf, bytesOfLayer, Carried, carried, heldCount, keep, marksGiven, next, none, Permuted, Row, swap}
 use Rattle.fetch.specs.Rules.{RowInRange, OnTime, PlayingOrder}
 use Rattle.fetch.specs.RulesFrom.{KeepsFrom, PassesFrom}
-use Rattle.fetch.specs.VerdictFrom.{order-free-from, verdict-from-iff, verdictFrom}
+use Rattle.fetch.specs.VerdictFrom.{verdictFrom}
+use Rattle.fetch.specs.Theorems.{order-free-from, verdict-from-iff}
 use Rattle.fetch.specs.Verdict.{lowerCarried}
 use Rattle.fetch.specs.lemmas.Rows.{all-permuted, any-permuted, bytes-permuted, lower-permuted}
 use Rattle.theory_plan.specs.Own.{allowed, carriedTo, Fetched, ownList, Piece, rowOf, slotTakes, without}
