@@ -12,7 +12,8 @@ use Rattle.theory_basics.specs.Tests.{All, In, all, allTo, allBelow, any}
 use Rattle.theory_basics.specs.lemmas.Refusals.{unless-as}
 use Rattle.theory_basics.specs.lemmas.Tests.{all-iff, all-map, allBelow-cong, allBelow-iff, allTo-cong, allTo-iff, and-T, at-row, each-row, eq-or-iff, eqb-iff, if-iff, leb-iff, not-T-false, same-test, T-and, T-or-iff, test, tests}
 use Rattle.job.specs.Job.{Job, Layer, Within, chunks, due, forecast, heldMost, lastDue, lastSlot, layers, size}
-use Rattle.job.specs.Refusal.{within, within-iff}
+use Rattle.job.specs.Refusal.{within}
+use Rattle.job.specs.Theorems.{within-iff}
 use Rattle.job.specs.declared.Programme.{Programme}
 use Rattle.fetch.specs.Rows.{Row, Permuted, bytesIf, bytesInSlot, bytesOfLayer, Carried, carried, heldCount, marksGiven}
 use Rattle.fetch.specs.Rules.{RowInRange, WholeLayers, LowerCarried, WithinForecast, OnTime, FewHeld, MarksSay, Keeps}

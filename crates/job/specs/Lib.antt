@@ -1,6 +1,7 @@
 pub mod Job
 pub mod Refusal
 pub mod Input
+pub mod Theorems
 pub mod Table
 pub mod Uneven
 pub mod lemmas

@@ -11,7 +11,8 @@ use borrow.Author.Tests.{le-leb, lt-leb}
 use Rattle.theory_basics.specs.Refusals.{_orElse_, unless}
 use Rattle.theory_basics.specs.Tests.{All}
 use Rattle.theory_basics.specs.lemmas.Refusals.{orElse-none, orElse-some}
-use Rattle.job.specs.Input.{JobInput, input-iff, jobIn}
+use Rattle.job.specs.Input.{JobInput, jobIn}
+use Rattle.job.specs.Theorems.{input-iff}
 use Rattle.job.specs.Job.{Accepted, chunks}
 use Rattle.job.specs.Table.{sizesTable, tableAt}
 use Rattle.job.specs.Uneven.{table-is}

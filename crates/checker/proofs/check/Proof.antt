@@ -8,7 +8,8 @@ use native.Mathlib.Omega.{arith}
 use lib.ListN.{length-replicate}
 use denote.Ref.{now}
 use borrow.Author.Tests.{ne-eqb, eq-eqb}
-use Rattle.job.specs.Input.{jobInput, jobIn, input-iff}
+use Rattle.job.specs.Input.{jobInput, jobIn}
+use Rattle.job.specs.Theorems.{input-iff}
 use Rattle.fetch.specs.Input as rows
 use Rattle.fetch.specs.Rows.{rowsOf}
 use Rattle.fetch.specs.Theorems.{first-slot}

@@ -2,7 +2,7 @@
 -- refuses.
 use mathlib.Core.Path.{sym, _∙_}
 use Rattle.fetch.specs.Theorems.{slot-iff}
-use Rattle.job.specs.Input.{input-iff}
+use Rattle.job.specs.Theorems.{input-iff}
 use Rattle.replan.proofs.Asked.{passes-on, refuses}
 use borrow.Author.Needs.{needs}
 use Rattle.replan.proofs.asked_refusal.Statement.{statement}
