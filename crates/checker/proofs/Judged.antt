@@ -11,7 +11,7 @@ use lib.Dec.{T, leb, ltb, eqb}
 use Rattle.theory_basics.specs.Tests.{allBelow, allTo}
 use Rattle.theory_basics.specs.lemmas.Tests.{T-or-iff, allBelow-cong, allTo-cong, same-test}
 use Rattle.job.specs.Job.{Accepted, Job, chunks, jobOf, lastDue, layers, size}
-use Rattle.job.specs.Table.{tableAt}
+use Rattle.core_sizes.specs.Table.{tableAt}
 use Rattle.job.specs.declared.Programme.{Programme}
 use Rattle.job.specs.lemmas.Within.{size-most}
 use Rattle.fetch.specs.Rows.{Row, bytesOfLayer}

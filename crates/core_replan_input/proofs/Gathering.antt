@@ -10,7 +10,7 @@ use lib.Dec.{leb}
 use Rattle.theory_basics.specs.Tests.{allTo}
 use Rattle.theory_basics.specs.lemmas.Tests.{T-true, and-T, true-T}
 use Rattle.job.specs.Job.{Override, lastDue}
-use Rattle.job.specs.Table.{tableAt}
+use Rattle.core_sizes.specs.Table.{tableAt}
 use Rattle.job.specs.declared.Programme.{Programme}
 use Rattle.fetch.specs.Rows.{Row}
 use Rattle.fetch.specs.Verdict.{rule1, rule3}

@@ -2,6 +2,5 @@ pub mod Job
 pub mod Refusal
 pub mod Input
 pub mod Theorems
-pub mod Table
 pub mod Uneven
 pub mod lemmas

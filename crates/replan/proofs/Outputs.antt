@@ -14,8 +14,8 @@ use Rattle.theory_basics.specs.lemmas.Refusals.{orElse-none, orElse-some}
 use Rattle.job.specs.Input.{JobInput, jobIn}
 use Rattle.job.specs.Theorems.{input-iff}
 use Rattle.job.specs.Job.{Accepted, chunks}
-use Rattle.job.specs.Table.{sizesTable, tableAt}
-use Rattle.job.specs.Uneven.{table-is}
+use Rattle.core_sizes.specs.Table.{sizesTable, tableAt}
+use Rattle.core_sizes.specs.Theorems.{table-is}
 use Rattle.fetch.specs.Rows.{Row}
 use Rattle.theory_replan.specs.Desk.{replans}
 use Rattle.theory_replan.specs.Refusal.{fetchedKept, joined-in, replan-refusal-iff, Replannable}
