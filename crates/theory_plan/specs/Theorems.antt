@@ -58,7 +58,7 @@ CarriesWith j choice rows = Keeps j (marksOf j choice) rows × PlayingOrder j ro
 pub own-carries : (j : Job) → Sized j → (choice : ℕ → ℕ) → Choice j choice → CanCarry j choice → CarriesWith j choice (ownList j choice)
 unfolding own
 own-carries j sized lv c s =
-    let f = can-carry-fits j lv c s in
+    let f = can-carry-fits j sized lv c s in
     let e = own-exactly j sized lv c f in
     subst (CarriesWith j lv) (sym (own-list-is j lv)) (keeps-marks j (own j lv) lv e (own-passes j sized lv c f), own-in-order j sized lv c f, e)
 

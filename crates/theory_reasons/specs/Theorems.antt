@@ -41,7 +41,7 @@ stretch-exists j a choice c never = refused-stretch j a choice c never .named
 -- The sentence is a true reason: a choice with a stretch that needs more than it carries is carried
 -- by no passing list in playing order.
 pub stretch-forbids : (j : Job) → Accepted j → (choice : ℕ → ℕ) → Choice j choice → (a b : ℕ) → Short j choice a b → CanCarry j choice → ⊥
-stretch-forbids j acc choice c a b s can = fits-none-short j acc choice (can-carry-fits j choice c can) a b s
+stretch-forbids j acc choice c a b s can = fits-none-short j acc choice (can-carry-fits j (accepted-sized j acc) choice c can) a b s
 
 -- "Of several, the smallest last slot is named, then the greatest first slot": one and no other,
 -- which the search gives.

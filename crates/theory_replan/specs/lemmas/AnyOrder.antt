@@ -15,7 +15,7 @@ use Rattle.theory_basics.specs.lemmas.Ranges.{bit, sum-cong}
 use Rattle.theory_basics.specs.lemmas.Tests.{at-row, each-row}
 use Rattle.job.specs.Job.{Accepted, chunks, due, forecast, heldMost, Job, lastSlot, Layer, layers, size}
 use Rattle.fetch.specs.Rows.{begun, bytesIf, bytesOfLayer, Carried, carried, heldCount, keep, marksGiven, next, none, Permuted, Row, swap}
-use Rattle.fetch.specs.Rules.{RowInRange, OnTime, PlayingOrder}
+use Rattle.fetch.specs.Rules.{BegunIn, RowInRange, OnTime, PlayingOrder}
 use Rattle.fetch.specs.RulesFrom.{KeepsFrom, PassesFrom}
 use Rattle.fetch.specs.VerdictFrom.{verdictFrom}
 use Rattle.fetch.specs.Theorems.{order-free-from, verdict-from-iff}
@@ -87,8 +87,16 @@ module _ (j : Job) {a b : List Row} (h : Permuted a b) where
 
   order-permuted : PlayingOrder j a → PlayingOrder j b
   unfolding PlayingOrder
-  order-permuted o x i e g l c =
-      subst T (begun-permuted (x .slot) e) (o x (in-permuted (permuted-back h) i) e g l (layer-permuted e 0 ∙ c))
+  order-permuted o i k s t g l c x y = o i k s t g l (layer-permuted i 0 ∙ c) (begun-in x) (begun-in y) where
+    begun-in : {i t : ℕ} → BegunIn b i t → BegunIn a i t
+    begun-in x =
+        record {
+          row = x .row;
+          listed = in-permuted (permuted-back h) (x .listed);
+          chunk-is = x .chunk-is;
+          slot-is = x .slot-is;
+          first = λ y m. x .first y (in-permuted h m);
+        }
 
   marks-permuted : marksGiven j a ≡ marksGiven j b
   marks-permuted = let sums : (q : Row → Bool) → bytesIf q a ≡ bytesIf q b = λ q. bytes-permuted q h in simp sums

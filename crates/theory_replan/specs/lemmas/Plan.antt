@@ -15,6 +15,7 @@ use Rattle.job.specs.Job.{chunks, due, heldMost, Job, Layer, layers, size}
 use Rattle.fetch.specs.Rows.{begun, bytesOfLayer, Carried, Row}
 use Rattle.fetch.specs.Rules.{RowInRange, PlayingOrder}
 use Rattle.fetch.specs.RulesFrom.{PassesFrom}
+use Rattle.fetch.specs.lemmas.Order.{begun-order}
 use Rattle.fetch.specs.lemmas.Rows.{some-row}
 use Rattle.theory_plan.specs.Plan.{feas}
 use Rattle.theory_plan.specs.Statement.{Choice, Same}
@@ -90,13 +91,13 @@ module _ (j : Job) (sized : Sized j) (p : ℕ) (fetched : List Row) (ok : Accept
       }
 
   fetched-in-order : PlayingOrder j fetched
-  unfolding PlayingOrder
-  fetched-in-order x m i g h c =
+  fetched-in-order =
+      begun-order j fetched (λ x m i g h c.
       let z = at-row (RowInRange j) m (ok .in-range) in
       let some = sized i 0 (layer-of j i 0 g (omega (arith, z .chunk-high)) (omega (arith, z .layer-in))) in
       let y = some-row (λ y. eqb (y .chunk) i && eqb (y .layer) 0) fetched (omega (arith, c)) in
       let e : y .row .chunk ≡ i = eqb→eq _ _ (and-T (eqb (y .row .chunk) i) (eqb (y .row .layer) 0) (y .passes) .0) in
-      rw e at (ok .in-turn x (y .row) m (y .listed) (omega arith))
+      rw e at (ok .in-turn x (y .row) m (y .listed) (omega arith)))
 
   pub fetched-can-carry : CanCarryFrom j p fetched (level j fetched)
   fetched-can-carry =

@@ -19,6 +19,7 @@ use Rattle.job.specs.Job.{Accepted, chunks, due, forecast, heldMost, Job, lastS
 use Rattle.fetch.specs.Rows.{begun, bytesOfLayer, Carried, carried, held, marksGiven, Row}
 use Rattle.fetch.specs.Rules.{RowInRange, Keeps, OnTime, PlayingOrder}
 use Rattle.fetch.specs.RulesFrom.{PassesFrom}
+use Rattle.fetch.specs.lemmas.Order.{order-begun}
 use Rattle.fetch.specs.lemmas.Rows.{bytes-append, row-counts, some-row}
 use Rattle.theory_plan.specs.Own.{carriedTo, Fetched, fetchedBy, ownList, Piece, slotTakes}
 use Rattle.theory_plan.specs.Plan.{after, bytes, kept, tried}
@@ -77,10 +78,9 @@ module _ (j : Job) (sized : Sized j) (p : ℕ) (fetched : List Row) (lv low : �
   l = fetched ++ s .more
 
   all-begun : (x : Row) → In x l → (e : ℕ) → 1 ≤ e → e ≤ x .chunk → Carried j l e 0 → T (begun l (x .slot) e)
-  unfolding PlayingOrder
   all-begun x i e g h t =
       ⊎-elim
-      (λ u. s .in-order x i e g (ltb→lt e (x .chunk) u) t)
+      (λ u. order-begun j sized l (s .passes .in-range) (s .in-order) x i e g (ltb→lt e (x .chunk) u) t)
       (λ (u : T (not (ltb e (x .chunk)))).
       let q : x .chunk ≡ e = omega (arith, nltb→le e (x .chunk) u) in
       begun-row l (x .slot) e x i q (omega arith))
@@ -191,14 +191,13 @@ module _ (j : Job) (sized : Sized j) (q : ℕ → ℕ) (plan : SettledByTrials j
   old-range = each-row (RowInRange j) old (λ x i. at-row (RowInRange j) (in-left old more i) (own .0 .in-range))
 
   old-in-turn : (x y : Row) → In x old → In y old → y .chunk < x .chunk → T (begun old (x .slot) (y .chunk))
-  unfolding PlayingOrder
   old-in-turn x y i k h =
       let z = at-row (RowInRange j) k old-range in
       let r = layer-of j (y .chunk) (y .layer) (z .chunk-low) (z .chunk-high) (z .layer-in) in
       let some = row-counts (λ w. eqb (w .chunk) (y .chunk) && eqb (w .layer) (y .layer)) k (T-and (eqb (y .chunk) (y .chunk)) (eqb (y .layer) (y .layer)) (eqb-refl (y .chunk)) (eqb-refl (y .layer))) in
       let has = old-of-plan (y .chunk) (y .layer) r (omega (arith, some, z .some-bytes)) in
       let base = own .2 (y .chunk) 0 (layer-of j (y .chunk) 0 (z .chunk-low) (z .chunk-high) (omega (arith, z .layer-in))) .1 (omega arith) in
-      let b = begun-by (old ++ more) (x .slot) (y .chunk) (own .1 x (in-left old more i) (y .chunk) (z .chunk-low) h base) in
+      let b = begun-by (old ++ more) (x .slot) (y .chunk) (order-begun j sized (old ++ more) (own .0 .in-range) (own .1) x (in-left old more i) (y .chunk) (z .chunk-low) h base) in
       ⊎-elim
       (λ (m : In (b .row) old). begun-row old (x .slot) (y .chunk) (b .row) m (b .chunk-is) (b .slot-by))
       (λ (m : In (b .row) more). absurd (omega (arith, b .slot-by, at-row (λ x. p ≤ x .slot) m later, at-row (λ x. x .slot < p) i before)))
