@@ -6,6 +6,7 @@ pub mod Best
 pub mod Choice
 pub mod Count
 pub mod Exchange
+pub mod Feasible
 pub mod Fill
 pub mod Kept
 pub mod Level

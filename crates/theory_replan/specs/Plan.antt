@@ -11,7 +11,8 @@ use Rattle.theory_basics.specs.Sums.{sum}
 use Rattle.theory_basics.specs.Tests.{all, allTo}
 use Rattle.job.specs.Job.{Job, chunks, due, heldMost, layers, size}
 use Rattle.fetch.specs.Rows.{Row, bytesOfLayer, hasRow, layersCarried}
-use Rattle.theory_plan.specs.Plan.{after, feas, picked, raise, settled}
+use Rattle.theory_plan.specs.Plan.{after, picked, raise, settled}
+use Rattle.theory_plan.specs.lemmas.Feasible.{feas}
 
 -- ---- whether a choice still fits
 

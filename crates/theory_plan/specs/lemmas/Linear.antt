@@ -22,7 +22,8 @@ use Rattle.fetch.specs.lemmas.Marks.{mark-bit, mark-cong, mark-high, with-next}
 use Rattle.theory_plan.specs.lemmas.Base.{base-picks}
 use Rattle.theory_plan.specs.lemmas.Choice.{Fits}
 use Rattle.theory_plan.specs.Bases.{Asc, baseSize, forecastBy, mooreHodgson}
-use Rattle.theory_plan.specs.Plan.{byMooreHodgson, bytes, kept, picked, needOf, plan, planByTrials, tried}
+use Rattle.theory_plan.specs.Plan.{byMooreHodgson, bytes, kept, picked, plan, planByTrials, tried}
+use Rattle.theory_plan.specs.lemmas.Feasible.{needOf}
 use Rattle.theory_plan.specs.lemmas.Kept.{feas-mono, need-mono, picked-cong, picked-each, picked-has}
 use Rattle.theory_plan.specs.lemmas.Necessity.{Each, after}
 use Rattle.theory_plan.specs.lemmas.Need.{Feas, Tails}

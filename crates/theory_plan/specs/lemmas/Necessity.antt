@@ -21,7 +21,7 @@ use Rattle.job.specs.Job.{Job, chunks, due, forecast, heldMost, lastSlot}
 use Rattle.theory_plan.specs.lemmas.Ascending.{Asc, asc-drop, asc-lower, asc-nth, count-to-nth}
 use Rattle.theory_plan.specs.lemmas.Count.{bytes-between, bytes-disjoint}
 use Rattle.theory_plan.specs.lemmas.Need.{Feas, Tails}
-use Rattle.theory_plan.specs.Plan.{needOf}
+use Rattle.theory_plan.specs.lemmas.Feasible.{needOf}
 pub use Rattle.theory_plan.specs.Plan.{after}
 use Rattle.theory_plan.specs.lemmas.Words.{Sized, bytesOfChunk, due-mono}
 

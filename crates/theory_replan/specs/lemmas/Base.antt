@@ -22,7 +22,8 @@ use Rattle.theory_basics.specs.lemmas.Tests.{and-T, any-row, at-row, by-cond, e
 use Rattle.job.specs.Job.{chunks, due, heldMost, Job, Layer, layers, size}
 use Rattle.fetch.specs.Rows.{bytesOfLayer, Carried, Row}
 use Rattle.fetch.specs.lemmas.Rows.{any-some, bytes-none, some-row}
-use Rattle.theory_plan.specs.Plan.{needOf, picked}
+use Rattle.theory_plan.specs.Plan.{picked}
+use Rattle.theory_plan.specs.lemmas.Feasible.{needOf}
 use Rattle.theory_plan.specs.Statement.{Choice}
 use Rattle.theory_plan.specs.lemmas.Ascending.{Asc}
 use Rattle.theory_plan.specs.lemmas.Kept.{has-picked, picked-asc, picked-cong, picked-each}

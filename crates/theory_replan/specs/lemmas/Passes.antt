@@ -15,7 +15,8 @@ use Rattle.theory_basics.specs.Tests.{All}
 use Rattle.theory_basics.specs.lemmas.Tests.{all-map, and-T, at-row, by-cond, not-T-false, same-test, T-and, T-or-iff, T-true, test}
 use Rattle.job.specs.Job.{chunks, due, heldMost, Job, layers, size}
 use Rattle.fetch.specs.Rows.{bytesOfLayer, Row}
-use Rattle.theory_plan.specs.Plan.{needOf, picked}
+use Rattle.theory_plan.specs.Plan.{picked}
+use Rattle.theory_plan.specs.lemmas.Feasible.{needOf}
 use Rattle.theory_plan.specs.lemmas.Count.{some-row}
 use Rattle.theory_plan.specs.lemmas.Kept.{picked-cong, picked-each}
 use Rattle.theory_plan.specs.lemmas.Level.{level}

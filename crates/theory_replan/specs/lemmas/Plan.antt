@@ -17,7 +17,7 @@ use Rattle.fetch.specs.Rules.{RowInRange, PlayingOrder}
 use Rattle.fetch.specs.RulesFrom.{PassesFrom}
 use Rattle.fetch.specs.lemmas.Order.{begun-order}
 use Rattle.fetch.specs.lemmas.Rows.{some-row}
-use Rattle.theory_plan.specs.Plan.{feas}
+use Rattle.theory_plan.specs.lemmas.Feasible.{feas}
 use Rattle.theory_plan.specs.Statement.{Choice, Same}
 use Rattle.theory_plan.specs.lemmas.Kept.{feas-picked, picked-cong}
 use Rattle.theory_plan.specs.lemmas.Level.{level, level-choice, level-iff}
