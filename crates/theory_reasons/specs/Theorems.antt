@@ -20,7 +20,8 @@ use Rattle.theory_plan.specs.lemmas.OneSize.{trials-last}
 use Rattle.theory_plan.specs.lemmas.Words.{accepted-sized}
 use Rattle.theory_reasons.specs.Lines.{linesOf, planText, stretchOf}
 use Rattle.theory_reasons.specs.Reading.{readLine, readReasons}
-use Rattle.theory_reasons.specs.Statement.{InTurn, IsMissing, Line, Named, Place, Reason, Reasons, Short, against, allBasesKept, canBegin, carry, keptChunk, keptCount, missing, need, reasonsText, sentence, settledBefore, short}
+use Rattle.theory_reasons.specs.Statement.{InTurn, IsMissing, Line, Named, Place, Reason, Reasons, Short, against, allBasesKept, carry, missing, need, reasonsText, sentence, settledBefore, short}
+use Rattle.theory_reasons.specs.lemmas.Kept.{canBegin, keptChunk, keptCount}
 use Rattle.theory_reasons.specs.lemmas.Agree.{against-agree, reasons-agree}
 use Rattle.theory_reasons.specs.lemmas.Bridge.{fits-none-short}
 use Rattle.theory_reasons.specs.lemmas.Named.{is-named-unique, named-unique, passed, passed-searched, stretch-named, stretch-of-named, stretch-passed}
