@@ -6,9 +6,9 @@
 --   theory_plan, Statement: a choice, what a trial asks about, the counts and marks of a choice
 --   Own, in this crate: the rows from p on
 --   Refusal, in this crate: the refusals
--- Theorems proves what this file states, and Desk as the desk calls it.
+-- Theorems proves what this file states, and Desk as the desk calls it; there stands what a standing
+-- plan is promised (`Continues`).
 use Prim.Native.Nat.{ℕ, _-_, _≤_, _<_}
-use mathlib.Core.Path.{_≡_}
 use mathlib.Core.Bool.{cond}
 use mathlib.Core.List.{List, [], _∷_, _++_}
 use mathlib.Core.Logic.{_⊎_, _↔_}
@@ -19,9 +19,7 @@ use Rattle.job.specs.Job.{Job, Layer, due, lastSlot, size, withForecast}
 use Rattle.fetch.specs.Rows.{Row, Carried, begun, bytesOfLayer}
 use Rattle.fetch.specs.Rules.{FewHeld, RowInRange, LowerCarried, OnTime, PlayingOrder, WithinForecast}
 use Rattle.fetch.specs.RulesFrom.{PassesFrom}
-use Rattle.theory_plan.specs.Own.{ownList}
-use Rattle.theory_plan.specs.Statement.{CarriesOnly, Choice, Same, Trial}
-use Rattle.theory_replan.specs.Own.{ownRest}
+use Rattle.theory_plan.specs.Statement.{CarriesOnly, Choice, Trial}
 
 -- ---- what is handed on
 
@@ -94,17 +92,3 @@ SettlesFrom j p fetched plan =
 pub record IsReplan (j : Job) (p : ℕ) (fetched : List Row) (plan : ℕ → ℕ) : Type 0 where
   pub choice : Choice j plan
   pub decided : SettlesFrom j p fetched plan
-
--- ---- a standing plan
-
--- "If the standing plan was settled for the whole job in document 01's way, bases too, the rows are
--- all its own before p and the forecast hasn't changed, the new rows are exactly the rest of that
--- plan." Of such a plan q:
-pub record GoesOn (j : Job) (q : ℕ → ℕ) (p : ℕ) : Type 0 where
-  -- its rows before p are not refused,
-  pub acceptable : Acceptable j p (rowsBefore p (ownList j q))
-  -- it is the plan made afresh, and the only one,
-  pub again : IsReplan j p (rowsBefore p (ownList j q)) q
-  pub only : (plan : ℕ → ℕ) → IsReplan j p (rowsBefore p (ownList j q)) plan → Same j plan q
-  -- and its own rows are the rest.
-  pub rest : (plan : ℕ → ℕ) → IsReplan j p (rowsBefore p (ownList j q)) plan → ownRest j p (rowsBefore p (ownList j q)) plan ≡ rowsFrom p (ownList j q)

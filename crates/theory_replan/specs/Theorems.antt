@@ -1,7 +1,8 @@
 -- Theorems. What Statement states of planning afresh, proved: the decision, that there is exactly
 -- one plan made afresh, that the fetched rows with the own rows from p on pass the second call with
 -- its marks, in playing order, and carry exactly it, that the fetched rows may come in any order,
--- and that a standing plan goes on, from slot 1 too. Desk says the same as the desk calls it.
+-- and that from slot 1 it is the whole plan. Desk says the same as the desk calls it, and that a
+-- standing plan goes on.
 use Prim.Native.Nat.{ℕ, _≤_, _<_}
 use mathlib.Core.Path.{_≡_, _∙_, subst}
 use mathlib.Core.List.{List, [], _++_}
@@ -22,7 +23,7 @@ use Rattle.theory_plan.specs.lemmas.Words.{accepted-sized}
 use Rattle.theory_replan.specs.Own.{ownRest}
 use Rattle.theory_replan.specs.Plan.{fitsFrom, replan, triedFrom}
 use Rattle.theory_replan.specs.Refusal.{replanRefusal}
-use Rattle.theory_replan.specs.Statement.{Acceptable, CanCarryFrom, GoesOn, IsReplan, rowsBefore, rowsFrom, TrialFrom}
+use Rattle.theory_replan.specs.Statement.{Acceptable, CanCarryFrom, IsReplan, rowsBefore, rowsFrom, TrialFrom}
 use Rattle.theory_replan.specs.lemmas.AnyOrder.{refusal-order-free, replan-order-free, rest-order-free}
 use Rattle.theory_replan.specs.lemmas.Decision.{can-carry-from-iff, rest-exactly, rest-in-order, rest-keeps, rest-later}
 use Rattle.theory_replan.specs.lemmas.Plan.{fits-from-iff, is-replan-fits, replan-is-replan, replans-agree}
@@ -106,10 +107,7 @@ pub order-free : (j : Job) (p : ℕ) (a b : List Row) → Permuted a b → Order
 order-free j p a b h =
     record { refused = λ onward. refusal-order-free j p onward h; plan = replan-order-free j p h; rows = rest-order-free j h p }
 
--- ---- a plan of the whole job goes on
-
-pub goes-on : (j : Job) → Accepted j → (q : ℕ → ℕ) → SettledByTrials j q → (p : ℕ) → 1 ≤ p → p ≤ lastSlot j → GoesOn j q p
-goes-on = standing-plan
+-- ---- from the start
 
 -- At slot 1, with no rows, planning afresh is document 01's way by itself: the same choice and the
 -- same list.

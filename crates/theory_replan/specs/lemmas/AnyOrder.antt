@@ -26,7 +26,7 @@ use Rattle.theory_plan.specs.Statement.{SettledByTrials, Same}
 use Rattle.theory_plan.specs.lemmas.Level.{level}
 use Rattle.theory_replan.specs.Own.{fetchedFrom, ownRest, unfetched}
 use Rattle.theory_replan.specs.Refusal.{replanRefusal}
-use Rattle.theory_replan.specs.Statement.{Acceptable, CanCarryOnlyFrom, GoesOn, IsReplan, joined, rowsBefore, rowsFrom, TrialFrom}
+use Rattle.theory_replan.specs.Statement.{Acceptable, CanCarryOnlyFrom, IsReplan, joined, rowsBefore, rowsFrom, TrialFrom}
 use Rattle.theory_replan.specs.lemmas.Tried.{can-carry-from-same}
 use Rattle.theory_replan.specs.lemmas.Decision.{drop-first}
 use Rattle.theory_replan.specs.lemmas.Standing.{standing-plan}

@@ -39,7 +39,7 @@ use Rattle.theory_plan.specs.lemmas.Words.{accepted-sized, bytesOfChunk, carrie
 use Rattle.theory_replan.specs.Plan.{afterFrom, triedFrom}
 use Rattle.theory_replan.specs.Own.{fetchedFrom, ownRest, unfetched}
 use Rattle.theory_replan.specs.lemmas.Tried.{settles-tried-from-iff}
-use Rattle.theory_replan.specs.Statement.{Acceptable, CanCarryFrom, IsReplan, rowsBefore, rowsFrom, GoesOn}
+use Rattle.theory_replan.specs.Statement.{Acceptable, CanCarryFrom, IsReplan, rowsBefore, rowsFrom}
 use Rattle.theory_replan.specs.lemmas.Decision.{drop-first, fits-can-carry-from}
 use Rattle.theory_replan.specs.lemmas.Fits.{between-from, can-carry-fits-below, can-carry-fits-from, FitsFrom}
 use Rattle.theory_replan.specs.lemmas.Held.{begun-by, begun-more, begun-row}
@@ -320,6 +320,16 @@ fetched-cong j p fetched a b e (suc m) = rw (fetched-cong j p fetched a b e m)
 pub own-rest-cong : (j : Job) (p : ℕ) (fetched : List Row) (a b : ℕ → ℕ) → Same j a b → ownRest j p fetched a ≡ ownRest j p fetched b
 unfolding ownRest
 own-rest-cong j p fetched a b e = ap (λ (g : Fetched). drop (length fetched) (g .rows)) (fetched-cong j p fetched a b e (suc (lastSlot j) - p))
+
+-- Of a plan q settled by trials for the whole job and its own rows before p (Desk, `Continues`):
+pub record GoesOn (j : Job) (q : ℕ → ℕ) (p : ℕ) : Type 0 where
+  -- its rows before p are not refused,
+  pub acceptable : Acceptable j p (rowsBefore p (ownList j q))
+  -- it is the plan made afresh, and the only one,
+  pub again : IsReplan j p (rowsBefore p (ownList j q)) q
+  pub only : (plan : ℕ → ℕ) → IsReplan j p (rowsBefore p (ownList j q)) plan → Same j plan q
+  -- and its own rows are the rest.
+  pub rest : (plan : ℕ → ℕ) → IsReplan j p (rowsBefore p (ownList j q)) plan → ownRest j p (rowsBefore p (ownList j q)) plan ≡ rowsFrom p (ownList j q)
 
 pub standing-plan : (j : Job) → Accepted j → (q : ℕ → ℕ) → SettledByTrials j q → (p : ℕ) → 1 ≤ p → p ≤ lastSlot j → GoesOn j q p
 standing-plan j a q plan p lo hi =
