@@ -12,7 +12,8 @@ use Rattle.theory_basics.specs.Tests.{All, all, allTo}
 use Rattle.theory_basics.specs.Refusals.{unless, _orElse_}
 use Rattle.theory_basics.specs.lemmas.Refusals.{orElse-none, orElse-some}
 use Rattle.job.specs.Job.{Within}
-use Rattle.job.specs.Input.{JobInput, input-iff, jobIn, jobRefusal}
+use Rattle.job.specs.Input.{JobInput, jobIn, jobRefusal}
+use Rattle.job.specs.Theorems.{input-iff}
 use Rattle.fetch.specs.Rows.{Row, bytesInSlot, rowsOf}
 use Rattle.fetch.specs.Input.{Whole}
 use Rattle.fetch.specs.Input

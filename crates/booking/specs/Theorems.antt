@@ -12,12 +12,14 @@ use Rattle.theory_basics.specs.lemmas.Tests.{all-iff, allTo-iff, eqb-iff, leb-i
 use Rattle.theory_basics.specs.Refusals.{_orElse_}
 use Rattle.theory_basics.specs.lemmas.Refusals.{unless-as, and-as, orElse-iff}
 use Rattle.job.specs.Job.{Job, Accepted, EqualChunks, Within, lastSlot, withForecast}
-use Rattle.job.specs.Input.{JobInput, input-iff, jobIn, jobRefusal}
+use Rattle.job.specs.Input.{JobInput, jobIn, jobRefusal}
+use Rattle.job.specs.Theorems.{input-iff}
 use Rattle.fetch.specs.Rows.{Row, bytesInSlot, rowsOf}
 use Rattle.fetch.specs.Input.{Whole, listRefusal}
 use Rattle.fetch.specs.Input
 use Rattle.fetch.specs.Rules.{Keeps}
-use Rattle.fetch.specs.Verdict.{verdict, verdict-iff}
+use Rattle.fetch.specs.Verdict.{verdict}
+use Rattle.fetch.specs.Theorems.{verdict-iff}
 use Rattle.theory_plan.specs.Statement.{Best, IsPlan, MostPictures, marksOf}
 use Rattle.theory_plan.specs.Pictures.{most-pictures}
 use Rattle.theory_plan.specs.Own.{ownList}

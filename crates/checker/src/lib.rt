@@ -14,7 +14,7 @@ ghost use lib.Dec.{eqb};
 ghost use Rattle.theory_basics.specs.Tests.{allBelow, allTo};
 ghost use Rattle.job.specs.Job.{lastDue};
 ghost use Rattle.job.specs.Input.{jobInput};
-ghost use Rattle.job.specs.Table.{tableAt};
+ghost use Rattle.core_sizes.specs.Table.{tableAt};
 ghost use Rattle.fetch.specs.Rows.{rowsOf};
 ghost use Rattle.fetch.specs.Input.{Whole};
 ghost use Rattle.fetch.specs.Verdict.{lowest};
@@ -121,7 +121,7 @@ fn allowed_chunk(
     let mut n: usize = 0;
     while n < depth {
         let at = from + n;
-        let z = job::size_at(table, i, n);
+        let z = core_sizes::size_at(table, i, n);
         all = core_rules::both(allowed(layersum[at], z, late[at]), all);
         n = n + 1;
     }
@@ -286,7 +286,7 @@ pub fn check(
     let depth = sizes.len();
     let unset = p.chunks as u32;
     let mut table = [unset; SIZES];
-    job::fill_sizes(sizes, size_chunks, size_layers, size_bytes, &mut table);
+    core_sizes::fill_sizes(sizes, size_chunks, size_layers, size_bytes, &mut table);
     Checked::Verdict(verdict_of(
         p,
         &table,
@@ -337,7 +337,7 @@ pub fn check_from(
     let depth = sizes.len();
     let unset = p.chunks as u32;
     let mut table = [unset; SIZES];
-    job::fill_sizes(sizes, size_chunks, size_layers, size_bytes, &mut table);
+    core_sizes::fill_sizes(sizes, size_chunks, size_layers, size_bytes, &mut table);
     Checked::Verdict(verdict_of(
         p,
         &table,

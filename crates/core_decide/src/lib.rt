@@ -3,7 +3,7 @@
 // on. The passes serve any ascending set of kept chunks, over a part of the forecast that starts at
 // any slot: sum_after and keep_bases for the base, then, for kept chunks with their due slots and
 // bytes however they were found, set_releases and settle_layers. Sizes are those of the table that
-// job's fill_sizes fills.
+// core_sizes' fill_sizes fills.
 use job::CHUNKS;
 use job::Programme;
 use job::SUMS;
@@ -15,7 +15,7 @@ ghost use Prim.Native.Nat.{ℕ, _+_, _*_, _-_, _/_, _<_, _≤_, max, min};
 ghost use lib.ListN.{length, getD, take, drop};
 ghost use lib.Dec.{leb, ltb};
 ghost use Rattle.theory_basics.specs.Tests.{All};
-ghost use Rattle.job.specs.Table.{tableAt};
+ghost use Rattle.core_sizes.specs.Table.{tableAt};
 ghost use Rattle.fetch.specs.Marks.{bit};
 ghost use mathlib.Core.List.{_++_};
 ghost use Rattle.theory_plan.specs.lemmas.Sufficiency.{ones};

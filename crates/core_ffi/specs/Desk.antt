@@ -8,12 +8,14 @@ use native.Mathlib.Omega.{arith}
 use lib.ListN.{getD, length, length-append, length-map, take}
 use Rattle.theory_basics.specs.Refusals.{_orElse_}
 use Rattle.theory_basics.specs.lemmas.Refusals.{orElse-iff}
-use Rattle.job.specs.Input.{JobInput, jobInput, input-iff, jobIn, jobRefusal}
+use Rattle.job.specs.Input.{JobInput, jobInput, jobIn, jobRefusal}
+use Rattle.job.specs.Theorems.{input-iff}
 use Rattle.job.specs.Job.{Job, chunks}
 use Rattle.fetch.specs.Input.{Whole, whole-iff, listRefusal}
 use Rattle.fetch.specs.Rows.{Row, rowAt, rowBytes, rowChunk, rowLayer, rowSlot, rowsOf}
-use Rattle.fetch.specs.Verdict.{verdict, verdict-iff}
-use Rattle.fetch.specs.VerdictFrom.{slot-iff, slotRefusal, verdictFrom}
+use Rattle.fetch.specs.Verdict.{verdict}
+use Rattle.fetch.specs.Theorems.{verdict-iff, slot-iff}
+use Rattle.fetch.specs.VerdictFrom.{slotRefusal, verdictFrom}
 use Rattle.fetch.specs.Slices.{slicesOf}
 use Rattle.checker.specs.Checked.{checkFromRefusal, checkRefusal}
 use Rattle.planfile.specs.lemmas.Back.{field}

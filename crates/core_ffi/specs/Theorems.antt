@@ -11,7 +11,8 @@ use lib.ListN.{length}
 use Rattle.theory_basics.specs.Refusals.{_orElse_}
 use Rattle.theory_basics.specs.lemmas.Refusals.{orElse-iff}
 use Rattle.records.specs.File.{fileRefusal}
-use Rattle.job.specs.Input.{JobInput, input-iff, jobIn, jobRefusal}
+use Rattle.job.specs.Input.{JobInput, jobIn, jobRefusal}
+use Rattle.job.specs.Theorems.{input-iff}
 use Rattle.job.specs.Job.{Accepted, Job, layers}
 use Rattle.job.specs.Uneven.{overrides-few}
 use Rattle.fetch.specs.Input.{listRefusal}

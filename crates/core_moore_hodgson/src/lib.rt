@@ -13,7 +13,7 @@ use job::SlotSums;
 ghost use mathlib.Core.Path.{_≡_};
 ghost use mathlib.Core.Bool.{not};
 ghost use Prim.Native.Nat.{_≤_, max};
-ghost use Rattle.job.specs.Table.{tableAt};
+ghost use Rattle.core_sizes.specs.Table.{tableAt};
 ghost use Rattle.theory_plan.specs.lemmas.Parts.{at};
 ghost use Rattle.core_moore_hodgson.specs.lemmas.Tables.{Maxima, LeafPre, LeafPost, FindLargestPost};
 ghost use Rattle.core_moore_hodgson.specs.lemmas.Tables.{KeepOrDropPre, KeepOrDropPost, GatherPre, GatherPost};
@@ -32,10 +32,10 @@ fn larger(a: u32, b: u32) -> u32
 fn equal_bases(p: Programme, table: &SizeTable) -> bool
     ensures { λ r. ⌜ r ≡ equalIn (p .chunks) (tableAt (now (table .entry))) ⌝ }
 {
-    let own = job::size_at(table, 1, 0);
+    let own = core_sizes::size_at(table, 1, 0);
     let mut i = p.chunks;
     while 0 < i {
-        if job::size_at(table, i, 0) != own {
+        if core_sizes::size_at(table, i, 0) != own {
             return false;
         }
         i = i - 1;

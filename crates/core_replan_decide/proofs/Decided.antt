@@ -20,7 +20,8 @@ use Rattle.job.specs.declared.Programme.{Programme}
 use Rattle.fetch.specs.Marks.{bit}
 use Rattle.fetch.specs.Rows.{bytesOfLayer, Row}
 use Rattle.theory_plan.specs.lemmas.Parts.{ForecastPart}
-use Rattle.theory_plan.specs.Plan.{after, needOf, picked}
+use Rattle.theory_plan.specs.Plan.{after, picked}
+use Rattle.theory_plan.specs.lemmas.Feasible.{needOf}
 use Rattle.theory_plan.specs.lemmas.Ascending.{Asc, asc-lower}
 use Rattle.theory_plan.specs.lemmas.Kept.{picked-cong, picked-each}
 use Rattle.theory_plan.specs.lemmas.Level.{level}

@@ -14,7 +14,7 @@ ghost use lib.ListN.{length, getD, drop};
 ghost use lib.Dec.{leb, ltb, eqb};
 ghost use Rattle.theory_basics.specs.Lists.{upTo};
 ghost use Rattle.theory_basics.specs.Lent.{over};
-ghost use Rattle.job.specs.Table.{tableAt};
+ghost use Rattle.core_sizes.specs.Table.{tableAt};
 ghost use Rattle.theory_plan.specs.lemmas.Ascending.{Asc};
 ghost use Rattle.core_replan_decide.specs.lemmas.Tables.{Falls, NeedCapPost, PlacesBelowPost, LastBegunPost};
 ghost use Rattle.core_replan_decide.specs.lemmas.Tables.{FindFrontPre, FindFrontPost, CanKeepPre, CanKeepPost};

@@ -21,7 +21,8 @@ use Rattle.job.specs.Job.{Accepted, chunks, due, forecast, heldMost, Job, lastS
 use Rattle.job.specs.declared.Programme.{Programme}
 use Rattle.fetch.specs.Rows.{bytesOfLayer, Row, rowBytes, rowChunk, rowLayer, rowSlot}
 use Rattle.theory_plan.specs.Own.{carriedTo, wholeLayer}
-use Rattle.theory_plan.specs.Plan.{after, needOf, picked}
+use Rattle.theory_plan.specs.Plan.{after, picked}
+use Rattle.theory_plan.specs.lemmas.Feasible.{needOf}
 use Rattle.theory_plan.specs.Statement.{marksOf}
 use Rattle.theory_plan.specs.lemmas.Ascending.{Asc}
 use Rattle.theory_plan.specs.lemmas.Fill.{fill, QueuedPiece, take-slot}

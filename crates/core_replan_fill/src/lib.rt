@@ -8,7 +8,7 @@ use job::SizeTable;
 ghost use mathlib.Core.List.{[], _∷_};
 ghost use Prim.Native.Nat.{ℕ, _*_, _-_};
 ghost use lib.ListN.{drop};
-ghost use Rattle.job.specs.Table.{tableAt};
+ghost use Rattle.core_sizes.specs.Table.{tableAt};
 ghost use Rattle.core_fill.specs.lemmas.Filling.{PutPost, piece};
 ghost use Rattle.core_replan_fill.specs.lemmas.Left.{PutAllPre, PutChunkPre, PutLayerPre, layersLeft, leftQueue};
 ghost use Rattle.core_replan_fill.specs.lemmas.Rows.{WriteRestPre, WriteRestPost};

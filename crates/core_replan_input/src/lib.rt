@@ -12,7 +12,7 @@ ghost use Prim.Native.Nat.{ℕ, _-_, _<_, _≤_};
 ghost use lib.ListN.{length};
 ghost use lib.Dec.{leb, ltb};
 ghost use Rattle.theory_basics.specs.Tests.{allBelow};
-ghost use Rattle.job.specs.Table.{tableAt};
+ghost use Rattle.core_sizes.specs.Table.{tableAt};
 ghost use Rattle.fetch.specs.Rows.{rowsOf};
 ghost use Rattle.core_replan_input.specs.lemmas.Gather.{fewBy, SetFlagsPost, InTurnPost, SetLeftPost, GatherPre};
 ghost use Rattle.core_replan_input.specs.lemmas.Gather.{GatherPost};

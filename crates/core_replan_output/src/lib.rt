@@ -5,7 +5,7 @@ use job::Programme;
 use job::ROWS;
 use job::SizeTable;
 use planner::Planned;
-ghost use Rattle.job.specs.Table.{tableAt};
+ghost use Rattle.core_sizes.specs.Table.{tableAt};
 ghost use Rattle.core_replan_fill.specs.lemmas.Rows.{WriteRestPre};
 ghost use Rattle.core_replan_output.specs.lemmas.Writing.{Each, FillPost, WritePre, WritePost};
 

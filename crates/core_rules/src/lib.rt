@@ -13,7 +13,7 @@ ghost use lib.ListN.{length, getD, set, replicate};
 ghost use lib.Dec.{leb};
 ghost use Rattle.theory_basics.specs.Tests.{allTo};
 ghost use Rattle.job.specs.Job.{dueSlot};
-ghost use Rattle.job.specs.Table.{tableAt};
+ghost use Rattle.core_sizes.specs.Table.{tableAt};
 ghost use Rattle.fetch.specs.Rows.{rowsOf};
 ghost use Rattle.core_rules.specs.lemmas.Tables.{cap, inRange, TallyPost, SeeChunkPost, SeeAllPost, heldBy};
 ghost use Rattle.core_rules.specs.lemmas.Tables.{MarkTimesPost};
@@ -194,7 +194,7 @@ pub fn see_chunk(table: &SizeTable, depth: usize, layersum: &[u64; SIZES], i: u1
     while n < depth {
         let at = from + n;
         let sum = layersum[at];
-        let size = job::size_at(table, i, n) as u64;
+        let size = core_sizes::size_at(table, i, n) as u64;
         if sum == size {
             mark = fetch::with(mark, n as u8);
             lower = both(below, lower);

@@ -9,7 +9,7 @@ ghost use mathlib.Core.Path.{_≡_};
 ghost use Prim.Native.Nat.{ℕ, _≤_};
 ghost use lib.ListN.{length, drop};
 ghost use Rattle.job.specs.Job.{lastDue};
-ghost use Rattle.job.specs.Table.{tableAt};
+ghost use Rattle.core_sizes.specs.Table.{tableAt};
 ghost use Rattle.core_moore_hodgson.specs.lemmas.Tables.{KeptIn};
 ghost use Rattle.core_search.specs.lemmas.Tables.{CopyEndPost, KeepBestPost, CanKeepPost, CanKeepPre, SearchPre};
 ghost use Rattle.core_search.specs.lemmas.Tables.{SearchPost, DueTable, PlaceBestPre, FindBestPre, FindBestPost};

@@ -1,6 +1,6 @@
 // What a job is, and the checks of a job handed in a direct call: refusals 5, 6, 18 and 7, a
-// function a number. The table of its sizes. A refusal is its number, and 0 is none. An SZ is an
-// element of each of three slices: its chunk, its layer, its size.
+// function a number. A refusal is its number, and 0 is none. An SZ is an element of each of three
+// slices: its chunk, its layer, its size.
 ghost use mathlib.Core.Path.{_≡_};
 ghost use mathlib.Core.Bool.{_&&_};
 ghost use Prim.Native.Nat.{_/_, _≤_, max, min};
@@ -13,7 +13,6 @@ ghost use Rattle.job.specs.Refusal.{sizesRefusal, named, sized, comes, o
 ghost use Rattle.job.specs.Refusal.{slotsRefusal, forecastRefusal};
 ghost use Rattle.job.specs.Input.{overridesOf, wholeRefusal, jobInput, jobRefusal};
 ghost use Rattle.job.specs.lemmas.Greatest.{greatest};
-ghost use Rattle.job.specs.Table.{spot, ownSizes, overriddenBy, sizesTable, tableAt};
 
 // The limits of a job, as document 01 and request 8 have them: at most 500 chunks, 4 layers, 3,600
 // slots, 16,777,216 bytes in a slot or a layer.
@@ -78,7 +77,7 @@ pub fn held_most(p: Programme) -> u16
 }
 
 // The layer's own size; 0 for a layer that the job doesn't have.
-fn own_size(sizes: &[u32], layer: usize) -> u32
+pub fn own_size(sizes: &[u32], layer: usize) -> u32
     ensures { λ r. ⌜ r ≡ getD (now (sizes .entry)) layer 0 ⌝ }
 {
     if layer < sizes.len() {
@@ -228,13 +227,13 @@ pub fn forecast_refusal(p: Programme, forecast: &[u32]) -> u8
 }
 
 // The length of the shortest of three slices.
-fn fewest(a: usize, b: usize, c: usize) -> usize
+pub fn fewest(a: usize, b: usize, c: usize) -> usize
     ensures { λ r. ⌜ r ≡ min a (min b c) ⌝ }
 {
     fewer(a, fewer(b, c))
 }
 
-// What is left of a after b, or 0.
+// The smaller of two lengths.
 fn fewer(a: usize, b: usize) -> usize
     ensures { λ r. ⌜ r ≡ min a b ⌝ }
 {
@@ -327,80 +326,4 @@ pub fn refusal(
         fields_refusal(p),
         or_else(due, or_else(six, or_else(whole, or_else(named, seven)))),
     )
-}
-
-// Where layer n of chunk i stands in the table of sizes.
-fn spot_of(i: u16, n: usize) -> usize
-    requires { ⌜ n ≤ 255 ⌝ }
-    ensures { λ r. ⌜ r ≡ spot i n ⌝ }
-{
-    if i == 0 {
-        return n;
-    }
-    (i as usize - 1) * LAYERS + n
-}
-
-// The layers' own sizes, for 500 chunks.
-fn fill_own(sizes: &[u32], table: &mut SizeTable)
-    ensures { λ _. ⌜ (length (now (table .entry)) ≡ 2000 → now (table .exit) ≡ ownSizes (now (sizes .entry))) ⌝ }
-{
-    let a = own_size(sizes, 0);
-    let b = own_size(sizes, 1);
-    let c = own_size(sizes, 2);
-    let d = own_size(sizes, 3);
-    let mut k: usize = 0;
-    while k < SIZES {
-        let k1 = k + 1;
-        let k2 = k + 2;
-        let k3 = k + 3;
-        table[k] = a;
-        table[k1] = b;
-        table[k2] = c;
-        table[k3] = d;
-        k = k + LAYERS;
-    }
-}
-
-// The SZs, from the last to the first. One that has no place is not written.
-fn write_over(cs: &[u16], ls: &[u8], bs: &[u32], table: &mut SizeTable)
-    ensures { λ _. ⌜ (length (now (table .entry)) ≡ 2000
-        → now (table .exit) ≡ overriddenBy (overridesOf (now (cs .entry)) (now (ls .entry)) (now (bs .entry)))
-        (now (table .entry))) ⌝ }
-{
-    let mut i = fewest(cs.len(), ls.len(), bs.len());
-    while 0 < i {
-        let k = i - 1;
-        let at = spot_of(cs[k], ls[k] as usize);
-        if at < SIZES {
-            table[at] = bs[k];
-            i = k;
-        } else {
-            i = k;
-        }
-    }
-}
-
-// The table of all sizes, which a call fills once: read it by size_at.
-pub fn fill_sizes(sizes: &[u32], cs: &[u16], ls: &[u8], bs: &[u32], table: &mut SizeTable)
-    ensures { λ _. ⌜ (length (now (table .entry)) ≡ 2000
-        → now (table .exit) ≡ sizesTable (now (sizes .entry))
-        (overridesOf (now (cs .entry)) (now (ls .entry)) (now (bs .entry)))) ⌝ }
-{
-    fill_own(sizes, table);
-    write_over(cs, ls, bs, table);
-}
-
-// The bytes of layer n of chunk i, out of the table of all sizes. For an accepted job this is its
-// size, for every chunk and layer.
-pub fn size_at(table: &SizeTable, i: u16, n: usize) -> u32
-    ensures { λ r. ⌜ r ≡ tableAt (now (table .entry)) i n ⌝ }
-{
-    if n < LAYERS {
-        let at = spot_of(i, n);
-        if at < SIZES {
-            return table[at];
-        }
-        return table[n];
-    }
-    0
 }

@@ -8,7 +8,8 @@ use borrow.Author.Tests.{ne-eqb, le-leb, lt-leb}
 use Rattle.theory_basics.specs.Refusals.{_orElse_}
 use Rattle.theory_basics.specs.lemmas.Refusals.{orElse-none, orElse-some}
 use Rattle.job.specs.Job.{Job, Accepted}
-use Rattle.job.specs.Input.{JobInput, WholeSizes, jobIn, jobRefusal, input-iff, overridesOf}
+use Rattle.job.specs.Input.{JobInput, WholeSizes, jobIn, jobRefusal, overridesOf}
+use Rattle.job.specs.Theorems.{input-iff}
 use Rattle.jobrecords.specs.declared.Record.the-variants.{Pg}
 use Rattle.jobfile.specs.declared.Written.{Written}
 use Rattle.jobfile.specs.declared.Written.the-variants.{Bytes, Refused}

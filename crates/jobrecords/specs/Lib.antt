@@ -1,6 +1,7 @@
 pub mod Records
 pub mod Says
 pub mod Refusal
+pub mod Order
 pub mod Reader
 pub mod Theorems
 pub mod lemmas

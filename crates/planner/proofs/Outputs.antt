@@ -12,7 +12,8 @@ use Rattle.theory_basics.specs.Refusals.{unless}
 use Rattle.theory_basics.specs.lemmas.Refusals.{orElse-none, orElse-some}
 use Rattle.theory_basics.specs.lemmas.Tests.{T-true, not-T-false, test}
 use Rattle.job.specs.Job.{Job, Accepted, chunks, size}
-use Rattle.job.specs.Input.{JobInput, jobIn, jobRefusal, input-iff}
+use Rattle.job.specs.Input.{JobInput, jobIn, jobRefusal}
+use Rattle.job.specs.Theorems.{input-iff}
 use Rattle.fetch.specs.Slices.{ListSlices, slicesOf}
 use Rattle.theory_plan.specs.Plan.{plan}
 use Rattle.theory_plan.specs.Own.{ownList}

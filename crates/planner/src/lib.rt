@@ -103,7 +103,7 @@ fn write_decided(
     // words, faster than cleared.
     let unset = p.chunks as u32;
     let mut table = [unset; SIZES];
-    job::fill_sizes(sizes, size_chunks, size_layers, size_bytes, &mut table);
+    core_sizes::fill_sizes(sizes, size_chunks, size_layers, size_bytes, &mut table);
     let mut ids = [0u16; CHUNKS];
     let mut ready = [0u16; CHUNKS];
     let mut mark = [1u8; CHUNKS];

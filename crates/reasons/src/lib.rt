@@ -59,7 +59,7 @@ fn put_plan(
     let mut levels = [0u8; CHUNKS];
     let layers = sizes.len();
     let held = job::held_most(p) as usize;
-    job::fill_sizes(sizes, size_chunks, size_layers, size_bytes, &mut table);
+    core_sizes::fill_sizes(sizes, size_chunks, size_layers, size_bytes, &mut table);
     let most = core_moore_hodgson::applies(p, &table);
     let first = core_decide::decide(
         p,

@@ -11,10 +11,11 @@ use borrow.Author.Tests.{le-leb, lt-leb}
 use Rattle.theory_basics.specs.Refusals.{_orElse_, unless}
 use Rattle.theory_basics.specs.Tests.{All}
 use Rattle.theory_basics.specs.lemmas.Refusals.{orElse-none, orElse-some}
-use Rattle.job.specs.Input.{JobInput, input-iff, jobIn}
+use Rattle.job.specs.Input.{JobInput, jobIn}
+use Rattle.job.specs.Theorems.{input-iff}
 use Rattle.job.specs.Job.{Accepted, chunks}
-use Rattle.job.specs.Table.{sizesTable, tableAt}
-use Rattle.job.specs.Uneven.{table-is}
+use Rattle.core_sizes.specs.Table.{sizesTable, tableAt}
+use Rattle.core_sizes.specs.Theorems.{table-is}
 use Rattle.fetch.specs.Rows.{Row}
 use Rattle.fetch.specs.Slices.{ListSlices, slicesOf}
 use Rattle.theory_replan.specs.Desk.{replans}

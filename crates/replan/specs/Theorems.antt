@@ -11,11 +11,12 @@ use Rattle.theory_basics.specs.Lent.{lentAfter, over}
 use Rattle.theory_basics.specs.Refusals.{_orElse_, unless}
 use Rattle.theory_basics.specs.lemmas.Refusals.{orElse-iff}
 use Rattle.theory_basics.specs.lemmas.Tests.{not-T-false, test}
-use Rattle.job.specs.Input.{JobInput, input-iff, jobIn, jobRefusal}
+use Rattle.job.specs.Input.{JobInput, jobIn, jobRefusal}
+use Rattle.job.specs.Theorems.{input-iff}
 use Rattle.job.specs.Job.{Accepted, Job, chunks}
 use Rattle.fetch.specs.Input.{listRefusal}
 use Rattle.fetch.specs.Rows.{Permuted, Row, rowBytes, rowChunk, rowLayer, rowSlot, rowsOf}
-use Rattle.fetch.specs.VerdictFrom.{verdict-from-iff}
+use Rattle.fetch.specs.Theorems.{verdict-from-iff}
 use Rattle.fetch.specs.Slices.{ListSlices, room, slicesOf}
 use Rattle.theory_plan.specs.Statement.{Same, countsOf, marksOf}
 use Rattle.theory_plan.specs.Theorems.{same-counts, same-marks}

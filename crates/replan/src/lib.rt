@@ -149,7 +149,7 @@ pub fn replan(
     let mut left = [unset; SIZES];
     let mut begun = [0u8; CHUNKS];
     let mut whole = [0u8; CHUNKS];
-    job::fill_sizes(sizes, size_chunks, size_layers, size_bytes, &mut table);
+    core_sizes::fill_sizes(sizes, size_chunks, size_layers, size_bytes, &mut table);
     let kept = core_replan_input::gather(
         p,
         &table,

@@ -15,7 +15,8 @@ use Rattle.theory_basics.specs.Sums.{sum}
 use Rattle.theory_basics.specs.lemmas.Refusals.{orElse-some}
 use Rattle.theory_basics.specs.lemmas.Tests.{eqb-iff, test}
 use Rattle.theory_basics.specs.Refusals.{unless}
-use Rattle.job.specs.Input.{JobInput, input-iff, jobIn, jobRefusal}
+use Rattle.job.specs.Input.{JobInput, jobIn, jobRefusal}
+use Rattle.job.specs.Theorems.{input-iff}
 use Rattle.job.specs.Job.{Accepted, chunks}
 use Rattle.fetch.specs.Rows.{Row, rowsOf, rowSlot, rowChunk, rowLayer, rowBytes}
 use Rattle.fetch.specs.Slices.{ListSlices, slicesOf}

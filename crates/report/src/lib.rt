@@ -270,7 +270,7 @@ pub fn report(
             let left = less(table::sum_of(forecast), spent);
             let unset = p.chunks as u32;
             let mut stored = [unset; SIZES];
-            job::fill_sizes(sizes, size_chunks, size_layers, size_bytes, &mut stored);
+            core_sizes::fill_sizes(sizes, size_chunks, size_layers, size_bytes, &mut stored);
             write_lines(p, &stored, sizes.len(), &table, spent, left, out)
         }
     }

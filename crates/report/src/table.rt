@@ -105,7 +105,7 @@ fn is_carried(sizes: &SizeTable, table: &[u64; SIZES], i: u16, n: usize) -> bool
     ensures { λ r. ⌜ r ≡ carriedBy (now (sizes .entry)) (now (table .entry)) i n ⌝ }
 {
     let sum = bytes_at(table, i, n);
-    same(sum, job::size_at(sizes, i, n))
+    same(sum, core_sizes::size_at(sizes, i, n))
 }
 
 // A number, or 0 for a layer that is not carried.

@@ -17,7 +17,8 @@ use Rattle.theory_basics.specs.lemmas.Tests.{T-true, not-T-false, same-test, te
 use Rattle.fetch.specs.Marks.{bit}
 use Rattle.fetch.specs.Rows.{markByte, rowSlot, rowChunk, rowLayer, rowBytes}
 use Rattle.fetch.specs.lemmas.Marks.{mark-bit}
-use Rattle.job.specs.Input.{JobInput, jobIn, jobRefusal, input-iff}
+use Rattle.job.specs.Input.{JobInput, jobIn, jobRefusal}
+use Rattle.job.specs.Theorems.{input-iff}
 use Rattle.job.specs.Job.{Accepted, Job, chunks, layers, size}
 use Rattle.fetch.specs.Slices.{ListSlices, slicesOf}
 use Rattle.theory_plan.specs.Statement.{countsOf, marksOf}

@@ -14,7 +14,7 @@ ghost use mathlib.Core.Bool.{cond};
 ghost use Prim.Native.Nat.{_-_, _≤_};
 ghost use lib.ListN.{length};
 ghost use Rattle.job.specs.Input.{jobInput, jobRefusal};
-ghost use Rattle.job.specs.Table.{tableAt};
+ghost use Rattle.core_sizes.specs.Table.{tableAt};
 ghost use Rattle.fetch.specs.Slices.{slicesOf};
 ghost use Rattle.theory_plan.specs.lemmas.Parts.{at};
 ghost use Rattle.core_moore_hodgson.specs.lemmas.Tables.{mooreHodgsonIn};
@@ -167,7 +167,7 @@ fn write_found(
         (now (layers .exit)) (now (bytes .exit))) ⌝ }
 {
     let mut table = [0u32; SIZES];
-    job::fill_sizes(sizes, size_chunks, size_layers, size_bytes, &mut table);
+    core_sizes::fill_sizes(sizes, size_chunks, size_layers, size_bytes, &mut table);
     let mut ids = [0u16; CHUNKS];
     let mut ready = [0u16; CHUNKS];
     let mut mark = [1u8; CHUNKS];

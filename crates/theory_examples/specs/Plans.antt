@@ -7,7 +7,8 @@ use mathlib.Core.Path.{_≡_, refl, sym, ap, _∙_}
 use lib.ListN.{getD}
 use native.Mathlib.Omega.{arith}
 use Rattle.job.specs.Job.{Accepted, HoldsAll, Job, jobOf, sizeIn}
-use Rattle.job.specs.Refusal.{accepted-iff, refusal}
+use Rattle.job.specs.Refusal.{refusal}
+use Rattle.job.specs.Theorems.{accepted-iff}
 use Rattle.fetch.specs.Rows.{Row, layerCount}
 use Rattle.fetch.specs.Rules.{Passes}
 use Rattle.fetch.specs.Verdict.{verdict}

@@ -12,8 +12,8 @@ use lib.Dec.{leb, ltb, ltb→lt, nltb→le}
 use Rattle.theory_basics.specs.lemmas.Ranges.{pre-mono, pre-most}
 use Rattle.theory_basics.specs.lemmas.Tests.{same-test, test}
 use Rattle.job.specs.Job.{Override, sizeIn}
-use Rattle.job.specs.Table.{sizesTable}
-use Rattle.job.specs.lemmas.Table.{table-says}
+use Rattle.core_sizes.specs.Table.{sizesTable}
+use Rattle.core_sizes.specs.lemmas.Table.{table-says}
 use Rattle.job.specs.lemmas.Within.{all-most}
 use Rattle.theory_plan.specs.Plan.{plan}
 use Rattle.theory_plan.specs.Theorems.{plan-exists}

@@ -13,7 +13,7 @@ ghost use Prim.Native.Nat.{_*_, _-_, _/_, _≤_, min};
 ghost use lib.ListN.{length};
 ghost use Rattle.theory_plan.specs.lemmas.Parts.{Small};
 ghost use Rattle.job.specs.Input.{overridesOf};
-ghost use Rattle.job.specs.Table.{sizesTable};
+ghost use Rattle.core_sizes.specs.Table.{sizesTable};
 ghost use Rattle.wait.specs.Wait.{FilmInRange};
 ghost use Rattle.wait.specs.Answer.{DelayMeans, SixteenMeans, answerOf, filmIn, firstFrom, waitInput};
 ghost use Rattle.wait.specs.Answer.{inputRefusal, shortest, slotsRefusal};
@@ -65,7 +65,7 @@ fn read_bases(chunks: u16, table: &SizeTable, bases: &mut [u32; CHUNKS])
     while i < chunks {
         let next = i + 1;
         let q = i as usize;
-        bases[q] = job::size_at(table, next, 0);
+        bases[q] = core_sizes::size_at(table, next, 0);
         i = next;
     }
 }
@@ -87,7 +87,7 @@ fn set_bases(
 {
     let unset = chunks as u32;
     let mut table = [unset; SIZES];
-    job::fill_sizes(sizes, size_chunks, size_layers, size_bytes, &mut table);
+    core_sizes::fill_sizes(sizes, size_chunks, size_layers, size_bytes, &mut table);
     read_bases(chunks, &table, bases);
 }
 

@@ -15,7 +15,8 @@ use Rattle.theory_basics.specs.lemmas.Refusals.{orElse-iff}
 use Rattle.theory_basics.specs.lemmas.Tests.{by-cond, test}
 use Rattle.job.specs.declared.Programme.{Programme}
 use Rattle.job.specs.Job.{Accepted, Job, Override, layers}
-use Rattle.job.specs.Input.{JobInput, WholeSizes, overrideBytes, overrideChunks, jobInput, input-iff, jobIn, jobRefusal, overrideLayers, slices-back}
+use Rattle.job.specs.Input.{JobInput, WholeSizes, overrideBytes, overrideChunks, jobInput, jobIn, jobRefusal, overrideLayers}
+use Rattle.job.specs.Theorems.{input-iff, slices-back}
 use Rattle.job.specs.Uneven.{overrides-few}
 use Rattle.jobrecords.specs.Refusal.{oneSequence, mixed, refusalOf, jobOfFile}
 use Rattle.jobrecords.specs.Reader.{Buffers, buffers, jobAnswer, lentRead, readAnswer, jobReadRefusal, roomRefusal}

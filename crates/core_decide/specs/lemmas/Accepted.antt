@@ -7,8 +7,8 @@ use native.Mathlib.Omega.{arith}
 use lib.ListN.{length, replicate}
 use Rattle.theory_basics.specs.Sums.{pre}
 use Rattle.job.specs.Job.{Accepted, Job, layers, size}
-use Rattle.job.specs.Table.{sizesTable, tableAt}
-use Rattle.job.specs.Uneven.{table-is}
+use Rattle.core_sizes.specs.Table.{sizesTable, tableAt}
+use Rattle.core_sizes.specs.Theorems.{table-is}
 use Rattle.job.specs.lemmas.Within.{all-most, size-least, size-most}
 use Rattle.theory_plan.specs.Plan.{after}
 use Rattle.theory_plan.specs.lemmas.Parts.{ForecastPart, at, leftAfter, padded}

@@ -18,7 +18,8 @@ use Rattle.replan.specs.Answer.{ReplanInput, fetched, holdsOn, inputRefusal, jo
 use Rattle.theory_basics.specs.Lent.{lentAfter, over}
 use Rattle.theory_basics.specs.Refusals.{_orElse_, unless}
 use Rattle.fetch.specs.Rows.{Row, rowBytes, rowChunk, rowLayer, rowSlot}
-use Rattle.job.specs.Input.{JobInput, input-iff, jobIn, jobRefusal}
+use Rattle.job.specs.Input.{JobInput, jobIn, jobRefusal}
+use Rattle.job.specs.Theorems.{input-iff}
 use Rattle.job.specs.Job.{chunks}
 use Rattle.fetch.specs.Slices.{slicesOf}
 use Rattle.planner.specs.Answer.{PlanOutput, holds, planRefusal, planRows}

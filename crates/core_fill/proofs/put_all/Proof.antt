@@ -2,7 +2,7 @@
 use Prim.Native.Nat.{_-_}
 use native.Mathlib.Omega.{arith}
 use denote.Ref.{now}
-use Rattle.job.specs.Table.{tableAt}
+use Rattle.core_sizes.specs.Table.{tableAt}
 use Rattle.core_fill.specs.lemmas.Filling.{layersOf, Levels}
 use Rattle.core_fill.proofs.Chunks.{Placing, placing-start, placing-end, chunk-from, placing-more}
 use Rattle.theory_basics.specs.lemmas.Tables.{fewer}

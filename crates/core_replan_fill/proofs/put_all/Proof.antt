@@ -2,7 +2,7 @@
 use Prim.Native.Nat.{_-_}
 use native.Mathlib.Omega.{arith}
 use denote.Ref.{now}
-use Rattle.job.specs.Table.{tableAt}
+use Rattle.core_sizes.specs.Table.{tableAt}
 use Rattle.core_replan_fill.specs.lemmas.Left.{AnyLevels, layersLeft}
 use Rattle.theory_basics.specs.lemmas.Tables.{fewer}
 use Rattle.core_fill.proofs.Chunks.{chunk-from, Placing, placing-end, placing-more, placing-start}

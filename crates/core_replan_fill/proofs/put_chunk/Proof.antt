@@ -9,7 +9,7 @@ use Prim.Native.Nat.{_-_, _<_}
 use native.Mathlib.Omega.{arith}
 use borrow.Author.Needs.{needs}
 use denote.Ref.{now}
-use Rattle.job.specs.Table.{tableAt}
+use Rattle.core_sizes.specs.Table.{tableAt}
 
 abbrev Inv-loop : tie.InvT-loop
 Inv-loop part start left ready chunk mark slots₀ chunks₀ layers₀ bytes₀ at₀ n₀ slots chunks layers bytes at n =

@@ -14,7 +14,7 @@ use Rattle.records.specs.File.{Format, firstFault}
 use Rattle.records.specs.lemmas.Written.{h-back, w-back, ReadsBack, Plain}
 use Rattle.job.specs.declared.Programme.{Programme}
 use Rattle.job.specs.Job.{Job, Override, Within, Named, Accepted, layers, lastSlot}
-use Rattle.job.specs.Refusal.{within-iff, film-iff, delay-iff, last-due-iff, overrides-iff}
+use Rattle.job.specs.Theorems.{within-iff, film-iff, delay-iff, last-due-iff, overrides-iff}
 use Rattle.jobrecords.specs.declared.Record.{Record}
 use Rattle.jobrecords.specs.declared.Record.the-variants.{Pg, Ly, Sz, Bw, En}
 use Rattle.jobrecords.specs.Records.{encode, front}

@@ -5,7 +5,7 @@ use Rattle.planner.proofs.write_decided.Tie as tie
 use mathlib.Core.Path.{refl}
 use Prim.Native.Nat.{ℕ}
 use lib.ListN.{length-replicate}
-use Rattle.job.specs.Input.{input-iff}
+use Rattle.job.specs.Theorems.{input-iff}
 use Rattle.core_decide.specs.lemmas.Accepted.{decide-from, filled}
 use Rattle.planner.proofs.Outputs.{decided, output-laid}
 

@@ -16,7 +16,7 @@ use Rattle.theory_basics.specs.Sums.{sum}
 use Rattle.theory_basics.specs.lemmas.Ranges.{sum-cong}
 use Rattle.theory_basics.specs.lemmas.Tests.{test}
 use Rattle.job.specs.Job.{Accepted, Job, chunks, layers, size}
-use Rattle.job.specs.Table.{sizesTable, spot, tableAt}
+use Rattle.core_sizes.specs.Table.{sizesTable, spot, tableAt}
 use Rattle.job.specs.lemmas.Within.{size-most}
 use Rattle.theory_plan.specs.Plan.{kept, plan}
 use Rattle.theory_plan.specs.lemmas.Ascending.{Asc}

@@ -20,7 +20,8 @@ use Rattle.theory_plan.specs.lemmas.Ascending.{Asc}
 use Rattle.theory_plan.specs.lemmas.Count.{bytes-disjoint, bytes-mono, some-row}
 use Rattle.theory_plan.specs.lemmas.Necessity.{within-between}
 use Rattle.theory_plan.specs.lemmas.Need.{Feas, Tails}
-use Rattle.theory_plan.specs.Plan.{needOf, after}
+use Rattle.theory_plan.specs.Plan.{after}
+use Rattle.theory_plan.specs.lemmas.Feasible.{needOf}
 use Rattle.theory_plan.specs.lemmas.Words.{bytesOfChunk, due-mono}
 
 -- A row of a chunk before lo that is not begun by slot q.

@@ -74,8 +74,8 @@ chunk-bytes j l lv ok c a i g h =
 
 -- ---- a choice that can be carried fits
 
-pub can-carry-fits : (j : Job) (lv : ℕ → ℕ) → Choice j lv → CanCarry j lv → Fits j lv
-can-carry-fits j lv c s =
+pub can-carry-fits : (j : Job) → Sized j → (lv : ℕ → ℕ) → Choice j lv → CanCarry j lv → Fits j lv
+can-carry-fits j sized lv c s =
     let l = s .rows in
     let keeps : ℕ → Bool = λ i. leb 1 (lv i) in
     feas-picked
@@ -88,7 +88,7 @@ can-carry-fits j lv c s =
     0
     (chunks j)
     (λ i u v t. omega (arith, chunk-bytes j l lv (s .passes) c (s .exactly) i u (omega arith)))
-    (carried-fit j l (s .passes) (s .in-order) (kept j lv) (kept-asc j lv)
+    (carried-fit j l (s .passes) sized (s .in-order) (kept j lv) (kept-asc j lv)
     (picked-each keeps (λ e. Carried j l e 0) 0 (chunks j) (λ i u v t.
     let b = leb→le 1 (lv i) t in
     s .exactly i 0 (layer-of j i 0 u (omega arith) (omega (arith, c i u (omega arith)))) .1 b)))
@@ -133,4 +133,4 @@ module _ (j : Job) (sized : Sized j) (lv : ℕ → ℕ) (choice : Choice j lv) (
   fits-can-carry = record { rows = own j lv; passes = own-passes; in-order = own-in-order; exactly = own-exactly }
 
 pub can-carry-iff-fits : (j : Job) → Sized j → (lv : ℕ → ℕ) → Choice j lv → CanCarry j lv ↔ Fits j lv
-can-carry-iff-fits j sized lv choice = (can-carry-fits j lv choice, fits-can-carry j sized lv choice)
+can-carry-iff-fits j sized lv choice = (can-carry-fits j sized lv choice, fits-can-carry j sized lv choice)

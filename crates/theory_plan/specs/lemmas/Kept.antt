@@ -14,7 +14,8 @@ use Rattle.theory_basics.specs.lemmas.Tests.{by-cond, test}
 use Rattle.theory_plan.specs.lemmas.Ascending.{Asc, asc-lower}
 use Rattle.theory_basics.specs.lemmas.Ranges.{bit}
 use Rattle.theory_plan.specs.lemmas.Need.{Feas}
-use Rattle.theory_plan.specs.Plan.{needOf, picked}
+use Rattle.theory_plan.specs.Plan.{picked}
+use Rattle.theory_plan.specs.lemmas.Feasible.{needOf}
 pub use Rattle.theory_plan.specs.lemmas.Need.{feas-mono, need-mono}
 use Rattle.theory_basics.specs.Lists.{has}
 use Rattle.theory_plan.specs.lemmas.Sufficiency.{has-low}

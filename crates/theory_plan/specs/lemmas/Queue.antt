@@ -15,7 +15,7 @@ use Rattle.theory_basics.specs.lemmas.Tests.{test}
 use Rattle.theory_plan.specs.lemmas.Ascending.{Asc}
 use Rattle.theory_plan.specs.lemmas.Fill.{QueuedPiece, Ready, left-of, needs}
 use Rattle.theory_plan.specs.lemmas.Need.{Feas, Tails}
-use Rattle.theory_plan.specs.Plan.{needOf}
+use Rattle.theory_plan.specs.lemmas.Feasible.{needOf}
 use Rattle.theory_basics.specs.Lists.{has}
 use Rattle.theory_basics.specs.Tests.{All}
 

@@ -19,7 +19,8 @@ use Rattle.theory_basics.specs.lemmas.Tests.{and-T, at-row, by-cond, not-T-fals
 use Rattle.job.specs.Job.{chunks, due, heldMost, Job, lastSlot}
 use Rattle.fetch.specs.Rows.{begun, held, Row}
 use Rattle.fetch.specs.Rules.{RowInRange}
-use Rattle.theory_plan.specs.Plan.{after, needOf, picked}
+use Rattle.theory_plan.specs.Plan.{after, picked}
+use Rattle.theory_plan.specs.lemmas.Feasible.{needOf}
 use Rattle.theory_plan.specs.lemmas.Ascending.{Asc, count-all}
 use Rattle.theory_plan.specs.lemmas.Count.{some-row}
 use Rattle.theory_plan.specs.lemmas.Kept.{picked-asc, picked-cong, picked-each}

@@ -13,7 +13,7 @@ use lib.Seq.{drop-drop}
 use Rattle.theory_basics.specs.Tests.{All}
 use Rattle.theory_basics.specs.lemmas.Tables.{all-drop}
 use Rattle.theory_basics.specs.lemmas.Tests.{all-map, by-cond, test}
-use Rattle.theory_plan.specs.Plan.{needOf}
+use Rattle.theory_plan.specs.lemmas.Feasible.{needOf}
 use Rattle.theory_plan.specs.lemmas.Ascending.{Asc, asc-without}
 use Rattle.theory_plan.specs.lemmas.Need.{Feas, Tails, need-without, tails-drop}
 

@@ -22,12 +22,12 @@ use Rattle.wait.specs.Wait.{NoSkip, SomeList, SomeOrdered}
 module _ (j : Job) (some : 0 < layers j) where
   -- ---- some list
 
-  ordered-all-fit : SomeOrdered j → AllFit j
-  ordered-all-fit o =
+  ordered-all-fit : Sized j → SomeOrdered j → AllFit j
+  ordered-all-fit sized o =
       let l = o .rows in
       fits-all-fit j some (level j l)
       (λ i u v. level-exactly j l (o .passes) i 0 (layer-of j i 0 u v some) .0 (o .every i u v))
-      (can-carry-fits j (level j l) (level-choice j l) (record { rows = l; passes = o .passes; in-order = o .in-order; exactly = level-exactly j l (o .passes) }))
+      (can-carry-fits j sized (level j l) (level-choice j l) (record { rows = l; passes = o .passes; in-order = o .in-order; exactly = level-exactly j l (o .passes) }))
 
   can-carry-ordered : CanCarry j basesAlone → SomeOrdered j
   can-carry-ordered c = record { rows = c .rows; passes = c .passes; in-order = c .in-order; every = λ i u v. c .exactly i 0 (layer-of j i 0 u v some) .1 (omega arith) }
@@ -50,7 +50,7 @@ module _ (j : Job) (some : 0 < layers j) where
       (any-order-fit j l (o .passes) z (from 0 (chunks j)) asc each)
 
   ordered-iff : Sized j → SomeOrdered j ↔ AllFit j
-  ordered-iff sized = (ordered-all-fit, λ f. can-carry-ordered (can-carry-all-iff j some sized .1 f))
+  ordered-iff sized = (ordered-all-fit sized, λ f. can-carry-ordered (can-carry-all-iff j some sized .1 f))
 
   any-iff : Sized j → EqualChunks j → SomeList j ↔ AllFit j
   any-iff sized equal = (

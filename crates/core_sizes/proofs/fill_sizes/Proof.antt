@@ -1,14 +1,14 @@
--- `job::fill_sizes` meets its contract. Assumes nothing.
-use Rattle.job.proofs.fill_sizes.Statement.{statement}
-use Rattle.job.proofs.fill_sizes.Tie as tie
+-- `core_sizes::fill_sizes` meets its contract. Assumes nothing.
+use Rattle.core_sizes.proofs.fill_sizes.Statement.{statement}
+use Rattle.core_sizes.proofs.fill_sizes.Tie as tie
 use borrow.Author.Needs.{needs}
 use mathlib.Core.Path.{ap, _∙_}
 use mathlib.Core.List.{List}
 use Prim.Native.Nat.{ℕ}
 use lib.ListN.{length}
 use Rattle.job.specs.Input.{overridesOf}
-use Rattle.job.specs.Table.{overriddenBy}
-use Rattle.job.specs.lemmas.Table.{length-own}
+use Rattle.core_sizes.specs.Table.{overriddenBy}
+use Rattle.core_sizes.specs.lemmas.Table.{length-own}
 
 fill-own-requires : tie.Need-fill-own-requires
 fill-own-requires c κs = search needs

@@ -1,12 +1,12 @@
 -- Meaning. The table of all sizes that a call fills once: four places a chunk, for 500 chunks. That
--- it says an accepted job's sizes is a theorem (Uneven, `table-is`).
+-- it says an accepted job's sizes is a theorem (Theorems, `table-is`).
 use Prim.Native.Nat.{ℕ, _+_, _*_, _-_, _%_}
 use mathlib.Core.Bool.{cond}
 use mathlib.Core.List.{List, [], _∷_}
 use lib.ListN.{getD, set}
 use lib.Dec.{ltb}
 use Rattle.theory_basics.specs.Lists.{upTo}
 use Rattle.job.specs.Job.{Override}
 
 -- Layer n of chunk i stands at 4 × (i - 1) + n.
 abbrev pub spot : ℕ → ℕ → ℕ

@@ -13,9 +13,9 @@ use Rattle.theory_basics.specs.Tests.{All}
 use Rattle.theory_basics.specs.lemmas.Tests.{all-map, by-cond, and-T, T-and, eqb-iff, test}
 use Rattle.theory_basics.specs.Lists.{upTo}
 use Rattle.theory_basics.specs.lemmas.Lists.{length-upTo, getD-upTo}
 use Rattle.job.specs.Job.{Job, Override, Accepted, chunks, size, sizeIn}
 use Rattle.job.specs.lemmas.Spots.{Spot, spots, Other, own-where}
-use Rattle.job.specs.Table.{spot, ownTable, overriddenBy, ownSizes, sizesTable, tableAt}
+use Rattle.core_sizes.specs.Table.{spot, ownTable, overriddenBy, ownSizes, sizesTable, tableAt}
 
 -- ---- the table at each place
 

@@ -1,13 +1,13 @@
--- `job::fill_own` meets its contract. Assumes nothing.
-use Rattle.job.proofs.fill_own.Statement.{statement}
-use Rattle.job.proofs.fill_own.Tie as tie
+-- `core_sizes::fill_own` meets its contract. Assumes nothing.
+use Rattle.core_sizes.proofs.fill_own.Statement.{statement}
+use Rattle.core_sizes.proofs.fill_own.Tie as tie
 use borrow.Author.Needs.{needs}
 use Prim.Native.Nat.{_+_, _-_, _≤_, _%_}
 use mathlib.Core.Path.{_≡_, refl, _∙_}
 use native.Mathlib.Omega.{arith}
 use lib.ListN.{length, getD}
-use Rattle.job.specs.lemmas.Table.{storedTo, own-stored}
-use Rattle.job.proofs.Sizes.{four-stored}
+use Rattle.core_sizes.specs.lemmas.Table.{storedTo, own-stored}
+use Rattle.core_sizes.proofs.Sizes.{four-stored}
 
 abbrev Inv-loop : tie.InvT-loop
 Inv-loop sizes table₀ a b c d k₀ table k = (k ≤ 2000) × (k % 4 ≡ 0) × (table ≡ storedTo (λ n. getD sizes (n % 4) 0) k table₀)

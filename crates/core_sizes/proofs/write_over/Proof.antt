@@ -1,14 +1,14 @@
--- `job::write_over` meets its contract. Assumes nothing.
-use Rattle.job.proofs.write_over.Statement.{statement}
-use Rattle.job.proofs.write_over.Tie as tie
+-- `core_sizes::write_over` meets its contract. Assumes nothing.
+use Rattle.core_sizes.proofs.write_over.Statement.{statement}
+use Rattle.core_sizes.proofs.write_over.Tie as tie
 use borrow.Author.Needs.{needs}
 use Prim.Native.Nat.{_+_, _-_, _≤_, min}
 use mathlib.Core.Path.{_≡_, refl, sym, _∙_}
 use native.Mathlib.Omega.{arith}
 use lib.ListN.{length}
 use Rattle.job.specs.lemmas.Run.{from}
-use Rattle.job.specs.Table.{overriddenBy}
-use Rattle.job.proofs.Sizes.{over-start, over-more, over-same}
+use Rattle.core_sizes.specs.Table.{overriddenBy}
+use Rattle.core_sizes.proofs.Sizes.{over-start, over-more, over-same}
 
 abbrev Inv-loop : tie.InvT-loop
 Inv-loop cs ls bs table₀ i₀ table i = (i ≤ min (length cs) (min (length ls) (length bs))) × (length table₀ ≡ 2000 → table ≡ overriddenBy (from i cs ls bs) table₀)
