@@ -2,24 +2,28 @@
 -- bytes. Assumes nothing.
 use Prim.Native.Nat.{ℕ, _+_, _≤_, _<_}
 use mathlib.Core.Path.{_≡_, refl, sym, ap, _∙_}
-use mathlib.Core.List.{List, _++_}
+use mathlib.Core.List.{List, [], _∷_, _++_}
 use native.Mathlib.Omega.{arith}
 use lib.ListN.{length, drop, take}
 use lib.Dec.{leb}
 use borrow.Author.Tests.{eq-eqb, le-leb, lt-leb, ne-eqb}
 use Rattle.theory_basics.specs.Refusals.{unless}
+use Rattle.theory_basics.specs.Tests.{In, here, there}
 use Rattle.theory_basics.specs.lemmas.Refusals.{orElse-none, orElse-some}
 use Rattle.job.specs.Input.{JobInput, input-iff, jobIn, jobRefusal}
-use Rattle.job.specs.Job.{Accepted}
+use Rattle.job.specs.Job.{Accepted, Job}
 use Rattle.records.specs.Fields.{written}
 use Rattle.records.specs.lemmas.Puts.{written-whole}
 use Rattle.theory_plan.specs.Plan.{plan}
+use Rattle.theory_plan.specs.Statement.{IsPlan}
 use Rattle.theory_reasons.specs.Lines.{linesOf, planText}
-use Rattle.theory_reasons.specs.Statement.{against}
-use Rattle.theory_reasons.specs.Theorems.{plan-reasons, text-fits}
+use Rattle.theory_reasons.specs.Statement.{Line, Place, Reason, Reasons, Under, against, missing, short}
+use Rattle.theory_reasons.specs.Theorems.{line-refused, missing-iff, plan-reasons, stretch-forbids, text-fits}
 use Rattle.core_text.specs.lemmas.Places.{Put, put-front, put-whole}
-use Rattle.reasons.specs.Answer.{LinesOfPlan, Told, refusal}
-use Rattle.reasons.specs.declared.Written.the-variants.{Bytes, Refused}
+use Rattle.reasons.specs.Answer.{LinesOfPlan, ReasonsPromise, TrueReason, refusal}
+use Rattle.reasons.specs.lemmas.Told.{Told}
+use Rattle.records.specs.declared.Written.{Written}
+use Rattle.records.specs.declared.Written.the-variants.{Bytes, Refused}
 
 pub none : {k refused : ℕ} → k ≡ refused → k ≤ 0 → refused ≡ 0
 none e h = omega arith
@@ -62,12 +66,43 @@ module _ (h : JobInput) (old : List ℕ) where
         let fit : length (planText (jobIn h)) ≤ length old = omega (arith, p .place) in
         told n new fit (omega (arith, p .place)) (e ∙ ap (written old 0) t ∙ written-whole old (planText (jobIn h)) fit)
 
-pub lines-of-plan : (h : JobInput) → LinesOfPlan h
+-- ---- what the text says
+
+-- A line stands under some place.
+record FoundUnder (R : ℕ → ℕ → Line → Type 0) (xs : List Place) (l : Line) : Type 0 where
+  pub place : Place
+  pub among : In place xs
+  pub holds : R (place .chunk) (place .layer) l
+
+under-some : (R : ℕ → ℕ → Line → Type 0) (xs : List Place) (ls : List Line) → Under R xs ls → (l : Line) → In l ls → FoundUnder R xs l
+under-some R [] [] u l ()
+under-some R [] (k ∷ ls) u l i = absurd u
+under-some R (x ∷ xs) [] u l i = absurd u
+under-some R (x ∷ xs) (k ∷ ls) u .k here = record { place = x; among = here; holds = u .0 }
+under-some R (x ∷ xs) (k ∷ ls) u l (there i) = let f = under-some R xs ls (u .1) l i in record { place = f .place; among = there (f .among); holds = f .holds }
+
+true-reason : (j : Job) → Accepted j → (p : ℕ → ℕ) → IsPlan j p → (ls : List Line) → Reasons j p (against j p) ls →
+    (i n first last carried needed : ℕ) → In (short i n first last carried needed) ls → TrueReason j (against j p i n) first last
+true-reason j a p d ls r i n first last carried needed at =
+    let f = under-some (Reason j p (against j p)) (missing j p) ls r (short i n first last carried needed) at in
+    let m = missing-iff j p (f .place) .0 (f .among) in
+    let h = f .holds in
+    let exact : p (f .place .chunk) ≡ f .place .layer = omega (arith, m .not-carried, h .2 .lower-carried) in
+    rw (h .0, h .1) (record { short = h .2 .stretch .short; never = line-refused j a p d (f .place .chunk) (f .place .layer) (m .layer) exact .1 })
+
+lines-of-plan : (h : JobInput) → LinesOfPlan h
 unfolding planText
 lines-of-plan h z p d =
     let j = jobIn h in
+    let its : List Line = linesOf j (plan j) (against j (plan j)) in
+    let only = plan-reasons j (accepted h z) p d in
     record {
-      lines = linesOf j (plan j) (against j (plan j));
-      reasons = plan-reasons j (accepted h z) p d;
+      lines = its;
+      reasons = only;
       text = refl;
+      are-true = true-reason j (accepted h z) p d its (only its .1 refl);
     }
+
+pub promised : {h : JobInput} {out out' : List ℕ} {r : Written} → Told h out out' r → ReasonsPromise h out r out'
+promised {h = h} t =
+    record { result = t .result; buffer = t .buffer; lines = lines-of-plan h; forbids = λ z. stretch-forbids (jobIn h) (accepted h z) }

@@ -19,8 +19,8 @@ use Rattle.theory_plan.specs.Theorems.{plan-carried, plan-exists, plan-rows-uni
 use Rattle.theory_plan.specs.lemmas.Words.{accepted-sized}
 use Rattle.report.specs.Report.{reportOf}
 use Rattle.report.specs.Theorems.{report-fits}
-use Rattle.report.specs.declared.Written.{Written}
-use Rattle.report.specs.declared.Written.the-variants.{Bytes, Refused}
+use Rattle.records.specs.declared.Written.{Written}
+use Rattle.records.specs.declared.Written.the-variants.{Bytes, Refused}
 
 -- The report of a job is that of its plan's own list.
 unfoldable pub planReport : Job → List ℕ

@@ -12,8 +12,8 @@ use Rattle.theory_basics.specs.Refusals.{unless, _orElse_}
 use Rattle.trace.specs.Trace.{forecastOf, traceRefusal, unwritableRefusal, traceOf}
 use Rattle.trace.specs.declared.TraceRead.{TraceRead}
 use Rattle.trace.specs.declared.TraceRead.the-variants as read
-use Rattle.trace.specs.declared.Written.{Written}
-use Rattle.trace.specs.declared.Written.the-variants as wrote
+use Rattle.records.specs.declared.Written.{Written}
+use Rattle.records.specs.declared.Written.the-variants as wrote
 
 -- 7, 14, 15, then 11: fewer places lent than slots are asked for.
 abbrev pub traceReadRefusal : List ℕ → ℕ → ℕ → ℕ

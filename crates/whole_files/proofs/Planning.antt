@@ -15,11 +15,12 @@ use Rattle.theory_basics.specs.lemmas.Tests.{by-cond}
 use Rattle.job.specs.Input.{JobInput, input-iff, jobIn, jobRefusal}
 use Rattle.job.specs.Job.{Accepted, Job, chunks}
 use Rattle.fetch.specs.Input as rows
+use Rattle.fetch.specs.Slices.{ListSlices, slicesOf}
 use Rattle.fetch.specs.Rows.{rowBytes, rowChunk, rowLayer, rowSlot}
-use Rattle.planfile.specs.Calls.{ListSlices, planOf, slicesOf, writeAnswer, writeLent, writeRefusal, writeRest}
+use Rattle.planfile.specs.Calls.{planOf, writeAnswer, writeLent, writeRefusal, writeRest}
 use Rattle.planfile.specs.PlanFile.{Plan, fileOf}
-use Rattle.planfile.specs.declared.Written.{Written}
-use Rattle.planfile.specs.declared.Written.the-variants as planFile
+use Rattle.records.specs.declared.Written.{Written}
+use Rattle.records.specs.declared.Written.the-variants as planFile
 use Rattle.theory_plan.specs.Plan.{plan}
 use Rattle.theory_plan.specs.Statement.{marksOf}
 use Rattle.planner.specs.Answer.{PlanOutput, Lent, answerOf, holds, lentOf, planRefusal, planRows}
