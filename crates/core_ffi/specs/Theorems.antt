@@ -19,7 +19,8 @@ use Rattle.jobrecords.specs.Refusal.{jobOfFile, mixed, refusalOf}
 use Rattle.jobrecords.specs.Theorems.{file-accepted}
 use Rattle.jobfile.specs.Theorems.{file-short}
 use Rattle.jobfile.specs.Writer.{jobFile}
-use Rattle.planfile.specs.Calls.{ListSlices, planOf, writeRefusal}
+use Rattle.fetch.specs.Slices.{ListSlices}
+use Rattle.planfile.specs.Calls.{planOf, writeRefusal}
 use Rattle.planfile.specs.PlanFile.{fileOf, format, planIn}
 use Rattle.planfile.specs.lemmas.Back.{accepts}
 use Rattle.planfile.specs.lemmas.Few.{rows-inside}

@@ -2,6 +2,7 @@
 -- 13. A meter means a list of samples, the newest last. The struct stores that list in its first
 -- cells.
 use Prim.Native.Nat.{ℕ, _-_, _≤_, _<_}
+use mathlib.Core.Path.{_≡_}
 use mathlib.Core.Bool.{Bool, true, _&&_, cond}
 use mathlib.Core.List.{List, [], _∷_, _++_, map}
 use lib.ListN.{length, getD, drop, replicate}

@@ -10,13 +10,13 @@ use mathlib.Core.Logic.{_↔_}
 use lib.ListN.{length}
 use lib.Dec.{leb, eqb}
 use Rattle.theory_basics.specs.Lent.{lentAfter}
-use Rattle.theory_basics.specs.Tests.{In}
+use Rattle.theory_basics.specs.Tests.{All}
 use Rattle.theory_basics.specs.Refusals.{unless, _orElse_}
 use Rattle.job.specs.Input.{JobInput, jobIn, jobRefusal}
 use Rattle.job.specs.Job.{Job}
 use Rattle.theory_plan.specs.Statement.{CanCarry, Choice, IsPlan}
 use Rattle.theory_reasons.specs.Lines.{planText}
-use Rattle.theory_reasons.specs.Statement.{Line, Reasons, Short, against, reasonsText, short}
+use Rattle.theory_reasons.specs.Statement.{Line, Reasons, Short, against, lower, reasonsText, short}
 use Rattle.records.specs.declared.Written.{Written}
 use Rattle.records.specs.declared.Written.the-variants.{Bytes, Refused}
 
@@ -37,12 +37,16 @@ pub record TrueReason (j : Job) (choice : ℕ → ℕ) (first last : ℕ) : Type
   pub short : Short j choice first last
   pub never : CanCarry j choice → ⊥
 
+abbrev pub TrueLine : Job → (ℕ → ℕ) → Line → Type 0
+TrueLine j p (short i n first last carried needed) = TrueReason j (against j p i n) first last
+TrueLine j p (lower i n below) = Unit {0}
+
 -- Of a plan of the job the lines, and they alone; each of the first kind is a true reason.
 pub record OfPlan (j : Job) (p : ℕ → ℕ) : Type 0 where
   pub lines : List Line
   pub reasons : (ls : List Line) → Reasons j p (against j p) ls ↔ (ls ≡ lines)
   pub text : planText j ≡ reasonsText lines
-  pub are-true : (i n first last carried needed : ℕ) → In (short i n first last carried needed) lines → TrueReason j (against j p i n) first last
+  pub are-true : All (TrueLine j p) lines
 
 abbrev pub LinesOfPlan : JobInput → Type 0
 LinesOfPlan h = jobRefusal h ≡ 0 → (p : ℕ → ℕ) → IsPlan (jobIn h) p → OfPlan (jobIn h) p

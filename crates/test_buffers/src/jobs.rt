@@ -8,7 +8,7 @@ use crate::rooms::job_of;
 use crate::rooms::room8;
 use crate::rooms::room32;
 use crate::rooms::then;
-use jobfile::Written;
+use records::Written;
 use jobrecords::JobRead;
 
 fn job_written(written: Written) {

@@ -69,7 +69,7 @@ module _ (h : JobInput) (u v : ℕ) where
       (λ t q. let z : _≡_ {A = ℕ} 0 1 = cc in absurd (omega arith))
       (λ t q. let same : planRefusal h room ≡ n = cc in (same, λ z. T-not (eqb (planRefusal h room) 0) t (rw (same ∙ z) (eqb-refl 0))))
       (sym e ∙ g) in
-      wrote-refused planFile.Bytes planFile.Refused (jobRefusal h) n (fileOf (planOfJob (jobIn h))) old (sym job-alone ∙ known .0) (known .1)
+      wrote-refused (jobRefusal h) n (fileOf (planOfJob (jobIn h))) old (sym job-alone ∙ known .0) (known .1)
 
   -- The plan's slices are those of its file,
   file-same : planOf (slicesOfPlan (planOfJob (jobIn h))) ≡ planOfJob (jobIn h)

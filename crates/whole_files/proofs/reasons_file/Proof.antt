@@ -86,7 +86,7 @@ returns-2 c =
     taken oneSequence (c .before .before .before .before .before .before .before .before .before .before .before .before .before .before .before .before .before .before .before .before .before .before .before .before .before .before .before .before .before .before .args .job .now) _ _ _ _ _ _ _ _ _ _ _ _
     read (c .before .before .before .before .before .before .before .before .before .before .before .before .before .before .before .programme .given .1)
     (c .before .before .before .before .before .before .before .before .before .before .before .before .words .ensures) (c .before .before .before .before .before .before .before .before .before .before .halves .ensures) (c .before .before .before .before .before .before .before .before .bytes .ensures) (c .before .before .before .before .before .before .words2 .ensures) (c .before .before .before .before .words3 .ensures) in
-    of-file oneSequence _ _ planText _ _ _ t (record { answer = c .before .before .reasons .ensures .0 .result; buffer = c .before .before .reasons .ensures .0 .buffer })
+    of-file oneSequence _ _ planText _ _ _ t (record { answer = c .before .before .reasons .ensures .result; buffer = c .before .before .reasons .ensures .buffer })
 
 pub reasons-file-spec : {M : Type 1} → statement M
 reasons-file-spec =
