@@ -9,6 +9,7 @@ ghost use lib.ListN.{length};
 ghost use Rattle.theory_basics.specs.Tests.{All};
 ghost use Rattle.job.specs.Job.{Within};
 ghost use Rattle.job.specs.Input.{jobInput};
+ghost use Rattle.fetch.specs.Slices.{rowSlices, slicesOf};
 ghost use Rattle.booking.specs.Booking.{takenOff};
 ghost use Rattle.booking.specs.Answer.{Booked, Released};
 ghost use Rattle.booking.specs.lemmas.Passes.{Added, Covered, bare, refusedBy};
@@ -108,8 +109,9 @@ pub fn book(
 ) -> Answer
     ensures { λ r. ⌜ Booked
         (jobInput p (now (sizes .entry)) (now («size_chunks» .entry)) (now («size_layers» .entry))
-        (now («size_bytes» .entry)) (now (forecast .entry))) (now (marks .entry)) (now (slots .entry))
-        (now (chunks .entry)) (now (layers .entry)) (now (bytes .entry))
+        (now («size_bytes» .entry)) (now (forecast .entry)))
+        (slicesOf (now (marks .entry)) (now (slots .entry)) (now (chunks .entry)) (now (layers .entry))
+        (now (bytes .entry)))
         r (now (forecast .exit)) ⌝ }
 {
     let checked = checker::check(
@@ -149,8 +151,8 @@ pub fn release(
 ) -> Answer
     ensures { λ r. ⌜ Released
         (jobInput p (now (sizes .entry)) (now («size_chunks» .entry)) (now («size_layers» .entry))
-        (now («size_bytes» .entry)) (now (forecast .entry))) (now (slots .entry)) (now (chunks .entry))
-        (now (layers .entry)) (now (bytes .entry))
+        (now («size_bytes» .entry)) (now (forecast .entry)))
+        (rowSlices (now (slots .entry)) (now (chunks .entry)) (now (layers .entry)) (now (bytes .entry)))
         r (now (forecast .exit)) ⌝ }
 {
     let job = job::refusal(p, sizes, size_chunks, size_layers, size_bytes, forecast);

@@ -16,6 +16,7 @@ ghost use Rattle.job.specs.Job.{lastDue};
 ghost use Rattle.job.specs.Input.{jobInput};
 ghost use Rattle.core_sizes.specs.Table.{tableAt};
 ghost use Rattle.fetch.specs.Rows.{rowsOf};
+ghost use Rattle.fetch.specs.Slices.{slicesOf};
 ghost use Rattle.fetch.specs.Input.{Whole};
 ghost use Rattle.fetch.specs.Verdict.{lowest};
 ghost use Rattle.fetch.specs.VerdictFrom.{layerBefore};
@@ -272,8 +273,9 @@ pub fn check(
 ) -> Checked
     ensures { λ r. ⌜ r ≡ checked
         (jobInput p (now (sizes .entry)) (now («size_chunks» .entry)) (now («size_layers» .entry))
-        (now («size_bytes» .entry)) (now (forecast .entry))) (now (marks .entry)) (now (slots .entry))
-        (now (chunks .entry)) (now (layers .entry)) (now (bytes .entry)) ⌝ }
+        (now («size_bytes» .entry)) (now (forecast .entry)))
+        (slicesOf (now (marks .entry)) (now (slots .entry)) (now (chunks .entry)) (now (layers .entry))
+        (now (bytes .entry))) ⌝ }
 {
     let job = job::refusal(p, sizes, size_chunks, size_layers, size_bytes, forecast);
     if job != 0 {
@@ -319,8 +321,10 @@ pub fn check_from(
 ) -> Checked
     ensures { λ r. ⌜ r ≡ checkedFrom
         (jobInput p (now (sizes .entry)) (now («size_chunks» .entry)) (now («size_layers» .entry))
-        (now («size_bytes» .entry)) (now (forecast .entry))) from (now (marks .entry)) (now (slots .entry))
-        (now (chunks .entry)) (now (layers .entry)) (now (bytes .entry)) ⌝ }
+        (now («size_bytes» .entry)) (now (forecast .entry)))
+        from
+        (slicesOf (now (marks .entry)) (now (slots .entry)) (now (chunks .entry)) (now (layers .entry))
+        (now (bytes .entry))) ⌝ }
 {
     let job = job::refusal(p, sizes, size_chunks, size_layers, size_bytes, forecast);
     if job != 0 {

@@ -18,7 +18,6 @@ ghost use Rattle.theory_basics.specs.Tests.{All};
 ghost use Rattle.core_sizes.specs.Table.{tableAt};
 ghost use Rattle.fetch.specs.Marks.{bit};
 ghost use mathlib.Core.List.{_++_};
-ghost use Rattle.theory_plan.specs.lemmas.Sufficiency.{ones};
 ghost use Rattle.theory_plan.specs.lemmas.Trials.{rooms};
 ghost use Rattle.theory_plan.specs.lemmas.Parts.{at, ForecastPart};
 ghost use Rattle.core_moore_hodgson.specs.lemmas.Tables.{KeptIn};
@@ -26,6 +25,7 @@ ghost use Rattle.core_decide.specs.lemmas.Decision.{SetPlacesPost, SumTa
 ghost use Rattle.core_decide.specs.lemmas.Decision.{stackIn, basesIn, Slot, TryLayerPre, TryLayerPost};
 ghost use Rattle.core_decide.specs.lemmas.Decision.{SettleLayersPre, SettleLayersPost, SettleKeptPre};
 ghost use Rattle.core_decide.specs.lemmas.Decision.{SettleKeptPost, DecidePre, DecidePost};
+ghost use Rattle.theory_plan.specs.lemmas.Queue.{ones};
 
 pub fn larger(a: u64, b: u64) -> u64
     ensures { λ r. ⌜ r ≡ max a b ⌝ }

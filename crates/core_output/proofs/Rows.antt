@@ -15,7 +15,7 @@ use Rattle.theory_basics.specs.lemmas.Tests.{by-cond}
 use Rattle.job.specs.Job.{Job, Accepted, Within, size, chunks, layers, due, forecast, heldMost, lastSlot}
 use Rattle.fetch.specs.Counts.{markCount}
 use Rattle.fetch.specs.Rows.{Row, markByte, rowSlot, rowChunk, rowLayer, rowBytes}
-use Rattle.theory_plan.specs.lemmas.Ascending.{Asc, asc-within}
+use Rattle.theory_plan.specs.lemmas.Ascending.{asc-within}
 use Rattle.theory_plan.specs.lemmas.Choice.{fits-weight, kept-asc}
 use Rattle.theory_plan.specs.Own.{ownList}
 use Rattle.theory_plan.specs.Plan.{kept, after}
@@ -39,6 +39,7 @@ use Rattle.core_fill.specs.lemmas.Filling.{lastOf, bytesAt, leftAt, onward, loa
 use Rattle.core_output.proofs.Marks.{front-counts, front-long, marks-stay-long}
 use Rattle.theory_basics.specs.lemmas.Tables.{all-take}
 use Rattle.core_fill.proofs.Pieces.{left-next, onward-next, same-refl}
+use Rattle.theory_plan.specs.Bases.{Asc}
 
 -- ---- the queue of the tables
 

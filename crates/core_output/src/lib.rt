@@ -11,9 +11,9 @@ ghost use lib.Dec.{eqb};
 ghost use Rattle.theory_basics.specs.Lists.{upTo};
 ghost use Rattle.theory_basics.specs.Lent.{over};
 ghost use Rattle.core_sizes.specs.Table.{tableAt};
-ghost use Rattle.theory_plan.specs.lemmas.Ascending.{Asc};
 ghost use Rattle.core_output.specs.lemmas.Writing.{WritePre, FillPre, FillPost, WritePost, Each};
 ghost use Rattle.core_decide.specs.lemmas.Marks.{markOr};
+ghost use Rattle.theory_plan.specs.Bases.{Asc};
 
 // The rows made, and the counts.
 struct Filled {

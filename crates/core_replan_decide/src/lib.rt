@@ -15,13 +15,13 @@ ghost use lib.Dec.{leb, ltb, eqb};
 ghost use Rattle.theory_basics.specs.Lists.{upTo};
 ghost use Rattle.theory_basics.specs.Lent.{over};
 ghost use Rattle.core_sizes.specs.Table.{tableAt};
-ghost use Rattle.theory_plan.specs.lemmas.Ascending.{Asc};
 ghost use Rattle.core_replan_decide.specs.lemmas.Tables.{Falls, NeedCapPost, PlacesBelowPost, LastBegunPost};
 ghost use Rattle.core_replan_decide.specs.lemmas.Tables.{FindFrontPre, FindFrontPost, CanKeepPre, CanKeepPost};
 ghost use Rattle.core_replan_decide.specs.lemmas.Tables.{NewBasesPre, NewBasesPost};
 ghost use Rattle.core_replan_decide.specs.lemmas.Begun.{choose, KeepBegunPre, KeepBegunPost};
 ghost use Rattle.core_decide.specs.lemmas.Marks.{markOr};
 ghost use Rattle.core_replan_decide.specs.lemmas.Decision.{DecidePre, DecidePost};
+ghost use Rattle.theory_plan.specs.Bases.{Asc};
 
 // More than any need: 3,601 times the most bytes of a slot.
 const NO_CAP: u64 = 60414754816;

@@ -24,7 +24,6 @@ use Rattle.theory_plan.specs.Own.{carriedTo, wholeLayer}
 use Rattle.theory_plan.specs.Plan.{after, picked}
 use Rattle.theory_plan.specs.lemmas.Feasible.{needOf}
 use Rattle.theory_plan.specs.Statement.{marksOf}
-use Rattle.theory_plan.specs.lemmas.Ascending.{Asc}
 use Rattle.theory_plan.specs.lemmas.Fill.{fill, QueuedPiece, take-slot}
 use Rattle.theory_plan.specs.lemmas.Kept.{picked-asc, picked-each}
 use Rattle.theory_plan.specs.lemmas.Level.{level, level-iff}
@@ -53,6 +52,7 @@ use Rattle.core_replan_decide.specs.lemmas.Composed.{other-at, rest}
 use Rattle.core_decide.specs.lemmas.Marks.{mark-picked, markOr}
 use Rattle.core_replan_decide.specs.lemmas.Decision.{Decided, jobFrom, Tabled}
 use Rattle.theory_plan.specs.Own as own
+use Rattle.theory_plan.specs.Bases.{Asc}
 
 -- ---- the queue of the tables
 

@@ -1,7 +1,9 @@
 // Internal. The table of all sizes, which a call fills once, and a size out of it: `size_at` tests
 // for every chunk and layer there is; `size_in`, for a chunk and a layer that have a place in it, is
 // one read without a test.
-use job::{LAYERS, SIZES, SizeTable};
+use job::LAYERS;
+use job::SIZES;
+use job::SizeTable;
 ghost use mathlib.Core.Path.{_≡_};
 ghost use Prim.Native.Nat.{_≤_, _<_};
 ghost use lib.ListN.{length};

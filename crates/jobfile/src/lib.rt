@@ -10,19 +10,14 @@ ghost use Rattle.job.specs.Input.{WholeSizes, jobInput, jobIn, overridesOf};
 ghost use Rattle.jobrecords.specs.declared.Record.the-variants.{Pg, Ly, Sz, Bw};
 ghost use Rattle.jobrecords.specs.Records.{b, encode};
 ghost use Rattle.jobrecords.specs.Refusal.{mixed, oneSequence};
-ghost use Rattle.jobrecords.specs.Reader.{buffers, readAnswer, lentRead};
+ghost use Rattle.jobrecords.specs.Reader.{buffers, JobReadPromise};
 ghost use Rattle.jobfile.specs.lemmas.Puts.{Puts, recordsBytes};
-ghost use Rattle.jobfile.specs.Writer.{runs, layerRecord, overrideRecord, runRecord, jobFile, writeAnswer};
-ghost use Rattle.jobfile.specs.Writer.{fileWritten};
+ghost use Rattle.jobfile.specs.Writer.{runs, layerRecord, overrideRecord, runRecord, jobFile};
+ghost use Rattle.jobfile.specs.Writer.{JobWritePromise};
 ghost use Rattle.jobfile.specs.lemmas.Runs.{runEnd};
 use job::Programme;
 use jobrecords::JobRead;
-
-// What writing a job file gives: the number of bytes written, or a refusal.
-pub enum Written {
-    Bytes(usize),
-    Refused(u8),
-}
+use records::Written;
 
 // Reads a job file in one sequence into the lent sizes, SZs and forecast. Refusals: 9, then record
 // by record, 17 between 4 and the ranges, at EN 3, 4, 6, 18, 7; then 11 where a buffer is shorter
@@ -35,24 +30,12 @@ pub fn read_job(
     size_bytes: &mut [u32],
     forecast: &mut [u32],
 ) -> JobRead
-    ensures answer { λ r. ⌜ r ≡ readAnswer oneSequence (now (file .entry))
+    ensures { λ r. ⌜ JobReadPromise oneSequence (now (file .entry))
         (buffers (now (sizes .entry)) (now («size_chunks» .entry)) (now («size_layers» .entry))
-        (now («size_bytes» .entry)) (now (forecast .entry))) ⌝ }
-    ensures sizes { λ r. ⌜ now (sizes .exit) ≡ lentRead oneSequence (now (file .entry))
-        (buffers (now (sizes .entry)) (now («size_chunks» .entry)) (now («size_layers» .entry))
-        (now («size_bytes» .entry)) (now (forecast .entry))) .sizes ⌝ }
-    ensures chunks { λ r. ⌜ now («size_chunks» .exit) ≡ lentRead oneSequence (now (file .entry))
-        (buffers (now (sizes .entry)) (now («size_chunks» .entry)) (now («size_layers» .entry))
-        (now («size_bytes» .entry)) (now (forecast .entry))) .size-chunks ⌝ }
-    ensures layers { λ r. ⌜ now («size_layers» .exit) ≡ lentRead oneSequence (now (file .entry))
-        (buffers (now (sizes .entry)) (now («size_chunks» .entry)) (now («size_layers» .entry))
-        (now («size_bytes» .entry)) (now (forecast .entry))) .size-layers ⌝ }
-    ensures bytes { λ r. ⌜ now («size_bytes» .exit) ≡ lentRead oneSequence (now (file .entry))
-        (buffers (now (sizes .entry)) (now («size_chunks» .entry)) (now («size_layers» .entry))
-        (now («size_bytes» .entry)) (now (forecast .entry))) .size-bytes ⌝ }
-    ensures forecast { λ r. ⌜ now (forecast .exit) ≡ lentRead oneSequence (now (file .entry))
-        (buffers (now (sizes .entry)) (now («size_chunks» .entry)) (now («size_layers» .entry))
-        (now («size_bytes» .entry)) (now (forecast .entry))) .forecast ⌝ }
+        (now («size_bytes» .entry)) (now (forecast .entry)))
+        r
+        (buffers (now (sizes .exit)) (now («size_chunks» .exit)) (now («size_layers» .exit))
+        (now («size_bytes» .exit)) (now (forecast .exit))) ⌝ }
 {
     jobrecords::read_job(
         true,
@@ -69,12 +52,10 @@ pub fn read_job(
 // record by record, at EN 3, 4, 6, 7; then 11 where a buffer is shorter than the job's sizes or
 // slots. On a refusal both buffers stay as they are.
 pub fn read_mixed_job(file: &[u8], sizes: &mut [u32], forecast: &mut [u32]) -> JobRead
-    ensures answer { λ r. ⌜ r ≡ readAnswer mixed (now (file .entry))
-        (buffers (now (sizes .entry)) [] [] [] (now (forecast .entry))) ⌝ }
-    ensures sizes { λ r. ⌜ now (sizes .exit) ≡ lentRead mixed (now (file .entry))
-        (buffers (now (sizes .entry)) [] [] [] (now (forecast .entry))) .sizes ⌝ }
-    ensures forecast { λ r. ⌜ now (forecast .exit) ≡ lentRead mixed (now (file .entry))
-        (buffers (now (sizes .entry)) [] [] [] (now (forecast .entry))) .forecast ⌝ }
+    ensures { λ r. ⌜ JobReadPromise mixed (now (file .entry))
+        (buffers (now (sizes .entry)) [] [] [] (now (forecast .entry)))
+        r
+        (buffers (now (sizes .exit)) [] [] [] (now (forecast .exit))) ⌝ }
 {
     jobrecords::read_job(false, file, sizes, &mut [], &mut [], &mut [], forecast)
 }
@@ -284,12 +265,10 @@ pub fn write_job(
     forecast: &[u32],
     out: &mut [u8],
 ) -> Written
-    ensures answer { λ r. ⌜ r ≡ writeAnswer
+    ensures { λ r. ⌜ JobWritePromise
         (jobInput p (now (sizes .entry)) (now («size_chunks» .entry)) (now («size_layers» .entry))
-        (now («size_bytes» .entry)) (now (forecast .entry))) (length (now (out .entry))) ⌝ }
-    ensures buffer { λ r. ⌜ now (out .exit) ≡ fileWritten
-        (jobInput p (now (sizes .entry)) (now («size_chunks» .entry)) (now («size_layers» .entry))
-        (now («size_bytes» .entry)) (now (forecast .entry))) (now (out .entry)) ⌝ }
+        (now («size_bytes» .entry)) (now (forecast .entry)))
+        (now (out .entry)) r (now (out .exit)) ⌝ }
 {
     let n = job::refusal(p, sizes, size_chunks, size_layers, size_bytes, forecast);
     if n != 0 {

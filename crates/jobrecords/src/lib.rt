@@ -18,7 +18,7 @@ ghost use Rattle.jobrecords.specs.lemmas.Reading.{noRecords, readWhole, 
 ghost use Rattle.jobrecords.specs.lemmas.Reading.{overridesOn, endRefusal, endedBy, readRefusalOf, endRefusalOf};
 ghost use Rattle.jobrecords.specs.lemmas.Reading.{Inside, Sized, Room, Fine, TakeRecordPost, OneStepPre};
 ghost use Rattle.jobrecords.specs.lemmas.Reading.{OneStepPost, ReadAllPost, roomBy};
-ghost use Rattle.jobrecords.specs.Reader.{readFront, readAt, buffers, readAnswer, lentRead};
+ghost use Rattle.jobrecords.specs.Reader.{readFront, readAt, buffers, JobReadPromise};
 use job::MOST_BYTES;
 use job::OVERRIDES;
 use job::Programme;
@@ -624,24 +624,12 @@ pub fn read_job(
     size_bytes: &mut [u32],
     forecast: &mut [u32],
 ) -> JobRead
-    ensures answer { λ r. ⌜ r ≡ readAnswer sequenced (now (file .entry))
+    ensures { λ r. ⌜ JobReadPromise sequenced (now (file .entry))
         (buffers (now (sizes .entry)) (now («size_chunks» .entry)) (now («size_layers» .entry))
-        (now («size_bytes» .entry)) (now (forecast .entry))) ⌝ }
-    ensures sizes { λ r. ⌜ now (sizes .exit) ≡ lentRead sequenced (now (file .entry))
-        (buffers (now (sizes .entry)) (now («size_chunks» .entry)) (now («size_layers» .entry))
-        (now («size_bytes» .entry)) (now (forecast .entry))) .sizes ⌝ }
-    ensures chunks { λ r. ⌜ now («size_chunks» .exit) ≡ lentRead sequenced (now (file .entry))
-        (buffers (now (sizes .entry)) (now («size_chunks» .entry)) (now («size_layers» .entry))
-        (now («size_bytes» .entry)) (now (forecast .entry))) .size-chunks ⌝ }
-    ensures layers { λ r. ⌜ now («size_layers» .exit) ≡ lentRead sequenced (now (file .entry))
-        (buffers (now (sizes .entry)) (now («size_chunks» .entry)) (now («size_layers» .entry))
-        (now («size_bytes» .entry)) (now (forecast .entry))) .size-layers ⌝ }
-    ensures bytes { λ r. ⌜ now («size_bytes» .exit) ≡ lentRead sequenced (now (file .entry))
-        (buffers (now (sizes .entry)) (now («size_chunks» .entry)) (now («size_layers» .entry))
-        (now («size_bytes» .entry)) (now (forecast .entry))) .size-bytes ⌝ }
-    ensures forecast { λ r. ⌜ now (forecast .exit) ≡ lentRead sequenced (now (file .entry))
-        (buffers (now (sizes .entry)) (now («size_chunks» .entry)) (now («size_layers» .entry))
-        (now («size_bytes» .entry)) (now (forecast .entry))) .forecast ⌝ }
+        (now («size_bytes» .entry)) (now (forecast .entry)))
+        r
+        (buffers (now (sizes .exit)) (now («size_chunks» .exit)) (now («size_layers» .exit))
+        (now («size_bytes» .exit)) (now (forecast .exit))) ⌝ }
 {
     if FILE_BYTES < file.len() {
         return JobRead::Refused(9);

@@ -13,12 +13,12 @@ ghost use Rattle.fetch.specs.Rows.{rowsOf};
 ghost use Rattle.fetch.specs.Slices.{slicesOf};
 ghost use Rattle.planfile.specs.Records.{encode, readAt};
 ghost use Rattle.planfile.specs.PlanFile.{format, kps, ftOf, fileOf};
-ghost use Rattle.planfile.specs.Calls.{readAnswer, readLent, planOf, writeRest, writtenBy, writeAnswer};
-ghost use Rattle.planfile.specs.Calls.{writeLent};
+ghost use Rattle.planfile.specs.Calls.{PlanReadPromise, PlanWritePromise, planOf, writeRest, writtenBy};
 ghost use Rattle.planfile.specs.lemmas.Writing.{planRecordsBytes};
 ghost use Rattle.planfile.specs.lemmas.Scan.{refusalOf, inTurn, FileRowsPost, markOn, rowOn, filled};
 use job::Programme;
 use records::FILE_BYTES;
+use records::Written;
 
 // A record without its mark.
 pub enum Record {
@@ -44,12 +44,6 @@ pub enum Read {
 // The number of rows read, or the refusal.
 pub enum PlanRead {
     Rows(usize),
-    Refused(u8),
-}
-
-// The number of bytes written, or the refusal.
-pub enum Written {
-    Bytes(usize),
     Refused(u8),
 }
 
@@ -264,17 +258,15 @@ pub fn read_plan(
     layers: &mut [u8],
     bytes: &mut [u32],
 ) -> PlanRead
-    ensures answer { λ r. ⌜ r ≡ readAnswer
+    ensures { λ r. ⌜ PlanReadPromise
         (jobInput p (now (sizes .entry)) (now («size_chunks» .entry)) (now («size_layers» .entry))
-        (now («size_bytes» .entry)) (now (forecast .entry))) (now (file .entry))
+        (now («size_bytes» .entry)) (now (forecast .entry)))
+        (now (file .entry))
         (slicesOf (now (marks .entry)) (now (slots .entry)) (now (chunks .entry)) (now (layers .entry))
-        (now (bytes .entry))) ⌝ }
-    ensures lent { λ _. ⌜ slicesOf (now (marks .exit)) (now (slots .exit)) (now (chunks .exit)) (now (layers .exit))
-        (now (bytes .exit)) ≡ readLent
-        (jobInput p (now (sizes .entry)) (now («size_chunks» .entry)) (now («size_layers» .entry))
-        (now («size_bytes» .entry)) (now (forecast .entry))) (now (file .entry))
-        (slicesOf (now (marks .entry)) (now (slots .entry)) (now (chunks .entry)) (now (layers .entry))
-        (now (bytes .entry))) ⌝ }
+        (now (bytes .entry)))
+        r
+        (slicesOf (now (marks .exit)) (now (slots .exit)) (now (chunks .exit)) (now (layers .exit))
+        (now (bytes .exit))) ⌝ }
 {
     let refused = job::refusal(p, sizes, size_chunks, size_layers, size_bytes, forecast);
     if refused != 0 {
@@ -430,16 +422,12 @@ pub fn write_plan(
     bytes: &[u32],
     out: &mut [u8],
 ) -> Written
-    ensures answer { λ r. ⌜ r ≡ writeAnswer
+    ensures { λ r. ⌜ PlanWritePromise
         (jobInput p (now (sizes .entry)) (now («size_chunks» .entry)) (now («size_layers» .entry))
         (now («size_bytes» .entry)) (now (forecast .entry)))
         (slicesOf (now (marks .entry)) (now (slots .entry)) (now (chunks .entry)) (now (layers .entry))
-        (now (bytes .entry))) (now (out .entry)) ⌝ }
-    ensures lent { λ _. ⌜ now (out .exit) ≡ writeLent
-        (jobInput p (now (sizes .entry)) (now («size_chunks» .entry)) (now («size_layers» .entry))
-        (now («size_bytes» .entry)) (now (forecast .entry)))
-        (slicesOf (now (marks .entry)) (now (slots .entry)) (now (chunks .entry)) (now (layers .entry))
-        (now (bytes .entry))) (now (out .entry)) ⌝ }
+        (now (bytes .entry)))
+        (now (out .entry)) r (now (out .exit)) ⌝ }
 {
     let job = job::refusal(p, sizes, size_chunks, size_layers, size_bytes, forecast);
     if job != 0 {

@@ -5,6 +5,7 @@ use job::CHUNKS;
 use job::Programme;
 use job::SIZES;
 use job::SUMS;
+use records::Written;
 
 mod tables;
 
@@ -15,13 +16,8 @@ ghost use Rattle.job.specs.Job.{Accepted};
 ghost use Rattle.theory_reasons.specs.Lines.{planText};
 ghost use Rattle.core_text.specs.lemmas.Places.{Put};
 ghost use mathlib.Core.Path.{_≡_};
-ghost use Rattle.reasons.specs.Answer.{LinesOfPlan, Told};
-
-// The number of bytes written, or the number of a refusal.
-pub enum Written {
-    Bytes(usize),
-    Refused(u8),
-}
+ghost use Rattle.reasons.specs.Answer.{ReasonsPromise};
+ghost use Rattle.reasons.specs.lemmas.Told.{Told};
 
 // All lines of an accepted job's plan.
 fn put_plan(
@@ -122,13 +118,10 @@ pub fn reasons(
     forecast: &[u32],
     out: &mut [u8],
 ) -> Written
-    ensures told { λ r. ⌜ Told
+    ensures { λ r. ⌜ ReasonsPromise
         (jobInput p (now (sizes .entry)) (now («size_chunks» .entry)) (now («size_layers» .entry))
-        (now («size_bytes» .entry)) (now (forecast .entry))) (now (out .entry))
-        (now (out .exit)) r ⌝ }
-    ensures lines { λ _. ⌜ LinesOfPlan
-        (jobInput p (now (sizes .entry)) (now («size_chunks» .entry)) (now («size_layers» .entry))
-        (now («size_bytes» .entry)) (now (forecast .entry))) ⌝ }
+        (now («size_bytes» .entry)) (now (forecast .entry)))
+        (now (out .entry)) r (now (out .exit)) ⌝ }
 {
     let no = job::refusal(p, sizes, size_chunks, size_layers, size_bytes, forecast);
     if 0 < no {

@@ -9,6 +9,12 @@ ghost use Rattle.records.specs.Fields.{h, w, hAt, wAt, marked, written};
 // The most bytes that a file may have.
 pub const FILE_BYTES: usize = 65536;
 
+// What a call that writes into a lent buffer answers: the number of bytes written, or a refusal.
+pub enum Written {
+    Bytes(usize),
+    Refused(u8),
+}
+
 // A byte as a wider number.
 fn wide(x: u8) -> u16
     ensures { λ r. ⌜ (r ≡ x) × (r < 256) ⌝ }

@@ -18,8 +18,8 @@ use Rattle.job.specs.lemmas.Within.{size-most}
 use Rattle.planner.specs.Answer.{planRows}
 use Rattle.report.specs.Answer.{Answered, Reported, plan-report-fits, planReport, reportRefusal, roomRefusal}
 use Rattle.report.specs.Report.{bytesInRows}
-use Rattle.report.specs.declared.Written.{Written}
-use Rattle.report.specs.declared.Written.the-variants.{Refused}
+use Rattle.records.specs.declared.Written.{Written}
+use Rattle.records.specs.declared.Written.the-variants.{Refused}
 use Rattle.report.specs.declared.table.Spent.{Spent}
 use Rattle.report.specs.declared.table.Spent.the-variants.{Bytes as sent, Refused as unsent}
 use Rattle.report.specs.lemmas.Tables.{SizesIn, Tabled, linesBy}

@@ -7,6 +7,7 @@ use job::ROWS;
 use job::SIZES;
 use job::SizeTable;
 use planner::Answer;
+use records::Written;
 
 mod lines;
 mod table;
@@ -21,12 +22,6 @@ ghost use Rattle.theory_basics.specs.Text.{ascii, digits, line, text};
 ghost use Rattle.report.specs.Answer.{Answered, Reported};
 ghost use Rattle.core_text.specs.lemmas.Places.{Put};
 ghost use Rattle.report.specs.lemmas.Tables.{SizesIn, Tabled, chunkLineBy, countBy, linesBy};
-
-// The number of bytes written, or the number of a refusal.
-pub enum Written {
-    Bytes(usize),
-    Refused(u8),
-}
 
 // A line for each chunk: number, layers carried, bytes carried.
 fn chunk_lines(

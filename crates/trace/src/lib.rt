@@ -3,6 +3,7 @@
 // nothing is written before the last refusal.
 use job::MOST_BYTES;
 use job::SLOTS;
+use records::Written;
 
 mod repeated;
 
@@ -23,12 +24,6 @@ ghost use Rattle.trace.specs.lemmas.Tally.{bump, widthFrom};
 // What reading a trace gives: the number of slots in the lent forecast, or a refusal.
 pub enum TraceRead {
     Slots(usize),
-    Refused(u8),
-}
-
-// What writing a trace gives: the number of bytes written, or a refusal.
-pub enum Written {
-    Bytes(usize),
     Refused(u8),
 }
 

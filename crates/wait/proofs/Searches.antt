@@ -23,11 +23,11 @@ use Rattle.theory_plan.specs.lemmas.Words.{accepted-sized}
 use Rattle.wait.specs.Answer.{firstFrom, shortest, skipsNone, tries}
 use Rattle.wait.specs.Theorems.{job-accepted, skips-none-iff, works-iff-plan}
 use Rattle.wait.specs.Wait.{Film, FilmInRange, Tried, filmOf, jobAt}
-use Rattle.wait.specs.lemmas.Bases.{no-skip-iff}
 use Rattle.wait.specs.lemmas.First.{first-below, first-same}
 use Rattle.wait.specs.lemmas.Scan.{keepsAll, kept-with-iff, keptWith, left, needsFrom}
 use Rattle.wait.proofs.Passes.{due-in}
 use Rattle.wait.specs.lemmas.Table.{BaseTable, Free, KeepsAllPost, FindDelayPre, SumTable, dueAt, keptBy, leftAt, never, sizeAt}
+use Rattle.theory_plan.specs.lemmas.AllBases.{no-skip-iff}
 
 -- ---- one s after the other
 

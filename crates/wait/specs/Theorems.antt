@@ -20,14 +20,15 @@ use Rattle.job.specs.Theorems.{whole-iff, bytes-iff, film-iff, overrides-iff, s
 use Rattle.job.specs.Job.{Accepted, EqualChunks, Named, Within, chunks, lastDue}
 use Rattle.job.specs.Refusal.{bytesRefusal, named, rising, sized, within}
 use Rattle.theory_plan.specs.Plan.{plan}
-use Rattle.theory_plan.specs.Statement.{CanCarry, IsPlan}
+use Rattle.theory_plan.specs.Statement.{CanCarry, IsPlan, NoSkip}
 use Rattle.theory_plan.specs.Theorems.{plan-exists, plan-unique}
 use Rattle.theory_plan.specs.lemmas.Words.{accepted-sized}
 use Rattle.wait.specs.declared.Answer.the-variants.{Delay, Refused}
 use Rattle.wait.specs.Answer.{DelayMeans, WaitInput, WholeSizesIn, SixteenMeans, answerOf, eighteenRefusal, filmIn, fiveRefusal, inputRefusal, numbersRefusal, sevenRefusal, shortest, sixRefusal, sixteenRefusal, skipsNone, slotsRefusal, tries, waitRefusal}
-use Rattle.wait.specs.Wait.{Film, FilmInRange, NoSkip, NoneWorks, ShortestWait, SomeList, SomeOrdered, Tried, Works, jobAt, programmeAt}
-use Rattle.wait.specs.lemmas.Bases.{basesAlone, no-skip-any, no-skip-can-carry, no-skip-ordered}
+use Rattle.wait.specs.Wait.{Film, FilmInRange, NoneWorks, ShortestWait, SomeList, SomeOrdered, Tried, Works, jobAt, programmeAt}
+use Rattle.wait.specs.lemmas.Bases.{no-skip-any, no-skip-can-carry, no-skip-ordered}
 use Rattle.wait.specs.lemmas.First.{first-none, first-some}
+use Rattle.theory_plan.specs.lemmas.AllBases.{basesAlone}
 
 -- ---- the input
 

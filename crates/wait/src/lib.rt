@@ -15,7 +15,7 @@ ghost use Rattle.theory_plan.specs.lemmas.Parts.{Small};
 ghost use Rattle.job.specs.Input.{overridesOf};
 ghost use Rattle.core_sizes.specs.Table.{sizesTable};
 ghost use Rattle.wait.specs.Wait.{FilmInRange};
-ghost use Rattle.wait.specs.Answer.{DelayMeans, SixteenMeans, answerOf, filmIn, firstFrom, waitInput};
+ghost use Rattle.wait.specs.Answer.{WaitPromise, filmIn, firstFrom, waitInput};
 ghost use Rattle.wait.specs.Answer.{inputRefusal, shortest, slotsRefusal};
 ghost use Rattle.wait.specs.lemmas.Table.{BaseTable, KeepsAllPost, KeepsAllPre, FindDelayPre, SumTable, keptBy};
 
@@ -268,14 +268,7 @@ pub fn wait(
     size_bytes: &[u32],
     forecast: &[u32],
 ) -> Answer
-    ensures answer { λ r. ⌜ r ≡ answerOf
-        (waitInput chunks span limit (now (sizes .entry)) (now («size_chunks» .entry)) (now («size_layers» .entry))
-        (now («size_bytes» .entry)) (now (forecast .entry))) ⌝ }
-    ensures delay { λ r. ⌜ DelayMeans
-        (waitInput chunks span limit (now (sizes .entry)) (now («size_chunks» .entry)) (now («size_layers» .entry))
-        (now («size_bytes» .entry)) (now (forecast .entry)))
-        r ⌝ }
-    ensures sixteen { λ r. ⌜ SixteenMeans
+    ensures { λ r. ⌜ WaitPromise
         (waitInput chunks span limit (now (sizes .entry)) (now («size_chunks» .entry)) (now («size_layers» .entry))
         (now («size_bytes» .entry)) (now (forecast .entry)))
         r ⌝ }

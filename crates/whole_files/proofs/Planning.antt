@@ -16,12 +16,12 @@ use Rattle.job.specs.Input.{JobInput, jobIn, jobRefusal}
 use Rattle.job.specs.Theorems.{input-iff}
 use Rattle.job.specs.Job.{Accepted, Job, chunks}
 use Rattle.fetch.specs.Input as rows
-use Rattle.fetch.specs.Rows.{rowBytes, rowChunk, rowLayer, rowSlot}
 use Rattle.fetch.specs.Slices.{ListSlices, slicesOf}
+use Rattle.fetch.specs.Rows.{rowBytes, rowChunk, rowLayer, rowSlot}
 use Rattle.planfile.specs.Calls.{planOf, writeAnswer, writeLent, writeRefusal, writeRest}
 use Rattle.planfile.specs.PlanFile.{Plan, fileOf}
-use Rattle.planfile.specs.declared.Written.{Written}
-use Rattle.planfile.specs.declared.Written.the-variants as planFile
+use Rattle.records.specs.declared.Written.{Written}
+use Rattle.records.specs.declared.Written.the-variants as planFile
 use Rattle.theory_plan.specs.Plan.{plan}
 use Rattle.theory_plan.specs.Statement.{marksOf}
 use Rattle.planner.specs.Answer.{PlanOutput, answerOf, holds, planRefusal, planRows}
@@ -70,7 +70,7 @@ module _ (h : JobInput) (u v : ℕ) where
       (λ t q. let z : _≡_ {A = ℕ} 0 1 = cc in absurd (omega arith))
       (λ t q. let same : planRefusal h room ≡ n = cc in (same, λ z. T-not (eqb (planRefusal h room) 0) t (rw (same ∙ z) (eqb-refl 0))))
       (sym e ∙ g) in
-      wrote-refused planFile.Bytes planFile.Refused (jobRefusal h) n (fileOf (planOfJob (jobIn h))) old (sym job-alone ∙ known .0) (known .1)
+      wrote-refused (jobRefusal h) n (fileOf (planOfJob (jobIn h))) old (sym job-alone ∙ known .0) (known .1)
 
   -- The plan's slices are those of its file,
   file-same : planOf (slicesOfPlan (planOfJob (jobIn h))) ≡ planOfJob (jobIn h)

@@ -14,7 +14,6 @@ use Rattle.theory_basics.specs.lemmas.Tests.{all-map, test}
 use Rattle.fetch.specs.Rows.{Carried, Row, bytesOfLayer}
 use Rattle.fetch.specs.Rules.{RowInRange, Passes, PlayingOrder, WholeLayers}
 use Rattle.job.specs.Job.{Job, Layer, chunks, due, heldMost, layers, size}
-use Rattle.theory_plan.specs.lemmas.Ascending.{Asc}
 use Rattle.theory_plan.specs.lemmas.Count.{chunk-by-layers}
 use Rattle.theory_plan.specs.lemmas.Kept.{feas-picked, has-picked, picked-asc, picked-each}
 use Rattle.theory_plan.specs.Plan.{after, bytes, kept}
@@ -24,9 +23,11 @@ use Rattle.theory_plan.specs.lemmas.Need.{Feas}
 use Rattle.theory_plan.specs.lemmas.Order.{fetch-order}
 pub use Rattle.theory_plan.specs.Statement.{Choice}
 use Rattle.theory_plan.specs.Statement.{CanCarry, CarriesExactly}
-use Rattle.theory_plan.specs.lemmas.Sufficiency.{fetch, layer-is, sufficient, weight}
+use Rattle.theory_plan.specs.lemmas.Sufficiency.{fetch, layer-is, sufficient}
 use Rattle.theory_basics.specs.Lists.{has}
 use Rattle.theory_plan.specs.lemmas.Words.{Sized, bytesOfChunk, layer-of}
+use Rattle.theory_plan.specs.Bases.{Asc}
+use Rattle.theory_plan.specs.lemmas.Queue.{weight}
 
 -- The kept chunks fit, each with the bytes of its layers in the choice.
 abbrev pub Fits : Job → (ℕ → ℕ) → Type 0

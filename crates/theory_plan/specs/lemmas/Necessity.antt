@@ -18,12 +18,13 @@ use Rattle.fetch.specs.Rows.{Carried, Row, begun, bytesIf, bytesInSlot, held}
 use Rattle.fetch.specs.Rules.{FewHeld, RowInRange, OnTime, Passes, PlayingOrder}
 use Rattle.fetch.specs.lemmas.Order.{order-begun}
 use Rattle.job.specs.Job.{Job, chunks, due, forecast, heldMost, lastSlot}
-use Rattle.theory_plan.specs.lemmas.Ascending.{Asc, asc-drop, asc-lower, asc-nth, count-to-nth}
+use Rattle.theory_plan.specs.lemmas.Ascending.{asc-drop, asc-lower, asc-nth, count-to-nth}
 use Rattle.theory_plan.specs.lemmas.Count.{bytes-between, bytes-disjoint}
 use Rattle.theory_plan.specs.lemmas.Need.{Feas, Tails}
 use Rattle.theory_plan.specs.lemmas.Feasible.{needOf}
 pub use Rattle.theory_plan.specs.Plan.{after}
 use Rattle.theory_plan.specs.lemmas.Words.{Sized, bytesOfChunk, due-mono}
+use Rattle.theory_plan.specs.Bases.{Asc}
 
 -- P holds of each chunk.
 abbrev pub Each : (ℕ → Type 0) → List ℕ → Type 0

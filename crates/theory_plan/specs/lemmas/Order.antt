@@ -13,7 +13,6 @@ use Rattle.fetch.specs.lemmas.Order.{begun-order}
 use Rattle.job.specs.Job.{Job, chunks, due, forecast, heldMost, lastSlot, layers, size}
 use Rattle.fetch.specs.Rows.{Row}
 use Rattle.fetch.specs.Rules.{RowInRange, PlayingOrder}
-use Rattle.theory_plan.specs.lemmas.Ascending.{Asc}
 use Rattle.theory_plan.specs.lemmas.Count.{some-row, sum-any}
 use Rattle.theory_plan.specs.lemmas.Fill.{Out, QueuedPiece, by-slot, fill, fill-in-slots, slot-in-slot, take-slot}
 use Rattle.theory_plan.specs.lemmas.Need.{Feas}
@@ -21,6 +20,7 @@ use Rattle.theory_plan.specs.lemmas.Queue.{pieces, queue, releases, weig
 use Rattle.theory_plan.specs.lemmas.Sufficiency.{fetch, sufficient}
 use Rattle.theory_plan.specs.lemmas.Words.{Sized}
 use Rattle.theory_plan.specs.Plan.{after}
+use Rattle.theory_plan.specs.Bases.{Asc}
 
 -- The pieces' chunks never fall, from chunk lo on.
 abbrev Sorted : ℕ → List QueuedPiece → Type 0

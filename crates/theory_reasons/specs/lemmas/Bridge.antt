@@ -11,18 +11,18 @@ use lib.Dec.{T, leb, ltb, ltb→lt, nltb→le}
 use lib.ListN.{length, getD, take, drop, length-drop}
 use lib.Seq.{getD-drop}
 use Rattle.theory_basics.specs.Sums.{pre, sum}
-use Rattle.theory_basics.specs.lemmas.Ranges.{pre-mono}
+use Rattle.theory_basics.specs.lemmas.Ranges.{pre-mono, sum-cong}
 use Rattle.theory_basics.specs.lemmas.Tests.{by-cond, last, test}
 use Rattle.job.specs.Job.{Accepted, Job, chunks, due, forecast, heldMost, lastSlot}
-use Rattle.theory_plan.specs.lemmas.Ascending.{Asc, asc-nth}
+use Rattle.theory_plan.specs.lemmas.Ascending.{asc-nth}
 use Rattle.theory_plan.specs.Plan.{after, bytes, kept}
 use Rattle.theory_plan.specs.lemmas.Choice.{Fits, kept-asc}
-use Rattle.theory_basics.specs.lemmas.Ranges.{sum-cong}
 use Rattle.theory_plan.specs.lemmas.Stretches.{Stretches, stretches-iff, total}
 use Rattle.theory_plan.specs.lemmas.Words.{after-anti, due-mono, due-rises}
 use Rattle.theory_reasons.specs.lemmas.Kept.{need-sum, sum-front, canBegin, keptChunk, keptCount}
 use Rattle.theory_reasons.specs.lemmas.First.{Exceeds, Found, Rising, breaks-says, exceeds-breaks, found-exceeds, found-first, found-last, late, used, used-covers}
 use Rattle.theory_reasons.specs.Statement.{Named, Short, carry, need}
+use Rattle.theory_plan.specs.Bases.{Asc}
 
 -- ---- the kept chunks as places
 

@@ -25,7 +25,6 @@ use Rattle.fetch.specs.lemmas.Rows.{any-some, bytes-none, some-row}
 use Rattle.theory_plan.specs.Plan.{picked}
 use Rattle.theory_plan.specs.lemmas.Feasible.{needOf}
 use Rattle.theory_plan.specs.Statement.{Choice}
-use Rattle.theory_plan.specs.lemmas.Ascending.{Asc}
 use Rattle.theory_plan.specs.lemmas.Kept.{has-picked, picked-asc, picked-cong, picked-each}
 use Rattle.theory_plan.specs.lemmas.Level.{level, level-choice, level-iff}
 use Rattle.theory_plan.specs.lemmas.Linear.{needs-of}
@@ -37,6 +36,7 @@ use Rattle.theory_replan.specs.lemmas.Criterion.{all-has, begun-few, bus
 use Rattle.theory_replan.specs.lemmas.Fits.{FitsFrom}
 use Rattle.theory_replan.specs.lemmas.Held.{carries-row}
 use Rattle.theory_replan.specs.lemmas.Rest.{from-anti}
+use Rattle.theory_plan.specs.Bases.{Asc}
 
 -- ---- in general
 

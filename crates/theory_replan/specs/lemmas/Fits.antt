@@ -20,7 +20,6 @@ use Rattle.fetch.specs.lemmas.Order.{order-begun}
 use Rattle.fetch.specs.lemmas.Rows.{bytes-append, bytes-none}
 use Rattle.theory_plan.specs.Plan.{after, picked}
 use Rattle.theory_plan.specs.Statement.{Choice}
-use Rattle.theory_plan.specs.lemmas.Ascending.{Asc}
 use Rattle.theory_plan.specs.lemmas.Count.{bytes-between, chunk-by-layers, some-row}
 use Rattle.theory_plan.specs.lemmas.Kept.{feas-picked, picked-asc, picked-each}
 use Rattle.theory_plan.specs.lemmas.Level.{level, level-iff}
@@ -29,6 +28,7 @@ use Rattle.theory_plan.specs.lemmas.Need.{Feas}
 use Rattle.theory_plan.specs.lemmas.Words.{bytesOfChunk, carries, layer-of, Sized}
 use Rattle.theory_replan.specs.Plan.{afterFrom, busy, busyChunks, bytesLeft}
 use Rattle.theory_replan.specs.Statement.{Acceptable, CanCarryFrom}
+use Rattle.theory_plan.specs.Bases.{Asc}
 
 -- ---- the criterion
 

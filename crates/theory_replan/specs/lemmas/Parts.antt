@@ -18,8 +18,8 @@ use Rattle.theory_basics.specs.lemmas.Tests.{all-map, and-T, by-cond, T-or-iff,
 use Rattle.theory_plan.specs.Own.{Piece}
 use Rattle.theory_plan.specs.Plan.{picked}
 use Rattle.theory_plan.specs.lemmas.Feasible.{needOf}
-use Rattle.theory_plan.specs.lemmas.Ascending.{Asc}
 use Rattle.theory_plan.specs.lemmas.Need.{Tails}
+use Rattle.theory_plan.specs.Bases.{Asc}
 
 -- ---- lists of parts
 

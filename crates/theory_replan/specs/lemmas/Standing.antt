@@ -26,7 +26,6 @@ use Rattle.theory_plan.specs.Plan.{after, bytes, kept, tried}
 use Rattle.theory_plan.specs.lemmas.Tried.{settles-tried-iff}
 use Rattle.theory_plan.specs.Statement.{CanCarry, CarriesExactly, Choice, SettledByTrials, marksOf, Same}
 use Rattle.theory_plan.specs.Theorems.{trials-carried}
-use Rattle.theory_plan.specs.lemmas.Ascending.{Asc}
 use Rattle.theory_plan.specs.lemmas.Choice.{Fits, fits-can-carry, kept-asc}
 use Rattle.theory_plan.specs.lemmas.Count.{chunk-by-layers}
 use Rattle.theory_plan.specs.lemmas.Kept.{feas-picked, picked-each}
@@ -47,6 +46,7 @@ use Rattle.theory_replan.specs.lemmas.OwnState.{Grown, grown, Sofar, sof
 use Rattle.theory_replan.specs.lemmas.Parts.{leftIf}
 use Rattle.theory_replan.specs.lemmas.Plan.{replans-agree, tried-from-choice}
 use Rattle.theory_replan.specs.lemmas.Unfetched.{left-of-layer}
+use Rattle.theory_plan.specs.Bases.{Asc}
 
 -- ---- rows before and from a slot
 

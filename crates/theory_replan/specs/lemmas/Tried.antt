@@ -77,8 +77,12 @@ module _ (j : Job) (p : ℕ) (fetched : List Row) (low : LowerCarried j fetched)
       ⊎-elim
       (λ c. inl c)
       (λ u.
-      inr (u .0, u .1, can-carry-from-same j p fetched _ _ (λ k m q.
-      let e = trial-from-iff j fetched low plan n i r (λ c. T-not (carried j fetched i n) t (eqb-iff _ _ .1 c)) (u .1) k m q in (e .1, e .0)) (u .2)))
+      inr (
+        u .0,
+        u .1,
+        can-carry-from-same j p fetched _ _ (λ k m q.
+            let e = trial-from-iff j fetched low plan n i r (λ c. T-not (carried j fetched i n) t (eqb-iff _ _ .1 c)) (u .1) k m q in (e .1, e .0)) (u .2),
+      ))
       s)
       (test (carried j fetched i n))
 
@@ -90,8 +94,12 @@ module _ (j : Job) (p : ℕ) (fetched : List Row) (low : LowerCarried j fetched)
       ⊎-elim
       (λ c. inl c)
       (λ u.
-      inr (u .0, u .1, can-carry-from-same j p fetched _ _ (λ k m q.
-      trial-from-iff j fetched low plan n i r (λ c. T-not (carried j fetched i n) t (eqb-iff _ _ .1 c)) (u .1) k m q) (u .2)))
+      inr (
+        u .0,
+        u .1,
+        can-carry-from-same j p fetched _ _ (λ k m q.
+            trial-from-iff j fetched low plan n i r (λ c. T-not (carried j fetched i n) t (eqb-iff _ _ .1 c)) (u .1) k m q) (u .2),
+      ))
       s)
       (test (carried j fetched i n))
 

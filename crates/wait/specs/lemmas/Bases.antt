@@ -9,7 +9,7 @@ use native.Mathlib.Omega.{arith}
 use Rattle.theory_basics.specs.lemmas.Ranges.{sum-mono}
 use Rattle.job.specs.Job.{Job, EqualChunks, chunks, due, heldMost, layers, size}
 use Rattle.theory_plan.specs.Plan.{after}
-use Rattle.theory_plan.specs.Statement.{CanCarry, IsPlan}
+use Rattle.theory_plan.specs.Statement.{CanCarry, IsPlan, NoSkip}
 pub use Rattle.theory_plan.specs.lemmas.AllBases.{AllFit, basesAlone, from, no-skip-iff}
 use Rattle.theory_plan.specs.lemmas.AllBases.{can-carry-all-iff, fits-all-fit}
 use Rattle.theory_plan.specs.lemmas.AnyOrder.{any-order-fit}
@@ -17,7 +17,7 @@ use Rattle.theory_plan.specs.lemmas.Choice.{can-carry-fits, chunk-bytes}
 use Rattle.theory_plan.specs.lemmas.Kept.{feas-picked, picked-asc, picked-each}
 use Rattle.theory_plan.specs.lemmas.Level.{level, level-choice, level-exactly}
 use Rattle.theory_plan.specs.lemmas.Words.{Sized, bytesOfChunk, layer-of}
-use Rattle.wait.specs.Wait.{NoSkip, SomeList, SomeOrdered}
+use Rattle.wait.specs.Wait.{SomeList, SomeOrdered}
 
 module _ (j : Job) (some : 0 < layers j) where
   -- ---- some list

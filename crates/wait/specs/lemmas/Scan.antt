@@ -20,7 +20,8 @@ use Rattle.theory_plan.specs.lemmas.Linear.{needs-at, needs-of}
 use Rattle.theory_plan.specs.lemmas.Need.{Feas}
 use Rattle.theory_plan.specs.lemmas.Trials.{candidate, keeps}
 use Rattle.wait.specs.Wait.{Film, jobAt, programmeAt}
-use Rattle.wait.specs.lemmas.Bases.{AllFit, from}
+use Rattle.wait.specs.lemmas.Bases.{from}
+use Rattle.theory_plan.specs.lemmas.AllBases.{AllFit}
 
 -- ---- one pass
 

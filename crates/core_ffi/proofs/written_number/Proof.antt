@@ -1,7 +1,7 @@
--- `core_ffi::plan_written_number` meets its contract. Assumes nothing.
+-- `core_ffi::written_number` meets its contract. Assumes nothing.
 use borrow.Author.Needs.{needs}
-use Rattle.core_ffi.proofs.plan_written_number.Statement.{statement}
-use Rattle.core_ffi.proofs.plan_written_number.Tie as tie
+use Rattle.core_ffi.proofs.written_number.Statement.{statement}
+use Rattle.core_ffi.proofs.written_number.Tie as tie
 
 enum-known-written : tie.Need-enum-known-written
 enum-known-written c = search needs
@@ -18,6 +18,6 @@ returns c = search needs
 returns-2 : tie.Need-returns-2
 returns-2 c = rw (c .before .before .written2 .given .1) (c .refused .ensures)
 
-pub plan-written-number-spec : {M : Type 1} → statement M
-plan-written-number-spec =
+pub written-number-spec : {M : Type 1} → statement M
+written-number-spec =
     tie.close (tie.spec enum-known-written enum-known-written-2 refused-requires returns returns-2)
