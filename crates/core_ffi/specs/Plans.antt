@@ -97,18 +97,18 @@ walkOf f = f .steps ∷ cond (f .ended) 1 0 ∷ f .shortfall ∷ []
 unfoldable pub withWalk : ℕ → (counts walk : List ℕ) → ℕ
 withWalk refused counts walk = refused orElse unless 11 (leb 4 (length counts) && leb 3 (length walk))
 
-pub record SearchReturned (h : JobInput) (budget : ℕ) (marks slots chunks layers bytes counts walk : List ℕ) (r : ℕ) (marks' slots' chunks' layers' bytes' counts' walk' : List ℕ) : Type 0 where
+pub record SearchReturned (h : JobInput) (budget : ℕ) (lent : PlanSlices) (walk : List ℕ) (r : ℕ) (lent' : PlanSlices) (walk' : List ℕ) : Type 0 where
   pub plan :
       Returned
-      (withWalk (searchRefusal h budget (slicesOf marks slots chunks layers bytes)) counts walk)
+      (withWalk (searchRefusal h budget (roomOf lent)) (lent .counts) walk)
       (marksOf (jobIn h) (planFound (jobIn h) budget))
       (rowsFound (jobIn h) budget)
       (countsOf (jobIn h) (planFound (jobIn h) budget))
-      (planSlices marks slots chunks layers bytes counts)
+      lent
       r
-      (planSlices marks' slots' chunks' layers' bytes' counts')
+      lent'
   pub walk-is :
-      walk' ≡ lentAfter (withWalk (searchRefusal h budget (slicesOf marks slots chunks layers bytes)) counts walk) (walkOf (found (jobIn h) budget)) walk
+      walk' ≡ lentAfter (withWalk (searchRefusal h budget (roomOf lent)) (lent .counts) walk) (walkOf (found (jobIn h) budget)) walk
 
 -- ---- two plans' counts
 

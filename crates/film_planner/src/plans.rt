@@ -173,11 +173,15 @@ pub extern "C" fn film_search(
 ) -> u64
     ensures { λ r. ⌜ SearchReturned
         (film chunks span delay limit (now (sizes .entry)) (now («size_chunks» .entry)) (now («size_layers» .entry))
-        (now («size_bytes» .entry)) (now (forecast .entry))) budget (now (marks .entry)) (now («row_slots» .entry))
-        (now («row_chunks» .entry)) (now («row_layers» .entry)) (now («row_bytes» .entry)) (now (counts .entry))
+        (now («size_bytes» .entry)) (now (forecast .entry)))
+        budget
+        (planSlices (now (marks .entry)) (now («row_slots» .entry)) (now («row_chunks» .entry))
+        (now («row_layers» .entry)) (now («row_bytes» .entry)) (now (counts .entry)))
         (now (walk .entry))
-        r (now (marks .exit)) (now («row_slots» .exit)) (now («row_chunks» .exit)) (now («row_layers» .exit))
-        (now («row_bytes» .exit)) (now (counts .exit)) (now (walk .exit)) ⌝ }
+        r
+        (planSlices (now (marks .exit)) (now («row_slots» .exit)) (now («row_chunks» .exit))
+        (now («row_layers» .exit)) (now («row_bytes» .exit)) (now (counts .exit)))
+        (now (walk .exit)) ⌝ }
 {
     let p = Programme {
         chunks,

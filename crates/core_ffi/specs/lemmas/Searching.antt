@@ -18,7 +18,7 @@ use Rattle.theory_plan.specs.Statement.{countsOf, marksOf}
 use Rattle.theory_search.specs.Search.{found}
 use Rattle.search.specs.Answer.{SearchOutput, holdsFound, planFound, rowsFound, searchRefusal}
 use Rattle.search.specs.declared.Searched.{Searched}
-use Rattle.core_ffi.specs.Plans.{SearchReturned, walkOf, withWalk}
+use Rattle.core_ffi.specs.Plans.{SearchReturned, planSlices, walkOf, withWalk}
 use Rattle.core_ffi.specs.lemmas.Numbers.{countsStored, planNumber, refusedNumber, walkStored}
 use Rattle.core_ffi.specs.lemmas.Planning.{short-returned, whole-returned}
 use Rattle.core_ffi.specs.lemmas.Slices.{eleven-once, eleven-some, no-more, refused-keeps, test-false, test-true}
@@ -42,7 +42,7 @@ pub search-whole : (h : JobInput) (budget : ℕ) (m s c l b k w m' s' c' l' b' k
     → k' ≡ countsStored (p .answer) (p .counts) k
     → w' ≡ walkStored (p .answer) (p .steps) (p .ended) (p .shortfall) w
     → r ≡ planNumber (p .answer)
-    → SearchReturned h budget m s c l b k w r m' s' c' l' b' k' w'
+    → SearchReturned h budget (planSlices m s c l b k) w r (planSlices m' s' c' l' b' k') w'
 unfolding withWalk
 search-whole h budget m s c l b k w m' s' c' l' b' k' w' held p r t f made ek ew er =
     let j = jobIn h in
@@ -66,7 +66,7 @@ pub search-short : (h : JobInput) (budget : ℕ) (m s c l b k w : List ℕ) (hel
     → not held ≡ true
     → before ≡ jobRefusal h
     → r ≡ refusedNumber (before orElse 11)
-    → SearchReturned h budget m s c l b k w r m s c l b k w
+    → SearchReturned h budget (planSlices m s c l b k) w r (planSlices m s c l b k) w
 unfolding withWalk
 search-short h budget m s c l b k w held before r t f e er =
     let j = jobIn h in
