@@ -12,8 +12,9 @@ ghost use lib.ListN.{drop};
 ghost use lib.Dec.{leb};
 ghost use Rattle.job.specs.Input.{jobInput};
 ghost use Rattle.core_sizes.specs.Table.{tableAt};
-ghost use Rattle.live.specs.Answer.{liveInput, LivePromise, pieceSlices, rowSlices};
+ghost use Rattle.live.specs.Answer.{liveInput, LivePromise, pieceSlices};
 ghost use Rattle.live.specs.lemmas.Writing.{WritePiecesPre, WritePiecesPost};
+ghost use Rattle.fetch.specs.Slices.{rowSlices};
 
 // How many pieces are asked, or the refusal's number.
 pub enum Answer {
