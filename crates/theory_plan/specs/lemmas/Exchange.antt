@@ -11,12 +11,12 @@ use borrow.Author.Tests.{eq-eqb, ne-eqb}
 use lib.Dec.{T, T-not, not-T, eqb, eqb→eq}
 use Rattle.theory_basics.specs.Sums.{count}
 use Rattle.theory_basics.specs.lemmas.Tests.{T-and-iff, T-or-iff, eqb-iff, if-iff, last, test}
+use Rattle.theory_plan.specs.lemmas.Ascending.{Asc}
 use Rattle.theory_basics.specs.lemmas.Ranges.{last-that-fails}
 use Rattle.theory_basics.specs.Lists.{has}
-use Rattle.theory_plan.specs.Bases.{keptBytes, keptAfter, allBut, Asc}
+use Rattle.theory_plan.specs.Bases.{keptBytes, keptAfter, allBut}
 use Rattle.theory_plan.specs.lemmas.Totals.{less, more, total, total-cong, total-less, total-list, total-mono, total-more}
-use Rattle.theory_plan.specs.lemmas.KeepOrDrop.{Largest, Step, added, added-asc, added-has, drops, has-in, has-all-but, step}
-use Rattle.programs.specs.Theorems.{stays}
+use Rattle.theory_plan.specs.lemmas.KeepOrDrop.{Largest, Step, added, added-asc, added-has, drops, has-in, has-all-but, stays, step}
 
 -- Some of the kept ones among 1 .. n match the set: as many, and no more bytes.
 pub record Matched (s : ℕ → ℕ) (kept set : ℕ → Bool) (n : ℕ) : Type 0 where

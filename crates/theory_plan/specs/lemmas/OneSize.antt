@@ -23,10 +23,9 @@ use Rattle.theory_plan.specs.lemmas.Kept.{length-picked-le}
 use Rattle.theory_plan.specs.lemmas.Level.{count-carried, level, level-exactly}
 use Rattle.theory_plan.specs.lemmas.Need.{tails-few}
 use Rattle.theory_plan.specs.lemmas.Plan.{base-taken-iff, kept-le}
-use Rattle.theory_plan.specs.lemmas.KeepOrDrop.{Step, added, added-asc, added-has, drops, has-in, has-all-but, step}
+use Rattle.theory_plan.specs.lemmas.KeepOrDrop.{Step, added, added-asc, added-has, drops, has-in, has-all-but, stays, step}
 use Rattle.theory_plan.specs.lemmas.MooreHodgson.{list-bases, moore-hodgson-fits}
 use Rattle.theory_plan.specs.lemmas.Words.{Sized, after-anti, due-mono}
-use Rattle.programs.specs.Theorems.{stays}
 
 -- A test that passes from some number of 1 .. n on.
 abbrev pub Rises : ℕ → (ℕ → Bool) → Type 0
