@@ -25,7 +25,7 @@ pub record PlanIs (j : Job) (marks counts : List ℕ) (rows : List Row) : Type 0
   pub rows-are : (p : ℕ → ℕ) → IsPlan j p → ownList j p ≡ rows
 
 -- What is computed of the computed plan holds of every plan.
-planned :
+pub planned :
     (j : Job) (marks counts : List ℕ) (rows : List Row) → refusal j ≡ 0 → marksOf j (plan j) ≡ marks →
     countsOf j (plan j) ≡ counts → ownList j (plan j) ≡ rows → PlanIs j marks counts rows
 planned j marks counts rows ok m c r =
