@@ -3,3 +3,4 @@ pub mod FileLength
 pub mod Puts
 pub mod Runs
 pub mod Shape
+pub mod Slices
