@@ -4,3 +4,4 @@ pub mod Puts
 pub mod Runs
 pub mod Shape
 pub mod Slices
+pub mod Arranged
