@@ -1,6 +1,6 @@
--- Theorems. Document 01, "Jobs worked through": the rows marked † as one table, in the paper's order,
--- a field for each. What a plan is, a verdict, a refusal and a forecast is what the public contracts
--- cite; a row about a plan holds of every plan of the job (Plans).
+-- Theorems. Document 01, "Jobs worked through": the rows marked † as one table, in the paper's
+-- order, a field for each. What a plan is, a verdict, a refusal and a forecast is what the public
+-- contracts cite; a row about a plan holds of every plan of the job (Plans).
 use Prim.Native.Nat.{ℕ, _<_}
 use mathlib.Core.List.{List, [], _∷_}
 use mathlib.Core.Path.{_≡_}
