@@ -19,9 +19,9 @@
  * No result can be mistaken for a refusal. `film_refused(answer)` is the refusal's number, or 0.
  * Whatever else a call hands over, it writes to the start of slices that the caller lends: `T *x,
  * size_t x_len`, without const. If one of them is shorter than what is to be written to it, the
- * call refuses with 11, after all other refusals; in a longer one the elements past the result stay
- * as they are. On a refusal no lent byte is changed. How large the largest results are, say the
- * constants below.
+ * call refuses with 11, after all other refusals (a meter's storage: see there); in a longer one
+ * the elements past the result stay as they are. On a refusal no lent byte is changed. How large
+ * the largest results are, say the constants below.
  *
  * A JOB is handed as C, L, s and the limit (`chunks`, `span`, `delay`, `limit`), the layer sizes
  * (`sizes`, base first), the sizes that differ by chunk (`SZ`: `size_chunks`, `size_layers`,
@@ -497,9 +497,10 @@ uint64_t film_count_word(uint64_t word, uint8_t n);
 
 /* ---- the link meter, in the caller's own storage: ten slots, ten bytes, and how many samples are
  * kept. Only the first `kept` cells mean anything, the newest sample last. A slice shorter than its
- * part of the meter holds no meter: 11. Cells past the first `kept` are not looked at;
- * film_meter_new clears all ten, film_meter_take writes the next one. In longer slices the cells
- * past the tenth, and past the first of `kept`, stay as they are. */
+ * part of the meter holds no meter: 11, before what is kept is judged, whatever `kept` says. Cells
+ * past the first `kept` are not looked at; film_meter_new clears all ten, film_meter_take writes the
+ * next one. In longer slices the cells past the tenth, and past the first of `kept`, stay as they
+ * are. */
 
 /* Makes the storage a meter without samples. Answers 0. Refuses: 11. */
 uint64_t film_meter_new(uint16_t *slots, size_t slots_len, uint32_t *bytes, size_t bytes_len, uint8_t *kept, size_t kept_len);
