@@ -13,7 +13,8 @@ use Rattle.theory_basics.specs.Tests.{All}
 use Rattle.job.specs.Job.{Job}
 use Rattle.fetch.specs.Rows.{Row}
 use Rattle.fetch.specs.Rules.{FewHeld, Keeps, LowerCarried, MarksSay, OnTime, RowInRange, WholeLayers, WithinForecast}
-use Rattle.fetch.specs.Verdict.{lowest, rule1, rule1-iff, rule2, rule2-iff, rule3, rule3-iff, rule4, rule4-iff, rule5, rule5-iff, rule6, rule6-iff, rule7, rule7-iff, verdict, verdict-iff}
+use Rattle.fetch.specs.Verdict.{lowest, rule1, rule2, rule3, rule4, rule5, rule6, rule7, verdict}
+use Rattle.fetch.specs.Theorems.{rule1-iff, rule2-iff, rule3-iff, rule4-iff, rule5-iff, rule6-iff, rule7-iff, verdict-iff}
 
 -- ---- the first test that fails
 

@@ -11,14 +11,15 @@ use lib.Dec.{leb}
 use Rattle.theory_basics.specs.Refusals.{_orElse_, unless}
 use Rattle.theory_basics.specs.lemmas.Refusals.{orElse-iff}
 use Rattle.job.specs.Input.{JobInput, jobIn, jobRefusal}
+use Rattle.job.specs.Job.{chunks}
 use Rattle.fetch.specs.Counts.{wordCount}
 use Rattle.jobrecords.specs.Refusal.{jobOfFile, mixed, refusalOf}
-use Rattle.jobrecords.specs.Reader.{Buffers, jobReadRefusal, roomRefusal as jobRoomRefusal}
+use Rattle.jobrecords.specs.Reader.{jobReadRefusal, roomRefusal as jobRoomRefusal}
 use Rattle.jobfile.specs.Writer.{jobFile, longRefusal, shortRefusal, writeRefusal as jobWriteRefusal}
-use Rattle.planfile.specs.Calls.{ListSlices, planReadRefusal, writeRefusal as planWriteRefusal}
-use Rattle.planfile.specs.PlanFile.{fileOf}
+use Rattle.planfile.specs.Calls.{planOf, planReadRefusal, writeRefusal as planWriteRefusal}
+use Rattle.planfile.specs.PlanFile.{fileOf, planIn}
 use Rattle.planfile.specs.Theorems.{rows-few}
-use Rattle.planner.specs.Answer.{Lent, holds as holdsPlan, planRefusal, planRows}
+use Rattle.planner.specs.Answer.{holds as holdsPlan, planRefusal, planRows}
 use Rattle.planner.specs.declared.Order.{Order}
 use Rattle.planner.specs.declared.Order.the-variants.{Less, More, Same}
 use Rattle.replan.specs.Answer.{ReplanInput, holdsOn, inputRefusal, refusalOn, rowsOn}
@@ -36,13 +37,17 @@ use Rattle.whole_files.specs.Calls.{withRoom}
 use Rattle.whole_files.specs.Files.{filesRefusal, jobFileRefusal, jobSaid, planOfJob, verdictOfFiles}
 use Rattle.core_ffi.specs.Convention.{answered, never-mistaken, refusalIn}
 use Rattle.core_ffi.specs.Asks.{pieces-asked}
-use Rattle.core_ffi.specs.Files.{jobReturnRefusal, jobWriteAnswer, planReadAnswer, planWriteAnswer}
-use Rattle.core_ffi.specs.Lists.{bookAnswer, checkAnswer, checkFromAnswer, countRefusal, releaseAnswer}
+use Rattle.core_ffi.specs.Files.{JobRoom, jobReturnRefusal}
+use Rattle.core_ffi.specs.Lists.{checkAnswer, checkFromAnswer, countRefusal}
 use Rattle.core_ffi.specs.Meters.{Storage, cellsRefusal, meanNumber, meanRefusal, sampledRefusal}
 use Rattle.core_ffi.specs.Plans.{orderNumber, withCounts, withWalk}
 use Rattle.core_ffi.specs.Programs.{verdictAnswer}
-use Rattle.core_ffi.specs.Texts.{reasonsAnswer, reportAnswer, traceReadAnswer, traceWriteAnswer, waitAnswer}
-use Rattle.core_ffi.specs.Theorems.{converted-small, files-small, forecast-made, job-read, job-written, plan-written, reasons-written, report-written, rows-afresh, rows-found, rows-planned, trace-fits, trace-read, verdict-few, verdict-from-few, wait-few, word-few}
+use Rattle.core_ffi.specs.Texts.{waitAnswer}
+use Rattle.core_ffi.specs.Theorems.{converted-small, files-small, forecast-made, job-read, job-written, plan-written, reasons-written, report-written, rows-afresh, rows-found, rows-planned, trace-read}
+use Rattle.fetch.specs.Slices.{ListSlices, RowSlices}
+use Rattle.trace.specs.Theorems.{trace-fits}
+use Rattle.core_ffi.specs.lemmas.Largest.{verdict-few, verdict-from-few, word-few}
+use Rattle.wait.specs.Theorems.{wait-few}
 
 none-first : (a b : ℕ) → (a orElse b) ≡ 0 → a ≡ 0
 none-first a b e = orElse-iff a b .0 e .0
@@ -50,29 +55,29 @@ none-first a b e = orElse-iff a b .0 e .0
 -- ---- files: film_read_job, film_read_mixed_job, film_write_job, film_read_plan, film_write_plan
 
 pub job-read-refused :
-    (sequenced : Bool) (file : List ℕ) (lent : Buffers) (programme lengths : List ℕ) →
-    let refused = jobReturnRefusal sequenced file lent programme lengths in
+    (sequenced : Bool) (file : List ℕ) (lent : JobRoom) →
+    let refused = jobReturnRefusal sequenced file lent in
     refusalIn (answered refused (length (jobOfFile sequenced file .forecast))) ≡ refused
-job-read-refused sequenced file lent programme lengths =
-    never-mistaken (jobReturnRefusal sequenced file lent programme lengths) (length (jobOfFile sequenced file .forecast)) 3600 (omega arith) (λ e.
-    job-read sequenced file (none-first (refusalOf sequenced file) (jobRoomRefusal (jobOfFile sequenced file) lent)
-    (none-first (jobReadRefusal sequenced file lent) (unless 11 (leb 4 (length programme) && leb 2 (length lengths))) e)) .slots)
+job-read-refused sequenced file lent =
+    never-mistaken (jobReturnRefusal sequenced file lent) (length (jobOfFile sequenced file .forecast)) 3600 (omega arith) (λ e.
+    job-read sequenced file (none-first (refusalOf sequenced file) (jobRoomRefusal (jobOfFile sequenced file) (lent .job))
+    (none-first (jobReadRefusal sequenced file (lent .job)) (unless 11 (leb 4 (length (lent .programme)) && leb 2 (length (lent .lengths)))) e)) .slots)
 
-pub job-write-refused : (h : JobInput) (out : List ℕ) → refusalIn (jobWriteAnswer h out) ≡ jobWriteRefusal h (length out)
+pub job-write-refused : (h : JobInput) (out : List ℕ) → refusalIn (answered (jobWriteRefusal h (length out)) (length (jobFile (jobIn h)))) ≡ jobWriteRefusal h (length out)
 job-write-refused h out =
     never-mistaken (jobWriteRefusal h (length out)) (length (jobFile (jobIn h))) 46800 (omega arith) (λ e.
     job-written h (none-first (jobRefusal h) (longRefusal (jobIn h) orElse shortRefusal (jobIn h) (length out)) e))
 
-pub plan-read-refused : (h : JobInput) (file : List ℕ) (lent : ListSlices) → refusalIn (planReadAnswer h file lent) ≡ planReadRefusal h file lent
+pub plan-read-refused : (h : JobInput) (file : List ℕ) (lent : ListSlices) → refusalIn (answered (planReadRefusal h file lent) (length (planIn (chunks (jobIn h)) file .rows))) ≡ planReadRefusal h file lent
 plan-read-refused h file lent = never-mistaken (planReadRefusal h file lent) _ 5957 (omega arith) (rows-few h file lent)
 
-pub plan-write-refused : (h : JobInput) (slices : ListSlices) (out : List ℕ) → refusalIn (planWriteAnswer h slices out) ≡ planWriteRefusal h slices out
+pub plan-write-refused : (h : JobInput) (slices : ListSlices) (out : List ℕ) → refusalIn (answered (planWriteRefusal h slices out) (length (fileOf (planOf slices)))) ≡ planWriteRefusal h slices out
 plan-write-refused h slices out = never-mistaken (planWriteRefusal h slices out) _ 65536 (omega arith) (plan-written h slices out)
 
 -- ---- plans: film_plan, film_replan, film_search, film_live
 
 pub plan-refused :
-    (h : JobInput) (lent : Lent) (counts : List ℕ) →
+    (h : JobInput) (lent : ListSlices) (counts : List ℕ) →
     let refused = withCounts (planRefusal h lent) counts in refusalIn (answered refused (length (planRows (jobIn h)))) ≡ refused
 unfolding withCounts
 plan-refused h lent counts =
@@ -80,7 +85,7 @@ plan-refused h lent counts =
     rows-planned h (none-first (jobRefusal h) (unless 11 (holdsPlan (jobIn h) lent)) (none-first (planRefusal h lent) (unless 11 (leb 4 (length counts))) e)))
 
 pub replan-refused :
-    (h : JobInput) (o : ReplanInput) (lent : Lent) (counts : List ℕ) →
+    (h : JobInput) (o : ReplanInput) (lent : ListSlices) (counts : List ℕ) →
     let refused = withCounts (refusalOn h o lent) counts in refusalIn (answered refused (length (rowsOn h o))) ≡ refused
 unfolding withCounts
 replan-refused h o lent counts =
@@ -88,7 +93,7 @@ replan-refused h o lent counts =
     rows-afresh h o (none-first (inputRefusal h o) (unless 11 (holdsOn h o lent)) (none-first (refusalOn h o lent) (unless 11 (leb 4 (length counts))) e)))
 
 pub search-refused :
-    (h : JobInput) (budget : ℕ) (lent : Lent) (counts walk : List ℕ) →
+    (h : JobInput) (budget : ℕ) (lent : ListSlices) (counts walk : List ℕ) →
     let refused = withWalk (searchRefusal h budget lent) counts walk in refusalIn (answered refused (length (rowsFound (jobIn h) budget))) ≡ refused
 unfolding withWalk
 search-refused h budget lent counts walk =
@@ -103,22 +108,17 @@ live-refused i l =
 
 -- ---- lists: film_check, film_check_from, film_book, film_release, film_count_marks
 
-pub check-refused : (h : JobInput) (marks slots chunks layers bytes : List ℕ) → refusalIn (checkAnswer h marks slots chunks layers bytes) ≡ checkRefusal h marks slots chunks layers bytes
-check-refused h marks slots chunks layers bytes =
-    never-mistaken (checkRefusal h marks slots chunks layers bytes) _ 7 (omega arith) (λ e. verdict-few (jobIn h) marks _)
+pub check-refused : (h : JobInput) (s : ListSlices) → refusalIn (checkAnswer h s) ≡ checkRefusal h s
+check-refused h s = never-mistaken (checkRefusal h s) _ 7 (omega arith) (λ e. verdict-few (jobIn h) (s .marks) _)
 
-pub check-from-refused :
-    (h : JobInput) (from : ℕ) (marks slots chunks layers bytes : List ℕ) →
-    refusalIn (checkFromAnswer h from marks slots chunks layers bytes) ≡ checkFromRefusal h from marks slots chunks layers bytes
-check-from-refused h from marks slots chunks layers bytes =
-    never-mistaken (checkFromRefusal h from marks slots chunks layers bytes) _ 7 (omega arith) (λ e. verdict-from-few (jobIn h) from marks _)
+pub check-from-refused : (h : JobInput) (from : ℕ) (s : ListSlices) → refusalIn (checkFromAnswer h from s) ≡ checkFromRefusal h from s
+check-from-refused h from s = never-mistaken (checkFromRefusal h from s) _ 7 (omega arith) (λ e. verdict-from-few (jobIn h) from (s .marks) _)
 
-pub book-refused : (h : JobInput) (marks slots chunks layers bytes : List ℕ) → refusalIn (bookAnswer h marks slots chunks layers bytes) ≡ bookRefusal h marks slots chunks layers bytes
-book-refused h marks slots chunks layers bytes =
-    never-mistaken (bookRefusal h marks slots chunks layers bytes) 0 0 (omega arith) (λ e. omega arith)
+pub book-refused : (h : JobInput) (s : ListSlices) → refusalIn (answered (bookRefusal h s) 0) ≡ bookRefusal h s
+book-refused h s = never-mistaken (bookRefusal h s) 0 0 (omega arith) (λ e. omega arith)
 
-pub release-refused : (h : JobInput) (slots chunks layers bytes : List ℕ) → refusalIn (releaseAnswer h slots chunks layers bytes) ≡ releaseRefusal h slots chunks layers bytes
-release-refused h slots chunks layers bytes = never-mistaken (releaseRefusal h slots chunks layers bytes) 0 0 (omega arith) (λ e. omega arith)
+pub release-refused : (h : JobInput) (s : RowSlices) → refusalIn (answered (releaseRefusal h s) 0) ≡ releaseRefusal h s
+release-refused h s = never-mistaken (releaseRefusal h s) 0 0 (omega arith) (λ e. omega arith)
 
 pub count-refused : (count : List ℕ) → refusalIn (answered (countRefusal count) 0) ≡ countRefusal count
 count-refused count = never-mistaken (countRefusal count) 0 0 (omega arith) (λ e. omega arith)
@@ -134,22 +134,22 @@ compare-unrefused More = omega arith
 
 -- ---- texts: film_report, film_reasons, film_read_trace, film_write_trace, film_wait
 
-pub report-refused : (h : JobInput) (out : List ℕ) → refusalIn (reportAnswer h out) ≡ reportRefusal h out
+pub report-refused : (h : JobInput) (out : List ℕ) → refusalIn (answered (reportRefusal h out) (length (planReport (jobIn h)))) ≡ reportRefusal h out
 report-refused h out =
     never-mistaken (reportRefusal h out) (length (planReport (jobIn h))) 7633 (omega arith) (λ e.
     report-written h (none-first (jobRefusal h) (reportRoomRefusal (planReport (jobIn h)) out) e))
 
-pub reasons-refused : (h : JobInput) (out : List ℕ) → refusalIn (reasonsAnswer h out) ≡ reasonsRefusal h out
+pub reasons-refused : (h : JobInput) (out : List ℕ) → refusalIn (answered (reasonsRefusal h out) (length (planText (jobIn h)))) ≡ reasonsRefusal h out
 reasons-refused h out =
     never-mistaken (reasonsRefusal h out) (length (planText (jobIn h))) 94000 (omega arith) (λ e.
     reasons-written h (none-first (jobRefusal h) (unless 11 (leb (length (planText (jobIn h))) (length out))) e))
 
-pub trace-read-refused : (trace : List ℕ) (slots : ℕ) (forecast : List ℕ) → refusalIn (traceReadAnswer trace slots forecast) ≡ traceReadRefusal trace slots (length forecast)
+pub trace-read-refused : (trace : List ℕ) (slots : ℕ) (forecast : List ℕ) → refusalIn (answered (traceReadRefusal trace slots (length forecast)) slots) ≡ traceReadRefusal trace slots (length forecast)
 trace-read-refused trace slots forecast =
     never-mistaken (traceReadRefusal trace slots (length forecast)) slots 3600 (omega arith) (λ e.
     trace-read trace slots (none-first (traceRefusal slots trace) (unless 11 (leb slots (length forecast))) e))
 
-pub trace-write-refused : (forecast out : List ℕ) → refusalIn (traceWriteAnswer forecast out) ≡ traceWriteRefusal forecast (length out)
+pub trace-write-refused : (forecast out : List ℕ) → refusalIn (answered (traceWriteRefusal forecast (length out)) (length (traceOf forecast))) ≡ traceWriteRefusal forecast (length out)
 trace-write-refused forecast out =
     never-mistaken (traceWriteRefusal forecast (length out)) (length (traceOf forecast)) 322099200 (omega arith) (λ e.
     trace-fits forecast (none-first (unwritableRefusal forecast) (unless 11 (leb (length (traceOf forecast)) (length out))) e))

@@ -17,7 +17,7 @@ use Rattle.records.specs.File.{split, encodeAll}
 use Rattle.records.specs.lemmas.Written.{split-written, refusal-written}
 use Rattle.records.specs.lemmas.Exact.{split-exact, none-end}
 use Rattle.job.specs.Job.{Job, Accepted}
-use Rattle.job.specs.Input.{JobInput, input-iff, jobIn, jobRefusal}
+use Rattle.job.specs.Input.{JobInput, jobIn, jobRefusal}
 use Rattle.jobrecords.specs.declared.JobRead.the-variants as jobRead
 use Rattle.jobrecords.specs.declared.Record.{Record}
 use Rattle.jobrecords.specs.declared.Record.the-variants.{En}
@@ -33,6 +33,7 @@ use Rattle.jobfile.specs.lemmas.FileLength.{short-file}
 use Rattle.jobfile.specs.lemmas.Back.{end-back, records-back, records-clean, nothing-lacking, job-back}
 use Rattle.jobfile.specs.lemmas.Shape.{records-of}
 use Rattle.jobfile.specs.lemmas.Slices.{overrides-handed, overrides-many}
+use Rattle.job.specs.Theorems.{input-iff}
 
 -- ---- "Job and plan files read back as the job and plan written."
 

@@ -11,7 +11,7 @@ use borrow.Author.Tests.{ne-eqb}
 use Rattle.theory_basics.specs.Tests.{All}
 use Rattle.theory_basics.specs.lemmas.Tests.{all-map, and-T}
 use Rattle.job.specs.Job.{Accepted, Job, jobOf, sizeIn}
-use Rattle.job.specs.Refusal.{accepted-iff, refusal}
+use Rattle.job.specs.Refusal.{refusal}
 use Rattle.fetch.specs.Rows.{Row, Carried, bytesIf, bytesInSlot, bytesOfLayer}
 use Rattle.fetch.specs.Rules.{OnTime, Passes, RowInRange}
 use Rattle.theory_plan.specs.Plan.{fits}
@@ -19,6 +19,7 @@ use Rattle.theory_plan.specs.Statement.{CanCarry, Choice}
 use Rattle.theory_plan.specs.Theorems.{decision}
 use Rattle.theory_plan.specs.lemmas.Count.{bytes-mono}
 use Rattle.theory_plan.specs.lemmas.Words.{accepted-sized}
+use Rattle.job.specs.Theorems.{accepted-iff}
 
 -- C 2, L 1, s 1, limit 1, bases of 2 bytes: due slots 1 and 2, H 1.
 abbrev pub link : List ℕ → Job

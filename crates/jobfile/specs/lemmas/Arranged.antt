@@ -16,7 +16,7 @@ use Rattle.records.specs.lemmas.Written.{Plain}
 use Rattle.records.specs.lemmas.Exact.{NoEnd}
 use Rattle.job.specs.declared.Programme.{Programme}
 use Rattle.job.specs.Job.{Accepted, Within}
-use Rattle.job.specs.Refusal.{delay-iff, delayRefusal, fieldsRefusal, film-iff, filmRefusal, last-due-iff, lastDueRefusal, overrides-iff, overridesRefusal, slots-iff, slotsRefusal, within}
+use Rattle.job.specs.Refusal.{delayRefusal, fieldsRefusal, filmRefusal, lastDueRefusal, overridesRefusal, slotsRefusal, within}
 use Rattle.jobrecords.specs.declared.Record.{Record}
 use Rattle.jobrecords.specs.declared.Record.the-variants.{Pg, Ly, Sz, Bw, En}
 use Rattle.jobrecords.specs.Records.{encode}
@@ -26,6 +26,7 @@ use Rattle.jobrecords.specs.lemmas.Clean.{Faultless, faultless, first-programme
 use Rattle.jobrecords.specs.lemmas.Joined.{forecast-append, has-append, has-same, sizes-append}
 use Rattle.jobfile.specs.Arranged.{MayStand, programmes, withEnd}
 use Rattle.jobfile.specs.lemmas.Back.{Narrow, layer-back, layer-clean, programme-back, run-back, run-clean}
+use Rattle.job.specs.Theorems.{delay-iff, film-iff, last-due-iff, overrides-iff, slots-iff}
 
 -- ---- a record in range
 
