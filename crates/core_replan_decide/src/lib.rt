@@ -10,16 +10,13 @@ use job::SlotSums;
 ghost use mathlib.Core.Path.{_≡_};
 ghost use mathlib.Core.Bool.{_&&_, cond};
 ghost use Prim.Native.Nat.{ℕ, _+_, _-_, _<_, _≤_, max};
-ghost use lib.ListN.{length, getD, drop};
+ghost use lib.ListN.{length};
 ghost use lib.Dec.{leb, ltb, eqb};
-ghost use Rattle.theory_basics.specs.Lists.{upTo};
-ghost use Rattle.theory_basics.specs.Lent.{over};
 ghost use Rattle.core_sizes.specs.Table.{tableAt};
 ghost use Rattle.core_replan_decide.specs.lemmas.Tables.{Falls, NeedCapPost, PlacesBelowPost, LastBegunPost};
 ghost use Rattle.core_replan_decide.specs.lemmas.Tables.{FindFrontPre, FindFrontPost, CanKeepPre, CanKeepPost};
 ghost use Rattle.core_replan_decide.specs.lemmas.Tables.{NewBasesPre, NewBasesPost};
 ghost use Rattle.core_replan_decide.specs.lemmas.Begun.{choose, KeepBegunPre, KeepBegunPost};
-ghost use Rattle.core_decide.specs.lemmas.Marks.{markOr};
 ghost use Rattle.core_replan_decide.specs.lemmas.Decision.{DecidePre, DecidePost};
 ghost use Rattle.theory_plan.specs.Bases.{Asc};
 
@@ -319,61 +316,6 @@ fn keep_begun(
         q = r;
     }
     first
-}
-
-fn wide(x: u16) -> usize
-    ensures { λ r. ⌜ r ≡ x ⌝ }
-{
-    x as usize
-}
-
-// Whether the kept chunk at place q is this one.
-fn is_at(ids: &[u16; CHUNKS], q: usize, chunk: usize) -> bool
-    requires { ⌜ (1 ≤ chunk) × (length (now ids) ≡ 500) ⌝ }
-    ensures { λ r. ⌜ r ≡ eqb (getD (now (ids .entry)) q 0) chunk ⌝ }
-{
-    if q < CHUNKS {
-        return wide(ids[q]) == chunk;
-    }
-    false
-}
-
-// A mark for each chunk: the one at its place among the chunks begun or kept, or else what is
-// whole.
-pub fn spread(
-    ids: &[u16; CHUNKS],
-    mark: &[u8; CHUNKS],
-    first: usize,
-    whole: &[u8; CHUNKS],
-    count: usize,
-    marks: &mut [u8],
-)
-    requires { ⌜ (first ≤ 500)
-        × (count ≤ 500)
-        × (count ≤ length (now marks))
-        × Asc 1 count (drop first (now ids))
-        × (length (now ids) ≡ 500)
-        × (length (now mark) ≡ 500)
-        × (length (now whole) ≡ 500) ⌝ }
-    ensures { λ _. ⌜ now (marks .exit) ≡ over
-        (upTo
-        (λ i.
-        markOr (getD (now (whole .entry)) i 0) (i + 1) (drop first (now (ids .entry)))
-        (drop first (now (mark .entry)))) count) (now (marks .entry)) ⌝ }
-{
-    let mut q = first;
-    let mut i: usize = 0;
-    while i < count {
-        let chunk = i + 1;
-        if is_at(ids, q, chunk) {
-            marks[i] = mark[q];
-            q = q + 1;
-            i = chunk;
-        } else {
-            marks[i] = whole[i];
-            i = chunk;
-        }
-    }
 }
 
 // The decision made afresh at slot start, over the part of the forecast from there on: the chunks

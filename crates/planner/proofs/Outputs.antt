@@ -82,6 +82,37 @@ module _ (x : Result) {marks slots cs layers bytes : List ℕ} {r : Planned} whe
   over-short {n} e h o =
       over-refused (shortRefusal (x .rows) slots cs layers bytes) 11 (ap (λ (m : ℕ). unless 11 (rowsHold m slots cs layers bytes)) (sym e) ∙ rw h) (λ z. omega arith) o
 
+-- What was laid, whole or not at all.
+module _
+    (x : Result) {marks slots cs layers bytes : List ℕ} {made : Output} {marks' slots' cs' layers' bytes' : List ℕ}
+    (l : WritePost x marks slots cs layers bytes made marks' slots' cs' layers' bytes') where
+  stands : made .whole ≡ true → Stands x (made .rows) (made .counts) marks slots cs layers bytes marks' slots' cs' layers' bytes'
+  stands t =
+      record {
+        rows-are = l .rows;
+        counts-are = l .counts;
+        marks-are = l .marks-are ∙ rw t;
+        slots-are = l .slots-are ∙ rw t;
+        chunks-are = l .chunks-are ∙ rw t;
+        layers-are = l .layers-are ∙ rw t;
+        bytes-are = l .bytes-are ∙ rw t;
+      }
+
+  room : (v : Bool) → made .whole ≡ v → rowsHold (made .rows) slots cs layers bytes ≡ v
+  room v t = ap (λ (n : ℕ). rowsHold n slots cs layers bytes) (l .rows) ∙ sym (l .whole) ∙ t
+
+  pub over-laid :
+      {r : Planned} → (r .answer ≡ cond (made .whole) (Rows (made .rows)) (Refused 11)) × (r .counts ≡ cond (made .whole) (made .counts) (0 ∷ 0 ∷ 0 ∷ 0 ∷ [])) →
+      Outputs (shortRefusal (x .rows) slots cs layers bytes) x marks slots cs layers bytes r marks' slots' cs' layers' bytes'
+  over-laid {r} a =
+      ⊎-elim
+      (λ t. let e = T-true (made .whole) t in over-fits x (room true e) (a .0 ∙ rw e, a .1 ∙ rw e) (stands e))
+      (λ t.
+      let e = not-T-false (made .whole) t in
+      unlaid l e (λ m s c y b. Outputs (shortRefusal (x .rows) slots cs layers bytes) x marks slots cs layers bytes r m s c y b)
+      (over-short x (l .rows) (room false e) (a .0 ∙ rw e, a .1 ∙ rw e)))
+      (test (made .whole))
+
 -- ---- so for the plan
 
 -- What is handed over of it.
@@ -136,33 +167,12 @@ module _ (h : JobInput) (marks slots cs layers bytes : List ℕ) where
       output-by (shortRefusal (planRows j) slots cs layers bytes) (orElse-none (jobRefusal h) (unless 11 (holds j lent)) e ∙ rw (le-leb (chunks j) (length marks) f))
 
   -- What was laid, whole or not at all.
-  module _ (z : jobRefusal h ≡ 0) (fit : chunks j ≤ length marks) {made : Output} {marks' slots' cs' layers' bytes' : List ℕ} (l : WritePost j (plan j) marks slots cs layers bytes made marks' slots' cs' layers' bytes') where
-    stands : made .whole ≡ true → Stands (planned j) (made .rows) (made .counts) marks slots cs layers bytes marks' slots' cs' layers' bytes'
-    stands t =
-        record {
-          rows-are = l .rows;
-          counts-are = l .counts;
-          marks-are = l .marks-are ∙ rw t;
-          slots-are = l .slots-are ∙ rw t;
-          chunks-are = l .chunks-are ∙ rw t;
-          layers-are = l .layers-are ∙ rw t;
-          bytes-are = l .bytes-are ∙ rw t;
-        }
-
-    room : (v : Bool) → made .whole ≡ v → rowsHold (made .rows) slots cs layers bytes ≡ v
-    room v t = ap (λ (n : ℕ). rowsHold n slots cs layers bytes) (l .rows) ∙ sym (l .whole) ∙ t
-
-    pub output-laid :
-        (r : Planned) → (r .answer ≡ cond (made .whole) (Rows (made .rows)) (Refused 11)) × (r .counts ≡ cond (made .whole) (made .counts) (0 ∷ 0 ∷ 0 ∷ 0 ∷ [])) →
-        PlanOutput h (slicesOf marks slots cs layers bytes) r (slicesOf marks' slots' cs' layers' bytes')
-    output-laid r x =
-        ⊎-elim
-        (λ t. let e = T-true (made .whole) t in fit-marks z fit (over-fits (planned j) (room true e) (x .0 ∙ rw e, x .1 ∙ rw e) (stands e)))
-        (λ t.
-        let e = not-T-false (made .whole) t in
-        unlaid l e (λ m s c y b. PlanOutput h (slicesOf marks slots cs layers bytes) r (slicesOf m s c y b))
-        (fit-marks z fit (over-short (planned j) (l .rows) (room false e) (x .0 ∙ rw e, x .1 ∙ rw e))))
-        (test (made .whole))
+  pub output-laid :
+      jobRefusal h ≡ 0 → chunks j ≤ length marks → {made : Output} {marks' slots' cs' layers' bytes' : List ℕ} →
+      WritePost (planned j) marks slots cs layers bytes made marks' slots' cs' layers' bytes' →
+      (r : Planned) → (r .answer ≡ cond (made .whole) (Rows (made .rows)) (Refused 11)) × (r .counts ≡ cond (made .whole) (made .counts) (0 ∷ 0 ∷ 0 ∷ 0 ∷ [])) →
+      PlanOutput h (slicesOf marks slots cs layers bytes) r (slicesOf marks' slots' cs' layers' bytes')
+  output-laid z fit l r x = fit-marks z fit (over-laid (planned j) l x)
 
 -- ---- what writing the plan asks for
 

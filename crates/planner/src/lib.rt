@@ -59,7 +59,7 @@ pub fn refused(n: u8) -> Planned
 }
 
 // The answer for what was laid: its rows and counts where the slices hold it whole, else 11.
-fn answered(made: Output) -> Planned
+pub fn answered(made: Output) -> Planned
     ensures { λ r. ⌜ (r .answer ≡ cond (made .whole) (Answer.Rows (made .rows)) (Answer.Refused 11))
         × (r .counts ≡ cond (made .whole) (made .counts) (0 ∷ 0 ∷ 0 ∷ 0 ∷ [])) ⌝ }
 {
@@ -107,6 +107,8 @@ fn write_decided(
     let mut ids = [0u16; CHUNKS];
     let mut ready = [0u16; CHUNKS];
     let mut mark = [1u8; CHUNKS];
+    // A chunk that is left out has the mark 0.
+    let none = [0u8; CHUNKS];
     let count = p.chunks as usize;
     let first = core_decide::decide(
         p,
@@ -121,11 +123,14 @@ fn write_decided(
     let made = core_output::write_plan(
         count,
         forecast,
+        1,
+        false,
         &table,
         first,
         &ids,
         &ready,
         &mark,
+        &none,
         marks,
         slots,
         chunks,

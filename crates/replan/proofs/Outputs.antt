@@ -27,7 +27,7 @@ use Rattle.planner.specs.declared.Planned.{Planned}
 use Rattle.planner.specs.lemmas.Outputs.{Outputs, shortRefusal}
 use Rattle.core_slices.specs.lemmas.Slices.{Result}
 use Rattle.replan.specs.Answer.{fetched, ReplanOutput, ReplanInput, holdsOn, inputRefusal, jobOn, planAfresh, refusalOn, rowsOn}
-use Rattle.core_replan_output.specs.lemmas.Writing.{Each, WritePre, madeAfresh, WritePost}
+use Rattle.replan.specs.lemmas.Afresh.{Each, WriteAfreshPre, madeAfresh, WriteAfreshPost}
 use Rattle.replan.specs.lemmas.Asked.{askedRefusal}
 use Rattle.replan.specs.Theorems.{afresh-none, settled-afresh}
 use Rattle.replan.proofs.Asked.{Asked, asked-none, input-is}
@@ -150,7 +150,7 @@ module _ (h : JobInput) (o : ReplanInput) (z : askedRefusal h o ≡ 0) where
       replannable : Replannable (jobIn h) (o .from) (fetched o) (o .onward)
       replannable = replan-refusal-iff (jobIn h) (o .from) (fetched o) (o .onward) .0 (afresh-none h o none-left .1)
 
-      pub lay-from : {marks : List ℕ} → chunks (jobIn h) ≤ length marks → WritePre (h .programme) (length (h .sizes)) (o .from) (o .onward) (tableAt left) begun whole marks
+      pub lay-from : {marks : List ℕ} → chunks (jobIn h) ≤ length marks → WriteAfreshPre (h .programme) (length (h .sizes)) (o .from) (o .onward) (tableAt left) begun whole marks
       lay-from fit =
           record {
             real =
@@ -172,7 +172,7 @@ module _ (h : JobInput) (o : ReplanInput) (z : askedRefusal h o ≡ 0) where
 
       pub output-laid :
           {marks slots cs layers bytes : List ℕ} {r : Planned} {marks' slots' cs' layers' bytes' : List ℕ} → chunks (jobIn h) ≤ length marks →
-          Each (h .programme) (length (h .sizes)) (o .from) (o .onward) (tableAt left) begun whole (λ j rows plan. WritePost j (o .from) rows plan marks slots cs layers bytes r marks' slots' cs' layers' bytes') →
+          Each (h .programme) (length (h .sizes)) (o .from) (o .onward) (tableAt left) begun whole (λ j rows plan. WriteAfreshPost j (o .from) rows plan marks slots cs layers bytes r marks' slots' cs' layers' bytes') →
           ReplanOutput h o (slicesOf marks slots cs layers bytes) r (slicesOf marks' slots' cs' layers' bytes')
       output-laid {marks} {slots} {cs} {layers} {bytes} fit e =
           fit-marks h o marks slots cs layers bytes none-left fit

@@ -24,7 +24,7 @@ use Rattle.fetch.specs.Slices.{ListSlices, slicesOf}
 use Rattle.theory_plan.specs.Statement.{countsOf, marksOf}
 use Rattle.core_decide.specs.lemmas.Decision.{Decides}
 use Rattle.core_output.specs.declared.Output.{Output}
-use Rattle.core_output.specs.lemmas.Writing.{Decided, WritePost}
+use Rattle.core_output.specs.lemmas.Writing.{Decided, ownResult, WritePost}
 use Rattle.core_output.proofs.Writing.{unlaid}
 use Rattle.planner.specs.declared.Answer.the-variants.{Rows}
 use Rattle.theory_search.specs.Search.{found, planOver}
@@ -87,7 +87,7 @@ module _ (h : JobInput) (budget : ℕ) (marks slots cs layers bytes : List ℕ) 
 
   module _
       (z : jobRefusal h ≡ 0) (fit : chunks j ≤ length marks) {made : Output} {marks' slots' cs' layers' bytes' : List ℕ}
-      (l : WritePost j (planFound j budget) marks slots cs layers bytes made marks' slots' cs' layers' bytes') {steps short : ℕ} {ended : Bool}
+      (l : WritePost (ownResult j (planFound j budget)) marks slots cs layers bytes made marks' slots' cs' layers' bytes') {steps short : ℕ} {ended : Bool}
       (st : steps ≡ found j budget .steps) (en : ended ≡ found j budget .ended) (sh : short ≡ found j budget .shortfall) (r : Searched) where
     -- Whole,
     laid-whole :

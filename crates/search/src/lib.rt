@@ -171,6 +171,8 @@ fn write_found(
     let mut ids = [0u16; CHUNKS];
     let mut ready = [0u16; CHUNKS];
     let mut mark = [1u8; CHUNKS];
+    // A chunk that is left out has the mark 0.
+    let none = [0u8; CHUNKS];
     let count = p.chunks as usize;
     let out = decide(
         p,
@@ -186,11 +188,14 @@ fn write_found(
     let made = core_output::write_plan(
         count,
         forecast,
+        1,
+        false,
         &table,
         first,
         &ids,
         &ready,
         &mark,
+        &none,
         marks,
         slots,
         chunks,

@@ -80,8 +80,8 @@ returns-3 c =
     let n = none-left h o z its (c .before .before .before .before .gather .ensures) (not-false _ (c .before .before .before .if2 .left)) in
     record { output = short-marks h o _ _ _ _ _ n (c .before .if3 .taken) _ (c .refused3 .ensures); settled = settled-afresh h o; standing = standing-goes-on h o }
 
-write-plan-requires : tie.Need-write-plan-requires
-write-plan-requires c κs =
+write-afresh-requires : tie.Need-write-afresh-requires
+write-afresh-requires c κs =
     let a = c .before .before .before .before .before .before .before .before .before .before .before .before .before .before .before .before .before .before .before .before .before .before .before .before .before .before .before .before .before .before .before .before .before .before .before .before .before .args in
     let h = jobInput (a .p) (now (a .sizes)) (now (a .size-chunks)) (now (a .size-layers)) (now (a .size-bytes)) (now (a .forecast)) in
     let o = replanInput (a .from) (now (a .fetched-slots)) (now (a .fetched-chunks)) (now (a .fetched-layers)) (now (a .fetched-bytes)) (now (a .onward)) in
@@ -111,7 +111,7 @@ returns-4 c =
     let o = replanInput (a .from) (now (a .fetched-slots)) (now (a .fetched-chunks)) (now (a .fetched-layers)) (now (a .fetched-bytes)) (now (a .onward)) in
     let z = none (c .before .before .before .before .before .before .before .before .before .before .before .before .before .before .before .before .before .before .before .before .before .before .before .before .before .before .before .before .before .before .before .before .asked-refusal .ensures) (c .before .before .before .before .before .before .before .before .before .before .before .before .before .before .before .before .before .before .before .before .before .before .before .before .before .before .before .before .before .before .before .if1 .left) in
     let its = c .before .before .before .before .before .before .before .before .before .before .before .before .before .before .before .before .before .before .before .before .before .before .before .before .before .before .before .before .fill-sizes .ensures (length-replicate {A = ℕ} 2000 (a .p .chunks)) in
-    record { output = output-laid h o z its (c .before .before .before .before .before .before .before .before .before .before .before .before .before .before .before .before .before .before .before .before .before .before .gather .ensures) (not-false _ (c .before .before .before .before .before .before .before .before .before .before .before .before .before .before .before .before .before .before .before .before .before .if2 .left)) (c .before .before .before .before .before .before .before .before .before .before .before .before .before .before .before .before .before .before .before .if3 .left) (c .before .before .before .before .before .before .before .before .before .before .write-plan .ensures); settled = settled-afresh h o; standing = standing-goes-on h o }
+    record { output = output-laid h o z its (c .before .before .before .before .before .before .before .before .before .before .before .before .before .before .before .before .before .before .before .before .before .before .gather .ensures) (not-false _ (c .before .before .before .before .before .before .before .before .before .before .before .before .before .before .before .before .before .before .before .before .before .if2 .left)) (c .before .before .before .before .before .before .before .before .before .before .before .before .before .before .before .before .before .before .before .if3 .left) (c .before .before .before .before .before .before .before .before .before .before .write-afresh .ensures); settled = settled-afresh h o; standing = standing-goes-on h o }
 
 pub replan-spec : {M : Type 1} → statement M
 replan-spec =
@@ -130,7 +130,7 @@ replan-spec =
     cast-if3
     refused-requires-3
     returns-3
-    write-plan-requires
+    write-afresh-requires
     same-length
     same-length-2
     same-length-3

@@ -1,5 +1,5 @@
--- Lemmas. What the functions hand each other: the plan made afresh laid out where there is room, or
--- aside and copied. For every job and rows with these tables (core_replan_fill, Rows).
+-- Lemmas. What `write_afresh` is handed and leaves: the plan made afresh, of every job and rows with
+-- these tables.
 use Prim.Native.Nat.{ℕ, suc, _≤_}
 use mathlib.Core.Path.{_≡_}
 use mathlib.Core.List.{List}
@@ -8,15 +8,13 @@ use Rattle.job.specs.Job.{Accepted, Job, Override}
 use Rattle.job.specs.declared.Programme.{Programme}
 use Rattle.fetch.specs.Rows.{Row}
 use Rattle.theory_plan.specs.Statement.{countsOf, marksOf}
-use Rattle.core_slices.specs.lemmas.Slices.{Result, Stands}
+use Rattle.core_slices.specs.lemmas.Slices.{Result}
 use Rattle.planner.specs.declared.Planned.{Planned}
 use Rattle.planner.specs.lemmas.Outputs.{Outputs, shortRefusal}
 use Rattle.theory_replan.specs.Own.{ownRest}
 use Rattle.theory_replan.specs.Statement.{Acceptable, IsReplan}
 use Rattle.core_replan_decide.specs.lemmas.Decision.{Tabled, jobFrom}
 use Rattle.core_replan_decide.specs.lemmas.Tables.{Small}
-use Rattle.core_replan_fill.specs.lemmas.Rows.{Real}
-use Rattle.core_replan_output.specs.declared.Filled.{Filled}
 
 -- Of each job with these tables, each rows and each plan made afresh of it.
 pub record Each (p : Programme) (layers start : ℕ) (part : List ℕ) (left : ℕ → ℕ → ℕ) (begun whole : List ℕ) (P : Job → List Row → (ℕ → ℕ) → Type 0) : Type 0 where
@@ -30,18 +28,24 @@ pub record Each (p : Programme) (layers start : ℕ) (part : List ℕ) (left : �
 abbrev pub madeAfresh : Job → ℕ → List Row → (ℕ → ℕ) → Result
 madeAfresh j start fetched plan = record { marks = marksOf j plan; counts = countsOf j plan; rows = ownRest j start fetched plan }
 
--- It stands in the slices.
-abbrev pub FillPost : Job → ℕ → List Row → (ℕ → ℕ) → (marks slots cs ls bytes : List ℕ) → Filled → (marks′ slots′ cs′ ls′ bytes′ : List ℕ) → Type 0
-FillPost j start fetched plan marks slots cs ls bytes r marks′ slots′ cs′ ls′ bytes′ =
-    Stands (madeAfresh j start fetched plan) (r .rows) (r .counts) marks slots cs ls bytes marks′ slots′ cs′ ls′ bytes′
-
--- The same, or where the rows have no room, 11 and nothing else.
-abbrev pub WritePost : Job → ℕ → List Row → (ℕ → ℕ) → (marks slots cs ls bytes : List ℕ) → Planned → (marks′ slots′ cs′ ls′ bytes′ : List ℕ) → Type 0
-WritePost j start fetched plan marks slots cs ls bytes r marks′ slots′ cs′ ls′ bytes′ =
+-- It stands in the slices, or where the rows have no room, 11 and nothing else.
+abbrev pub WriteAfreshPost : Job → ℕ → List Row → (ℕ → ℕ) → (marks slots cs ls bytes : List ℕ) → Planned → (marks′ slots′ cs′ ls′ bytes′ : List ℕ) → Type 0
+WriteAfreshPost j start fetched plan marks slots cs ls bytes r marks′ slots′ cs′ ls′ bytes′ =
     Outputs (shortRefusal (ownRest j start fetched plan) slots cs ls bytes) (madeAfresh j start fetched plan) marks slots cs ls bytes r marks′ slots′ cs′ ls′ bytes′
 
--- What the layout asks, room for the rows apart.
-pub record WritePre (p : Programme) (layers start : ℕ) (part : List ℕ) (left : ℕ → ℕ → ℕ) (begun whole marks : List ℕ) : Type 0 where
+-- Some accepted job and acceptable rows have these tables.
+pub record Real (p : Programme) (layers start : ℕ) (part : List ℕ) (left : ℕ → ℕ → ℕ) (begun whole : List ℕ) : Type 0 where
+  pub sizes : List ℕ
+  pub overrides : List Override
+  pub earlier : List ℕ
+  pub fetched : List Row
+  pub layers-are : layers ≡ length sizes
+  pub starts : start ≡ suc (length earlier)
+  pub accepted : Accepted (jobFrom p sizes overrides earlier part)
+  pub acceptable : Acceptable (jobFrom p sizes overrides earlier part) start fetched
+  pub tabled : Tabled (jobFrom p sizes overrides earlier part) fetched left begun whole
+
+pub record WriteAfreshPre (p : Programme) (layers start : ℕ) (part : List ℕ) (left : ℕ → ℕ → ℕ) (begun whole marks : List ℕ) : Type 0 where
   pub real : Real p layers start part left begun whole
   pub small : Small left
   pub long : (length begun ≡ 500) × (length whole ≡ 500)

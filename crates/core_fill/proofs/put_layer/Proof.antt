@@ -1,8 +1,8 @@
 -- `put_layer` meets its contract.
 use borrow.Author.Needs.{needs}
-use Rattle.core_replan_fill.proofs.put_layer.Statement.{statement}
-use Rattle.core_replan_fill.proofs.Chunks.{one-fits, one-puts, one-room}
-use Rattle.core_replan_fill.proofs.put_layer.Tie as tie
+use Rattle.core_fill.proofs.put_layer.Statement.{statement}
+use Rattle.core_fill.proofs.Left.{one-fits, one-puts, one-room}
+use Rattle.core_fill.proofs.put_layer.Tie as tie
 use denote.Ref.{now}
 
 begin-requires : tie.Need-begin-requires

@@ -1,8 +1,8 @@
--- `put_chunk` meets its contract: the layers below n are placed.
+-- `put_left` meets its contract: the layers below n are placed.
 use Rattle.core_fill.specs.lemmas.Filling.{levelOf}
-use Rattle.core_replan_fill.proofs.put_chunk.Statement.{statement}
-use Rattle.core_replan_fill.proofs.Chunks.{below-level, in-four, layer-from, Layering, layering-end, layering-more, layering-skip, layering-start}
-use Rattle.core_replan_fill.proofs.put_chunk.Tie as tie
+use Rattle.core_fill.proofs.put_left.Statement.{statement}
+use Rattle.core_fill.proofs.Left.{below-level, in-four, layer-from, Layering, layering-end, layering-more, layering-skip, layering-start}
+use Rattle.core_fill.proofs.put_left.Tie as tie
 use mathlib.Core.Path.{sym, _∙_, _≡_}
 use mathlib.Core.Bool.{true}
 use Prim.Native.Nat.{_-_, _<_}
@@ -72,8 +72,8 @@ same-length-4 c = c .before .before .loop .inv .puts .long .b
 returns : tie.Need-returns Inv-loop μ-loop
 returns c = layering-end (c .before .before .before .before .before .before .before .before .pre) (c .before .before .loop .inv) (sym (c .before .has .ensures) ∙ c .if1 .left)
 
-pub put-chunk-spec : {M : Type 1} → statement M
-put-chunk-spec =
+pub put-left-spec : {M : Type 1} → statement M
+put-left-spec =
     tie.close
     (tie.spec
     Inv-loop

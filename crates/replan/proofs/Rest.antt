@@ -1,5 +1,5 @@
--- Laws on the rows laid out: the queue that the tables hold is what the fetched rows leave of the
--- plan, and what the slices hold at the end. Assumes nothing.
+-- Laws on the tables of a plan made afresh: the queue that they hold is what the fetched rows leave
+-- of the plan, and they tell its rows, marks and counts. Assumes nothing.
 use mathlib.Core.Path.{_≡_, refl, sym, _∙_, ap, subst}
 use mathlib.Core.Bool.{Bool, true, false, not, cond, _&&_}
 use mathlib.Core.List.{List, [], _∷_, _++_, map, append-assoc, append-nil}
@@ -10,7 +10,6 @@ use lib.ListN.{length, getD, take, drop, length-append, length-drop}
 use lib.Seq.{getD-append-add}
 use lib.Dec.{T, leb, ltb, ltb→lt, nltb→le}
 use borrow.Author.Tests.{eq-eqb, ne-eqb, lt-ltb, le-ltb}
-use Rattle.theory_basics.specs.Lent.{over}
 use Rattle.theory_basics.specs.Lists.{upTo}
 use Rattle.theory_basics.specs.Sums.{sum}
 use Rattle.theory_basics.specs.Tests.{All}
@@ -19,11 +18,11 @@ use Rattle.theory_basics.specs.lemmas.Tables.{all-take}
 use Rattle.theory_basics.specs.lemmas.Tests.{not-T-false, T-true, test}
 use Rattle.job.specs.Job.{Accepted, chunks, due, forecast, heldMost, Job, lastSlot, layers, Override, size, Within}
 use Rattle.job.specs.declared.Programme.{Programme}
-use Rattle.fetch.specs.Rows.{bytesOfLayer, Row, rowBytes, rowChunk, rowLayer, rowSlot}
+use Rattle.fetch.specs.Counts.{markCount}
+use Rattle.fetch.specs.Rows.{bytesOfLayer, Row}
 use Rattle.theory_plan.specs.Own.{carriedTo, wholeLayer}
 use Rattle.theory_plan.specs.Plan.{after, picked}
-use Rattle.theory_plan.specs.lemmas.Feasible.{needOf}
-use Rattle.theory_plan.specs.Statement.{marksOf}
+use Rattle.theory_plan.specs.Statement.{countsOf, marksOf}
 use Rattle.theory_plan.specs.lemmas.Fill.{fill, QueuedPiece, take-slot}
 use Rattle.theory_plan.specs.lemmas.Kept.{picked-asc, picked-each}
 use Rattle.theory_plan.specs.lemmas.Level.{level, level-iff}
@@ -40,19 +39,24 @@ use Rattle.theory_replan.specs.lemmas.Criterion.{busyFrom, feas-from-due}
 use Rattle.theory_replan.specs.lemmas.Fill.{readyOf, rest-is-fill}
 use Rattle.theory_replan.specs.lemmas.Fits.{FitsFrom}
 use Rattle.theory_replan.specs.lemmas.Plan.{is-replan-fits}
+use Rattle.theory_replan.specs.lemmas.Shape.{own-rest-rows}
 use Rattle.core_fill.proofs.Chunks.{load-append}
-use Rattle.core_fill.proofs.Pieces.{bytes-in, left-next, onward-next, same-refl}
-use Rattle.core_fill.specs.declared.Position.{Position}
-use Rattle.core_fill.specs.lemmas.Filling.{bytesAt, Fed, lastOf, leftAt, load, Made, onward, piece, PutPost}
-use Rattle.core_replan_fill.proofs.Chunks.{layerAt, pieces-next}
-use Rattle.core_replan_fill.specs.lemmas.Rows.{LaidOf}
-use Rattle.core_replan_fill.specs.lemmas.Left.{PutAllPre, AnyLevels, piecesLeft, leftQueue}
+use Rattle.core_fill.proofs.Pieces.{bytes-in, left-next, onward-next}
+use Rattle.core_fill.specs.lemmas.Filling.{bytesAt, Fed, lastOf, leftAt, load, onward, piece}
+use Rattle.core_fill.proofs.Left.{layerAt, pieces-next}
+use Rattle.core_fill.specs.lemmas.Left.{PutAllPre, AnyLevels, piecesLeft, leftQueue}
+use Rattle.core_output.proofs.Marks.{counts-are}
+use Rattle.core_output.specs.declared.Output.{Output}
+use Rattle.core_output.specs.lemmas.Writing.{begins, rowsIn, told, WritePost, WritePre}
+use Rattle.core_slices.specs.lemmas.Slices.{Result}
+use Rattle.replan.specs.lemmas.Afresh.{madeAfresh}
 use Rattle.core_replan_decide.proofs.Decided.{left-from}
 use Rattle.core_replan_decide.specs.lemmas.Composed.{other-at, rest}
 use Rattle.core_decide.specs.lemmas.Marks.{mark-picked, markOr}
 use Rattle.core_replan_decide.specs.lemmas.Decision.{Decided, jobFrom, Tabled}
 use Rattle.theory_plan.specs.Own as own
 use Rattle.theory_plan.specs.Bases.{Asc}
+use Rattle.theory_plan.specs.lemmas.Feasible.{needOf}
 
 -- ---- the queue of the tables
 
@@ -195,10 +199,6 @@ fill-cong B B′ (suc n) t q h =
     let o = take-slot (suc t) (B′ (suc t)) q in
     rw (h (suc t) (omega arith)) (ap (λ (l : List Row). o .rows ++ l) (fill-cong B B′ n (suc t) (o .rest) (λ u v. h u (omega arith))))
 
-fill-none : (B : ℕ → ℕ) (n t : ℕ) → fill B n t [] ≡ []
-fill-none B zero t = refl
-fill-none B (suc n) t = fill-none B n (suc t)
-
 all-of : (P : ℕ → Type 0) (g : ℕ → ℕ) (ks : List ℕ) → All (λ k. P (g k)) ks → All P (map g ks)
 all-of P g [] a = tt
 all-of P g (k ∷ ks) a = (a .0, all-of P g ks (a .1))
@@ -272,13 +272,10 @@ module _
 
   -- ---- what the fill asks for
 
-  abbrev from : Position
-  from = record { slot = start; left = getD part 0 0; rows = 0 }
-
-  pub all-from :
+  all-from :
       (within : first ≤ 500) → Asc 1 (p .chunks) (drop first ids) → length ready ≡ 500 → length mark ≡ 500 →
       (ss cs′ ls bs : List ℕ) → 5599 ≤ length ss → 5599 ≤ length cs′ → 5599 ≤ length ls → 5599 ≤ length bs → ForecastPart start part →
-      PutAllPre start part left ids ready mark first from ss cs′ ls bs
+      PutAllPre true start part left ids ready mark first (begins start part) ss cs′ ls bs
   all-from within asc lr lm ss cs′ ls bs k1 k2 k3 k4 part-in =
       let sl = some-slot in
       let la = last-is in
@@ -410,10 +407,6 @@ module _
       ∙ ap (λ (c : ℕ). onward start part start c q) first-bytes
       ∙ ap (onward start part start (getD part 0 0)) (sym queued)
 
-  nothing-left : (t c : ℕ) → onward start part t c [] ≡ []
-  unfolding onward
-  nothing-left t c = fill-none (bytesAt start part) (lastOf start part - t) t
-
   -- ---- the marks
 
   marks-are : upTo (λ i. markOr (getD whole i 0) (i + 1) (drop first ids) (drop first mark)) (chunks j) ≡ marksOf j plan
@@ -433,23 +426,29 @@ module _
           (λ t. rw (not-T-false (member k) t) (e ∙ ap levelMark (sym (other-at j a start fetched ok plan d k u v t))))
           (test (member k))
 
-  pub laid :
-      {ss cs′ ls bs : List ℕ} {r : Position} {ss' cs'' ls' bs' marks marks' : List ℕ} →
-      PutPost start part (leftQueue left (drop first ids) (drop first ready) (drop first mark)) (4 * (500 - first)) from ss cs′ ls bs r ss' cs'' ls' bs' →
-      marks' ≡ over (upTo (λ i. markOr (getD whole i 0) (i + 1) (drop first ids) (drop first mark)) (chunks j)) marks →
-      LaidOf j start fetched plan marks ss cs′ ls bs (r .rows) marks' ss' cs'' ls' bs'
-  laid {ss} {cs′} {ls} {bs} {r} {marks = marks} y em =
-      let q = leftQueue left (drop first ids) (drop first ready) (drop first mark) in
-      let rows = ownRest j start fetched plan in
-      let begin : Made rows start part ss cs′ ls bs (q ++ []) ss cs′ ls bs from =
-      record { made = []; says = rows-are ∙ ap (onward start part start (getD part 0 0)) (sym (append-nil q)); slots = refl; chunks = refl; layers = refl; bytes = refl; counted = refl; long = same-refl ss cs′ ls bs } in
-      let m = y .makes rows ss cs′ ls bs [] begin in
-      let e : m .made ≡ rows = sym (m .says ∙ ap (λ (l : List Row). m .made ++ l) (nothing-left (r .slot) (r .left)) ∙ append-nil (m .made)) in
+  -- ---- what is asked of the tables, and what they tell
+
+  pub writes-afresh :
+      first ≤ 500 → Asc 1 (p .chunks) (drop first ids) → length ready ≡ 500 → length mark ≡ 500 → length whole ≡ 500 → ForecastPart start part →
+      {marks : List ℕ} → p .chunks ≤ length marks → WritePre (p .chunks) start part true left first ids ready mark whole marks
+  writes-afresh within asc lr lm lw part-in fit =
       record {
-        marks-are = em ∙ ap (λ (l : List ℕ). over l marks) marks-are;
-        counted = m .counted ∙ ap length e;
-        slots-are = m .slots ∙ ap (λ (l : List Row). over (map rowSlot l) ss) e;
-        chunks-are = m .chunks ∙ ap (λ (l : List Row). over (map rowChunk l) cs′) e;
-        layers-are = m .layers ∙ ap (λ (l : List Row). over (map rowLayer l) ls) e;
-        bytes-are = m .bytes ∙ ap (λ (l : List Row). over (map rowBytes l) bs) e;
+        some-slot = some-slot;
+        fills = λ ss cs′ ls bs k1 k2 k3 k4. all-from within asc lr lm ss cs′ ls bs k1 k2 k3 k4 part-in;
+        few-rows = omega (arith, ap length rows-are, own-rest-rows j a start fetched ok plan d);
+        within = within;
+        few = a .chunks-in .high;
+        ascending = asc;
+        long = (li, lm, lw);
+        marks-fit = fit;
       }
+
+  pub written-afresh :
+      {marks slots cs′ ls bytes : List ℕ} {r : Output} {marks' slots' cs'' ls' bytes' : List ℕ} →
+      WritePost (told (p .chunks) start part true left first ids ready mark whole) marks slots cs′ ls bytes r marks' slots' cs'' ls' bytes' →
+      WritePost (madeAfresh j start fetched plan) marks slots cs′ ls bytes r marks' slots' cs'' ls' bytes'
+  written-afresh {marks} {slots} {cs′} {ls} {bytes} {r} {marks'} {slots'} {cs''} {ls'} {bytes'} =
+      subst (λ (y : Result). WritePost y marks slots cs′ ls bytes r marks' slots' cs'' ls' bytes')
+      (ap (λ (m : List ℕ). record { marks = m; counts = upTo (λ n. markCount n m) 4; rows = rowsIn start part true left first ids ready mark }) marks-are
+      ∙ ap (λ (k : List ℕ). record { marks = marksOf j plan; counts = k; rows = rowsIn start part true left first ids ready mark }) (counts-are j plan (d .choice))
+      ∙ ap (λ (l : List Row). record { marks = marksOf j plan; counts = countsOf j plan; rows = l }) (sym rows-are))

@@ -1,15 +1,15 @@
--- Lemmas. What the functions hand each other: what is left of the plan's layers, in pieces
--- (core_fill, Filling). A layer with nothing left is out, and a chunk may have none: it was begun
--- and given up, or it is whole.
+-- Lemmas. What the functions hand each other where layers may be fetched in part: what is left of
+-- them, in pieces (Filling). A layer with nothing left is out, and a chunk may have none: it was
+-- begun and given up, or it is whole.
 use Prim.Native.Nat.{ℕ, zero, suc, _+_, _-_, _≤_}
 use mathlib.Core.Path.{_≡_}
-use mathlib.Core.Bool.{cond}
+use mathlib.Core.Bool.{Bool, true, false, cond}
 use mathlib.Core.List.{List, [], _∷_}
 use lib.Dec.{ltb}
 use Rattle.theory_plan.specs.lemmas.Fill.{QueuedPiece}
 use Rattle.theory_plan.specs.lemmas.Trials.{levelMark}
 use Rattle.core_fill.specs.declared.Position.{Position}
-use Rattle.core_fill.specs.lemmas.Filling.{AllBy, lastOf, leftAt, levelOf, piece, PutPiecesPre, queueBy, PutPiecePre}
+use Rattle.core_fill.specs.lemmas.Filling.{AllBy, lastOf, layersOf, leftAt, levelOf, Levels, piece, PutPiecesPre, queueBy, PutPiecePre}
 
 -- A mark says layers from the base up, or none.
 pub record AnyLevels (mark : ℕ) : Type 0 where
@@ -37,9 +37,24 @@ pub record PutLayerPre (start : ℕ) (part : List ℕ) (a : Position) (ready siz
   pub fits : size ≤ a .left + leftAt start part (a .slot)
 
 -- What a chunk's pieces ask for.
-pub record PutChunkPre (start : ℕ) (part : List ℕ) (left : ℕ → ℕ → ℕ) (a : Position) (ready chunk mark : ℕ) (ss cs ls bs : List ℕ) : Type 0 where
+pub record PutLeftPre (start : ℕ) (part : List ℕ) (left : ℕ → ℕ → ℕ) (a : Position) (ready chunk mark : ℕ) (ss cs ls bs : List ℕ) : Type 0 where
   pub asks : PutPiecesPre AnyLevels start part (layersLeft left chunk ready mark) a ready chunk mark ss cs ls bs
 
--- And all pieces.
-abbrev pub PutAllPre : ℕ → List ℕ → (ℕ → ℕ → ℕ) → (ids ready mark : List ℕ) → ℕ → Position → (ss cs ls bs : List ℕ) → Type 0
-PutAllPre start part left ids ready mark first a ss cs ls bs = AllBy AnyLevels (layersLeft left) start part ids ready mark first a ss cs ls bs
+-- ---- both ways
+
+-- The pieces of a chunk's layers, and what they ask of its mark: made afresh what is left of them,
+-- else each whole.
+abbrev pub layersBy : Bool → (ℕ → ℕ → ℕ) → ℕ → ℕ → ℕ → List QueuedPiece
+layersBy true size = layersLeft size
+layersBy false size = layersOf size
+
+abbrev pub LevelsBy : Bool → ℕ → Type 0
+LevelsBy true = AnyLevels
+LevelsBy false = Levels
+
+abbrev pub queueIn : Bool → (ℕ → ℕ → ℕ) → List ℕ → List ℕ → List ℕ → List QueuedPiece
+queueIn afresh size = queueBy (layersBy afresh size)
+
+-- What all pieces ask for.
+abbrev pub PutAllPre : Bool → ℕ → List ℕ → (ℕ → ℕ → ℕ) → (ids ready mark : List ℕ) → ℕ → Position → (ss cs ls bs : List ℕ) → Type 0
+PutAllPre afresh start part size ids ready mark first a ss cs ls bs = AllBy (LevelsBy afresh) (layersBy afresh size) start part ids ready mark first a ss cs ls bs

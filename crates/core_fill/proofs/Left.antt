@@ -15,10 +15,10 @@ use Rattle.job.specs.Job.{Within}
 use Rattle.fetch.specs.Marks.{bit}
 use Rattle.theory_plan.specs.lemmas.Fill.{QueuedPiece}
 use Rattle.theory_plan.specs.lemmas.Linear.{level-bit}
 use Rattle.core_fill.proofs.Chunks.{begun-by, begun-fits, begun-room, fed-append, puts-as, puts-begun, puts-both, puts-more, puts-none, puts-one, room-left}
 use Rattle.core_fill.specs.declared.Position.{Position}
-use Rattle.core_fill.specs.lemmas.Filling.{begun, bytesAt, Fed, lastOf, leftAt, levelOf, load, Made, onward, piece, PutPost, PutPiecePost, PutPiecePre, Same}
-use Rattle.core_replan_fill.specs.lemmas.Left.{PutAllPre, PutChunkPre, PutLayerPre, layersLeft, AnyLevels, piecesLeft, leftQueue}
+use Rattle.core_fill.specs.lemmas.Filling.{begun, bytesAt, Fed, lastOf, leftAt, levelOf, load, Made, onward, piece, PutPiecesPre, PutPost, PutPiecePost, PutPiecePre, Same}
+use Rattle.core_fill.specs.lemmas.Left.{PutLeftPre, PutLayerPre, layersBy, layersLeft, LevelsBy, piecesLeft}
 
 -- ---- a piece from its release on
 
@@ -76,7 +76,7 @@ pub record Layering (start : ℕ) (part : List ℕ) (left : ℕ → ℕ → ℕ)
   pub within : n ≤ levelOf m
   pub puts : PutPost start part (piecesLeft (left) k r 0 n) n a ss cs ls bs at ss' cs' ls' bs'
 
-module _ {start : ℕ} {part : List ℕ} {left : ℕ → ℕ → ℕ} {k r m : ℕ} {a : Position} {ss cs ls bs : List ℕ} (o : PutChunkPre start part left a r k m ss cs ls bs) where
+module _ {start : ℕ} {part : List ℕ} {left : ℕ → ℕ → ℕ} {k r m : ℕ} {a : Position} {ss cs ls bs : List ℕ} (o : PutLeftPre start part left a r k m ss cs ls bs) where
   pub layering-start : Layering start part left k r m a ss cs ls bs ss cs ls bs a 0
   layering-start = record { within = omega arith; puts = puts-none start part a ss cs ls bs (o .asks .room .low) (o .asks .room .high) }
 
@@ -138,3 +138,16 @@ module _ {start : ℕ} {part : List ℕ} {left : ℕ → ℕ → ℕ} {k r m : �
               within = omega (arith, below-level);
               puts = puts-as start part (sym (pieces-next (left) k r n ∙ ap (λ (l : List QueuedPiece). piecesLeft (left) k r 0 n ++ l) here)) (puts-both start part (y .puts) p);
             }
+
+-- ---- both ways
+
+module _
+    (size : ℕ → ℕ → ℕ) (k r m : ℕ) {afresh : Bool} (v : Bool) (e : afresh ≡ v)
+    {start : ℕ} {part : List ℕ} {a : Position} {ss cs ls bs : List ℕ} where
+  pub asks-by : PutPiecesPre (LevelsBy afresh) start part (layersBy afresh size k r m) a r k m ss cs ls bs → PutPiecesPre (LevelsBy v) start part (layersBy v size k r m) a r k m ss cs ls bs
+  asks-by = subst (λ (b : Bool). PutPiecesPre (LevelsBy b) start part (layersBy b size k r m) a r k m ss cs ls bs) e
+
+  pub puts-by :
+      {z : Position} {ss' cs' ls' bs' : List ℕ} → PutPost start part (layersBy v size k r m) 4 a ss cs ls bs z ss' cs' ls' bs' →
+      PutPost start part (layersBy afresh size k r m) 4 a ss cs ls bs z ss' cs' ls' bs'
+  puts-by {z} {ss'} {cs'} {ls'} {bs'} = subst (λ (b : Bool). PutPost start part (layersBy b size k r m) 4 a ss cs ls bs z ss' cs' ls' bs') (sym e)
