@@ -1,16 +1,36 @@
-/* The layered film planner of the winch desk, for callers in C.
+/* The layered film planner of the winch desk, for callers in C and C++.
  *
- * This header says all there is to know to link the proved library. Build the archive by
- * `tools/archive` (`rt staticlib film_planner`), which writes target/staticlib/libfilm_planner.a,
- * and link it after your own files; nothing else is needed. Every call below is proved to answer
- * what is said here, for every input, in its source; the compiler that makes the archive is
- * trusted. No call has a precondition on the numbers and slices it is handed, none keeps anything,
- * none allocates, and each ends. What the caller owes is what C owes any function: a pointer with
- * at least so many elements behind it as its length says, aligned for its type and not null (a
- * slice of length 0 may point anywhere but to null), and no two slices of one call that overlap, if
- * one of them is lent for writing. The calls may run on several threads at once; none takes more
- * than 256 KiB of stack (bench/run_stack measures it: film_reasons_file takes the most, 210
- * KiB).
+ * This header says all there is to know to link the proved library, on x86-64 Linux alone.
+ * `tools/archive` builds the archive, target/staticlib/libfilm_planner.a, and `tools/install PREFIX`
+ * installs it with this header, a shared object, and files for pkg-config and CMake. Link it after
+ * your own files; nothing else is needed. Every call is proved to answer what is said here, for
+ * every input, in its source; the compiler that makes the archive is trusted. No call has a
+ * precondition on the numbers and slices it is handed, none keeps anything, none allocates, and
+ * each ends.
+ *
+ * TWO LAYERS. The calls themselves take numbers and slices alone, a slice as a pointer and a length,
+ * up to thirty-seven arguments. Behind them, at the end of this header, stands a layer of inline
+ * functions over five structs, a call without its arguments: film_plan_of(&job, &plan) and so on.
+ * Begin there. In it
+ *   - a `struct film_job` that is zero but for what the job has is right, without SZs for film of
+ *     equal chunks: a slice of length 0 may be null;
+ *   - what a call hands over goes to structs with room for the largest result, so that refusal 11
+ *     never arises, and the number of rows is set by the call that writes them;
+ *   - marks are handed as many as the job has chunks, which film_check wants exactly.
+ *
+ * WHAT THE CALLER OWES a call is what C owes any function: a pointer with at least so many elements
+ * behind it as its length says, aligned for its type, and no two slices of one call that overlap,
+ * if one of them is lent for writing. The calls themselves want no null, for a slice of length 0
+ * neither: the language that they are proved in has none. The compiler warns where it sees one; the
+ * inline functions put another address in its place.
+ * Arguments are narrow, and C cuts what is wider without a word: 65,539 chunks become 3 before the
+ * call sees them. Compile with -Wconversion, which warns of it.
+ * An answer that nobody looks at may be a refusal: compilers warn of that by themselves.
+ * The calls may run on several threads at once, if no thread has a slice that another one's call is
+ * lent for writing: a call's slices are its own until it returns. None takes more than 256 KiB of
+ * stack (bench/run_stack measures it: film_reasons_file takes the most, 210 KiB). Each takes less
+ * than a tenth of a second on any job, but for film_search, see there, and link traces, whose time
+ * goes by their length.
  *
  * ANSWERS. Every call answers one 64-bit number:
  *
@@ -19,9 +39,9 @@
  * No result can be mistaken for a refusal. `film_refused(answer)` is the refusal's number, or 0.
  * Whatever else a call hands over, it writes to the start of slices that the caller lends: `T *x,
  * size_t x_len`, without const. If one of them is shorter than what is to be written to it, the
- * call refuses with 11, after all other refusals; in a longer one the elements past the result stay
- * as they are. On a refusal no lent byte is changed. How large the largest results are, say the
- * constants below.
+ * call refuses with 11, after all other refusals (the meter's calls, whose storage is lent, say
+ * when); in a longer one the elements past the result stay as they are. On a refusal no lent byte
+ * is changed. How large the largest results are, say the constants below.
  *
  * A JOB is handed as C, L, s and the limit (`chunks`, `span`, `delay`, `limit`), the layer sizes
  * (`sizes`, base first), the sizes that differ by chunk (`SZ`: `size_chunks`, `size_layers`,
@@ -41,9 +61,52 @@
 #include <stddef.h>
 #include <stdint.h>
 
+#if !defined(__x86_64__) || !defined(__LP64__) || !defined(__linux__)
+#error "libfilm_planner is for x86-64 Linux alone"
+#endif
+
+/* A struct and a call have the name film_plan: C++ then wants the word struct, and g++ says so at
+ * the call's declaration. */
+#if defined(__cplusplus) && defined(__GNUC__)
+#pragma GCC diagnostic push
+#pragma GCC diagnostic ignored "-Wshadow"
+#endif
+
 #ifdef __cplusplus
 extern "C" {
 #endif
+
+/* ---- the version of this header and of the archive that it belongs to: raised whenever a call, an
+ * argument, a constant or an answer changes. It is the shared object's number too. */
+
+#define FILM_VERSION 1
+
+/* An answer is looked at; a slice of a call is not null. */
+#define FILM_ANSWER __attribute__((warn_unused_result)) uint64_t
+#define FILM_CALL __attribute__((nonnull)) FILM_ANSWER
+
+/* Answers the archive's version. Never refuses. */
+FILM_ANSWER film_version(void);
+
+/* The same by a name that carries the version. Every file that includes this header names it, so a
+ * program whose header is not the archive's does not link, or does not start where it is linked
+ * with the shared object: "undefined reference to `film_archive_of_version_1'". */
+FILM_ANSWER film_archive_of_version_1(void);
+
+#if defined(__has_attribute)
+#if __has_attribute(retain)
+#define FILM_KEPT __attribute__((used, retain))
+#endif
+#endif
+#ifndef FILM_KEPT
+#define FILM_KEPT __attribute__((used))
+#endif
+#define FILM_ARCHIVE(version) film_archive_of_version_##version
+#define FILM_ARCHIVE_OF(version) FILM_ARCHIVE(version)
+static uint64_t (*const film_archive)(void) FILM_KEPT = FILM_ARCHIVE_OF(FILM_VERSION);
+#undef FILM_ARCHIVE_OF
+#undef FILM_ARCHIVE
+#undef FILM_KEPT
 
 /* ---- the largest results, in elements of their slices */
 
@@ -167,7 +230,7 @@ struct film_meter {
  * the forecast. Lent: the programme (C, L, s, limit), lengths (how many layers, how many SZs), the
  * layer sizes, the SZs in three slices, the forecast. Refuses: 9; record by record 2 or 1 for the
  * mark, 1 for the body, 4 for a second PG, 17, then 5, 6, 7; at EN 3, 4, 6, 18, 7; then 11. */
-uint64_t film_read_job(
+FILM_CALL film_read_job(
     const uint8_t *file, size_t file_len,
     uint16_t *programme, size_t programme_len,
     uint64_t *lengths, size_t lengths_len,
@@ -180,7 +243,7 @@ uint64_t film_read_job(
 /* The same of a mixed file, as document 01 has it and as files kept for ever may be: PG anywhere,
  * LY and BW mixed, no SZ (2). A file in one sequence without SZ is one, too. Refuses as
  * film_read_job, without 17 and 18. */
-uint64_t film_read_mixed_job(
+FILM_CALL film_read_mixed_job(
     const uint8_t *file, size_t file_len,
     uint16_t *programme, size_t programme_len,
     uint64_t *lengths, size_t lengths_len,
@@ -189,7 +252,7 @@ uint64_t film_read_mixed_job(
 
 /* Writes the job's file, the only one it has in one sequence. Answers its bytes, at most
  * FILM_JOB_FILE. Refuses: 5, 6, 18, 7, 11. */
-uint64_t film_write_job(
+FILM_CALL film_write_job(
     uint16_t chunks, uint16_t span, uint16_t delay, uint16_t limit,
     const uint32_t *sizes, size_t sizes_len,
     const uint16_t *size_chunks, size_t size_chunks_len,
@@ -201,7 +264,7 @@ uint64_t film_write_job(
 /* Reads a plan file for a job: KP for chunk 1 to C, then FT, EN. Answers the number of rows, at
  * most FILM_FILE_ROWS. Lent: the marks, the rows. Whether they are sensible is film_check's
  * business. Refuses: the job's 5, 6, 18, 7; 9; record by record 2, 1, 8; at EN 3, 8; 11. */
-uint64_t film_read_plan(
+FILM_CALL film_read_plan(
     uint16_t chunks, uint16_t span, uint16_t delay, uint16_t limit,
     const uint32_t *sizes, size_t sizes_len,
     const uint16_t *size_chunks, size_t size_chunks_len,
@@ -217,7 +280,7 @@ uint64_t film_read_plan(
 
 /* Writes a plan file, the rows as handed. Answers its bytes: 5 a chunk, 11 a row, 2. Refuses: 5, 6,
  * 18, 7, 8, 9, 11. */
-uint64_t film_write_plan(
+FILM_CALL film_write_plan(
     uint16_t chunks, uint16_t span, uint16_t delay, uint16_t limit,
     const uint32_t *sizes, size_t sizes_len,
     const uint16_t *size_chunks, size_t size_chunks_len,
@@ -243,7 +306,7 @@ uint64_t film_write_plan(
  *   6  At the end of each slot at most H chunks are held.
  *   7  The marks of the plan say the layers carried.
  * Refuses: 5, 6, 18, 7, 8. */
-uint64_t film_check(
+FILM_CALL film_check(
     uint16_t chunks, uint16_t span, uint16_t delay, uint16_t limit,
     const uint32_t *sizes, size_t sizes_len,
     const uint16_t *size_chunks, size_t size_chunks_len,
@@ -259,7 +322,7 @@ uint64_t film_check(
 /* The second call, for lists made afresh at slot p (`from`): rule 2 allows a short sum whose rows
  * are all before p. The job's forecast is the joined one, as it was before p and as it was handed
  * from p on. Refuses: 5, 6, 18, 7, 8, 21. */
-uint64_t film_check_from(
+FILM_CALL film_check_from(
     uint16_t chunks, uint16_t span, uint16_t delay, uint16_t limit,
     const uint32_t *sizes, size_t sizes_len,
     const uint16_t *size_chunks, size_t size_chunks_len,
@@ -278,7 +341,7 @@ uint64_t film_check_from(
 /* Plans a job: the layers that documents 01 and 02 decide to carry, and the plan's own list by
  * slot, chunk, layer. Answers the number of rows, at most FILM_ROWS; with the marks they pass
  * film_check. Lent: the marks, the rows, the four counts. Refuses: 5, 6, 18, 7, 11. */
-uint64_t film_plan(
+FILM_CALL film_plan(
     uint16_t chunks, uint16_t span, uint16_t delay, uint16_t limit,
     const uint32_t *sizes, size_t sizes_len,
     const uint16_t *size_chunks, size_t size_chunks_len,
@@ -296,7 +359,7 @@ uint64_t film_plan(
  * that differs 1 if the first plan has fewer, 2 if it has more. Never refuses: a count that is not
  * handed is 0, as that of an absent layer, and none past the fourth is looked at. */
 enum { FILM_SAME = 0, FILM_FEWER = 1, FILM_MORE = 2 };
-uint64_t film_compare(const uint16_t *counts, size_t counts_len, const uint16_t *others, size_t others_len);
+FILM_CALL film_compare(const uint16_t *counts, size_t counts_len, const uint16_t *others, size_t others_len);
 
 /* Plans afresh at slot p (`from`), during the act: the rows fetched before p, in any order, and the
  * forecast from p on, d(C) - p + 1 slots (`onward`); the job's own forecast says the slots before
@@ -305,7 +368,7 @@ uint64_t film_compare(const uint16_t *counts, size_t counts_len, const uint16_t 
  * number of rows from p on, at most FILM_ROWS; with the rows fetched before them they pass
  * film_check_from. Lent: the marks, the rows from p on, the four counts. Refuses: 5, 6, 18, 7, 8,
  * 21, 7 (the forecast from p on), 22, 11. */
-uint64_t film_replan(
+FILM_CALL film_replan(
     uint16_t chunks, uint16_t span, uint16_t delay, uint16_t limit,
     const uint32_t *sizes, size_t sizes_len,
     const uint16_t *size_chunks, size_t size_chunks_len,
@@ -335,7 +398,7 @@ uint64_t film_replan(
  * asked. Whatever part of them the link brings, in their order, the rows fetched and that part as
  * rows of slot p are not refused at p + 1, here or in film_replan, if the forecast of slot p is
  * then at least the bytes brought. Lent: the pieces. Refuses: 5, 6, 18, 7, 8, 21, 22, 11. */
-uint64_t film_live(
+FILM_CALL film_live(
     uint16_t chunks, uint16_t span, uint16_t delay, uint16_t limit,
     const uint32_t *sizes, size_t sizes_len,
     const uint16_t *size_chunks, size_t size_chunks_len,
@@ -358,7 +421,7 @@ uint64_t film_live(
  * rows, the four counts, and three numbers of the walk: the steps taken, 1 if it ended, else 0, and
  * the shortfall: how many bases more a passing list in playing order can carry at the most, 0 if
  * the walk ended. Refuses: 5, 6, 18, 7, 11. */
-uint64_t film_search(
+FILM_CALL film_search(
     uint16_t chunks, uint16_t span, uint16_t delay, uint16_t limit,
     const uint32_t *sizes, size_t sizes_len,
     const uint16_t *size_chunks, size_t size_chunks_len,
@@ -376,7 +439,7 @@ uint64_t film_search(
 
 /* The shortest wait: from a job without s and a forecast of up to 3,600 slots the smallest s for
  * which the plan skips no base. Answers s. Refuses: 5 (C, L and the limit alone), 6, 18, 7, 16. */
-uint64_t film_wait(
+FILM_CALL film_wait(
     uint16_t chunks, uint16_t span, uint16_t limit,
     const uint32_t *sizes, size_t sizes_len,
     const uint16_t *size_chunks, size_t size_chunks_len,
@@ -394,7 +457,7 @@ uint64_t film_wait(
  *   switch, the sum of differences in bytes between each carried chunk and the next carried one
  *   rate, that sum divided by C * L: whole quotient and remainder
  * Answers its bytes, at most FILM_REPORT. Refuses: 5, 6, 18, 7, 11. */
-uint64_t film_report(
+FILM_CALL film_report(
     uint16_t chunks, uint16_t span, uint16_t delay, uint16_t limit,
     const uint32_t *sizes, size_t sizes_len,
     const uint16_t *size_chunks, size_t size_chunks_len,
@@ -409,7 +472,7 @@ uint64_t film_report(
  *   chunk 1 layer 1: layer 0 is missing
  * Answers its bytes, at most FILM_REASONS; 0 for a plan that lacks nothing. Refuses: 5, 6, 18, 7,
  * 11. */
-uint64_t film_reasons(
+FILM_CALL film_reasons(
     uint16_t chunks, uint16_t span, uint16_t delay, uint16_t limit,
     const uint32_t *sizes, size_t sizes_len,
     const uint16_t *size_chunks, size_t size_chunks_len,
@@ -422,23 +485,23 @@ uint64_t film_reasons(
 
 /* The plan file of the job of a job file in one sequence. Answers its bytes, at most
  * FILM_PLAN_FILE. Refuses: the job file's number as film_read_job, then 11. */
-uint64_t film_plan_file(const uint8_t *job, size_t job_len, uint8_t *out, size_t out_len);
+FILM_CALL film_plan_file(const uint8_t *job, size_t job_len, uint8_t *out, size_t out_len);
 
 /* The verdict on a plan file for the job of a job file. Answers as film_check: 0 for the file that
  * film_plan_file writes. Refuses: the job file's number, then the plan file's as film_read_plan. */
-uint64_t film_verdict_files(const uint8_t *job, size_t job_len, const uint8_t *plan, size_t plan_len);
+FILM_CALL film_verdict_files(const uint8_t *job, size_t job_len, const uint8_t *plan, size_t plan_len);
 
 /* The report of the job's plan, as film_report. Answers its bytes, at most FILM_REPORT. Refuses as
  * film_plan_file. */
-uint64_t film_report_file(const uint8_t *job, size_t job_len, uint8_t *out, size_t out_len);
+FILM_CALL film_report_file(const uint8_t *job, size_t job_len, uint8_t *out, size_t out_len);
 
 /* The reasons under the layers that the job's plan lacks, as film_reasons. Answers their bytes, at
  * most FILM_REASONS. Refuses as film_plan_file. */
-uint64_t film_reasons_file(const uint8_t *job, size_t job_len, uint8_t *out, size_t out_len);
+FILM_CALL film_reasons_file(const uint8_t *job, size_t job_len, uint8_t *out, size_t out_len);
 
 /* The job of a mixed file as a file in one sequence. Answers its bytes, at most FILM_JOB_FILE.
  * Refuses: the file's number as film_read_mixed_job, then 11. */
-uint64_t film_convert_file(const uint8_t *job, size_t job_len, uint8_t *out, size_t out_len);
+FILM_CALL film_convert_file(const uint8_t *job, size_t job_len, uint8_t *out, size_t out_len);
 
 /* ---- link traces */
 
@@ -447,18 +510,18 @@ uint64_t film_convert_file(const uint8_t *job, size_t job_len, uint8_t *out, siz
  * from (j - 1) * 1,000 up to, but not including, j * 1,000; later lines are read and not counted.
  * Answers the number of slots. Lent: the forecast. The trace may have any length. Refuses: 7 (the
  * number of slots), 14, 15, 11. */
-uint64_t film_read_trace(const uint8_t *trace, size_t trace_len, size_t slots, uint32_t *forecast, size_t forecast_len);
+FILM_CALL film_read_trace(const uint8_t *trace, size_t trace_len, size_t slots, uint32_t *forecast, size_t forecast_len);
 
 /* Writes a forecast of 1 to 3,600 slots, all multiples of 1,500, as the trace with each slot's
  * lines at its first millisecond. Answers its bytes, at most FILM_TRACE. Refuses: 7 (the number of
  * slots), 15, 11. */
-uint64_t film_write_trace(const uint32_t *forecast, size_t forecast_len, uint8_t *out, size_t out_len);
+FILM_CALL film_write_trace(const uint32_t *forecast, size_t forecast_len, uint8_t *out, size_t out_len);
 
 /* ---- bookings: two films on one link */
 
 /* Takes a passing list's bytes off the job's forecast, in its own storage. Answers 0. Refuses: 5,
  * 6, 18, 7, 8, 19. */
-uint64_t film_book(
+FILM_CALL film_book(
     uint16_t chunks, uint16_t span, uint16_t delay, uint16_t limit,
     const uint32_t *sizes, size_t sizes_len,
     const uint16_t *size_chunks, size_t size_chunks_len,
@@ -473,7 +536,7 @@ uint64_t film_book(
 
 /* Adds a list's bytes back; after a booking of that list the forecast is what it was. Answers 0.
  * Refuses: 5, 6, 18, 7, 8, 20. */
-uint64_t film_release(
+FILM_CALL film_release(
     uint16_t chunks, uint16_t span, uint16_t delay, uint16_t limit,
     const uint32_t *sizes, size_t sizes_len,
     const uint16_t *size_chunks, size_t size_chunks_len,
@@ -489,11 +552,11 @@ uint64_t film_release(
 
 /* How many marks have bit n, for marks of any length; 0 for n above 7. Answers 0. Lent: one number
  * for the count, since that of very many marks may be 2^32 or more. Refuses: 11. */
-uint64_t film_count_marks(const uint8_t *marks, size_t marks_len, uint8_t n, uint64_t *count, size_t count_len);
+FILM_CALL film_count_marks(const uint8_t *marks, size_t marks_len, uint8_t n, uint64_t *count, size_t count_len);
 
 /* Answers how many of a word's eight bytes have bit n, for n from 0 to 7, and 0 above. Never
  * refuses. */
-uint64_t film_count_word(uint64_t word, uint8_t n);
+FILM_ANSWER film_count_word(uint64_t word, uint8_t n);
 
 /* ---- the link meter, in the caller's own storage: ten slots, ten bytes, and how many samples are
  * kept. Only the first `kept` cells mean anything, the newest sample last. A slice shorter than its
@@ -502,16 +565,16 @@ uint64_t film_count_word(uint64_t word, uint8_t n);
  * past the tenth, and past the first of `kept`, stay as they are. */
 
 /* Makes the storage a meter without samples. Answers 0. Refuses: 11. */
-uint64_t film_meter_new(uint16_t *slots, size_t slots_len, uint32_t *bytes, size_t bytes_len, uint8_t *kept, size_t kept_len);
+FILM_CALL film_meter_new(uint16_t *slots, size_t slots_len, uint32_t *bytes, size_t bytes_len, uint8_t *kept, size_t kept_len);
 
 /* Takes a sample, a slot of 1 to 65,535 and its bytes, 0 to 16,777,216; the last ten are kept.
  * Answers 0. Refuses: 10 of the handed sample, 11, 10 of what is kept, 13. */
-uint64_t film_meter_take(
+FILM_CALL film_meter_take(
     uint16_t *slots, size_t slots_len, uint32_t *bytes, size_t bytes_len, uint8_t *kept, size_t kept_len, uint16_t slot, uint32_t sample);
 
 /* Answers the forecast of a slot's bytes: 0 if a sample is 0, else the whole part of the samples'
  * exact harmonic mean or one less, and never more. Refuses: 11, 10, 12. */
-uint64_t film_meter_forecast(
+FILM_CALL film_meter_forecast(
     const uint16_t *slots, size_t slots_len, const uint32_t *bytes, size_t bytes_len, const uint8_t *kept, size_t kept_len);
 
 #ifdef __cplusplus
