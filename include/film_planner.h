@@ -77,8 +77,8 @@
 extern "C" {
 #endif
 
-/* ---- the version of this header and of the archive that it belongs to: raised whenever a call, an
- * argument, a constant or an answer changes. It is the shared object's number too. */
+/* ---- the version of this header and of the archive that it belongs to: raised whenever the
+ * header's code changes, or what a call answers. It is the shared object's number too. */
 
 #define FILM_VERSION 1
 
