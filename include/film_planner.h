@@ -67,10 +67,11 @@
 #endif
 
 /* A struct and a call have the name film_plan: C++ then wants the word struct, and g++ says so at
- * the call's declaration. */
+ * the call's declaration. Casts are C's. */
 #if defined(__cplusplus) && defined(__GNUC__)
 #pragma GCC diagnostic push
 #pragma GCC diagnostic ignored "-Wshadow"
+#pragma GCC diagnostic ignored "-Wold-style-cast"
 #endif
 
 #ifdef __cplusplus
