@@ -1,0 +1,1 @@
+//! Synthetic links, seeded.
