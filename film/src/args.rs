@@ -101,13 +101,13 @@ impl Args {
     }
 
     /// Each time an option was given, its values.
-    pub fn all<'a>(&'a self, name: &'a str) -> impl Iterator<Item = &'a [OsString]> + 'a {
-        self.options.iter().filter(move |(own, _)| *own == name).map(|(_, values)| values.as_slice())
+    pub fn all(&self, name: &str) -> Vec<&[OsString]> {
+        self.options.iter().filter(|(own, _)| *own == name).map(|(_, values)| values.as_slice()).collect()
     }
 
     /// The value of an option, the last if it was given more than once.
     pub fn value(&self, name: &str) -> Option<&OsStr> {
-        self.all(name).last().and_then(|values| values.first()).map(|value| value.as_os_str())
+        self.all(name).last().copied().and_then(|values| values.first()).map(|value| value.as_os_str())
     }
 
     /// The value of an option as text; what is no UTF-8 in it is replaced.
