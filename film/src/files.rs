@@ -2,8 +2,8 @@
 //! and traces of the link.
 use crate::failure::Failure;
 use crate::out;
-use crate::text;
 use crate::words::{counted, printable, thousands};
+use crate::{programme, rows, text};
 use film_planner::{Job, Plan, Refusal, FILE, SLOTS};
 use std::io::{ErrorKind, Read};
 use std::path::Path;
@@ -80,11 +80,15 @@ pub fn is_records(data: &[u8]) -> bool {
 
 /// A job: its text or its file, by the first bytes. Warnings go to standard error.
 pub fn job(path: &Path) -> Result<Loaded, Failure> {
-    let data = read(path, TEXT)?;
-    let job = match is_records(&data) {
-        true => job_file(path, &data)?,
+    job_of(path, &read(path, TEXT)?)
+}
+
+/// The job that a file's bytes are.
+pub fn job_of(path: &Path, data: &[u8]) -> Result<Loaded, Failure> {
+    let job = match is_records(data) {
+        true => job_file(path, data)?,
         false => {
-            let (job, warnings) = text::read(&data, path)?;
+            let (job, warnings) = text::read(data, path, None)?;
             warnings.iter().for_each(|line| out::note(&format!("warning: {line}")));
             job
         }
@@ -112,7 +116,23 @@ fn job_file(path: &Path, data: &[u8]) -> Result<Job, Failure> {
 /// A plan file of a job, whatever its verdict.
 pub fn plan(job: &Job, path: &Path) -> Result<Plan, Failure> {
     let data = read(path, FILE)?;
-    job.read_plan(&data).map_err(|refusal| Failure::refused(format!("{}: this is no plan file of the job", called(path)), refusal))
+    job.read_plan(&data).map_err(|refusal| no_plan(path, refusal))
+}
+
+/// A plan file, or rows as text with the marks that they give.
+pub fn plan_or_rows(job: &Job, path: &Path) -> Result<Plan, Failure> {
+    let data = read(path, TEXT)?;
+    if data.starts_with(b"KP") || data.starts_with(b"FT") || data.starts_with(b"EN") {
+        return job.read_plan(&data).map_err(|refusal| no_plan(path, refusal));
+    }
+    let list = rows::read(&data, path)?;
+    let marks = programme::marks_of(job, &list);
+    let counts = [0, 1, 2, 3].map(|n| film_planner::count_marks(&marks, n) as u16);
+    Ok(Plan { marks, list, counts })
+}
+
+fn no_plan(path: &Path, refusal: Refusal) -> Failure {
+    Failure::refused(format!("{}: this is no plan file of the job", called(path)), refusal)
 }
 
 /// The forecast that a trace gives for so many slots; a warning goes to standard error.

@@ -2,13 +2,18 @@
 #![forbid(unsafe_code)]
 
 mod args;
+mod desk;
 mod draw;
 mod failure;
 mod files;
 mod links;
+mod make;
 mod out;
 mod page;
+mod plan;
+mod programme;
 mod rehearse;
+mod rows;
 mod text;
 mod words;
 
@@ -19,7 +24,8 @@ use std::io::Write;
 use std::process::ExitCode;
 
 /// The subcommands, in the order of `film --help`.
-const COMMANDS: &[Command] = &[draw::COMMAND, rehearse::COMMAND];
+const COMMANDS: &[Command] =
+    &[make::MAKE, make::SHOW, plan::PLAN, plan::CHECK, plan::REPORT, plan::REASONS, draw::COMMAND, desk::COMMAND, rehearse::COMMAND];
 
 fn help() -> String {
     let lines: String = COMMANDS.iter().map(|c| format!("  {:<9} {}\n", c.name, c.summary)).collect();

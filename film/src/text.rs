@@ -79,6 +79,8 @@ struct Text<'a> {
     sizes: Vec<(usize, [i64; 3])>,
     parts: Vec<(usize, Part)>,
     forecast_bad: bool,
+    /// The forecast is lent, and the text's own is read and left aside.
+    lent: bool,
     faults: Vec<Fault>,
     warnings: Vec<String>,
 }
@@ -289,6 +291,9 @@ impl Text<'_> {
     }
 
     fn add(&mut self, part: Part) -> Result<(), Faulty> {
+        if self.lent {
+            return Ok(());
+        }
         let before = self.slots();
         self.parts.push((self.line, part));
         let slots = self.slots();
@@ -425,6 +430,14 @@ impl Text<'_> {
         let slots = self.slots();
         match self.parts.last() {
             None => self.absent("forecast", Some(Refusal::Forecast)),
+            Some(_) if slots != last && self.lent => {
+                let message = format!(
+                    "the last chunk is due in slot {}, and the link that is lent has {} slots; both films need the same last due slot",
+                    thousands(last as u64),
+                    thousands(slots as u64)
+                );
+                self.fault_at(None, message, Some(Refusal::Forecast));
+            }
             Some((line, _)) if slots != last => {
                 let what = match slots < last {
                     true => format!("{} are missing", thousands((last - slots) as u64)),
@@ -443,8 +456,8 @@ impl Text<'_> {
 }
 
 /// The job that a text says, and warnings; all faults in one go. Traces are looked for from the
-/// text's folder.
-pub fn read(data: &[u8], path: &Path) -> Result<(Job, Vec<String>), Failure> {
+/// text's folder. A link that is lent stands in for a text's own forecast, which may be absent.
+pub fn read(data: &[u8], path: &Path, link: Option<&[u32]>) -> Result<(Job, Vec<String>), Failure> {
     let called = files::called(path);
     if data.len() > files::TEXT {
         return Err(Failure::bad(format!("{called}: a text above {} bytes", thousands(files::TEXT as u64))));
@@ -462,9 +475,14 @@ pub fn read(data: &[u8], path: &Path) -> Result<(Job, Vec<String>), Failure> {
         sizes: Vec::new(),
         parts: Vec::new(),
         forecast_bad: false,
+        lent: false,
         faults: Vec::new(),
         warnings: Vec::new(),
     };
+    if let Some(link) = link {
+        text.lent = true;
+        text.parts.push((0, Part::Slots(link.to_vec())));
+    }
     let mut lines = Vec::new();
     for line in data.split(|b| *b == b'\n') {
         text.line += 1;
