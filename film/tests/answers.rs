@@ -304,7 +304,7 @@ fn plans_made_afresh_are_those_of_the_call() {
         let text = folder.film(&["replan", "job", "--at", &at, "--fetched", "rows", "--text"]).text();
         assert!(text.ends_with(&by_slot(&job.replan(p, &before, &job.forecast[usize::from(p) - 1..]).unwrap().list)));
     }
-    folder.put("job", job_a().write().unwrap()).put("rows", "1 2 0 2\n").put("late", "4 1 0 2\n").put("odd", "slot 1: chunk x\n1 2\n");
+    folder.put("job", job_a().write().unwrap()).put("rows", "1 2 0 2\n").put("late", "3 1 0 1\n").put("odd", "slot 1: chunk x\n1 2\n");
     folder.put("van", "1000\n4000\n").put("empty", "");
     folder.film(&["replan", "job", "--at", "3"]).bad(2, &["--at P and --fetched FILE are needed"], "no rows");
     folder.film(&["replan", "job", "--at", "7", "--fetched", "rows"]).bad(2, &["it is 1 to 6"], "slot 7");
@@ -313,8 +313,6 @@ fn plans_made_afresh_are_those_of_the_call() {
         &["refusal 22: ", "and chunk 1 is due in slot 2\n", "rule 5: "],
         "a late row",
     );
-    folder.put("rows", "1 2 0 1\n3 1 0 1\n");
-    folder.film(&["replan", "job", "--at", "5", "--fetched", "rows"]).bad(1, &["refusal 22: ", "rule 5: "], "chunk 1 after its due slot");
     folder.put("order", "1 3 0 2\n3 2 0 1\n");
     let wide = Job { limit: 6, ..job_a() };
     folder.put("wide", wide.write().unwrap());
