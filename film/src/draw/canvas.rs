@@ -13,10 +13,10 @@ pub const SMALL: f64 = 13.0;
 /// Colours by what they stand for. Layers go from dark to light, so that they are told apart in
 /// grey as well, and lie between the paper and the ink of either mode.
 pub const STYLE: &str = "\
-.pa{fill:#fff}.in{fill:#1b1d20}.gr{fill:#565c64}.l0{fill:#17568f}.l1{fill:#3585c9}.l2{fill:#ee9b3a}.l3{fill:#f1d552}\
+.fp{background:#fff}.pa{fill:#fff}.in{fill:#1b1d20}.gr{fill:#565c64}.l0{fill:#17568f}.l1{fill:#3585c9}.l2{fill:#ee9b3a}.l3{fill:#f1d552}\
 .mi{fill:#fff}.ha{stroke:#9298a0}.li{fill:#eceef1}.he{fill:#a3aab3}.fu{fill:#6d747d}.wa{fill:#d6d9dd}.hi{fill:transparent}\
 .si{stroke:#1b1d20}.sg{stroke:#565c64}.sp{stroke:#dcdfe3}.sa{stroke:#fff}\
-@media (prefers-color-scheme:dark){.pa{fill:#15181c}.in{fill:#eef0f2}.gr{fill:#aab1ba}.mi{fill:#15181c}.ha{stroke:#69707a}\
+@media (prefers-color-scheme:dark){.fp{background:#15181c}.pa{fill:#15181c}.in{fill:#eef0f2}.gr{fill:#aab1ba}.mi{fill:#15181c}.ha{stroke:#69707a}\
 .li{fill:#272b31}.he{fill:#6b727c}.fu{fill:#a3aab3}.wa{fill:#3a3f47}.si{stroke:#eef0f2}.sg{stroke:#aab1ba}.sp{stroke:#32373e}.sa{stroke:#15181c}}";
 
 /// Missing layers are hatched: one pattern over the plane, so that narrow neighbours make one field.
@@ -115,7 +115,7 @@ impl Canvas {
         let mut taken: Vec<(f64, f64)> = Vec::new();
         for (x, words, bold) in wanted {
             let half = wide(words, SMALL, *bold) / 2.0 + 2.0;
-            let x = x.min(VIEW - half);
+            let x = x.min(VIEW - half).max(LEFT - 6.0 + half);
             if taken.iter().all(|(a, b)| x + half <= *a || *b <= x - half) {
                 taken.push((x - half, x + half));
                 self.text((x, y), words, SMALL, "middle", if *bold { "in" } else { "gr" }, *bold);
@@ -144,7 +144,9 @@ impl Canvas {
         for t in shown {
             let x = (self.x(t - 1) + self.x(t)) / 2.0;
             self.line((x, self.y), (x, self.y + 5.0), "sg", 1.0, "");
-            self.text((x, self.y + 18.0), &thousands(t as u64), SMALL, "middle", "gr", false);
+            let words = thousands(t as u64);
+            let inside = VIEW - wide(&words, SMALL, false) / 2.0 - 2.0;
+            self.text((x.min(inside), self.y + 18.0), &words, SMALL, "middle", "gr", false);
         }
         self.text((LEFT - 14.0, self.y + 18.0), "slot", SMALL, "end", "gr", false);
         self.y += 20.0;
@@ -183,7 +185,7 @@ impl Canvas {
         let (wide, high) = (px(natural.ceil()), px((height * natural / VIEW).ceil()));
         let mut out = format!(
             "<svg xmlns=\"http://www.w3.org/2000/svg\" viewBox=\"0 0 {} {}\" width=\"{wide}\" height=\"{high}\" role=\"img\" \
-             style=\"max-width:100%;height:auto\" font-family=\"system-ui, -apple-system, Arial, sans-serif\" fill=\"none\">\n",
+             class=\"fp\" style=\"max-width:100%;height:auto\" font-family=\"system-ui, -apple-system, Arial, sans-serif\" fill=\"none\">\n",
             px(VIEW),
             px(height)
         );

@@ -54,7 +54,7 @@ pub fn head(c: &mut Canvas, film: &Film, called: &str) -> String {
     c.words(&sentence, 20.0, "in", true);
     c.y += 2.0;
     let last = thousands(film.last as u64);
-    let due = format!("{} of {}, due in slots {} to {last}.", count(film.chunks(), "chunk"), count(film.span(), "slot"), film.job.delay);
+    let due = format!("{} of {}, due in slots {} to {last}.", count(film.chunks(), "chunk"), count(film.span(), "slot"), thousands(film.job.delay.into()));
     let holds = format!("The buffer's limit of {} holds {}.", counted(film.job.limit.into(), "slot"), count(film.places, "chunk"));
     c.words(&format!("{due} {holds}"), SMALL, "gr", false);
     let (all, spent) = (film.job.forecast.iter().map(|b| u64::from(*b)).sum::<u64>(), film.all_fetched());
@@ -308,9 +308,9 @@ fn slots_named((a, b): (usize, usize)) -> String {
 pub fn link(c: &mut Canvas, film: &Film, link: Link) {
     let (bins, high) = (bins(c, film), 150.0);
     let together = bins.first().map_or(1, |(a, b)| b - a);
-    let mean = if together > 1 { format!(", the mean of each {together} slots") } else { String::new() };
+    let mean = if together > 1 { format!(", in means of {together}") } else { String::new() };
     let outline = if link == Link::Forecast { "forecast" } else { "that the link carried" };
-    c.panel(&format!("Link: bytes a slot {outline} (outline) and fetched (filled){mean}"));
+    c.panel(&format!("Link: bytes a slot {outline} (outline) and fetched{mean}"));
     c.y += 8.0;
     let over = |a: usize, b: usize, of: &dyn Fn(usize) -> u64| (a + 1..=b).map(of).sum::<u64>() as f64 / (b - a).max(1) as f64;
     let carried: Vec<(usize, f64)> = bins.iter().map(|(a, b)| (*a, over(*a, *b, &|t| film.carries(t)))).collect();
@@ -369,7 +369,7 @@ pub fn held(c: &mut Canvas, film: &Film) {
     let inside = !whole && film.places <= 4 * peak.max(1);
     let limit = match (whole, inside) {
         (true, _) => "the limit holds them all".to_string(),
-        (_, true) => format!("darker at the limit of {}", film.places),
+        (_, true) => format!("in a strong tone at the limit of {}", film.places),
         _ => format!("the limit is {}, far above", film.places),
     };
     c.panel(&format!("Buffer: chunks held after each slot; {limit}"));
