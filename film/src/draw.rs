@@ -7,11 +7,10 @@ pub mod reasons;
 
 use crate::args::{Args, Command};
 use crate::failure::Failure;
-use crate::{files, out};
+use crate::{files, out, programme};
 use canvas::{Canvas, VIEW};
 use film::Film;
 use film_planner::{Job, Plan, Verdict};
-use std::path::Path;
 
 pub const COMMAND: Command = Command {
     name: "draw",
@@ -46,26 +45,15 @@ pub fn run(args: Args) -> Result<(), Failure> {
     };
     let verdict = job.check(&plan.marks, &plan.list).map_err(|refusal| Failure::refused(&loaded.called, refusal))?;
     if verdict != Verdict::Passes {
-        let name = files::called(args.path(1));
-        return Err(Failure::bad(format!("{name}: this is no passing plan of the job: verdict {}", verdict.number()))
-            .hint("`film check JOB PLAN` says which rule it breaks."));
+        let (name, told) = (files::called(args.path(1)), programme::verdict_told(job, &plan, verdict));
+        return Err(Failure::bad(format!("{name}: this is no passing plan of the job: verdict {}\n{told}", verdict.number())));
     }
     let reasons = match plan.marks == own.marks {
         true => job.reasons().map_err(|refusal| Failure::refused(&loaded.called, refusal))?,
         false => String::new(),
     };
     let title = args.text("title").unwrap_or(loaded.title);
-    put(args.value("out").map(Path::new), &svg(job, &plan, &reasons, &title))
-}
-
-/// Into a file, or to standard output.
-pub fn put(path: Option<&Path>, text: &str) -> Result<(), Failure> {
-    match path {
-        Some(path) if path.as_os_str() != "-" => {
-            std::fs::write(path, text).map_err(|e| Failure::bad(format!("{}: {}", files::called(path), files::said(&e))))
-        }
-        _ => out::text(text),
-    }
+    out::result(&args, svg(job, &plan, &reasons, &title).as_bytes(), "")
 }
 
 /// The picture of a plan that passes, with the lines of `Job::reasons` (empty if there are none to

@@ -1,7 +1,6 @@
 //! Links to rehearse on: traces and texts that people hand over, and synthetic ones, seeded.
 use crate::failure::Failure;
-use crate::files;
-use crate::text;
+use crate::{files, out, text};
 use crate::words::{printable, thousands};
 use film_planner::Job;
 use std::io::Read;
@@ -17,19 +16,6 @@ pub struct Link {
     pub bytes: Vec<u32>,
 }
 
-impl Link {
-    /// A link that ends early brings nothing from there on; the sentence that says so.
-    pub fn warning(&self) -> Option<String> {
-        let last = self.bytes.iter().rposition(|b| *b > 0).map_or(0, |k| k + 1);
-        let (from, to) = (thousands(last as u64 + 1), thousands(self.bytes.len() as u64));
-        match self.bytes.len() - last {
-            0 => None,
-            1 => Some(format!("{}: the link brings nothing in slot {to}, the last one", self.name)),
-            _ => Some(format!("{}: the link brings nothing from slot {from} to slot {to}; what is due there is skipped", self.name)),
-        }
-    }
-}
-
 /// Reads the link of a file for so many slots: a trace, a text with `forecast` lines, or a job, whose
 /// forecast is taken. A shorter one is filled with slots that bring nothing, a longer one is cut.
 pub fn read(path: &Path, slots: usize) -> Result<Link, Failure> {
@@ -39,15 +25,27 @@ pub fn read(path: &Path, slots: usize) -> Result<Link, Failure> {
     let mut start = Vec::new();
     let told = |e: std::io::Error| Failure::bad(format!("{}: {}", files::called(path), files::said(&e)));
     files::open(path)?.take(4096).read_to_end(&mut start).map_err(told)?;
-    let mut bytes = match form(&start) {
+    let form = form(&start);
+    let mut bytes = match form {
         Form::Trace => files::trace(path, slots)?,
         Form::Records => files::job(path)?.job.forecast,
         Form::Text => text_link(path)?,
     };
+    let name = files::called(path);
+    if let Form::Text | Form::Records = form {
+        ends_early(&name, bytes.len(), slots).iter().for_each(|line| out::note(&format!("warning: {line}")));
+    }
     bytes.resize(slots, 0);
-    Ok(Link { name: files::called(path), bytes })
+    Ok(Link { name, bytes })
 }
 
+/// A link that has fewer slots than the film brings nothing from there on.
+fn ends_early(name: &str, has: usize, slots: usize) -> Option<String> {
+    let (from, to) = (thousands(has as u64 + 1), thousands(slots as u64));
+    (has < slots).then(|| format!("{name} has {} slots: from slot {from} to {to} the link brings nothing, and what is due there may be skipped", thousands(has as u64)))
+}
+
+#[derive(Clone, Copy)]
 enum Form {
     Trace,
     Text,
@@ -70,7 +68,7 @@ fn text_link(path: &Path) -> Result<Vec<u32>, Failure> {
     let words = String::from_utf8_lossy(&data);
     let is_job = words.lines().any(|line| line.split_whitespace().next() == Some("chunks"));
     match is_job {
-        true => text::read(&data, path).map(|(job, _)| job.forecast),
+        true => text::read(&data, path, None).map(|(job, _)| job.forecast),
         false => forecast_lines(&files::called(path), &words),
     }
 }

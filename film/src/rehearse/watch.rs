@@ -37,9 +37,8 @@ struct Story {
     overtaken: Option<(usize, usize)>,
     /// The first slot that asked for it.
     asked: Option<usize>,
-    /// The last slot in which it had no place in the buffer, and what the link then left unused.
-    waited: Option<usize>,
-    unused: u64,
+    /// The first and the last slot in which it had no place in the buffer.
+    waited: Option<(usize, usize)>,
     /// In its due slot.
     passed_last: bool,
 }
@@ -49,6 +48,8 @@ pub struct Watch<'a> {
     link: &'a [u32],
     pub slots: Vec<Slot>,
     stories: Vec<Story>,
+    /// By slot, what the link carried beyond all that was asked.
+    unused: Vec<u64>,
 }
 
 /// The rule of docs/LIVE.md in a slot: who is open, who lacks bytes, who is passed over.
@@ -79,7 +80,7 @@ pub fn rule(film: &Film, slot: usize, rate: u64) -> Rule {
 
 impl<'a> Watch<'a> {
     pub fn new(job: &'a Job, link: &'a [u32]) -> Watch<'a> {
-        Watch { job, link, slots: Vec::new(), stories: vec![Story::default(); usize::from(job.chunks)] }
+        Watch { job, link, slots: Vec::new(), stories: vec![Story::default(); usize::from(job.chunks)], unused: Vec::new() }
     }
 
     /// To be called in each slot, before the link brings anything.
@@ -89,7 +90,7 @@ impl<'a> Watch<'a> {
         let rule = rule(&film, slot, act.rate().into());
         let asks = act.asks();
         let asked: u64 = asks.iter().map(|piece| u64::from(piece.bytes)).sum();
-        let unused = self.link.get(slot - 1).map_or(0, |carries| u64::from(*carries).saturating_sub(asked));
+        self.unused.push(self.link.get(slot - 1).map_or(0, |carries| u64::from(*carries).saturating_sub(asked)));
         let is_asked = |i: usize| asks.iter().any(|piece| piece.layer == 0 && usize::from(piece.chunk) == i);
         // Where the rate asked for no base the act asks for all of them, and nobody is passed over.
         let (given_up, instead) = rule.passed.unwrap_or_default();
@@ -105,8 +106,7 @@ impl<'a> Watch<'a> {
             } else if story.passed_last {
                 story.passed = Some(Passed { slot, rate: act.rate().into(), missing: rule.missing[i - 1], instead });
             } else {
-                story.waited = Some(slot);
-                story.unused += unused;
+                story.waited = Some((story.waited.map_or(slot, |(first, _)| first), slot));
             }
         }
         let rate = (act.meter().kept > 0).then(|| act.rate());
@@ -114,58 +114,72 @@ impl<'a> Watch<'a> {
         self.slots.push(Slot { rate, asked, pieces: asks.len(), first, passed: given_up });
     }
 
-    /// Why each skipped chunk was skipped, once the act is over.
+    /// Why each skipped chunk was skipped, once the act is over. The limit is named where the bytes
+    /// that the link left unused while the chunk had no place would have brought it, beside the
+    /// skipped chunks before it.
     pub fn skips(&self, fetched: &Fetched) -> Vec<Skip> {
         let film = Film::new(self.job, &fetched.marks, &fetched.list);
-        film.skipped().into_iter().map(|chunk| self.skip(&film, chunk)).collect()
+        let mut unused = self.unused.clone();
+        film.skipped().into_iter().map(|chunk| self.skip(&film, chunk, &mut unused)).collect()
     }
 
-    fn skip(&self, film: &Film, chunk: usize) -> Skip {
+    fn skip(&self, film: &Film, chunk: usize, unused: &mut [u64]) -> Skip {
         let (story, due) = (self.stories[chunk - 1], film.due(chunk));
         let came = film.sum(chunk, 0);
         let late = film.size(chunk, 0).saturating_sub(came);
+        let limit = story.waited.filter(|waited| taken(unused, *waited, late)).map(|(_, until)| self.limit_told(film, until, late));
         let (cause, why) = match (story.overtaken, story.passed) {
-            (Some((by, before)), Some(passed)) => {
-                let begun = film.first(by).unwrap_or(before.saturating_sub(1));
-                (Cause::Overtaken, format!("{}; chunk {by} was begun in slot {}", told(&passed, due), thousands(begun as u64)))
-            }
-            (Some((by, before)), None) => {
-                (Cause::Overtaken, format!("chunk {by} was begun before slot {}, and this one not", thousands(before as u64)))
+            (Some((by, before)), passed) => {
+                let begun = thousands(film.first(by).unwrap_or(before.saturating_sub(1)) as u64);
+                let passed = passed.map_or(String::new(), |passed| format!("{}; ", told(&passed, due)));
+                (Cause::Overtaken, format!("{passed}chunk {by} was begun in slot {begun}"))
             }
             (None, Some(passed)) if story.passed_last => (Cause::PassedOver, told(&passed, due)),
-            _ if story.waited.is_some() && (story.unused >= late || story.asked.is_none()) => {
-                let limit = counted(self.job.limit.into(), "slot");
-                let places = counted(film.places as u64, "chunk");
-                let until = story.waited.map_or(0, |slot| slot as u64);
-                let unused = match story.unused {
-                    0 => String::new(),
-                    unused => format!(", while {} of the link went unused", counted(unused, "byte")),
-                };
-                let held = match film.places {
-                    0 => format!("the limit of {limit} holds no chunk, so all had to come in its due slot"),
-                    _ => format!("the limit of {limit} holds {places}, and it had none of the places up to slot {}{unused}", thousands(until)),
-                };
-                (Cause::Limit, format!("{held}; {} missing in slot {}", were(late), thousands(due as u64)))
-            }
             _ => {
-                let from = story.asked.map_or(String::new(), |slot| format!(", asked from slot {} on", thousands(slot as u64)));
-                let of = format!("{} of {} came{from}", thousands(came), counted(film.size(chunk, 0), "byte"));
-                (Cause::Late, format!("by {}: {of}", counted(late, "byte")))
+                let from = match story.asked {
+                    Some(slot) => format!("asked from slot {} on", thousands(slot as u64)),
+                    None => "never asked".to_string(),
+                };
+                let of = format!("{} of {} came, {from}", thousands(came), counted(film.size(chunk, 0), "byte"));
+                let cause = if limit.is_some() || story.asked.is_none() { Cause::Limit } else { Cause::Late };
+                (cause, format!("late by {}: {of}", counted(late, "byte")))
             }
         };
-        Skip { chunk, due, cause, why }
+        Skip { chunk, due, cause, why, limit }
+    }
+
+    fn limit_told(&self, film: &Film, until: usize, late: u64) -> String {
+        let limit = counted(self.job.limit.into(), "slot");
+        let places = match film.places {
+            0 => "no chunk".to_string(),
+            places => counted(places as u64, "chunk"),
+        };
+        let until = thousands(until as u64);
+        let had = format!("Up to slot {until} it had no place: the limit of {limit} holds {places}.");
+        format!("{had} The {} that it lacked went unused on the link by then: more room could have brought it.", counted(late, "byte"))
     }
 }
 
-fn were(bytes: u64) -> String {
-    format!("{} {}", counted(bytes, "byte"), if bytes == 1 { "was" } else { "were" })
+/// Takes so many bytes out of what is unused in these slots, the last first; nothing, if there are
+/// not as many.
+fn taken(unused: &mut [u64], (first, last): (usize, usize), mut bytes: u64) -> bool {
+    let slots = first.max(1) - 1..last.min(unused.len());
+    if slots.is_empty() || bytes == 0 || unused[slots.clone()].iter().sum::<u64>() < bytes {
+        return false;
+    }
+    for left in unused[slots].iter_mut().rev() {
+        let part = bytes.min(*left);
+        *left -= part;
+        bytes -= part;
+    }
+    true
 }
 
 fn told(passed: &Passed, due: usize) -> String {
     let slots = due + 1 - passed.slot.min(due);
     let brings = passed.rate.saturating_mul(slots as u64);
     format!(
-        "in slot {} it lacked {}; {} a slot would have brought {} by its due slot, and chunk {} in time",
+        "in slot {} it lacked {}; at {} a slot {} of them would come by its due slot, and all of chunk {}",
         thousands(passed.slot as u64),
         counted(passed.missing, "byte"),
         counted(passed.rate, "byte"),
@@ -191,9 +205,9 @@ impl Cause {
     pub fn words(self) -> &'static str {
         match self {
             Cause::PassedOver => "passed over",
-            Cause::Overtaken => "passed over, then overtaken",
+            Cause::Overtaken => "overtaken",
             Cause::Late => "late",
-            Cause::Limit => "no place in the buffer: limit",
+            Cause::Limit => "no place in the buffer",
         }
     }
 }
@@ -205,14 +219,17 @@ pub struct Skip {
     pub due: usize,
     pub cause: Cause,
     pub why: String,
+    /// What there is to say of the limit.
+    pub limit: Option<String>,
 }
 
 impl Skip {
-    /// The sentence without its chunk.
+    /// The sentences without their chunk.
     pub fn sentence(&self) -> String {
+        let limit = self.limit.as_ref().map_or(String::new(), |limit| format!(" {limit}"));
         match self.cause {
-            Cause::Late => format!("{} {}", self.cause.words(), self.why),
-            _ => format!("{}: {}", self.cause.words(), self.why),
+            Cause::Late => format!("{}.{limit}", self.why),
+            _ => format!("{}: {}.{limit}", self.cause.words(), self.why),
         }
     }
 }

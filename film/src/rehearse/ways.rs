@@ -1,6 +1,7 @@
 //! Three ways to fetch a film over a link: by the plan that knew it, by the act, which sees in each
 //! slot what came, and by planning afresh with the meter in every slot.
 use crate::draw::film::Film;
+use crate::programme::marks_of;
 use film_planner::{Act, FetchList, Job, Meter, Refusal, Row};
 
 /// What one way fetched, and the marks of what is whole.
@@ -96,13 +97,5 @@ pub fn afresh(job: &Job, link: &[u32]) -> Result<(Fetched, Vec<(u16, Refusal)>),
             refused.push((slot, refusal));
         }
     }
-    Ok((Fetched { marks: marks(job, &list), list }, refused))
-}
-
-/// A bit for each layer that is whole.
-fn marks(job: &Job, list: &FetchList) -> Vec<u8> {
-    let all = vec![0xff; usize::from(job.chunks)];
-    let film = Film::new(job, &all, list);
-    let whole = |chunk: usize, n: usize| u8::from(film.sum(chunk, n) == film.size(chunk, n)) << n;
-    (1..=film.chunks()).map(|chunk| (0..film.layers()).map(|n| whole(chunk, n)).sum()).collect()
+    Ok((Fetched { marks: marks_of(job, &list), list }, refused))
 }
