@@ -5,7 +5,7 @@ use crate::out;
 use crate::words::{counted, printable, thousands};
 use crate::{programme, rows, text};
 use film_planner::{Job, Plan, Refusal, FILE, SLOTS};
-use std::io::{ErrorKind, Read};
+use std::io::{ErrorKind, IsTerminal, Read};
 use std::path::Path;
 
 /// The longest text of a job that is read.
@@ -52,6 +52,9 @@ pub fn said(e: &std::io::Error) -> String {
 /// Opens a file, or standard input for `-`. A folder is told as one.
 pub fn open(path: &Path) -> Result<Box<dyn Read>, Failure> {
     if path.as_os_str() == "-" {
+        if std::io::stdin().is_terminal() {
+            out::note("reading standard input, which is a terminal; Ctrl-D ends it, `film --help` says more");
+        }
         return Ok(Box::new(std::io::stdin()));
     }
     let name = called(path);
