@@ -104,8 +104,9 @@ impl Sources {
             return Err(Failure::usage("--links and --seed say which synthetic links; there is no --link KIND RATE"));
         }
         match sources.number() {
-            0 => Err(Failure::usage("no link to rehearse on: --trace FILE or --link KIND RATE is needed")
-                .hint("For a link that nobody recorded, try: film rehearse JOB --link lte 150%")),
+            0 => Err(Failure::usage("no link to rehearse on: --trace FILE or --link KIND RATE is needed").hint(
+                "For a link that nobody recorded, try: film rehearse JOB --link lte 150%",
+            )),
             _ => Ok(sources),
         }
     }
@@ -241,10 +242,7 @@ fn block(job: &Job, name: &str, figures: &[Figures; 3], links: u64, refused: &[(
     }
     if let Some((slot, refusal)) = refused.first() {
         let times = counted(refused.len() as u64, "slot");
-        out += &format!(
-            "  (planning afresh was refused in {times}, first in slot {slot}, and fetched nothing there)\n  {}\n",
-            sentence(*refusal)
-        );
+        out += &format!("  (planning afresh was refused in {times}, first in slot {slot}, and fetched nothing there)\n  {}\n", sentence(*refusal));
     }
     out
 }

@@ -170,3 +170,92 @@ fn the_desk_makes_six_files() {
     assert!(!folder.0.join("desk/bad").exists());
     folder.film(&["desk", "samples/a.job", "bad.txt"]).bad(1, &["bad.txt cannot be made"], "a file as folder");
 }
+
+/// Words in any order: an answer, or a message and status 1 or 2.
+#[test]
+fn random_command_lines_never_panic() {
+    let (folder, mut random) = (with_samples(), Random(20));
+    let tight = random.tight_job();
+    folder.put("job", job_a().write().unwrap()).put("text", A_TEXT).put("rows", "1 2 0 2\n1 2 1 1\n5 3 0 2\n").put("empty", "");
+    folder.put("tight", tight.write().unwrap()).put("van", "0\n900\n1500\n4200\n").put("crlf", "1\r\n").put("junk", [0, 255, 80, 71, 10]);
+    folder.put("plan", job_a().write_plan(&[0, 3, 1], &job_a().plan().unwrap().list).unwrap());
+    let options = [
+        "--text",
+        "--out",
+        "--from",
+        "--then",
+        "--trace",
+        "--limit",
+        "--delay",
+        "--layers",
+        "--at",
+        "--fetched",
+        "--rate",
+        "--slots",
+        "--seconds",
+        "--title",
+        "--link",
+        "--seed",
+        "--",
+        "-",
+        "--out=x",
+        "--at=3",
+        "--fetched=rows",
+        "--limit=0..6/2",
+        "--help",
+        "--links",
+    ];
+    let values = [
+        "job",
+        "text",
+        "rows",
+        "plan",
+        "empty",
+        "tight",
+        "van",
+        "crlf",
+        "junk",
+        "nothing",
+        "samples",
+        "0",
+        "1",
+        "2",
+        "3",
+        "5",
+        "-1",
+        "65536",
+        "99999999999999999999",
+        "1..3",
+        "3..1",
+        "1,2",
+        "",
+        "x",
+        "\u{e9}",
+        "3g",
+        "steady",
+        "50%",
+        "new",
+        "samples/a.job",
+    ];
+    let (mut good, mut bad) = (0, 0);
+    for _ in 0..2500 {
+        let mut words = vec![*random.one(&COMMANDS)];
+        if random.chance(70) {
+            words.push(*random.one(&["job", "text", "tight", "samples/a.job"]));
+        }
+        for _ in 0..random.from(0, 5) {
+            words.push(if random.chance(50) { *random.one(&options) } else { *random.one(&values) });
+        }
+        let answer = folder.film(&words);
+        let case = words.join(" ");
+        match answer.status {
+            0 => good += 1,
+            1 | 2 => {
+                assert!(answer.err.contains("film: ") && !answer.err.contains("panicked"), "{case}: {}", answer.err);
+                bad += 1;
+            }
+            _ => panic!("{case}: status {} {}", answer.status, answer.err),
+        }
+    }
+    println!("2,500 random command lines: {good} answered, {bad} told what is wrong");
+}

@@ -201,11 +201,7 @@ impl Canvas {
 pub fn px(x: f64) -> String {
     let text = format!("{x:.2}");
     let text = text.trim_end_matches('0').trim_end_matches('.');
-    if text == "-0" || text.is_empty() {
-        "0".to_string()
-    } else {
-        text.to_string()
-    }
+    if text == "-0" || text.is_empty() { "0".to_string() } else { text.to_string() }
 }
 
 /// For text and attributes of SVG and HTML. What XML cannot say is a space.

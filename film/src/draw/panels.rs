@@ -36,11 +36,7 @@ fn count(n: usize, thing: &str) -> String {
 }
 
 fn named(first: usize, last: usize, between: &str) -> String {
-    if first == last {
-        first.to_string()
-    } else {
-        format!("{first}{between}{last}")
-    }
+    if first == last { first.to_string() } else { format!("{first}{between}{last}") }
 }
 
 /// The longest first.
@@ -58,12 +54,7 @@ pub fn head(c: &mut Canvas, film: &Film, called: &str) -> String {
     c.words(&sentence, 20.0, "in", true);
     c.y += 2.0;
     let last = thousands(film.last as u64);
-    let due = format!(
-        "{} of {}, due in slots {} to {last}.",
-        count(film.chunks(), "chunk"),
-        count(film.span(), "slot"),
-        thousands(film.job.delay.into())
-    );
+    let due = format!("{} of {}, due in slots {} to {last}.", count(film.chunks(), "chunk"), count(film.span(), "slot"), thousands(film.job.delay.into()));
     let holds = format!("The buffer's limit of {} holds {}.", counted(film.job.limit.into(), "slot"), count(film.places, "chunk"));
     c.words(&format!("{due} {holds}"), SMALL, "gr", false);
     let (all, spent) = (film.job.forecast.iter().map(|b| u64::from(*b)).sum::<u64>(), film.all_fetched());
@@ -112,8 +103,7 @@ fn swatch(c: &mut Canvas, kind: &str, x: f64, y: f64) {
 }
 
 fn hatched(c: &mut Canvas, at: (f64, f64), size: (f64, f64), title: Option<&str>) {
-    let head =
-        format!("<rect fill=\"url(#hatch)\" x=\"{}\" y=\"{}\" width=\"{}\" height=\"{}\"", px(at.0), px(at.1), px(size.0), px(size.1));
+    let head = format!("<rect fill=\"url(#hatch)\" x=\"{}\" y=\"{}\" width=\"{}\" height=\"{}\"", px(at.0), px(at.1), px(size.0), px(size.1));
     match title {
         Some(title) => c.add(&format!("{head}><title>{}</title></rect>", super::canvas::escape(title))),
         None => c.add(&format!("{head}/>")),
@@ -139,10 +129,7 @@ fn tiles(c: &Canvas, film: &Film) -> (Vec<Tiles>, bool) {
     let tile = (WIDTH / each as f64).min(24.0);
     let line = |k: usize| {
         let (first, last) = (k * each + 1, ((k + 1) * each).min(all));
-        Tiles {
-            chunks: (first, last),
-            places: (0..=last - first).map(|n| (LEFT + n as f64 * tile, LEFT + (n + 1) as f64 * tile)).collect(),
-        }
+        Tiles { chunks: (first, last), places: (0..=last - first).map(|n| (LEFT + n as f64 * tile, LEFT + (n + 1) as f64 * tile)).collect() }
     };
     ((0..lines).map(line).filter(|tiles| tiles.chunks.0 <= all).collect(), false)
 }
