@@ -266,7 +266,7 @@ mod tests {
             .iter()
             .map(|kind| synthetic(kind, 60_000, 1, 600).unwrap().bytes.iter().enumerate().map(|(k, b)| k as u64 * u64::from(*b)).sum())
             .collect();
-        assert_eq!(sums, [0, 0, 0, 0]);
+        assert_eq!(sums, [11_290_855_383, 9_442_289_880, 11_109_701_009, 11_235_790_843]);
     }
 
     #[test]

@@ -36,14 +36,10 @@ pub fn html(rehearsal: &Rehearsal, watch: &Watch, skips: &[Skip], figures: &[Fig
 /// The form with each part in its places. A part is put in once and not looked into again.
 fn filled(parts: &[(&str, String)]) -> String {
     let mut out = String::new();
-    for (k, piece) in FORM.split('@').enumerate() {
-        match parts.iter().find(|(name, _)| k % 2 == 1 && *name == piece) {
-            Some((_, text)) => out.push_str(text),
-            None if k % 2 == 1 => {
-                let _ = write!(out, "@{piece}@");
-            }
-            None => out.push_str(piece),
-        }
+    for (k, piece) in FORM.split("[[").enumerate() {
+        let (name, rest) = if k == 0 { ("", piece) } else { piece.split_once("]]").unwrap_or(("", piece)) };
+        out.push_str(parts.iter().find(|(own, _)| *own == name).map_or("", |(_, text)| text));
+        out.push_str(rest);
     }
     out
 }

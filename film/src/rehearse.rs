@@ -12,6 +12,9 @@ use film_planner::{Job, Refusal};
 use std::ffi::OsString;
 use std::io::IsTerminal;
 use std::path::{Path, PathBuf};
+#[cfg(test)]
+mod tests;
+
 use watch::{Skip, Watch};
 use ways::{Fetched, Figures};
 

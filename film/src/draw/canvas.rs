@@ -14,10 +14,10 @@ pub const SMALL: f64 = 13.0;
 /// grey as well, and lie between the paper and the ink of either mode.
 pub const STYLE: &str = "\
 .fp{background:#fff}.pa{fill:#fff}.in{fill:#1b1d20}.gr{fill:#565c64}.l0{fill:#17568f}.l1{fill:#3585c9}.l2{fill:#ee9b3a}.l3{fill:#f1d552}\
-.mi{fill:#fff}.ha{stroke:#9298a0}.li{fill:#eceef1}.he{fill:#a3aab3}.fu{fill:#6d747d}.wa{fill:#d6d9dd}.hi{fill:transparent}\
+.mi{fill:#fff}.ha{stroke:#9298a0}.li{fill:#eceef1}.he{fill:#a3aab3}.fu{fill:#6d747d}.wa{fill:#b4bac2}.hi{fill:transparent}\
 .si{stroke:#1b1d20}.sg{stroke:#565c64}.sp{stroke:#dcdfe3}.sa{stroke:#fff}\
 @media (prefers-color-scheme:dark){.fp{background:#15181c}.pa{fill:#15181c}.in{fill:#eef0f2}.gr{fill:#aab1ba}.mi{fill:#15181c}.ha{stroke:#69707a}\
-.li{fill:#272b31}.he{fill:#6b727c}.fu{fill:#a3aab3}.wa{fill:#3a3f47}.si{stroke:#eef0f2}.sg{stroke:#aab1ba}.sp{stroke:#32373e}.sa{stroke:#15181c}}";
+.li{fill:#272b31}.he{fill:#6b727c}.fu{fill:#a3aab3}.wa{fill:#545b65}.si{stroke:#eef0f2}.sg{stroke:#aab1ba}.sp{stroke:#32373e}.sa{stroke:#15181c}}";
 
 /// Missing layers are hatched: one pattern over the plane, so that narrow neighbours make one field.
 pub const HATCH: &str = "<defs><pattern id=\"hatch\" width=\"4\" height=\"4\" patternUnits=\"userSpaceOnUse\" \

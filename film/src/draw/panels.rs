@@ -220,7 +220,7 @@ fn outline(c: &mut Canvas, film: &Film, line: &Tiles, cell: f64) {
         let (x, end) = line.places[i - from];
         let y = px(c.y + high - cell * film.level(i) as f64);
         match (film.level(i), drawn) {
-            (0, _) => drawn = false,
+            (0, _) => {}
             (_, false) => d += &format!("M{} {y}H{}", px(x), px(end)),
             (_, true) => d += &format!("V{y}H{}", px(end)),
         }
@@ -309,7 +309,7 @@ pub fn link(c: &mut Canvas, film: &Film, link: Link) {
     let (bins, high) = (bins(c, film), 150.0);
     let together = bins.first().map_or(1, |(a, b)| b - a);
     let mean = if together > 1 { format!(", in means of {together}") } else { String::new() };
-    let outline = if link == Link::Forecast { "forecast" } else { "that the link carried" };
+    let outline = if link == Link::Forecast { "forecast" } else { "carried" };
     c.panel(&format!("Link: bytes a slot {outline} (outline) and fetched{mean}"));
     c.y += 8.0;
     let over = |a: usize, b: usize, of: &dyn Fn(usize) -> u64| (a + 1..=b).map(of).sum::<u64>() as f64 / (b - a).max(1) as f64;
