@@ -1,7 +1,7 @@
 //! Links to rehearse on: traces and texts that people hand over, and synthetic ones, seeded.
 use crate::failure::Failure;
-use crate::{files, out, text};
 use crate::words::{printable, thousands};
+use crate::{files, out, text};
 use film_planner::Job;
 use std::io::Read;
 use std::path::Path;
@@ -42,7 +42,12 @@ pub fn read(path: &Path, slots: usize) -> Result<Link, Failure> {
 /// A link that has fewer slots than the film brings nothing from there on.
 fn ends_early(name: &str, has: usize, slots: usize) -> Option<String> {
     let (from, to) = (thousands(has as u64 + 1), thousands(slots as u64));
-    (has < slots).then(|| format!("{name} has {} slots: from slot {from} to {to} the link brings nothing, and what is due there may be skipped", thousands(has as u64)))
+    (has < slots).then(|| {
+        format!(
+            "{name} has {} slots: from slot {from} to {to} the link brings nothing, and what is due there may be skipped",
+            thousands(has as u64)
+        )
+    })
 }
 
 #[derive(Clone, Copy)]
@@ -155,7 +160,11 @@ fn wandering(r: &mut Random, slots: usize, w: Wander) -> Vec<u32> {
     let mut one = || {
         let by = r.between(0, 2 * w.step);
         level = (level + by).saturating_sub(w.step).clamp(w.lowest, w.highest);
-        if r.odds(w.lost) { 0 } else { level * r.between(100 - w.around, 100 + w.around) / 100 }
+        if r.odds(w.lost) {
+            0
+        } else {
+            level * r.between(100 - w.around, 100 + w.around) / 100
+        }
     };
     (0..slots).map(|_| one()).collect()
 }
@@ -169,7 +178,11 @@ fn broken(r: &mut Random, whole: Vec<u32>, on: (u32, u32), off: (u32, u32)) -> V
             left = if up { r.between(on.0, on.1) } else { r.between(off.0, off.1) };
         }
         left -= 1;
-        if up { b } else { 0 }
+        if up {
+            b
+        } else {
+            0
+        }
     };
     whole.into_iter().map(&mut one).collect()
 }

@@ -107,9 +107,8 @@ impl Sources {
             return Err(Failure::usage("--links and --seed say which synthetic links; there is no --link KIND RATE"));
         }
         match sources.number() {
-            0 => Err(Failure::usage("no link to rehearse on: --trace FILE or --link KIND RATE is needed").hint(
-                "For a link that nobody recorded, try: film rehearse JOB --link lte 150%",
-            )),
+            0 => Err(Failure::usage("no link to rehearse on: --trace FILE or --link KIND RATE is needed")
+                .hint("For a link that nobody recorded, try: film rehearse JOB --link lte 150%")),
             _ => Ok(sources),
         }
     }
@@ -178,7 +177,7 @@ pub fn run(args: Args) -> Result<(), Failure> {
         return Err(Failure::usage("--page-of says which link the page is of; --page FILE is needed too"));
     }
     let inputs: Vec<&Path> = std::iter::once(args.path(0)).chain(sources.files.iter().map(PathBuf::as_path)).collect();
-    if let Some(path) = page.filter(|path| inputs.contains(path)) {
+    if let Some(path) = page.filter(|path| inputs.iter().any(|input| same(input, path))) {
         return Err(Failure::usage(format!("{} would be written over; name another file", files::called(path))));
     }
     out::text(&header(job))?;
@@ -214,6 +213,11 @@ pub fn run(args: Args) -> Result<(), Failure> {
     Ok(())
 }
 
+/// One and the same file, by whatever names.
+fn same(a: &Path, b: &Path) -> bool {
+    a == b || matches!((a.canonicalize(), b.canonicalize()), (Ok(a), Ok(b)) if a == b)
+}
+
 /// Every link on a terminal that shows them on one line, else each twentieth part.
 fn progress(done: u64, many: u64) {
     let often = if std::io::stderr().is_terminal() { 1 } else { many.div_ceil(20) };
@@ -245,7 +249,10 @@ fn block(job: &Job, name: &str, figures: &[Figures; 3], links: u64, refused: &[(
     }
     if let Some((slot, refusal)) = refused.first() {
         let times = counted(refused.len() as u64, "slot");
-        out += &format!("  (planning afresh was refused in {times}, first in slot {slot}, and fetched nothing there)\n  {}\n", sentence(*refusal));
+        out += &format!(
+            "  (planning afresh was refused in {times}, first in slot {slot}, and fetched nothing there)\n  {}\n",
+            sentence(*refusal)
+        );
     }
     out
 }

@@ -121,7 +121,8 @@ fn due(job: &Job, i: u64) -> u64 {
 fn expected_slot(act: &Act, carries: u64) -> (String, String, u32) {
     let asked: u64 = act.asks().iter().map(|piece| u64::from(piece.bytes)).sum();
     let brought = asked.min(carries);
-    let unused = if carries > brought { format!("{} unused: nothing more was asked", bytes(carries - brought)) } else { "nothing unused".into() };
+    let unused =
+        if carries > brought { format!("{} unused: nothing more was asked", bytes(carries - brought)) } else { "nothing unused".into() };
     let rate = match act.meter().kept {
         0 => "rate unknown: no slot has told yet".to_string(),
         _ => format!("rate {} a slot, by which it asked", bytes(act.rate().into())),
@@ -134,7 +135,7 @@ fn expected_slot(act: &Act, carries: u64) -> (String, String, u32) {
     for piece in act.asks().iter().take(12) {
         let got = left.min(piece.bytes.into());
         left -= got;
-        asks += &format!("chunk {} layer {}: {} of {}", piece.chunk, piece.layer, thousands(got), bytes(piece.bytes.into()));
+        asks += &format!("chunk {} layer {}: {} of {}", piece.chunk, piece.layer, thousands(got), thousands(piece.bytes.into()));
     }
     match act.asks().len().saturating_sub(12) {
         0 => {}
@@ -219,7 +220,9 @@ fn the_buttons_and_the_address_move_the_slider() {
     done(&["rehearse", "samples/flight.txt", "--trace", "samples/flight.txt", "--page", page.to_str().unwrap()]);
     let slot = |page: &Path, hash: &str| {
         let dom = dom(&browser, &folder, page, hash, 600);
-        let at = dom.split("data-slot=\"").find_map(|rest| rest.split_once("\"").map(|(n, _)| n.to_string()).filter(|n| n.parse::<u32>().is_ok()));
+        let at = dom
+            .split("data-slot=\"")
+            .find_map(|rest| rest.split_once("\"").map(|(n, _)| n.to_string()).filter(|n| n.parse::<u32>().is_ok()));
         (at, inside(&dom, "output", "now"))
     };
     assert_eq!(slot(&page, "#slot=77"), (Some("77".into()), "slot 77 of 186".into()));
@@ -281,12 +284,17 @@ fn random_job(r: &mut Random) -> Job {
         }
         let scale = 10u32.pow(r.below(6));
         let sizes: Vec<u32> = (0..1 + r.below(4)).map(|_| scale * (1 + r.below(20))).collect();
-        let overrides = (2..=chunks).filter(|_| r.below(5) == 0).map(|chunk| Override { chunk, layer: 0, bytes: sizes[0] + 1 + scale }).collect();
+        let overrides =
+            (2..=chunks).filter(|_| r.below(5) == 0).map(|chunk| Override { chunk, layer: 0, bytes: sizes[0] + 1 + scale }).collect();
         let rich = 1 + r.below(30);
         let mut level = scale * rich;
         let mut carries = || {
             level = (level + r.below(scale * 4)).saturating_sub(scale * 2).min(16_000_000);
-            if r.below(9) == 0 { 0 } else { level }
+            if r.below(9) == 0 {
+                0
+            } else {
+                level
+            }
         };
         let forecast = (0..slots).map(|_| carries()).collect();
         return Job { chunks, span, delay, limit: r.below(60) as u16, sizes, overrides, forecast };
@@ -298,13 +306,16 @@ fn texts_of_pictures_cover_nothing_and_stay_inside() {
     let Some(browser) = browser() else { return };
     let folder = Folder::new("pictures");
     let mut r = Random(9);
-    let mut pictures = vec![("flight".to_string(), done(&["draw", "samples/flight.txt"])), ("a".to_string(), done(&["draw", "samples/a.job"]))];
+    let mut pictures =
+        vec![("flight".to_string(), done(&["draw", "samples/flight.txt"])), ("a".to_string(), done(&["draw", "samples/a.job"]))];
     for k in 0..40 {
         let job = folder.put("job", random_job(&mut r).write().unwrap());
         pictures.push((format!("random{k}"), done(&["draw", job.to_str().unwrap(), "--title", "A film with a long name & <more>"])));
     }
     let body: String = pictures.iter().map(|(name, svg)| format!("<div id=\"{name}\">{}</div>", String::from_utf8_lossy(svg))).collect();
-    let whole = format!("<!DOCTYPE html><meta charset=\"utf-8\"><body style=\"margin:0\">{body}<pre id=\"trial\"></pre><script>{TEXTS}</script></body>");
+    let whole = format!(
+        "<!DOCTYPE html><meta charset=\"utf-8\"><body style=\"margin:0\">{body}<pre id=\"trial\"></pre><script>{TEXTS}</script></body>"
+    );
     let page = folder.put("pictures.html", whole);
     for wide in [600, 1000, 1600] {
         let said = inside(&dom(&browser, &folder, &page, "", wide), "pre", "trial");
