@@ -180,7 +180,6 @@ pub fn run(args: Args) -> Result<(), Failure> {
     if let Some(path) = page.filter(|path| inputs.iter().any(|input| same(input, path))) {
         return Err(Failure::usage(format!("{} would be written over; name another file", files::called(path))));
     }
-    out::text(&header(job))?;
     let mut sums: [Figures; 3] = Default::default();
     for k in 0..many {
         let link = sources.get(k).link(job.forecast.len())?;
@@ -191,7 +190,8 @@ pub fn run(args: Args) -> Result<(), Failure> {
         };
         let figures = rehearsal.figures();
         sums.iter_mut().zip(&figures).for_each(|(sum, one)| sum.add(one));
-        out::text(&block(job, &link.name, &figures, 1, &rehearsal.refused))?;
+        let head = if k == 0 { header(job) } else { String::new() };
+        out::text(&(head + &block(job, &link.name, &figures, 1, &rehearsal.refused)))?;
         if let Some(watch) = watch {
             let skips = watch.skips(&rehearsal.act);
             if many == 1 {
@@ -261,7 +261,10 @@ fn block(job: &Job, name: &str, figures: &[Figures; 3], links: u64, refused: &[(
 pub fn mean(sum: u64, links: u64) -> String {
     match links {
         0 | 1 => thousands(sum),
-        _ => format!("{}.{}", thousands(sum / links), sum * 10 / links % 10),
+        _ => {
+            let tenths = (sum * 10 + links / 2) / links;
+            format!("{}.{}", thousands(tenths / 10), tenths % 10)
+        }
     }
 }
 
