@@ -5,13 +5,14 @@ use crate::out;
 use crate::words::{counted, printable, thousands};
 use crate::{programme, rows, text};
 use film_planner::{Job, Plan, Refusal, FILE, SLOTS};
-use std::io::{ErrorKind, Read};
+use std::io::{ErrorKind, IsTerminal, Read};
 use std::path::Path;
 
 /// The longest text of a job that is read.
 pub const TEXT: usize = 10_000_000;
-/// So much of a trace is read at a time.
-const PIECE: u64 = 1 << 20;
+/// So much of a trace is read at a time: too little for a slot above its most bytes, so that this is
+/// seen in the sums alone, behind every faulty line.
+const PIECE: u64 = 1 << 14;
 /// No line of a trace is longer, its line feed included; some more, so that messages can show it.
 const LINE: usize = 64;
 /// The most bytes of a slot.
@@ -51,6 +52,9 @@ pub fn said(e: &std::io::Error) -> String {
 /// Opens a file, or standard input for `-`. A folder is told as one.
 pub fn open(path: &Path) -> Result<Box<dyn Read>, Failure> {
     if path.as_os_str() == "-" {
+        if std::io::stdin().is_terminal() {
+            out::note("reading standard input, which is a terminal; Ctrl-D ends it, `film --help` says more");
+        }
         return Ok(Box::new(std::io::stdin()));
     }
     let name = called(path);
@@ -226,12 +230,12 @@ fn odd(line: &[u8], wanted: &str) -> String {
 /// A trace that ends before its slots leaves the others without a byte, as if the link were dead.
 fn ends_early(called: &str, lines: u64, last: u32, slots: usize) -> Option<String> {
     if lines == 0 {
-        return Some(format!("{called} is empty: its {} get 0 bytes, and nothing can be fetched in them", counted(slots as u64, "slot")));
+        return Some(format!("{called} is empty: {} without a byte, in which nothing can be fetched", counted(slots as u64, "slot")));
     }
     let reached = last as usize / 1000 + 1;
     (reached < slots).then(|| {
         format!(
-            "{called} ends in its slot {}, at {} ms: the {} after it get 0 bytes, and nothing can be fetched in them",
+            "{called} ends in its slot {}, at {} ms: {} after it without a byte, in which nothing can be fetched",
             thousands(reached as u64),
             thousands(u64::from(last)),
             counted((slots - reached) as u64, "slot")

@@ -30,11 +30,6 @@ pub fn sizes(job: &Job) -> Vec<Vec<u32>> {
     sizes
 }
 
-/// Whether each layer has one size in all chunks.
-pub fn is_even(job: &Job) -> bool {
-    job.overrides.is_empty()
-}
-
 /// Whether the bases have one size: what decides of pictures shown.
 pub fn has_even_bases(job: &Job) -> bool {
     job.overrides.iter().all(|o| o.layer != 0)
@@ -62,7 +57,7 @@ pub fn chunks_named(numbers: &[u16]) -> String {
     let found = runs(numbers);
     let mut names: Vec<String> = found.iter().take(8).map(|(a, b)| if a == b { a.to_string() } else { format!("{a} to {b}") }).collect();
     if found.len() > 8 {
-        names.push(".. ".trim().to_string());
+        names.push("..".to_string());
     }
     format!("{} {}", if numbers.len() == 1 { "chunk" } else { "chunks" }, names.join(", "))
 }

@@ -141,14 +141,17 @@ fn wait(args: Args) -> Result<(), Failure> {
         job.forecast = link.iter().copied().take(last(&job) as usize).collect();
         job
     };
-    let assumed = |slots: u32| match slots as usize > known {
+    let assumed = |slots: u32| {
+        match slots as usize > known {
         true => format!(
-            "assumed: {} after the forecast's end, slot {}, of {} each (--then BYTES says otherwise)\n",
+            "on the forecast alone no wait works; it has room for waits up to {}\nassumed: {} after its end, slot {}, of {} each (--then BYTES says otherwise)\n",
+            counted((known as u64).saturating_sub(u64::from(film)), "slot"),
             counted(u64::from(slots) - known as u64, "slot"),
             thousands(known as u64),
             counted(u64::from(then), "byte")
         ),
         false => String::new(),
+    }
     };
     match answer {
         Ok(delay) => {

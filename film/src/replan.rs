@@ -1,10 +1,11 @@
 //! `film replan`: a plan made afresh during the act.
 use crate::args::{Args, Command};
 use crate::failure::Failure;
-use crate::programme::{by_slot, counts, last, skips};
+use crate::programme::{by_slot, counts, last, marks_of, skips, verdict_told};
 use crate::words::{counted, thousands};
 use crate::{files, out};
-use film_planner::{FetchList, Job, Verdict};
+use film_planner::{FetchList, Job, Plan, Refusal, Rule, Verdict};
+use std::collections::BTreeMap;
 use std::path::Path;
 
 pub const COMMAND: Command = Command {
@@ -29,6 +30,37 @@ from P on. --out writes the rows fetched and the new ones as a plan file, which
     run,
 };
 
+/// What is wrong with the rows fetched, by the second checker call; else it is their order.
+fn refused_rows(job: &Job, p: u16, before: &FetchList, refusal: Refusal) -> Failure {
+    let failure = Failure::refused(format!("{} fetched before slot {p}", counted(before.len() as u64, "row")), refusal);
+    let rows = Plan { marks: marks_of(job, before), list: before.clone(), counts: [0; 4] };
+    match job.check_from(p, &rows.marks, before) {
+        Ok(verdict @ Verdict::Breaks(rule)) => {
+            let failure = failure.hint(&verdict_told(job, &rows, verdict));
+            match rule {
+                Rule::WithinForecast => failure.hint("The job's forecast of a slot before P has to say at least what it brought."),
+                _ => failure,
+            }
+        }
+        _ => match out_of_order(before) {
+            Some(words) => failure.hint(&words),
+            None => failure,
+        },
+    }
+}
+
+/// A chunk that is begun in an earlier slot than one that plays before it.
+fn out_of_order(before: &FetchList) -> Option<String> {
+    let mut first: BTreeMap<u16, u16> = BTreeMap::new();
+    for row in before.rows() {
+        let slot = first.entry(row.chunk).or_insert(row.slot);
+        *slot = row.slot.min(*slot);
+    }
+    let begun: Vec<(u16, u16)> = first.into_iter().collect();
+    let pair = begun.windows(2).find(|pair| pair[1].1 < pair[0].1)?;
+    Some(format!("chunk {} is begun in slot {}, before chunk {}, which plays before it", pair[1].0, pair[1].1, pair[0].0))
+}
+
 fn run(args: Args) -> Result<(), Failure> {
     let wrong = |text: &str| Failure::usage(format!("{text}\n{}\n`film replan --help` says more", COMMAND.usage()));
     let (Some(_), Some(fetched)) = (args.value("at"), args.value("fetched")) else {
@@ -52,8 +84,7 @@ fn run(args: Args) -> Result<(), Failure> {
         (None, Some(path)) => files::trace(Path::new(path), end as usize)?.split_off(from),
         (None, None) => job.forecast[from..].to_vec(),
     };
-    let called = format!("{}, slot {p}, {} fetched", loaded.called, counted(before.len() as u64, "row"));
-    let plan = job.replan(p, &before, &onward).map_err(|refusal| Failure::refused(called, refusal))?;
+    let plan = job.replan(p, &before, &onward).map_err(|refusal| refused_rows(job, p, &before, refusal))?;
     let joined_job = Job { forecast: job.forecast[..from].iter().chain(&onward).copied().collect(), ..job.clone() };
     let joined: FetchList = before.rows().chain(plan.list.rows()).collect();
     let refused = |refusal| Failure::refused(loaded.called.clone(), refusal);

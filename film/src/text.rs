@@ -2,7 +2,7 @@
 //! the one text that a job has.
 use crate::failure::{sentence, Failure};
 use crate::files;
-use crate::words::{printable, thousands};
+use crate::words::{counted, printable, thousands};
 use film_planner::{Job, Override, Refusal, LAYERS, SLOTS};
 use std::path::{Path, PathBuf};
 
@@ -440,8 +440,8 @@ impl Text<'_> {
             }
             Some((line, _)) if slots != last => {
                 let what = match slots < last {
-                    true => format!("{} are missing", thousands((last - slots) as u64)),
-                    false => format!("{} are too many", thousands((slots - last) as u64)),
+                    true => format!("{} missing", counted((last - slots) as u64, "slot")),
+                    false => format!("{} too many", counted((slots - last) as u64, "slot")),
                 };
                 let message = format!(
                     "the forecast has {} slots by this line, and the last chunk is due in slot {}: {what}",
