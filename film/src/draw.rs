@@ -22,8 +22,8 @@ skipped and why, the link and what is fetched over it, the buffer against its li
 chunk is fetched. Point at a bar to read about it.
 
   JOB            the job, as a text or as a job file; - is standard input
-  PLAN           a plan file of it, or its rows as text; without one the job is planned. A plan that
-                 breaks a rule is not drawn. Reasons are told for the job's own plan alone.
+  PLAN           a plan file of it; without one the job is planned. A plan that breaks a rule is not
+                 drawn. Reasons are told for the job's own plan alone.
   --title WORDS  what stands above the picture; the job's file name if absent
   --out FILE     where the picture goes; standard output if absent
 
@@ -41,7 +41,7 @@ pub fn run(args: Args) -> Result<(), Failure> {
     let own = job.plan().map_err(|refusal| Failure::refused(&loaded.called, refusal))?;
     let plan = match args.words().len() {
         1 => own.clone(),
-        _ => files::plan_or_rows(job, args.path(1))?,
+        _ => files::plan(job, args.path(1))?,
     };
     let verdict = job.check(&plan.marks, &plan.list).map_err(|refusal| Failure::refused(&loaded.called, refusal))?;
     if verdict != Verdict::Passes {

@@ -21,17 +21,18 @@ use ways::{Fetched, Figures};
 pub const COMMAND: Command = Command {
     name: "rehearse",
     summary: "the act on one or many links, second by second, with a table and a page",
-    help: "film rehearse JOB [--trace FILE ..] [--link KIND RATE [--links N] [--seed N]] [--page FILE [--page-of N]]
+    help: "film rehearse JOB [--trace FILE ..] [--link KIND RATE ..] [--page FILE]
 
 Fetches the film of a job second by second over links that it does not know, as the desk would in
-the act, and says what was shown: beside the plan that knew the link, and beside planning afresh with
-the meter in every slot. On one link each skipped chunk is told with its reason.
+the act, and says what was shown: beside the plan that knew the link, and beside planning afresh
+with the meter in every slot. On one link each skipped chunk is told with its reason.
 
   JOB               the job, as a text or as a job file; of its forecast nothing is used but a
                     first guess in the last of the three
-  --trace FILE ..   the link of a file: a trace of the test van (a line is the time in milliseconds of
-                    1,500 bytes that came), a text with lines `forecast BYTES BYTES ..` and
-                    `forecast SLOTS x BYTES`, or a job, whose forecast is taken. Several may follow.
+  --trace FILE ..   the link of a file: a trace of the test van (a line is the time in milliseconds
+                    at which 1,500 bytes came), a text with lines `forecast BYTES BYTES ..` and
+                    `forecast SLOTS x BYTES`, or a job, whose forecast is taken. Several may
+                    follow; the table then ends with their mean.
   --link KIND RATE  a synthetic link. KIND is
                       3g      deep, fast changes; one second in twelve brings nothing
                       lte     wide, with dips to a tenth
