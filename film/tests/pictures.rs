@@ -150,3 +150,66 @@ fn only_a_passing_plan_is_drawn() {
         folder.film(words).bad(2, &["film draw JOB"], "wrong words");
     }
 }
+
+/// What a colour of linear red, green and blue becomes with all cones, and without one kind of cone
+/// (Machado, Oliveira and Fernandes 2009).
+const SIGHTS: [[[f64; 3]; 3]; 4] = [
+    [[1.0, 0.0, 0.0], [0.0, 1.0, 0.0], [0.0, 0.0, 1.0]],
+    [[0.152286, 1.052583, -0.204868], [0.114503, 0.786281, 0.099216], [-0.003882, -0.048116, 1.051998]],
+    [[0.367322, 0.860646, -0.227968], [0.280085, 0.672501, 0.047413], [-0.011820, 0.042940, 0.968881]],
+    [[1.255528, -0.076749, -0.178779], [-0.078411, 0.930809, 0.147602], [0.004733, 0.691367, 0.303900]],
+];
+
+/// A colour's place in CIELAB, where distances are about those seen.
+fn seen(colour: &str, sight: &[[f64; 3]; 3]) -> [f64; 3] {
+    let hex = colour.trim_start_matches('#');
+    let wide: String = if hex.len() == 3 { hex.chars().flat_map(|c| [c, c]).collect() } else { hex.to_string() };
+    let part = |k: usize| {
+        let c = f64::from(u8::from_str_radix(&wide[2 * k..2 * k + 2], 16).unwrap()) / 255.0;
+        if c <= 0.04045 {
+            c / 12.92
+        } else {
+            ((c + 0.055) / 1.055).powf(2.4)
+        }
+    };
+    let parts = [part(0), part(1), part(2)];
+    let [r, g, b] = [0, 1, 2].map(|k| sight[k].iter().zip(parts).map(|(m, c)| m * c).sum::<f64>().clamp(0.0, 1.0));
+    let xyz = [
+        (0.4124 * r + 0.3576 * g + 0.1805 * b) / 0.9505,
+        0.2126 * r + 0.7152 * g + 0.0722 * b,
+        (0.0193 * r + 0.1192 * g + 0.9505 * b) / 1.089,
+    ];
+    let [x, y, z] = xyz.map(|c: f64| if c > 0.008856 { c.cbrt() } else { 7.787 * c + 16.0 / 116.0 });
+    [116.0 * y - 16.0, 500.0 * (x - y), 200.0 * (y - z)]
+}
+
+/// The fill of a class in a style, the last that is given.
+fn fill(style: &str, class: &str) -> String {
+    let (_, after) = style.rsplit_once(&format!(".{class}{{fill:")).unwrap_or_else(|| panic!("no {class}"));
+    after.split('}').next().unwrap().to_string()
+}
+
+#[test]
+fn colours_are_told_apart_with_any_kind_of_cone_absent() {
+    let folder = Folder::new();
+    folder.put("job", job_a().write().unwrap());
+    let picture = folder.film(&["draw", "job"]).text();
+    let style = picture.split("<style>").nth(1).unwrap().split("</style>").next().unwrap();
+    let light = style.split("@media").next().unwrap();
+    for (name, style) in [("light", light), ("dark", style)] {
+        let colours: Vec<String> = ["l0", "l1", "l2", "l3", "in", "pa"].iter().map(|class| fill(style, class)).collect();
+        let mut least = f64::MAX;
+        for sight in &SIGHTS {
+            let places: Vec<[f64; 3]> = colours.iter().map(|colour| seen(colour, sight)).collect();
+            for (k, a) in places.iter().enumerate() {
+                for b in &places[k + 1..] {
+                    least = least.min(a.iter().zip(b).map(|(p, q)| (p - q).powi(2)).sum::<f64>().sqrt());
+                }
+            }
+        }
+        let lightness: Vec<f64> = colours[..4].iter().map(|colour| seen(colour, &SIGHTS[0])[0]).collect();
+        println!("{name}: colours at least {least:.0} apart where 2 can just be seen; lightness of the layers {lightness:.0?}");
+        assert!(least >= 20.0, "{name}: {least} (#0e4578 #2d76c1 #f19125 #f7de75 are 21 apart, and evenly in grey)");
+        assert!(lightness.windows(2).all(|w| w[1] - w[0] >= 8.0), "{name}: {lightness:?}");
+    }
+}
