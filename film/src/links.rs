@@ -1,7 +1,7 @@
 //! Links to rehearse on: traces and texts that people hand over, and synthetic ones, seeded.
 use crate::failure::Failure;
+use crate::words::{counted, printable, thousands};
 use crate::{files, out, text};
-use crate::words::{printable, thousands};
 use film_planner::Job;
 use std::io::Read;
 use std::path::Path;
@@ -41,8 +41,9 @@ pub fn read(path: &Path, slots: usize) -> Result<Link, Failure> {
 
 /// A link that has fewer slots than the film brings nothing from there on.
 fn ends_early(name: &str, has: usize, slots: usize) -> Option<String> {
-    let (from, to) = (thousands(has as u64 + 1), thousands(slots as u64));
-    (has < slots).then(|| format!("{name} has {} slots: from slot {from} to {to} the link brings nothing, and what is due there may be skipped", thousands(has as u64)))
+    let (own, from, to) = (counted(has as u64, "slot"), thousands(has as u64 + 1), thousands(slots as u64));
+    let says = || format!("{name} has {own}: from slot {from} to {to} the link brings nothing, and what is due there may be skipped");
+    (has < slots).then(says)
 }
 
 #[derive(Clone, Copy)]
@@ -103,13 +104,28 @@ fn forecast_lines(name: &str, words: &str) -> Result<Vec<u32>, Failure> {
         };
         match found {
             Some(more) => bytes.extend(more),
-            None => return wrong("a slot carries 0 to 16,777,216 bytes, a run has 1 to 3,600 slots; numbers are digits alone"),
+            None => return wrong(odd_numbers(&words)),
         }
         if bytes.len() > 3600 {
             return wrong("the link has more than 3,600 slots by this line");
         }
     }
     Ok(bytes)
+}
+
+/// What is wrong with the words after `forecast`.
+fn odd_numbers(words: &[&str]) -> &'static str {
+    let digit = |c: char| c.is_ascii_digit();
+    let joined =
+        |word: &&str| word.split_once('x').is_some_and(|(a, b)| !(a.is_empty() && b.is_empty()) && a.chars().chain(b.chars()).all(digit));
+    let parted = |word: &&str| word.len() > 4 && word.chars().all(|c| digit(c) || ",._'".contains(c)) && !word.chars().all(digit);
+    match words {
+        [] => "its numbers are missing",
+        words if words.iter().any(joined) => "a run stands on a line of its own and has spaces: `forecast 6 x 3`",
+        words if words.iter().any(parted) => "numbers are digits alone: 4000, not 4,000",
+        words if words.contains(&"x") => "a run stands on a line of its own: `forecast SLOTS x BYTES`, 1 to 3,600 slots",
+        _ => "a slot carries 0 to 16,777,216 bytes; numbers are digits alone",
+    }
 }
 
 /// The kinds of synthetic links, and what each is like.
@@ -155,7 +171,11 @@ fn wandering(r: &mut Random, slots: usize, w: Wander) -> Vec<u32> {
     let mut one = || {
         let by = r.between(0, 2 * w.step);
         level = (level + by).saturating_sub(w.step).clamp(w.lowest, w.highest);
-        if r.odds(w.lost) { 0 } else { level * r.between(100 - w.around, 100 + w.around) / 100 }
+        if r.odds(w.lost) {
+            0
+        } else {
+            level * r.between(100 - w.around, 100 + w.around) / 100
+        }
     };
     (0..slots).map(|_| one()).collect()
 }
@@ -169,7 +189,11 @@ fn broken(r: &mut Random, whole: Vec<u32>, on: (u32, u32), off: (u32, u32)) -> V
             left = if up { r.between(on.0, on.1) } else { r.between(off.0, off.1) };
         }
         left -= 1;
-        if up { b } else { 0 }
+        if up {
+            b
+        } else {
+            0
+        }
     };
     whole.into_iter().map(&mut one).collect()
 }

@@ -145,7 +145,8 @@ fn data(film: &Film, rehearsal: &Rehearsal, slots: &[Slot], skips: &[Skip], pict
         format!("[{},{},{first},{}]", slot.pieces, slot.asked, list(&mut slot.passed.iter().map(usize::to_string)))
     }));
     let skips = list(&mut skips.iter().map(|skip| skip.due.to_string()));
-    let places = [("chunks", film.chunks()), ("span", film.span()), ("delay", film.job.delay.into()), ("places", film.places), ("last", film.last)];
+    let places =
+        [("chunks", film.chunks()), ("span", film.span()), ("delay", film.job.delay.into()), ("places", film.places), ("last", film.last)];
     let mut out = String::from("{");
     for (name, value) in places {
         let _ = write!(out, "\"{name}\":{value},");
@@ -153,6 +154,9 @@ fn data(film: &Film, rehearsal: &Rehearsal, slots: &[Slot], skips: &[Skip], pict
     for (name, value) in [("left", LEFT), ("each", picture.each), ("top", picture.top), ("bottom", picture.bottom)] {
         let _ = write!(out, "\"{name}\":{},", if name == "each" { format!("{value:.6}") } else { px(value) });
     }
-    let _ = write!(out, "\"sizes\":{sizes},\"shown\":{shown},\"link\":{link},\"rate\":{rate},\"rows\":{rows},\"asks\":{asks},\"skips\":{skips}}}");
+    let _ = write!(
+        out,
+        "\"sizes\":{sizes},\"shown\":{shown},\"link\":{link},\"rate\":{rate},\"rows\":{rows},\"asks\":{asks},\"skips\":{skips}}}"
+    );
     out
 }

@@ -21,17 +21,18 @@ use ways::{Fetched, Figures};
 pub const COMMAND: Command = Command {
     name: "rehearse",
     summary: "the act on one or many links, second by second, with a table and a page",
-    help: "film rehearse JOB [--trace FILE ..] [--link KIND RATE [--links N] [--seed N]] [--page FILE [--page-of N]]
+    help: "film rehearse JOB [--trace FILE ..] [--link KIND RATE ..] [--page FILE]
 
 Fetches the film of a job second by second over links that it does not know, as the desk would in
-the act, and says what was shown: beside the plan that knew the link, and beside planning afresh with
-the meter in every slot. On one link each skipped chunk is told with its reason.
+the act, and says what was shown: beside the plan that knew the link, and beside planning afresh
+with the meter in every slot. On one link each skipped chunk is told with its reason.
 
   JOB               the job, as a text or as a job file; of its forecast nothing is used but a
                     first guess in the last of the three
-  --trace FILE ..   the link of a file: a trace of the test van (a line is the time in milliseconds of
-                    1,500 bytes that came), a text with lines `forecast BYTES BYTES ..` and
-                    `forecast SLOTS x BYTES`, or a job, whose forecast is taken. Several may follow.
+  --trace FILE ..   the link of a file: a trace of the test van (a line is the time in milliseconds
+                    at which 1,500 bytes came), a text with lines `forecast BYTES BYTES ..` and
+                    `forecast SLOTS x BYTES`, or a job, whose forecast is taken. Several may
+                    follow; the table then ends with their mean.
   --link KIND RATE  a synthetic link. KIND is
                       3g      deep, fast changes; one second in twelve brings nothing
                       lte     wide, with dips to a tenth
@@ -107,9 +108,8 @@ impl Sources {
             return Err(Failure::usage("--links and --seed say which synthetic links; there is no --link KIND RATE"));
         }
         match sources.number() {
-            0 => Err(Failure::usage("no link to rehearse on: --trace FILE or --link KIND RATE is needed").hint(
-                "For a link that nobody recorded, try: film rehearse JOB --link lte 150%",
-            )),
+            0 => Err(Failure::usage("no link to rehearse on: --trace FILE or --link KIND RATE is needed")
+                .hint("For a link that nobody recorded, try: film rehearse JOB --link lte 150%")),
             _ => Ok(sources),
         }
     }
@@ -178,10 +178,9 @@ pub fn run(args: Args) -> Result<(), Failure> {
         return Err(Failure::usage("--page-of says which link the page is of; --page FILE is needed too"));
     }
     let inputs: Vec<&Path> = std::iter::once(args.path(0)).chain(sources.files.iter().map(PathBuf::as_path)).collect();
-    if let Some(path) = page.filter(|path| inputs.contains(path)) {
+    if let Some(path) = page.filter(|path| inputs.iter().any(|input| same(input, path))) {
         return Err(Failure::usage(format!("{} would be written over; name another file", files::called(path))));
     }
-    out::text(&header(job))?;
     let mut sums: [Figures; 3] = Default::default();
     for k in 0..many {
         let link = sources.get(k).link(job.forecast.len())?;
@@ -192,7 +191,8 @@ pub fn run(args: Args) -> Result<(), Failure> {
         };
         let figures = rehearsal.figures();
         sums.iter_mut().zip(&figures).for_each(|(sum, one)| sum.add(one));
-        out::text(&block(job, &link.name, &figures, 1, &rehearsal.refused))?;
+        let head = if k == 0 { header(job) } else { String::new() };
+        out::text(&(head + &block(job, &link.name, &figures, 1, &rehearsal.refused)))?;
         if let Some(watch) = watch {
             let skips = watch.skips(&rehearsal.act);
             if many == 1 {
@@ -212,6 +212,11 @@ pub fn run(args: Args) -> Result<(), Failure> {
         out::text(&format!("page: {}, to be opened in a browser\n", files::called(path)))?;
     }
     Ok(())
+}
+
+/// One and the same file, by whatever names.
+fn same(a: &Path, b: &Path) -> bool {
+    a == b || matches!((a.canonicalize(), b.canonicalize()), (Ok(a), Ok(b)) if a == b)
 }
 
 /// Every link on a terminal that shows them on one line, else each twentieth part.
@@ -245,7 +250,10 @@ fn block(job: &Job, name: &str, figures: &[Figures; 3], links: u64, refused: &[(
     }
     if let Some((slot, refusal)) = refused.first() {
         let times = counted(refused.len() as u64, "slot");
-        out += &format!("  (planning afresh was refused in {times}, first in slot {slot}, and fetched nothing there)\n  {}\n", sentence(*refusal));
+        out += &format!(
+            "  (planning afresh was refused in {times}, first in slot {slot}, and fetched nothing there)\n  {}\n",
+            sentence(*refusal)
+        );
     }
     out
 }
@@ -254,7 +262,10 @@ fn block(job: &Job, name: &str, figures: &[Figures; 3], links: u64, refused: &[(
 pub fn mean(sum: u64, links: u64) -> String {
     match links {
         0 | 1 => thousands(sum),
-        _ => format!("{}.{}", thousands(sum / links), sum * 10 / links % 10),
+        _ => {
+            let tenths = (sum * 10 + links / 2) / links;
+            format!("{}.{}", thousands(tenths / 10), tenths % 10)
+        }
     }
 }
 

@@ -135,7 +135,7 @@ fn expected_slot(act: &Act, carries: u64) -> (String, String, u32) {
     for piece in act.asks().iter().take(12) {
         let got = left.min(piece.bytes.into());
         left -= got;
-        asks += &format!("chunk {} layer {}: {} of {}", piece.chunk, piece.layer, thousands(got), bytes(piece.bytes.into()));
+        asks += &format!("chunk {} layer {}: {} of {}", piece.chunk, piece.layer, thousands(got), thousands(piece.bytes.into()));
     }
     match act.asks().len().saturating_sub(12) {
         0 => {}

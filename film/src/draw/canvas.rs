@@ -107,7 +107,7 @@ impl Canvas {
     pub fn panel(&mut self, caption: &str) {
         self.y += 13.0;
         self.words(caption, 14.0, "in", true);
-        self.y += 8.0;
+        self.y += 10.0;
     }
 
     /// Labels along a line, each only if it covers none before it: the first are the most wanted.
@@ -201,7 +201,11 @@ impl Canvas {
 pub fn px(x: f64) -> String {
     let text = format!("{x:.2}");
     let text = text.trim_end_matches('0').trim_end_matches('.');
-    if text == "-0" || text.is_empty() { "0".to_string() } else { text.to_string() }
+    if text == "-0" || text.is_empty() {
+        "0".to_string()
+    } else {
+        text.to_string()
+    }
 }
 
 /// For text and attributes of SVG and HTML. What XML cannot say is a space.

@@ -74,9 +74,9 @@ impl<'a> Film<'a> {
             }
         }
         let mut now = 0;
-        for slot in 1..=self.last {
-            now += change[slot];
-            self.held[slot] = now.max(0) as usize;
+        for (held, change) in self.held.iter_mut().zip(change) {
+            now += change;
+            *held = now.max(0) as usize;
         }
     }
 

@@ -36,7 +36,11 @@ fn count(n: usize, thing: &str) -> String {
 }
 
 fn named(first: usize, last: usize, between: &str) -> String {
-    if first == last { first.to_string() } else { format!("{first}{between}{last}") }
+    if first == last {
+        first.to_string()
+    } else {
+        format!("{first}{between}{last}")
+    }
 }
 
 /// The longest first.
@@ -54,7 +58,12 @@ pub fn head(c: &mut Canvas, film: &Film, called: &str) -> String {
     c.words(&sentence, 20.0, "in", true);
     c.y += 2.0;
     let last = thousands(film.last as u64);
-    let due = format!("{} of {}, due in slots {} to {last}.", count(film.chunks(), "chunk"), count(film.span(), "slot"), thousands(film.job.delay.into()));
+    let due = format!(
+        "{} of {}, due in slots {} to {last}.",
+        count(film.chunks(), "chunk"),
+        count(film.span(), "slot"),
+        thousands(film.job.delay.into())
+    );
     let holds = format!("The buffer's limit of {} holds {}.", counted(film.job.limit.into(), "slot"), count(film.places, "chunk"));
     c.words(&format!("{due} {holds}"), SMALL, "gr", false);
     let (all, spent) = (film.job.forecast.iter().map(|b| u64::from(*b)).sum::<u64>(), film.all_fetched());
@@ -103,7 +112,8 @@ fn swatch(c: &mut Canvas, kind: &str, x: f64, y: f64) {
 }
 
 fn hatched(c: &mut Canvas, at: (f64, f64), size: (f64, f64), title: Option<&str>) {
-    let head = format!("<rect fill=\"url(#hatch)\" x=\"{}\" y=\"{}\" width=\"{}\" height=\"{}\"", px(at.0), px(at.1), px(size.0), px(size.1));
+    let head =
+        format!("<rect fill=\"url(#hatch)\" x=\"{}\" y=\"{}\" width=\"{}\" height=\"{}\"", px(at.0), px(at.1), px(size.0), px(size.1));
     match title {
         Some(title) => c.add(&format!("{head}><title>{}</title></rect>", super::canvas::escape(title))),
         None => c.add(&format!("{head}/>")),
@@ -129,7 +139,10 @@ fn tiles(c: &Canvas, film: &Film) -> (Vec<Tiles>, bool) {
     let tile = (WIDTH / each as f64).min(24.0);
     let line = |k: usize| {
         let (first, last) = (k * each + 1, ((k + 1) * each).min(all));
-        Tiles { chunks: (first, last), places: (0..=last - first).map(|n| (LEFT + n as f64 * tile, LEFT + (n + 1) as f64 * tile)).collect() }
+        Tiles {
+            chunks: (first, last),
+            places: (0..=last - first).map(|n| (LEFT + n as f64 * tile, LEFT + (n + 1) as f64 * tile)).collect(),
+        }
     };
     ((0..lines).map(line).filter(|tiles| tiles.chunks.0 <= all).collect(), false)
 }
@@ -170,7 +183,7 @@ fn film_line(c: &mut Canvas, film: &Film, whys: &Whys, line: &Tiles, cell: f64, 
         }
     }
     outline(c, film, line, cell);
-    c.y += high + 4.0;
+    c.y += high + 6.0;
 }
 
 /// Skipped chunks' numbers first, then as many as there is room for.
@@ -231,12 +244,15 @@ fn outline(c: &mut Canvas, film: &Film, line: &Tiles, cell: f64) {
     }
 }
 
+/// A stretch, and what there is to say of the limit.
+type Reason = (Stretch, Option<String>);
+
 /// The stretches that skipped bases were too much for: those of the longest skips, and what room
 /// there is for others.
 pub fn why(c: &mut Canvas, film: &Film, whys: &Whys) {
     let skipped = film.skipped();
     let stretch = |i: &usize| whys.get(&(*i, 0)).and_then(|why| why.stretch.map(|stretch| (stretch, why.limit.clone())));
-    let mut told: Vec<((Stretch, Option<String>), Vec<usize>)> = Vec::new();
+    let mut told: Vec<(Reason, Vec<usize>)> = Vec::new();
     let by_run = longest(runs(&skipped)).into_iter().map(|(first, _)| first);
     for i in by_run.chain(skipped.iter().copied()) {
         let Some(found) = stretch(&i) else { continue };
@@ -277,7 +293,7 @@ fn lane(c: &mut Canvas, stretch: &Stretch, limit: Option<String>, chunks: &[usiz
         false => format!("{of}: slots {first} to {last} carry {carry}, need {need}."),
     };
     let limit = limit.unwrap_or_else(|| "The link is the cause: no limit plays a part.".to_string());
-    let (x, end) = (c.x(stretch.first - 1), c.x(stretch.last));
+    let (x, end) = (c.x(stretch.first.saturating_sub(1)), c.x(stretch.last));
     let x = x.min(LEFT + WIDTH - 3.0);
     c.y += 11.0;
     c.rect((x, c.y - 5.0), ((end - x).max(3.0), 5.0), "in", Some(&format!("{words}\n{limit}")));

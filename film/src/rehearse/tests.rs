@@ -198,7 +198,7 @@ fn the_longest_freeze_is_the_longest_run() {
 
 #[test]
 fn means_have_one_place() {
-    assert_eq!((mean(7, 1), mean(7, 2), mean(2, 3), mean(12345, 10)), ("7".into(), "3.5".into(), "0.6".into(), "1,234.5".into()));
+    assert_eq!((mean(7, 1), mean(7, 2), mean(2, 3), mean(12345, 10)), ("7".into(), "3.5".into(), "0.7".into(), "1,234.5".into()));
 }
 
 /// The page says what the act did, and asks nobody for anything.
