@@ -41,7 +41,8 @@ The text of a job has one statement a line. From # to the end of a line is a com
                         layer, from chunk 2
   forecast 3000 0 1500  bytes that the link carries, slot after slot
   forecast 34 x 6000    34 slots of 6,000 bytes each
-  trace van.txt 186     the first 186 slots of a trace of the link, looked for from the text's folder
+  trace van.txt 186     the first 186 slots of a trace of the link; its place is seen from the
+                        text's folder
   trace van.txt         as many slots of it as the job needs beside the other statements
   trace \"van #3.txt\"    a name with a # in it stands in quotes, \" or '
 
