@@ -213,7 +213,8 @@ fn names_of_traces_and_slots_that_the_job_needs() {
         folder.put("text", format!("{lines}\n{head}"));
         assert_eq!(Job::read(&folder.film(&["make", "text"]).good(lines).out).unwrap().forecast, forecast, "{lines}");
     }
-    // The trace is looked for from the text's folder.
+    // The trace is looked for from the text's folder; of a text on standard input, from here.
+    folder.film_on(&["make"], format!("{head}trace van.txt\n").as_bytes()).good("a text on standard input");
     std::fs::create_dir(folder.0.join("deep")).unwrap();
     folder.put("deep/text", format!("{head}trace ../van.txt\n"));
     folder.film(&["make", "deep/text"]).good("a text in another folder");
