@@ -13,7 +13,7 @@ use std::ffi::OsString;
 use std::io::IsTerminal;
 use std::path::{Path, PathBuf};
 #[cfg(test)]
-mod tests;
+pub mod tests;
 
 use watch::{Skip, Watch};
 use ways::{Fetched, Figures};
@@ -150,7 +150,7 @@ impl<'a> Rehearsal<'a> {
 
     /// The same with an act that is watched.
     pub fn watched(job: &'a Job, link: &'a Link) -> Result<(Rehearsal<'a>, Watch<'a>), Refusal> {
-        let mut watch = Watch::new(job, &link.bytes);
+        let mut watch = Watch::new(job, &link.bytes)?;
         let rehearsal = Rehearsal::with(job, link, |act| watch.see(act))?;
         Ok((rehearsal, watch))
     }
