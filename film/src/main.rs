@@ -46,7 +46,8 @@ fn help() -> String {
         "film SUBCOMMAND JOB ..
 
 Plans which layers of which chunks of a film to fetch in which second (slot) over a link, so that
-every chunk is there when it is due. A chunk whose base (layer 0) cannot come in time is skipped.
+every chunk is there when it is due. Layer 0 of a chunk is its base, the picture itself; the others
+refine it. A chunk whose base cannot come in time is skipped: the screen stands.
 
 {}JOB is a job's text or a job file, told apart by their first bytes; `-` or no word at all is
 standard input. `film SUBCOMMAND --help` says more, with an example to run in the repository's
@@ -72,9 +73,14 @@ fn run(mut given: impl Iterator<Item = OsString>) -> Result<(), Failure> {
     if name == "--help" || name == "-h" || name == "help" {
         return out::text(&help());
     }
+    if name == "--version" {
+        return out::text(concat!("film ", env!("CARGO_PKG_VERSION"), "\n"));
+    }
     let Some(command) = commands().find(|c| c.name == name) else {
         let names: Vec<&str> = commands().map(|c| c.name).collect();
-        return Err(Failure::usage(format!("{}: there is no such subcommand; there are {}", words::printable(&name), names.join(", "))));
+        let meant = words::near(&name, names.iter().copied()).map_or(String::new(), |own| format!("; is {own} meant?"));
+        let shown = words::printable(&name);
+        return Err(Failure::usage(format!("{shown}: there is no such subcommand{meant}\nThere are {}.", names.join(", "))));
     };
     match Args::parse(command, given)? {
         None => out::text(&format!("{}\n", command.help.trim_end())),

@@ -41,7 +41,8 @@ The text of a job has one statement a line. From # to the end of a line is a com
                         layer, from chunk 2
   forecast 3000 0 1500  bytes that the link carries, slot after slot
   forecast 34 x 6000    34 slots of 6,000 bytes each
-  trace van.txt 186     the first 186 slots of a trace of the link, looked for from the text's folder
+  trace van.txt 186     the first 186 slots of a trace of the link; its place is seen from the
+                        text's folder
   trace van.txt         as many slots of it as the job needs beside the other statements
   trace \"van #3.txt\"    a name with a # in it stands in quotes, \" or '
 
@@ -330,8 +331,8 @@ impl Text<'_> {
             self.absent("layer", Some(Refusal::LayerSize));
         }
         self.check_sizes(chunks);
+        self.open_trace(last);
         if let Some(last) = last {
-            self.open_trace(last);
             self.check_slots(last);
         } else if self.parts.is_empty() && !self.forecast_bad {
             self.absent("forecast", Some(Refusal::Forecast));
@@ -394,7 +395,7 @@ impl Text<'_> {
     }
 
     /// A trace without a number takes what the other statements leave.
-    fn open_trace(&mut self, last: usize) {
+    fn open_trace(&mut self, last: Option<usize>) {
         let open: Vec<usize> = (0..self.parts.len()).filter(|k| matches!(self.parts[*k].1, Part::Open(_))).collect();
         if let [first, second, ..] = open[..] {
             let message = format!(
@@ -404,7 +405,17 @@ impl Text<'_> {
             self.fault_at(Some(self.parts[second].0), message, None);
             self.forecast_bad = true;
         }
-        let ([k], false) = (&open[..], self.forecast_bad) else { return };
+        let ([k], Some(last), false) = (&open[..], last, self.forecast_bad) else {
+            // How many slots it is to take is not known; what is wrong with its lines is.
+            for k in open {
+                if let (line, Part::Open(path)) = &self.parts[k] {
+                    let path = path.clone();
+                    self.line = *line;
+                    self.forecast_bad |= self.traced(&path, 1).is_err();
+                }
+            }
+            return;
+        };
         let Some((line, Part::Open(path))) = self.parts.get(*k).map(|(line, part)| (*line, part)) else { return };
         let (path, given) = (path.clone(), self.slots());
         self.line = line;

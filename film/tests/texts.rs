@@ -213,7 +213,8 @@ fn names_of_traces_and_slots_that_the_job_needs() {
         folder.put("text", format!("{lines}\n{head}"));
         assert_eq!(Job::read(&folder.film(&["make", "text"]).good(lines).out).unwrap().forecast, forecast, "{lines}");
     }
-    // The trace is looked for from the text's folder.
+    // The trace is looked for from the text's folder; of a text on standard input, from here.
+    folder.film_on(&["make"], format!("{head}trace van.txt\n").as_bytes()).good("a text on standard input");
     std::fs::create_dir(folder.0.join("deep")).unwrap();
     folder.put("deep/text", format!("{head}trace ../van.txt\n"));
     folder.film(&["make", "deep/text"]).good("a text in another folder");
@@ -348,11 +349,11 @@ fn all_faults_of_a_text_come_in_one_go() {
     let folder = Folder::new();
     folder.put("bad.txt", "chunks 501\nspan 2\ndelay two\nlayer 0\nlayer 1\nsize 1 0 5\nsize 9 1 4\nforecast 4,000\ntrace nothing\nfilm\n");
     let answer = folder.film(&["make", "bad.txt"]).bad(1, &["bad.txt: there is no limit"], "all faults");
-    for line in [1, 3, 4, 6, 8, 10] {
+    for line in [1, 3, 4, 6, 8, 9, 10] {
         assert!(answer.err.contains(&format!("bad.txt line {line}: ")), "line {line}: {}", answer.err);
     }
     let at: Vec<usize> = answer.err.match_indices("bad.txt line ").map(|(k, _)| k).collect();
-    assert!(at.len() >= 6 && at.windows(2).all(|w| w[0] < w[1]));
+    assert!(at.len() >= 7 && at.windows(2).all(|w| w[0] < w[1]));
     let many = "film\n".repeat(500);
     let answer = folder.film_on(&["make"], many.as_bytes()).bad(1, &["faults more"], "500 faults");
     assert!(answer.err.lines().count() < 50, "{}", answer.err);
