@@ -191,6 +191,10 @@ pub fn run(args: Args) -> Result<(), Failure> {
         };
         let figures = rehearsal.figures();
         sums.iter_mut().zip(&figures).for_each(|(sum, one)| sum.add(one));
+        if many > 1 && std::io::stderr().is_terminal() {
+            // The line of progress makes room for the table.
+            out::progress("");
+        }
         let head = if k == 0 { header(job) } else { String::new() };
         out::text(&(head + &block(job, &link.name, &figures, 1, &rehearsal.refused)))?;
         if let Some(watch) = watch {

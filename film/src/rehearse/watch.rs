@@ -11,7 +11,7 @@ const PIECES: usize = 12;
 /// A slot of the act, before the link brought anything.
 #[derive(Clone, Debug, Default, PartialEq, Eq)]
 pub struct Slot {
-    /// The rate by which it asked; before the meter's first sample there is none.
+    /// The rate that it measured; before the meter's first sample there is none.
     pub rate: Option<u32>,
     pub asked: u64,
     pub pieces: usize,
