@@ -33,3 +33,4 @@ pub mod KeepOrDrop
 pub mod MooreHodgson
 pub mod Whole
 pub mod Words
+pub mod OwnMost
