@@ -1,5 +1,5 @@
--- Lemmas. What `write_afresh` is handed and leaves: the plan made afresh, of every job and rows with
--- these tables.
+-- Lemmas. What `write_afresh` is handed and leaves: the plan made afresh, of every job and rows
+-- with these tables.
 use Prim.Native.Nat.{ℕ, suc, _≤_}
 use mathlib.Core.Path.{_≡_}
 use mathlib.Core.List.{List}
