@@ -120,6 +120,7 @@ fn the_rule_is_read_as_the_call_has_it() {
         })
         .unwrap();
     }
+    println!("the rule asks for the same bases in {slots} slots; {passed} times a chunk was passed over");
     assert!(slots > 5000 && passed > 300, "{slots} {passed}");
 }
 
@@ -152,6 +153,7 @@ fn every_skip_has_its_reason() {
             causes[skip.cause as usize] += 1;
         }
     }
+    println!("passed over, overtaken, late, no place: {causes:?}");
     assert!(causes.iter().all(|n| *n > 20), "{causes:?}");
 }
 
