@@ -51,7 +51,9 @@ fn put_plan(
     let mut after = [unset as u64; SUMS];
     let mut ids = [0u16; CHUNKS];
     let mut ready = [0u16; CHUNKS];
-    let mut mark = [1u8; CHUNKS];
+    // A kept chunk has its base.
+    let base = fetch::with(0, 0);
+    let mut mark = [base; CHUNKS];
     let mut levels = [0u8; CHUNKS];
     let layers = sizes.len();
     let held = job::held_most(p) as usize;

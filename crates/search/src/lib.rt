@@ -170,7 +170,9 @@ fn write_found(
     core_sizes::fill_sizes(sizes, size_chunks, size_layers, size_bytes, &mut table);
     let mut ids = [0u16; CHUNKS];
     let mut ready = [0u16; CHUNKS];
-    let mut mark = [1u8; CHUNKS];
+    // A kept chunk has its base.
+    let base = fetch::with(0, 0);
+    let mut mark = [base; CHUNKS];
     // A chunk that is left out has the mark 0.
     let none = [0u8; CHUNKS];
     let count = p.chunks as usize;

@@ -16,19 +16,22 @@ cast-unset c = search needs
 fill-sizes-requires : tie.Need-fill-sizes-requires
 fill-sizes-requires c κs = search needs
 
+with-requires : tie.Need-with-requires
+with-requires c κs = search needs
+
 cast-count : tie.Need-cast-count
 cast-count c = search needs
 
 decide-requires : tie.Need-decide-requires
 decide-requires c κs =
-    let o = c .before .before .before .before .before .before .before .before .before .before .before .before .before .before .before .before .before .before .pre in
-    let says = filled _ (input-iff _ .0 (o .0) .1) _ (c .before .before .before .before .before .fill-sizes .ensures (length-replicate {A = ℕ} 2000 (c .before .before .before .before .before .before .before .before .before .before .before .before .before .before .before .before .before .before .args .p .chunks))) in
-    decide-from _ (input-iff _ .0 (o .0) .1) _ says _ _ (length-replicate {A = ℕ} 500 0) (length-replicate {A = ℕ} 500 0)
+    let o = c .before .before .before .before .before .before .before .before .before .before .before .before .before .before .before .before .before .before .before .pre in
+    let says = filled _ (input-iff _ .0 (o .0) .1) _ (c .before .before .before .before .before .before .fill-sizes .ensures (length-replicate {A = ℕ} 2000 (c .before .before .before .before .before .before .before .before .before .before .before .before .before .before .before .before .before .before .before .args .p .chunks))) in
+    decide-from _ (input-iff _ .0 (o .0) .1) _ says _ _ (length-replicate {A = ℕ} 500 0) (length-replicate {A = ℕ} 500 0) (c .before .before .before .before .before .with .ensures)
 
 write-plan-requires : tie.Need-write-plan-requires
 write-plan-requires c κs =
-    let o = c .before .before .before .before .before .before .before .before .before .before .before .before .before .before .before .before .before .before .before .before .before .before .before .before .before .before .before .before .before .pre in
-    let says = filled _ (input-iff _ .0 (o .0) .1) _ (c .before .before .before .before .before .before .before .before .before .before .before .before .before .before .before .before .fill-sizes .ensures (length-replicate {A = ℕ} 2000 (c .before .before .before .before .before .before .before .before .before .before .before .before .before .before .before .before .before .before .before .before .before .before .before .before .before .before .before .before .before .args .p .chunks))) in
+    let o = c .before .before .before .before .before .before .before .before .before .before .before .before .before .before .before .before .before .before .before .before .before .before .before .before .before .before .before .before .before .before .pre in
+    let says = filled _ (input-iff _ .0 (o .0) .1) _ (c .before .before .before .before .before .before .before .before .before .before .before .before .before .before .before .before .before .fill-sizes .ensures (length-replicate {A = ℕ} 2000 (c .before .before .before .before .before .before .before .before .before .before .before .before .before .before .before .before .before .before .before .before .before .before .before .before .before .before .before .before .before .before .args .p .chunks))) in
     writes-choice _ _ _ _ _ _ _ _ _ (decided _ (o .0) _ says (c .before .before .before .before .before .before .before .before .before .before .decide .ensures _ _ refl says)) _ (length-replicate {A = ℕ} 500 0) (o .1)
 
 answered-requires : tie.Need-answered-requires
@@ -51,8 +54,8 @@ same-length-5 c = search needs
 
 returns : tie.Need-returns
 returns c =
-    let o = c .before .before .before .before .before .before .before .before .before .before .before .before .before .before .before .before .before .before .before .before .before .before .before .before .before .before .before .before .before .before .before .before .before .before .before .before .before .before .before .before .before .pre in
-    let says = filled _ (input-iff _ .0 (o .0) .1) _ (c .before .before .before .before .before .before .before .before .before .before .before .before .before .before .before .before .before .before .before .before .before .before .before .before .before .before .before .before .fill-sizes .ensures (length-replicate {A = ℕ} 2000 (c .before .before .before .before .before .before .before .before .before .before .before .before .before .before .before .before .before .before .before .before .before .before .before .before .before .before .before .before .before .before .before .before .before .before .before .before .before .before .before .before .before .args .p .chunks))) in
+    let o = c .before .before .before .before .before .before .before .before .before .before .before .before .before .before .before .before .before .before .before .before .before .before .before .before .before .before .before .before .before .before .before .before .before .before .before .before .before .before .before .before .before .before .pre in
+    let says = filled _ (input-iff _ .0 (o .0) .1) _ (c .before .before .before .before .before .before .before .before .before .before .before .before .before .before .before .before .before .before .before .before .before .before .before .before .before .before .before .before .before .fill-sizes .ensures (length-replicate {A = ℕ} 2000 (c .before .before .before .before .before .before .before .before .before .before .before .before .before .before .before .before .before .before .before .before .before .before .before .before .before .before .before .before .before .before .before .before .before .before .before .before .before .before .before .before .before .before .args .p .chunks))) in
     output-laid _ _ _ _ _ _ (o .0) (o .1)
     (written-choice _ _ _ _ _ _ _ _ _ (decided _ (o .0) _ says (c .before .before .before .before .before .before .before .before .before .before .before .before .before .before .before .before .before .before .before .before .before .before .decide .ensures _ _ refl says)) (replicate 500 0) (λ i l. getD-replicate 500 i 0 0 l) (c .before .before .before .before .before .before .before .before .before .before .before .write-plan .ensures)) _ (c .answered .ensures)
 
@@ -62,6 +65,7 @@ write-decided-spec =
     (tie.spec
     cast-unset
     fill-sizes-requires
+    with-requires
     cast-count
     decide-requires
     write-plan-requires
