@@ -10,8 +10,8 @@ ghost use mathlib.Core.List.{[], _∷_};
 ghost use Prim.Native.Nat.{ℕ, _+_, _*_, _-_, _<_, _≤_};
 ghost use lib.ListN.{length, drop, set};
 ghost use Rattle.job.specs.Table.{tableAt};
-ghost use Rattle.core_fill.specs.lemmas.Filling.{PutPiecePre, PutPiecePost, PutPost, begun, lastOf, leftAt, piece};
-ghost use Rattle.core_fill.specs.lemmas.Filling.{layersOf, PutChunkPre};
+ghost use Rattle.core_fill.specs.lemmas.Filling.{PutPiecePre, PutPiecePost, PutPost, begun, lastOf, leftAt};
+ghost use Rattle.core_fill.specs.lemmas.Filling.{layersOf, piece, PutChunkPre};
 ghost use Rattle.core_fill.specs.lemmas.Left.{PutAllPre, PutLeftPre, PutLayerPre, layersLeft, queueIn};
 ghost use Rattle.theory_plan.specs.lemmas.Parts.{ForecastPart};
 
