@@ -1,7 +1,7 @@
 // Internal. The plan's own list, piece by piece: each piece, with so many bytes left, goes into
 // slot after slot, from its release on, until nothing is left of it. The part of the forecast may
 // start at any slot, and the list may be under way already: the contracts speak of every list that
-// goes on with these pieces. Sizes are those of the table that job's fill_sizes fills, or what the
+// goes on with these pieces. Sizes are those of the table that core_sizes' fill_sizes fills, or what the
 // fetched rows leave of them.
 use job::CHUNKS;
 use job::SizeTable;
@@ -10,8 +10,8 @@ ghost use mathlib.Core.List.{[], _∷_};
 ghost use Prim.Native.Nat.{ℕ, _+_, _*_, _-_, _<_, _≤_};
 ghost use lib.ListN.{length, drop, set};
 ghost use Rattle.core_sizes.specs.Table.{tableAt};
-ghost use Rattle.core_fill.specs.lemmas.Filling.{PutPiecePre, PutPiecePost, PutPost, begun, lastOf, leftAt, piece};
-ghost use Rattle.core_fill.specs.lemmas.Filling.{layersOf, PutChunkPre};
+ghost use Rattle.core_fill.specs.lemmas.Filling.{PutPiecePre, PutPiecePost, PutPost, begun, lastOf, leftAt};
+ghost use Rattle.core_fill.specs.lemmas.Filling.{layersOf, piece, PutChunkPre};
 ghost use Rattle.core_fill.specs.lemmas.Left.{PutAllPre, PutLeftPre, PutLayerPre, layersLeft, queueIn};
 ghost use Rattle.theory_plan.specs.lemmas.Parts.{ForecastPart};
 
