@@ -53,7 +53,8 @@ releaseRefusal h s = jobRefusal h orElse rowsRefusal s orElse roomRefusal (h .fo
 
 -- What `release` promises of a job and rows as handed, with its answer and the forecast afterwards.
 pub record Released (h : JobInput) (s : RowSlices) (r : Answer) (after : List ℕ) : Type 0 where
-  -- "20, releasing a row for a slot that isn't there or beyond 16,777,216 bytes in a slot", after 8.
+  -- "20, releasing a row for a slot that isn't there or beyond 16,777,216 bytes in a slot", after
+  -- 8.
   pub answered : r ≡ answer (releaseRefusal h s)
   -- "Releasing adds a list's bytes back."
   pub left : after ≡ forecastAfter (releaseRefusal h s) (addedBack (h .forecast) (rowsIn s)) (h .forecast)

@@ -1,8 +1,8 @@
 // Internal. The plan's own list, piece by piece: each piece, with so many bytes left, goes into
 // slot after slot, from its release on, until nothing is left of it. The part of the forecast may
 // start at any slot, and the list may be under way already: the contracts speak of every list that
-// goes on with these pieces. Sizes are those of the table that core_sizes' fill_sizes fills, or what the
-// fetched rows leave of them.
+// goes on with these pieces. Sizes are those of the table that core_sizes' fill_sizes fills, or
+// what the fetched rows leave of them.
 use job::CHUNKS;
 use job::SizeTable;
 ghost use mathlib.Core.Path.{_≡_};

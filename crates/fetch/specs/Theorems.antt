@@ -1,6 +1,6 @@
 -- Theorems. The verdicts of both checker calls say what their rules say: 0 exactly for a list with
--- marks that keeps them. The rows may come in any order, and where no row stands before p the second
--- call is the first.
+-- marks that keeps them. The rows may come in any order, and where no row stands before p the
+-- second call is the first.
 use Prim.Native.Nat.{ℕ, zero, suc, _+_, _≤_, _<_}
 use mathlib.Core.Path.{_≡_, refl, sym, ap, _∙_}
 use mathlib.Core.Bool.{Bool, true, false, not, cond, _&&_, _||_}

@@ -1,6 +1,6 @@
 -- Meaning. The verdict of the second checker call (RulesFrom): document 01's, with that call's rule
--- 2; and 21, "p not from 1 to d(C)". Theorems has what they say, and that where no row stands before
--- p it is the first call.
+-- 2; and 21, "p not from 1 to d(C)". Theorems has what they say, and that where no row stands
+-- before p it is the first call.
 use Prim.Native.Nat.{ℕ}
 use mathlib.Core.Bool.{Bool, not, _&&_, _||_}
 use mathlib.Core.List.{List, [], _∷_}

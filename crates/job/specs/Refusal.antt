@@ -1,7 +1,7 @@
--- Meaning. The refusals of a job that come from its own numbers: document 01, refusals 5, 6 and 7 of
--- a direct call, and document 02's 18, "after 6 and before 7".
--- A definition a number, 5 apart for the fields and for d(C); the whole composes them. That it is 0
--- exactly for accepted jobs is a theorem (Theorems, `accepted-iff`).
+-- Meaning. The refusals of a job that come from its own numbers: document 01, refusals 5, 6 and 7
+-- of a direct call, and document 02's 18, "after 6 and before 7". A definition a number, 5 apart
+-- for the fields and for d(C); the whole composes them. That it is 0 exactly for accepted jobs is a
+-- theorem (Theorems, `accepted-iff`).
 use Prim.Native.Nat.{ℕ}
 use mathlib.Core.Bool.{Bool, true, not, _&&_, _||_}
 use mathlib.Core.List.{List, [], _∷_}

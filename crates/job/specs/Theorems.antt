@@ -1,5 +1,5 @@
--- Theorems. The refusals of a job say what its fields have to be: there is none exactly for accepted
--- jobs, and of a call exactly if the SZs are handed whole too.
+-- Theorems. The refusals of a job say what its fields have to be: there is none exactly for
+-- accepted jobs, and of a call exactly if the SZs are handed whole too.
 use Prim.Native.Nat.{ℕ, _-_, _≤_}
 use mathlib.Core.Path.{_≡_, refl, sym, ap, _∙_}
 use mathlib.Core.Bool.{Bool, true, not, _&&_, _||_}

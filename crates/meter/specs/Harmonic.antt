@@ -1,7 +1,7 @@
 -- Meaning. The exact harmonic mean of document 01, "Link meter", in whole numbers: of k byte counts
--- with the product P it is k × P / Σ (P / b), b each of them. Of 2, 3 and 6 bytes P is 36, Σ (P / b)
--- is 18 + 12 + 6 = 36, and the mean 3 × 36 / 36 = 3 (Edges, `worked`). If one of them is 0, the mean
--- is 0, which no quotient says, so it is said apart.
+-- with the product P it is k × P / Σ (P / b), b each of them. Of 2, 3 and 6 bytes P is 36, Σ (P /
+-- b) is 18 + 12 + 6 = 36, and the mean 3 × 36 / 36 = 3 (Edges, `worked`). If one of them is 0, the
+-- mean is 0, which no quotient says, so it is said apart.
 use Prim.Native.Nat.{ℕ, _+_, _*_, _/_, _≤_, _<_}
 use mathlib.Core.Path.{_≡_}
 use mathlib.Core.List.{List, [], _∷_, map}

@@ -50,8 +50,8 @@ readLent h file lent =
 -- What `read_plan` promises of a job as handed, a file and the slices that it is lent, with its
 -- answer and the slices afterwards.
 pub record PlanReadPromise (h : JobInput) (file : List ℕ) (lent : ListSlices) (r : PlanRead) (lent' : ListSlices) : Type 0 where
-  -- The number of rows, or a refusal's number: "A plan reader checks the job it is handed by 5, 6, 7
-  -- before its file", with 18 before 7, then 11.
+  -- The number of rows, or a refusal's number: "A plan reader checks the job it is handed by 5, 6,
+  -- 7 before its file", with 18 before 7, then 11.
   pub answer : r ≡ readAnswer h file lent
   -- "In a longer one the bytes past the result stay unchanged"; on a refusal all of them.
   pub after : lent' ≡ readLent h file lent
@@ -87,8 +87,8 @@ writeLent h s out = lentAfter (writeRefusal h s out) (fileOf (planOf s)) out
 -- What `write_plan` promises of a job and a list as handed and the buffer that it is lent, with its
 -- answer and the buffer afterwards.
 pub record PlanWritePromise (h : JobInput) (s : ListSlices) (out : List ℕ) (r : Written) (out' : List ℕ) : Type 0 where
-  -- The number of bytes, or a refusal's number: "Direct calls without files check 5, 6, 7, then 8 ..
-  -- and a writer then 9", with 18 before 7, then 11.
+  -- The number of bytes, or a refusal's number: "Direct calls without files check 5, 6, 7, then 8
+  -- .. and a writer then 9", with 18 before 7, then 11.
   pub answer : r ≡ writeAnswer h s out
   -- The file; what is past it stays unchanged, and on a refusal all of it.
   pub after : out' ≡ writeLent h s out

@@ -59,8 +59,8 @@ StretchForbids h =
 
 -- ---- the call
 
--- What `reasons` promises of a job as handed and the buffer that it is lent, with its answer and the
--- buffer afterwards.
+-- What `reasons` promises of a job as handed and the buffer that it is lent, with its answer and
+-- the buffer afterwards.
 pub record ReasonsPromise (h : JobInput) (out : List ℕ) (r : Written) (out' : List ℕ) : Type 0 where
   -- The number of bytes, or a refusal's number.
   pub result : r ≡ answer (refusal h out) (length (planText (jobIn h)))

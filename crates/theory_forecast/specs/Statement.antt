@@ -12,7 +12,7 @@ use Rattle.meter.specs.Harmonic.{NotAbove}
 abbrev pub EverySlot : Job → ℕ → Type 0
 EverySlot j f = (t : ℕ) → 1 ≤ t → t ≤ lastSlot j → forecast j t ≡ f
 
--- No slot's rows sum to more than the exact mean of the samples' bytes, which is 0 where one of them
--- is.
+-- No slot's rows sum to more than the exact mean of the samples' bytes, which is 0 where one of
+-- them is.
 abbrev pub NoSlotAbove : Job → List ℕ → List Row → Type 0
 NoSlotAbove j bytes rows = (t : ℕ) → 1 ≤ t → t ≤ lastSlot j → NotAbove (bytesInSlot rows t) bytes

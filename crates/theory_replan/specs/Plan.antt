@@ -43,8 +43,8 @@ fitsFrom j p fetched choice =
 -- ---- the trials
 
 -- What chunk k carries of the layers settled as carried so far: those whole before p, and those
--- settled before layer n of chunk i. (Layers whole before p are, by rule 3, the lowest ones of their
--- chunk.)
+-- settled before layer n of chunk i. (Layers whole before p are, by rule 3, the lowest ones of
+-- their chunk.)
 abbrev pub settledFrom : Job → List Row → (ℕ → ℕ) → ℕ → ℕ → ℕ → ℕ
 settledFrom j fetched plan n i k = max (layersCarried j fetched k) (settled plan n i k)
 

@@ -6,8 +6,8 @@
 --   theory_plan, Statement: a choice, what a trial asks about, the counts and marks of a choice
 --   Own, in this crate: the rows from p on
 --   Refusal, in this crate: the refusals
--- Theorems proves what this file states, and Desk as the desk calls it; there stands what a standing
--- plan is promised (`Continues`).
+-- Theorems proves what this file states, and Desk as the desk calls it; there stands what a
+-- standing plan is promised (`Continues`).
 use Prim.Native.Nat.{ℕ, _-_, _≤_, _<_}
 use mathlib.Core.Bool.{cond}
 use mathlib.Core.List.{List, [], _∷_, _++_}

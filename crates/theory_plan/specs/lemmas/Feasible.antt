@@ -1,5 +1,5 @@
--- Lemmas. Whether chunks fit, computed from their bytes, due slots and the forecast, without a list.
--- Nobody has to read or believe this: that a choice fits exactly if some list carries it is a
+-- Lemmas. Whether chunks fit, computed from their bytes, due slots and the forecast, without a
+-- list. Nobody has to read or believe this: that a choice fits exactly if some list carries it is a
 -- theorem (Theorems, `decision`; crate theory_replan, `decision-from`).
 use Prim.Native.Nat.{ℕ, _+_, _-_, max}
 use mathlib.Core.Bool.{Bool, true, _&&_}
