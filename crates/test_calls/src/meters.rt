@@ -5,15 +5,13 @@ use crate::print::word;
 use meter::Answer;
 use meter::Meter;
 
-// The meter after the sample, brought up to date in its own storage; the refusal, if there is one,
-// is printed. The call by value is the kit's.
+// The meter after the sample; the refusal, if there is one, is printed.
 fn take(m: Meter, slot: u16, bytes: u32) -> Meter {
-    let mut own = m;
-    let code = meter::update(&mut own, slot, bytes);
-    if code != 0 {
-        refused(code);
+    let taken = meter::take(m, slot, bytes);
+    if taken.code != 0 {
+        refused(taken.code);
     }
-    own
+    taken.meter
 }
 
 fn forecast(m: Meter) {
