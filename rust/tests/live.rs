@@ -85,7 +85,9 @@ const KINDS: &[Kind] = &[
     ("scarce", |r, n| wandering(r, n, 40, 160, 20, 40, 3)),
 ];
 
+/// Steady links, in hundredths of the bases' rate: those of the table, and others.
 const STEADY: [u32; 6] = [97, 90, 80, 60, 50, 30];
+const STEADY_TOO: [u32; 14] = [99, 94, 87, 75, 70, 69, 55, 49, 45, 40, 33, 20, 10, 4];
 
 /// A film: chunks of so many slots, H, and whether sizes differ by chunk.
 struct Film {
@@ -162,10 +164,18 @@ impl Shown {
         self.act += u32::from(run(job).shown().counts[0]);
     }
 
-    /// No more skipped than so many tenths of what the plan skips, plus 2 % of the chunks.
-    fn skips_few(&self, film: &Film, tenths: u32) -> bool {
+    /// No more skipped than 1.5 times what the plan skips, plus 2 % of the chunks.
+    fn skips_few(&self, film: &Film) -> bool {
         let all = u32::from(film.chunks) * self.links;
-        (all - self.act) * 50 <= (all - self.plan) * 5 * tenths + all
+        (all - self.act) * 100 <= (all - self.plan) * 150 + all * 2
+    }
+
+    /// On a steady link at so many hundredths of the bases' rate.
+    fn shows_most(&self, film: &Film, part: u32) -> bool {
+        match part < 70 {
+            true => self.act * 4 >= self.plan * 3,
+            false => self.skips_few(film),
+        }
     }
 
     fn skipped(&self, film: &Film, shown: u32) -> f64 {
@@ -181,8 +191,7 @@ fn films() -> Vec<(String, Film)> {
 }
 
 /// "Skips no more than 1.5 times as many pictures as the plan that knew the link plus 2 % of the
-/// chunks", on the mean of ten links. One place in the buffer is not enough for that on a link with
-/// nothing to spare: the act settles each picture within 2 L slots, the plan by what comes later.
+/// chunks", on the mean of ten links.
 #[test]
 fn few_pictures_more_are_skipped_than_by_the_plan_that_knew_the_link() {
     let mut r = Random(12);
@@ -195,8 +204,7 @@ fn few_pictures_more_are_skipped_than_by_the_plan_that_knew_the_link() {
                 let link = link(&mut r, film.slots());
                 shown.take(&film.job(&mut r, &link));
             }
-            let tenths = if film.held == 1 && *kind == "scarce" { 20 } else { 15 };
-            assert!(shown.skips_few(&film, tenths), "{name}, {kind}: {} {}", shown.plan, shown.act);
+            assert!(shown.skips_few(&film), "{name}, {kind}: {} {}", shown.plan, shown.act);
             cells.push(format!("{:.1} {:.1}", shown.skipped(&film, shown.plan), shown.skipped(&film, shown.act)));
         }
         println!("| {name} | {} |", cells.join(" | "));
@@ -204,8 +212,7 @@ fn few_pictures_more_are_skipped_than_by_the_plan_that_knew_the_link() {
 }
 
 /// On a steady link too slow for the bases: the same, and below 0.7 of their rate "at least three
-/// quarters of what that plan shows". Not where a base takes longer than the H + 1 chunks play that
-/// the rule looks at, on a link below 1 / (H + 1) of the bases' rate: there it may show nothing.
+/// quarters of what that plan shows".
 #[test]
 fn a_steady_link_that_is_too_slow_shows_most_of_what_it_can() {
     let mut r = Random(21);
@@ -215,12 +222,17 @@ fn a_steady_link_that_is_too_slow_shows_most_of_what_it_can() {
         for part in STEADY {
             let mut shown = Shown::default();
             shown.take(&film.job(&mut r, &vec![part; film.slots()]));
-            let within = part * (u32::from(film.held) + 1) >= 100;
-            let most = if part < 70 { shown.act * 4 >= shown.plan * 3 } else { shown.skips_few(&film, 15) };
-            assert!(most || !within, "{name}, 0.{part}: {} {}", shown.plan, shown.act);
+            assert!(shown.shows_most(&film, part), "{name}, 0.{part}: {} {}", shown.plan, shown.act);
             cells.push(format!("{} {}", shown.plan, shown.act));
         }
         println!("| {name} | {} |", cells.join(" | "));
+    }
+    for (name, film) in films() {
+        for part in STEADY_TOO {
+            let mut shown = Shown::default();
+            shown.take(&film.job(&mut r, &vec![part; film.slots()]));
+            assert!(shown.shows_most(&film, part), "{name}, 0.{part:02}: {} {}", shown.plan, shown.act);
+        }
     }
 }
 
@@ -259,6 +271,59 @@ fn an_act_is_never_refused_whatever_comes() {
         acts += 1;
     }
     println!("{acts} acts, {plans} plans made afresh");
+}
+
+/// The same on links so slow that a chunk gives way to a later one, which the act asks for itself.
+#[test]
+fn giving_way_is_never_refused() {
+    let mut r = Random(70);
+    let (mut slots, mut own) = (0, 0);
+    for _ in 0..200 {
+        let (chunks, span, delay) = (15 + r.below(20) as u16, 1 + r.below(3) as u16, 1 + r.below(6) as u16);
+        let sizes: Vec<u32> = (0..1 + r.below(3)).map(|_| 1 + r.below(30)).collect();
+        let overrides = (2..=chunks).filter(|_| r.odds(30)).collect::<Vec<_>>();
+        let overrides = overrides.into_iter().map(|chunk| Override { chunk, layer: 0, bytes: 31 + r.below(30) }).collect();
+        let forecast = vec![0; usize::from((chunks - 1) * span + delay)];
+        let mut act =
+            Act::new(Job { chunks, span, delay, limit: r.below(12) as u16, sizes, overrides, forecast }).expect("the job is in order");
+        let usual = 1 + r.below(12);
+        while !act.is_over() {
+            let rate = act.rate();
+            let ruled = act.clone().asks_at(rate).to_vec();
+            own += u32::from(ruled.iter().any(|piece| piece.layer == 0) && ruled != act.asks());
+            act.brought(if r.odds(5) { r.below(60) } else { r.below(usual + 1) });
+            assert_eq!(act.check(), Verdict::Passes);
+            assert!(act.is_over() || act.replan(&act.onward()).is_ok());
+            slots += 1;
+        }
+    }
+    println!("{slots} slots, in {own} of them a chunk gave way");
+    assert!(own > 500);
+}
+
+/// A base of 10 on a link of 3, and a place: chunk 11 would take four slots and has one. It gives
+/// way to the first that comes in time, and in that one's last slot so does the next.
+#[test]
+fn a_chunk_that_cannot_come_gives_way_to_one_that_does() {
+    let piece = |chunk, bytes| Piece { chunk, layer: 0, bytes };
+    let job = Job { chunks: 20, span: 1, delay: 1, limit: 1, sizes: vec![10], overrides: vec![], forecast: vec![0; 20] };
+    let mut act = Act::new(job.clone()).unwrap();
+    for slot in 1..=10 {
+        assert_eq!(act.asks(), [piece(slot, 10), piece(slot + 1, 10)]);
+        act.brought(3);
+    }
+    for asks in [vec![piece(14, 10)], vec![piece(14, 7)], vec![piece(14, 4)], vec![piece(14, 1), piece(17, 10)], vec![piece(17, 8)]] {
+        assert_eq!(act.asks(), asks);
+        act.brought(3);
+    }
+    // One slot of the last ten that would bring chunk 11 alone: it does not give way.
+    let mut once = Act::new(job.clone()).unwrap();
+    (1..=10).for_each(|slot| once.brought(if slot == 5 { 10 } else { 3 }));
+    assert_eq!(once.asks(), [piece(11, 10), piece(12, 10)]);
+    // Nor with no place in the buffer, where no chunk begins before its due slot.
+    let mut none = Act::new(Job { limit: 0, ..job }).unwrap();
+    (1..=10).for_each(|_| none.brought(3));
+    assert_eq!(none.asks(), [piece(11, 10)]);
 }
 
 fn one_chunk(size: u32, slots: u16) -> Job {

@@ -12,8 +12,9 @@ use Rattle.theory_basics.specs.Tests.{All, all, allTo}
 use Rattle.theory_basics.specs.Refusals.{unless, _orElse_}
 use Rattle.theory_basics.specs.lemmas.Refusals.{orElse-none, orElse-some}
 use Rattle.job.specs.Job.{Within}
-use Rattle.job.specs.Input.{JobInput, input-iff, jobIn, jobRefusal}
-use Rattle.fetch.specs.Rows.{Row, bytesInSlot, rowsOf}
+use Rattle.job.specs.Input.{JobInput, jobIn, jobRefusal}
+use Rattle.fetch.specs.Rows.{Row, bytesInSlot}
+use Rattle.fetch.specs.Slices.{ListSlices, RowSlices, listRows, rowsIn}
 use Rattle.fetch.specs.Input.{Whole}
 use Rattle.fetch.specs.Input
 use Rattle.fetch.specs.Verdict.{verdict}
@@ -28,6 +29,7 @@ use Rattle.booking.specs.lemmas.Slots.{added-at, bookable-within, bookab
 use Rattle.booking.specs.lemmas.Runs.{slots-there}
 use Rattle.booking.specs.lemmas.Passes.{Added, Covered, bare, refusedBy}
 use Rattle.booking.proofs.Rows.{added-bare, bare-covered, bare-releasable, taken-again, taken-bare}
+use Rattle.job.specs.Theorems.{input-iff}
 
 -- ---- booking
 
@@ -35,41 +37,41 @@ use Rattle.booking.proofs.Rows.{added-bare, bare-covered, bare-releasab
 abbrev pub TakeOff : List ℕ → List ℕ → List ℕ → ℕ → Type 0
 TakeOff f slots bytes n = (n ≤ length slots) × (n ≤ length bytes) × Covered f (bare slots bytes n)
 
-module _ (h : JobInput) (marks slots chunks layers bytes : List ℕ) where
+module _ (h : JobInput) (s : ListSlices) where
   abbrev no : ℕ
-  no = bookRefusal h marks slots chunks layers bytes
+  no = bookRefusal h s
 
   -- The check's answer says the whole refusal.
-  said : refusedBy (checked h marks slots chunks layers bytes) ≡ no
+  said : refusedBy (checked h s) ≡ no
   unfolding passRefusal
-  said = by (eqb (checkRefusal h marks slots chunks layers bytes) 0) (checkRefusal h marks slots chunks layers bytes) (verdict (jobIn h) marks (rowsOf slots chunks layers bytes))
+  said = by (eqb (checkRefusal h s) 0) (checkRefusal h s) (verdict (jobIn h) (s .marks) (listRows s))
     where
       by : (b : Bool) (a v : ℕ) → refusedBy (cond b (check.Verdict v) (check.Refused a)) ≡ cond b (unless 19 (eqb v 0)) a
       by true a v = refl
       by false a v = refl
 
-  module _ (r : Checked) (n : ℕ) (e : r ≡ checked h marks slots chunks layers bytes) (f : n ≡ refusedBy r) where
+  module _ (r : Checked) (n : ℕ) (e : r ≡ checked h s) (f : n ≡ refusedBy r) where
     found : no ≡ n
     found = sym (f ∙ ap refusedBy e ∙ said)
 
-    pub book-refused : (n ≡ 0 → ⊥) → Booked h marks slots chunks layers bytes (Refused n) (h .forecast)
+    pub book-refused : (n ≡ 0 → ⊥) → Booked h s (Refused n) (h .forecast)
     book-refused o = record { answered = rw (found, ne-eqb n 0 o); left = rw (found, ne-eqb n 0 o) }
 
     module _ (z : n ≡ 0) where
-      pub book-asks : TakeOff (h .forecast) slots bytes (length slots)
+      pub book-asks : TakeOff (h .forecast) (s .slots) (s .bytes) (length (s .slots))
       book-asks =
           let none : no ≡ 0 = found ∙ z in
-          let b = booked-bookable h marks slots chunks layers bytes none in
-          let rows = rowsOf slots chunks layers bytes in (
+          let b = booked-bookable h s none in
+          let rows = listRows s in (
             omega arith,
-            omega (arith, booked-whole h marks slots chunks layers bytes none .bytes-each),
-            bare-covered slots chunks layers bytes (h .forecast) (record { there = bookable-there (h .forecast) rows b; covered = bookable-within (h .forecast) rows b }),
+            omega (arith, booked-whole h s none .bytes-each),
+            bare-covered (s .slots) (s .chunks) (s .layers) (s .bytes) (h .forecast) (record { there = bookable-there (h .forecast) rows b; covered = bookable-within (h .forecast) rows b }),
           )
 
-      pub book-done : (after : List ℕ) → after ≡ takenOff (h .forecast) (bare slots bytes (length slots)) → Booked h marks slots chunks layers bytes Done after
+      pub book-done : (after : List ℕ) → after ≡ takenOff (h .forecast) (bare (s .slots) (s .bytes) (length (s .slots))) → Booked h s Done after
       book-done after x =
           let none : no ≡ 0 = found ∙ z in
-          record { answered = rw none; left = rw none (x ∙ sym (taken-bare slots chunks layers bytes (h .forecast))) }
+          record { answered = rw none; left = rw none (x ∙ sym (taken-bare (s .slots) (s .chunks) (s .layers) (s .bytes) (h .forecast))) }
 
 -- ---- releasing
 
@@ -83,43 +85,43 @@ twenty f rows never =
     by true g = absurd (g refl)
     by false g = refl
 
-module _ (h : JobInput) (slots chunks layers bytes : List ℕ) where
+module _ (h : JobInput) (s : RowSlices) where
   abbrev why : ℕ
-  why = releaseRefusal h slots chunks layers bytes
+  why = releaseRefusal h s
 
   abbrev rows : List Row
-  rows = rowsOf slots chunks layers bytes
+  rows = rowsIn s
 
-  refused : (n : ℕ) → why ≡ n → (n ≡ 0 → ⊥) → Released h slots chunks layers bytes (Refused n) (h .forecast)
+  refused : (n : ℕ) → why ≡ n → (n ≡ 0 → ⊥) → Released h s (Refused n) (h .forecast)
   refused n e o = record { answered = rw (e, ne-eqb n 0 o); left = rw (e, ne-eqb n 0 o) }
 
   module _ (job : ℕ) (j : job ≡ jobRefusal h) where
-    pub release-job : (job ≡ 0 → ⊥) → Released h slots chunks layers bytes (Refused job) (h .forecast)
-    release-job o = refused job (rw (sym j) (orElse-some job (rowsRefusal slots chunks layers bytes orElse roomRefusal (h .forecast) rows) o)) o
+    pub release-job : (job ≡ 0 → ⊥) → Released h s (Refused job) (h .forecast)
+    release-job o = refused job (rw (sym j) (orElse-some job (rowsRefusal s orElse roomRefusal (h .forecast) rows) o)) o
 
-    module _ (job-fine : job ≡ 0) (list : ℕ) (l : list ≡ rowsRefusal slots chunks layers bytes) where
+    module _ (job-fine : job ≡ 0) (list : ℕ) (l : list ≡ rowsRefusal s) where
       past-job : why ≡ (list orElse roomRefusal (h .forecast) rows)
       past-job = rw (sym j, sym l) (orElse-none job (list orElse roomRefusal (h .forecast) rows) job-fine)
 
-      pub release-list : (list ≡ 0 → ⊥) → Released h slots chunks layers bytes (Refused list) (h .forecast)
+      pub release-list : (list ≡ 0 → ⊥) → Released h s (Refused list) (h .forecast)
       release-list o = refused list (past-job ∙ orElse-some list (roomRefusal (h .forecast) rows) o) o
 
       module _ (list-fine : list ≡ 0) where
         past-list : why ≡ roomRefusal (h .forecast) rows
         past-list = past-job ∙ orElse-none list (roomRefusal (h .forecast) rows) list-fine
 
-        whole : Whole 0 [] slots chunks layers bytes
-        whole = Input.whole-iff 0 [] slots chunks layers bytes .0 (sym l ∙ list-fine)
+        whole : Whole 0 [] (s .slots) (s .chunks) (s .layers) (s .bytes)
+        whole = Input.whole-iff 0 [] (s .slots) (s .chunks) (s .layers) (s .bytes) .0 (sym l ∙ list-fine)
 
-        pub release-asks : (length slots ≡ length bytes) × All (Within 0 16777216) (h .forecast)
+        pub release-asks : (length (s .slots) ≡ length (s .bytes)) × All (Within 0 16777216) (h .forecast)
         release-asks = (whole .bytes-each, input-iff h .0 (sym j ∙ job-fine) .1 .forecast-in)
 
-        module _ (r : ℕ) (mid : List ℕ) (a : Added (h .forecast) slots bytes (length slots) r mid) where
+        module _ (r : ℕ) (mid : List ℕ) (a : Added (h .forecast) (s .slots) (s .bytes) (length (s .slots)) r mid) where
           -- The rows that were added can be taken off again.
-          pub release-undo : TakeOff mid slots bytes r
+          pub release-undo : TakeOff mid (s .slots) (s .bytes) r
           release-undo =
               let f : List ℕ = h .forecast in
-              let some : List Row = bare slots bytes r in
+              let some : List Row = bare (s .slots) (s .bytes) r in
               let long = length-added f some in
               rw (a .says) (
                 a .inside,
@@ -130,14 +132,14 @@ module _ (h : JobInput) (slots chunks layers bytes : List ℕ) where
                 },
               )
 
-          pub release-twenty : r < length slots → (after : List ℕ) → after ≡ takenOff mid (bare slots bytes r) → Released h slots chunks layers bytes (Refused 20) after
-          release-twenty s after x =
-              let back : after ≡ h .forecast = x ∙ rw (a .says) (taken-again (h .forecast) (bare slots bytes r)) in
-              rw back (refused 20 (past-list ∙ twenty (h .forecast) rows (λ o. a .stops s (bare-releasable slots chunks layers bytes (h .forecast) .1 o))) (λ z. omega arith))
+          pub release-twenty : r < length (s .slots) → (after : List ℕ) → after ≡ takenOff mid (bare (s .slots) (s .bytes) r) → Released h s (Refused 20) after
+          release-twenty less after x =
+              let back : after ≡ h .forecast = x ∙ rw (a .says) (taken-again (h .forecast) (bare (s .slots) (s .bytes) r)) in
+              rw back (refused 20 (past-list ∙ twenty (h .forecast) rows (λ o. a .stops less (bare-releasable (s .slots) (s .chunks) (s .layers) (s .bytes) (h .forecast) .1 o))) (λ z. omega arith))
 
-          pub release-done : length slots ≤ r → Released h slots chunks layers bytes Done mid
-          release-done s =
-              let all-of-them : r ≡ length slots = omega (arith, a .inside) in
-              let fits = bare-releasable slots chunks layers bytes (h .forecast) .0 (rw all-of-them at (a .fits)) in
+          pub release-done : length (s .slots) ≤ r → Released h s Done mid
+          release-done all-added =
+              let all-of-them : r ≡ length (s .slots) = omega (arith, a .inside) in
+              let fits = bare-releasable (s .slots) (s .chunks) (s .layers) (s .bytes) (h .forecast) .0 (rw all-of-them at (a .fits)) in
               let none : why ≡ 0 = past-list ∙ twenty-iff (h .forecast) rows .1 fits in
-              record { answered = rw none; left = rw none (a .says ∙ rw all-of-them (sym (added-bare slots chunks layers bytes (h .forecast)))) }
+              record { answered = rw none; left = rw none (a .says ∙ rw all-of-them (sym (added-bare (s .slots) (s .chunks) (s .layers) (s .bytes) (h .forecast)))) }

@@ -8,8 +8,8 @@ use mathlib.Core.List.{List, []}
 use lib.Dec.{eqb}
 use Rattle.theory_basics.specs.Refusals.{_orElse_}
 use Rattle.job.specs.Input.{JobInput, jobInput, jobIn, jobRefusal}
-use Rattle.fetch.specs.Rows.{rowsOf}
 use Rattle.fetch.specs.Input.{listRefusal}
+use Rattle.fetch.specs.Slices.{ListSlices, RowSlices, listRows, rowsIn}
 use Rattle.checker.specs.Checked.{checkRefusal}
 use Rattle.booking.specs.Booking.{addedBack, passRefusal, roomRefusal, takenOff}
 use Rattle.booking.specs.declared.Answer.{Answer}
@@ -30,29 +30,31 @@ onForecast h f = jobInput (h .programme) (h .sizes) (h .size-chunks) (h .size-la
 -- ---- booking
 
 -- 5, 6, 18, 7, 8 as the checker gives them, then 19.
-abbrev pub bookRefusal : JobInput → List ℕ → List ℕ → List ℕ → List ℕ → List ℕ → ℕ
-bookRefusal h marks slots chunks layers bytes =
-    checkRefusal h marks slots chunks layers bytes orElse passRefusal (jobIn h) marks (rowsOf slots chunks layers bytes)
+abbrev pub bookRefusal : JobInput → ListSlices → ℕ
+bookRefusal h s = checkRefusal h s orElse passRefusal (jobIn h) (s .marks) (listRows s)
 
--- The answer, and the forecast afterwards: what the list leaves unspent.
-pub record Booked (h : JobInput) (marks slots chunks layers bytes : List ℕ) (r : Answer) (after : List ℕ) : Type 0 where
-  pub answered : r ≡ answer (bookRefusal h marks slots chunks layers bytes)
-  pub left :
-      after ≡ forecastAfter (bookRefusal h marks slots chunks layers bytes) (takenOff (h .forecast) (rowsOf slots chunks layers bytes)) (h .forecast)
+-- What `book` promises of a job and a list as handed, with its answer and the forecast afterwards.
+pub record Booked (h : JobInput) (s : ListSlices) (r : Answer) (after : List ℕ) : Type 0 where
+  -- "19, booking a list whose verdict isn't 0", after 8.
+  pub answered : r ≡ answer (bookRefusal h s)
+  -- "Booking a fetch list takes a passing list off its job's forecast and leaves the unspent bytes
+  -- of each slot."
+  pub left : after ≡ forecastAfter (bookRefusal h s) (takenOff (h .forecast) (listRows s)) (h .forecast)
 
 -- ---- releasing
 
 -- 8 for a row not handed whole; marks are not handed, and none are asked for.
-abbrev pub rowsRefusal : List ℕ → List ℕ → List ℕ → List ℕ → ℕ
-rowsRefusal slots chunks layers bytes = listRefusal 0 [] slots chunks layers bytes
+abbrev pub rowsRefusal : RowSlices → ℕ
+rowsRefusal s = listRefusal 0 [] (s .slots) (s .chunks) (s .layers) (s .bytes)
 
 -- 5, 6, 18, 7, 8, then 20.
-abbrev pub releaseRefusal : JobInput → List ℕ → List ℕ → List ℕ → List ℕ → ℕ
-releaseRefusal h slots chunks layers bytes =
-    jobRefusal h orElse rowsRefusal slots chunks layers bytes orElse roomRefusal (h .forecast) (rowsOf slots chunks layers bytes)
+abbrev pub releaseRefusal : JobInput → RowSlices → ℕ
+releaseRefusal h s = jobRefusal h orElse rowsRefusal s orElse roomRefusal (h .forecast) (rowsIn s)
 
--- The answer, and the forecast afterwards, with the list's bytes added back.
-pub record Released (h : JobInput) (slots chunks layers bytes : List ℕ) (r : Answer) (after : List ℕ) : Type 0 where
-  pub answered : r ≡ answer (releaseRefusal h slots chunks layers bytes)
-  pub left :
-      after ≡ forecastAfter (releaseRefusal h slots chunks layers bytes) (addedBack (h .forecast) (rowsOf slots chunks layers bytes)) (h .forecast)
+-- What `release` promises of a job and rows as handed, with its answer and the forecast afterwards.
+pub record Released (h : JobInput) (s : RowSlices) (r : Answer) (after : List ℕ) : Type 0 where
+  -- "20, releasing a row for a slot that isn't there or beyond 16,777,216 bytes in a slot", after
+  -- 8.
+  pub answered : r ≡ answer (releaseRefusal h s)
+  -- "Releasing adds a list's bytes back."
+  pub left : after ≡ forecastAfter (releaseRefusal h s) (addedBack (h .forecast) (rowsIn s)) (h .forecast)

@@ -12,12 +12,14 @@ use Rattle.theory_basics.specs.lemmas.Tests.{all-iff, allTo-iff, eqb-iff, leb-i
 use Rattle.theory_basics.specs.Refusals.{_orElse_}
 use Rattle.theory_basics.specs.lemmas.Refusals.{unless-as, and-as, orElse-iff}
 use Rattle.job.specs.Job.{Job, Accepted, EqualChunks, Within, lastSlot, withForecast}
-use Rattle.job.specs.Input.{JobInput, input-iff, jobIn, jobRefusal}
-use Rattle.fetch.specs.Rows.{Row, bytesInSlot, rowsOf}
-use Rattle.fetch.specs.Input.{Whole, listRefusal}
+use Rattle.job.specs.Input.{JobInput, jobIn, jobRefusal}
+use Rattle.fetch.specs.Rows.{Row, bytesInSlot}
+use Rattle.fetch.specs.Input.{Whole}
+use Rattle.fetch.specs.Slices.{ListSlices, RowSlices, listRows, rowSlices, slicesRefusal}
 use Rattle.fetch.specs.Input
 use Rattle.fetch.specs.Rules.{Keeps}
-use Rattle.fetch.specs.Verdict.{verdict, verdict-iff}
+use Rattle.fetch.specs.Verdict.{verdict}
+use Rattle.fetch.specs.Theorems.{verdict-iff}
 use Rattle.theory_plan.specs.Statement.{Best, IsPlan, MostPictures, marksOf}
 use Rattle.theory_plan.specs.Pictures.{most-pictures}
 use Rattle.theory_plan.specs.Own.{ownList}
@@ -29,6 +31,7 @@ use Rattle.checker.specs.Checked.{checkRefusal}
 use Rattle.booking.specs.Answer.{bookRefusal, onForecast, releaseRefusal, rowsRefusal}
 use Rattle.booking.specs.lemmas.Slots.{length-taken, length-added, taken-at, added-at, slots-equal, all-slots, bookable-within}
 use Rattle.booking.specs.lemmas.Runs.{kept, run-in-range, slots-there, without-bytes, without-all, equal-on}
+use Rattle.job.specs.Theorems.{input-iff}
 
 -- ---- the refusals
 
@@ -174,38 +177,41 @@ module _ (main second : Job) (marks : List ℕ) (rows : List Row) (main-ok : Acc
 
 -- ---- the calls
 
-module _ (h : JobInput) (marks slots chunks layers bytes : List ℕ) (fine : bookRefusal h marks slots chunks layers bytes ≡ 0) where
+module _ (h : JobInput) (s : ListSlices) (fine : bookRefusal h s ≡ 0) where
   abbrev rows : List Row
-  rows = rowsOf slots chunks layers bytes
+  rows = listRows s
 
-  parts : (checkRefusal h marks slots chunks layers bytes ≡ 0) × (passRefusal (jobIn h) marks rows ≡ 0)
-  parts = orElse-iff (checkRefusal h marks slots chunks layers bytes) (passRefusal (jobIn h) marks rows) .0 fine
+  abbrev its-rows : RowSlices
+  its-rows = rowSlices (s .slots) (s .chunks) (s .layers) (s .bytes)
 
-  input : (jobRefusal h ≡ 0) × (listRefusal (h .programme .chunks) marks slots chunks layers bytes ≡ 0)
-  input = orElse-iff (jobRefusal h) (listRefusal (h .programme .chunks) marks slots chunks layers bytes) .0 (parts .0)
+  parts : (checkRefusal h s ≡ 0) × (passRefusal (jobIn h) (s .marks) rows ≡ 0)
+  parts = orElse-iff (checkRefusal h s) (passRefusal (jobIn h) (s .marks) rows) .0 fine
+
+  input : (jobRefusal h ≡ 0) × (slicesRefusal (h .programme .chunks) s ≡ 0)
+  input = orElse-iff (jobRefusal h) (slicesRefusal (h .programme .chunks) s) .0 (parts .0)
 
   -- A list that `book` does not refuse is handed whole, for an accepted job, and can be booked on
   -- its forecast,
   pub booked-accepted : Accepted (jobIn h)
   booked-accepted = input-iff h .0 (input .0) .1
 
-  pub booked-whole : Whole (h .programme .chunks) marks slots chunks layers bytes
-  booked-whole = Input.whole-iff (h .programme .chunks) marks slots chunks layers bytes .0 (input .1)
+  pub booked-whole : Whole (h .programme .chunks) (s .marks) (s .slots) (s .chunks) (s .layers) (s .bytes)
+  booked-whole = Input.whole-iff (h .programme .chunks) (s .marks) (s .slots) (s .chunks) (s .layers) (s .bytes) .0 (input .1)
 
   pub booked-bookable : Bookable (h .forecast) rows
-  booked-bookable = passing-bookable (jobIn h) booked-accepted marks rows (nineteen-iff (jobIn h) marks rows .0 (parts .1))
+  booked-bookable = passing-bookable (jobIn h) booked-accepted (s .marks) rows (nineteen-iff (jobIn h) (s .marks) rows .0 (parts .1))
 
   -- and `release` does not refuse it on what `book` has left.
-  pub booked-released : releaseRefusal (onForecast h (takenOff (h .forecast) rows)) slots chunks layers bytes ≡ 0
+  pub booked-released : releaseRefusal (onForecast h (takenOff (h .forecast) rows)) its-rows ≡ 0
   booked-released =
       let left : List ℕ = takenOff (h .forecast) rows in
       let run : Run (h .forecast) left (rows ∷ []) = booking start rows booked-bookable in
       let high = booked-accepted .forecast-in in
       let w = booked-whole in
-      orElse-iff (jobRefusal (onForecast h left)) (rowsRefusal slots chunks layers bytes orElse roomRefusal left rows) .1 (
+      orElse-iff (jobRefusal (onForecast h left)) (rowsRefusal its-rows orElse roomRefusal left rows) .1 (
         input-iff (onForecast h left) .1 (input-iff h .0 (input .0) .0, remainder-accepted (jobIn h) high run booked-accepted (sym (booked-accepted .slots-in))),
-        orElse-iff (rowsRefusal slots chunks layers bytes) (roomRefusal left rows) .1 (
-          Input.whole-iff 0 [] slots chunks layers bytes .1 (record { byte-each = refl; chunk-each = w .chunk-each; layer-each = w .layer-each; bytes-each = w .bytes-each }),
+        orElse-iff (rowsRefusal its-rows) (roomRefusal left rows) .1 (
+          Input.whole-iff 0 [] (s .slots) (s .chunks) (s .layers) (s .bytes) .1 (record { byte-each = refl; chunk-each = w .chunk-each; layer-each = w .layer-each; bytes-each = w .bytes-each }),
           still-booked-releasable rows high run Booking.here,
         ),
       )

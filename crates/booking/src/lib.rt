@@ -9,6 +9,7 @@ ghost use lib.ListN.{length};
 ghost use Rattle.theory_basics.specs.Tests.{All};
 ghost use Rattle.job.specs.Job.{Within};
 ghost use Rattle.job.specs.Input.{jobInput};
+ghost use Rattle.fetch.specs.Slices.{rowSlices, slicesOf};
 ghost use Rattle.booking.specs.Booking.{takenOff};
 ghost use Rattle.booking.specs.Answer.{Booked, Released};
 ghost use Rattle.booking.specs.lemmas.Passes.{Added, Covered, bare, refusedBy};
@@ -28,8 +29,11 @@ fn wide(x: u16) -> usize
 // So many rows off the forecast. None of its slots falls below 0: of a passing list by rule 4, else
 // because they were just added.
 fn take_off(forecast: &mut [u32], slots: &[u16], bytes: &[u32], count: usize)
-    requires { ⌜ (count ≤ length (now slots)) × (count ≤ length (now bytes)) × Covered (now forecast) (bare (now slots) (now bytes) count) ⌝ }
-    ensures { λ _. ⌜ now (forecast .exit) ≡ takenOff (now (forecast .entry)) (bare (now (slots .entry)) (now (bytes .entry)) count) ⌝ }
+    requires { ⌜ (count ≤ length (now slots))
+        × (count ≤ length (now bytes))
+        × Covered (now forecast) (bare (now slots) (now bytes) count) ⌝ }
+    ensures { λ _. ⌜ now (forecast .exit) ≡ takenOff (now (forecast .entry))
+        (bare (now (slots .entry)) (now (bytes .entry)) count) ⌝ }
 {
     let mut i: usize = 0;
     while i < count {
@@ -51,7 +55,9 @@ fn has_room(held: u32, more: u32) -> bool
 // many rows that are.
 fn add_back(forecast: &mut [u32], slots: &[u16], bytes: &[u32]) -> usize
     requires { ⌜ (length (now slots) ≡ length (now bytes)) × All (Within 0 16777216) (now forecast) ⌝ }
-    ensures { λ r. ⌜ Added (now (forecast .entry)) (now (slots .entry)) (now (bytes .entry)) (length (now (slots .entry))) r (now (forecast .exit)) ⌝ }
+    ensures { λ r. ⌜ Added (now (forecast .entry)) (now (slots .entry)) (now (bytes .entry))
+        (length (now (slots .entry)))
+        r (now (forecast .exit)) ⌝ }
 {
     let rows = slots.len();
     let mut i: usize = 0;
@@ -101,7 +107,12 @@ pub fn book(
     layers: &[u8],
     bytes: &[u32],
 ) -> Answer
-    ensures { λ r. ⌜ Booked (jobInput p (now (sizes .entry)) (now («size_chunks» .entry)) (now («size_layers» .entry)) (now («size_bytes» .entry)) (now (forecast .entry))) (now (marks .entry)) (now (slots .entry)) (now (chunks .entry)) (now (layers .entry)) (now (bytes .entry)) r (now (forecast .exit)) ⌝ }
+    ensures { λ r. ⌜ Booked
+        (jobInput p (now (sizes .entry)) (now («size_chunks» .entry)) (now («size_layers» .entry))
+        (now («size_bytes» .entry)) (now (forecast .entry)))
+        (slicesOf (now (marks .entry)) (now (slots .entry)) (now (chunks .entry)) (now (layers .entry))
+        (now (bytes .entry)))
+        r (now (forecast .exit)) ⌝ }
 {
     let checked = checker::check(
         p,
@@ -138,7 +149,11 @@ pub fn release(
     layers: &[u8],
     bytes: &[u32],
 ) -> Answer
-    ensures { λ r. ⌜ Released (jobInput p (now (sizes .entry)) (now («size_chunks» .entry)) (now («size_layers» .entry)) (now («size_bytes» .entry)) (now (forecast .entry))) (now (slots .entry)) (now (chunks .entry)) (now (layers .entry)) (now (bytes .entry)) r (now (forecast .exit)) ⌝ }
+    ensures { λ r. ⌜ Released
+        (jobInput p (now (sizes .entry)) (now («size_chunks» .entry)) (now («size_layers» .entry))
+        (now («size_bytes» .entry)) (now (forecast .entry)))
+        (rowSlices (now (slots .entry)) (now (chunks .entry)) (now (layers .entry)) (now (bytes .entry)))
+        r (now (forecast .exit)) ⌝ }
 {
     let job = job::refusal(p, sizes, size_chunks, size_layers, size_bytes, forecast);
     if job != 0 {

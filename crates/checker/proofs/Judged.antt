@@ -11,12 +11,13 @@ use lib.Dec.{T, leb, ltb, eqb}
 use Rattle.theory_basics.specs.Tests.{allBelow, allTo}
 use Rattle.theory_basics.specs.lemmas.Tests.{T-or-iff, allBelow-cong, allTo-cong, same-test}
 use Rattle.job.specs.Job.{Accepted, Job, chunks, jobOf, lastDue, layers, size}
-use Rattle.job.specs.Table.{tableAt}
+use Rattle.core_sizes.specs.Table.{tableAt}
 use Rattle.job.specs.declared.Programme.{Programme}
 use Rattle.job.specs.lemmas.Within.{size-most}
 use Rattle.fetch.specs.Rows.{Row, bytesOfLayer}
-use Rattle.fetch.specs.Verdict.{lowest, rule2, rule2-iff}
-use Rattle.fetch.specs.VerdictFrom.{layerBefore, rule2-from-iff, rule2From, verdictFrom, wholeFrom}
+use Rattle.fetch.specs.Verdict.{lowest, rule2}
+use Rattle.fetch.specs.Theorems.{rule2-iff, rule2-from-iff}
+use Rattle.fetch.specs.VerdictFrom.{layerBefore, rule2From, verdictFrom, wholeFrom}
 use Rattle.core_rules.proofs.Exact.{carried-is, eqb-cap, ltb-cap, rule1-is, rule2-is, rule3-is, rule4-is, rule6-is, rule7-is}
 use Rattle.core_rules.specs.declared.Layers.{Layers}
 use Rattle.core_rules.specs.declared.Pass.{Pass}

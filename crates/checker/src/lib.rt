@@ -14,8 +14,9 @@ ghost use lib.Dec.{eqb};
 ghost use Rattle.theory_basics.specs.Tests.{allBelow, allTo};
 ghost use Rattle.job.specs.Job.{lastDue};
 ghost use Rattle.job.specs.Input.{jobInput};
-ghost use Rattle.job.specs.Table.{tableAt};
+ghost use Rattle.core_sizes.specs.Table.{tableAt};
 ghost use Rattle.fetch.specs.Rows.{rowsOf};
+ghost use Rattle.fetch.specs.Slices.{slicesOf};
 ghost use Rattle.fetch.specs.Input.{Whole};
 ghost use Rattle.fetch.specs.Verdict.{lowest};
 ghost use Rattle.fetch.specs.VerdictFrom.{layerBefore};
@@ -83,8 +84,11 @@ fn mark_late(
     bytes: &[u32],
     late: &mut [u8; SIZES],
 )
-    requires { ⌜ InTables last count depth (now slots) (now chunks) (now layers) (now bytes) × (now late ≡ replicate 2000 0) ⌝ }
-    ensures { λ _. ⌜ MarkLatePost from (rowsOf (now (slots .entry)) (now (chunks .entry)) (now (layers .entry)) (now (bytes .entry))) (now (late .exit)) ⌝ }
+    requires { ⌜ InTables last count depth (now slots) (now chunks) (now layers) (now bytes)
+        × (now late ≡ replicate 2000 0) ⌝ }
+    ensures { λ _. ⌜ MarkLatePost from
+        (rowsOf (now (slots .entry)) (now (chunks .entry)) (now (layers .entry)) (now (bytes .entry)))
+        (now (late .exit)) ⌝ }
 {
     let mut k: usize = 0;
     while k < slots.len() {
@@ -110,14 +114,15 @@ fn allowed_chunk(
     i: u16,
 ) -> bool
     requires { ⌜ (depth ≤ 4) × (1 ≤ i) × (i ≤ 500) ⌝ }
-    ensures { λ r. ⌜ r ≡ allBelow depth (allowedBy (tableAt (now (table .entry))) (now (layersum .entry)) (early (now (late .entry))) i) ⌝ }
+    ensures { λ r. ⌜ r ≡ allBelow depth
+        (allowedBy (tableAt (now (table .entry))) (now (layersum .entry)) (early (now (late .entry))) i) ⌝ }
 {
     let from = 4 * (core_rules::wide(i) - 1);
     let mut all = true;
     let mut n: usize = 0;
     while n < depth {
         let at = from + n;
-        let z = job::size_at(table, i, n);
+        let z = core_sizes::size_at(table, i, n);
         all = core_rules::both(allowed(layersum[at], z, late[at]), all);
         n = n + 1;
     }
@@ -133,7 +138,10 @@ fn allowed_all(
     count: u16,
 ) -> bool
     requires { ⌜ (depth ≤ 4) × (count ≤ 500) ⌝ }
-    ensures { λ r. ⌜ r ≡ allTo count (λ i. allBelow depth (allowedBy (tableAt (now (table .entry))) (now (layersum .entry)) (early (now (late .entry))) i)) ⌝ }
+    ensures { λ r. ⌜ r ≡ allTo count
+        (λ i.
+        allBelow depth
+        (allowedBy (tableAt (now (table .entry))) (now (layersum .entry)) (early (now (late .entry))) i)) ⌝ }
 {
     let mut all = true;
     let mut i: u16 = 0;
@@ -160,7 +168,14 @@ fn whole_from(
     bytes: &[u32],
 ) -> bool
     requires { ⌜ InTables last count depth (now slots) (now chunks) (now layers) (now bytes) ⌝ }
-    ensures { λ r. ⌜ r ≡ whole || allTo count (λ i. allBelow depth (allowedBy (tableAt (now (table .entry))) (now (layersum .entry)) (layerBefore from (rowsOf (now (slots .entry)) (now (chunks .entry)) (now (layers .entry)) (now (bytes .entry)))) i)) ⌝ }
+    ensures { λ r. ⌜ r ≡ whole
+        || allTo count
+        (λ i.
+        allBelow depth
+        (allowedBy (tableAt (now (table .entry))) (now (layersum .entry))
+        (layerBefore from
+        (rowsOf (now (slots .entry)) (now (chunks .entry)) (now (layers .entry)) (now (bytes .entry))))
+        i)) ⌝ }
 {
     if whole {
         return true;
@@ -194,8 +209,14 @@ fn verdict_of(
     layers: &[u8],
     bytes: &[u32],
 ) -> u8
-    requires { ⌜ (p .chunks ≤ 500) × (lastDue p ≤ 3600) × (depth ≤ 4) × (length (now forecast) ≤ 3600) × Whole (p .chunks) (now marks) (now slots) (now chunks) (now layers) (now bytes) ⌝ }
-    ensures { λ r. ⌜ Judged p (now (table .entry)) depth (now (forecast .entry)) from (now (marks .entry)) (rowsOf (now (slots .entry)) (now (chunks .entry)) (now (layers .entry)) (now (bytes .entry))) r ⌝ }
+    requires { ⌜ (p .chunks ≤ 500)
+        × (lastDue p ≤ 3600)
+        × (depth ≤ 4)
+        × (length (now forecast) ≤ 3600)
+        × Whole (p .chunks) (now marks) (now slots) (now chunks) (now layers) (now bytes) ⌝ }
+    ensures { λ r. ⌜ Judged p (now (table .entry)) depth (now (forecast .entry)) from (now (marks .entry))
+        (rowsOf (now (slots .entry)) (now (chunks .entry)) (now (layers .entry)) (now (bytes .entry)))
+        r ⌝ }
 {
     let last = job::last_due(p);
     let mut slotsum = [0u64; SUMS];
@@ -250,7 +271,11 @@ pub fn check(
     layers: &[u8],
     bytes: &[u32],
 ) -> Checked
-    ensures { λ r. ⌜ r ≡ checked (jobInput p (now (sizes .entry)) (now («size_chunks» .entry)) (now («size_layers» .entry)) (now («size_bytes» .entry)) (now (forecast .entry))) (now (marks .entry)) (now (slots .entry)) (now (chunks .entry)) (now (layers .entry)) (now (bytes .entry)) ⌝ }
+    ensures { λ r. ⌜ r ≡ checked
+        (jobInput p (now (sizes .entry)) (now («size_chunks» .entry)) (now («size_layers» .entry))
+        (now («size_bytes» .entry)) (now (forecast .entry)))
+        (slicesOf (now (marks .entry)) (now (slots .entry)) (now (chunks .entry)) (now (layers .entry))
+        (now (bytes .entry))) ⌝ }
 {
     let job = job::refusal(p, sizes, size_chunks, size_layers, size_bytes, forecast);
     if job != 0 {
@@ -263,7 +288,7 @@ pub fn check(
     let depth = sizes.len();
     let unset = p.chunks as u32;
     let mut table = [unset; SIZES];
-    job::fill_sizes(sizes, size_chunks, size_layers, size_bytes, &mut table);
+    core_sizes::fill_sizes(sizes, size_chunks, size_layers, size_bytes, &mut table);
     Checked::Verdict(verdict_of(
         p,
         &table,
@@ -294,7 +319,12 @@ pub fn check_from(
     layers: &[u8],
     bytes: &[u32],
 ) -> Checked
-    ensures { λ r. ⌜ r ≡ checkedFrom (jobInput p (now (sizes .entry)) (now («size_chunks» .entry)) (now («size_layers» .entry)) (now («size_bytes» .entry)) (now (forecast .entry))) from (now (marks .entry)) (now (slots .entry)) (now (chunks .entry)) (now (layers .entry)) (now (bytes .entry)) ⌝ }
+    ensures { λ r. ⌜ r ≡ checkedFrom
+        (jobInput p (now (sizes .entry)) (now («size_chunks» .entry)) (now («size_layers» .entry))
+        (now («size_bytes» .entry)) (now (forecast .entry)))
+        from
+        (slicesOf (now (marks .entry)) (now (slots .entry)) (now (chunks .entry)) (now (layers .entry))
+        (now (bytes .entry))) ⌝ }
 {
     let job = job::refusal(p, sizes, size_chunks, size_layers, size_bytes, forecast);
     if job != 0 {
@@ -311,7 +341,7 @@ pub fn check_from(
     let depth = sizes.len();
     let unset = p.chunks as u32;
     let mut table = [unset; SIZES];
-    job::fill_sizes(sizes, size_chunks, size_layers, size_bytes, &mut table);
+    core_sizes::fill_sizes(sizes, size_chunks, size_layers, size_bytes, &mut table);
     Checked::Verdict(verdict_of(
         p,
         &table,

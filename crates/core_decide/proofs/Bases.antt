@@ -11,12 +11,13 @@ use lib.Dec.{leb}
 use borrow.Author.Tests.{le-leb, lt-leb}
 use Rattle.job.specs.declared.Programme.{Programme}
 use Rattle.job.specs.Job.{dueSlot}
-use Rattle.theory_plan.specs.lemmas.Ascending.{Asc, asc-lower}
+use Rattle.theory_plan.specs.lemmas.Ascending.{asc-lower}
 use Rattle.theory_plan.specs.lemmas.Trials.{Stack, candidate, keeps, push, bases}
 use Rattle.theory_plan.specs.lemmas.Parts.{at}
 use Rattle.core_decide.specs.lemmas.Decision.{KeepBasesPre, stackIn}
 use Rattle.core_moore_hodgson.specs.lemmas.Tables.{KeptIn}
 use Rattle.theory_basics.specs.lemmas.Tables.{set-before}
+use Rattle.theory_plan.specs.Bases.{Asc}
 
 -- The chunk i is due by the last slot.
 module _ (p : Programme) (size : ℕ → ℕ → ℕ) (after : List ℕ) where

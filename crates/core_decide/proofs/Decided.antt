@@ -12,20 +12,19 @@ use Rattle.theory_basics.specs.lemmas.Tests.{by-cond}
 use Rattle.fetch.specs.Marks.{bit}
 use Rattle.job.specs.declared.Programme.{Programme}
 use Rattle.job.specs.Job.{Job, Override, jobOf, sizeIn, size, due, dueSlot, heldMost, lastDue, layers, chunks}
-use Rattle.theory_plan.specs.lemmas.Ascending.{Asc, asc-within}
-use Rattle.theory_plan.specs.Plan.{byMooreHodgson, kept, plan}
+use Rattle.theory_plan.specs.lemmas.Ascending.{asc-within}
+use Rattle.theory_plan.specs.Plan.{byMooreHodgson, kept, plan, after}
 use Rattle.theory_plan.specs.lemmas.MooreHodgson.{kept-by-after}
 use Rattle.core_moore_hodgson.specs.lemmas.Tables.{KeptIn}
 use Rattle.theory_plan.specs.lemmas.Linear.{bases-kept, decided-is, map-map}
-use Rattle.theory_plan.specs.lemmas.Necessity.{after}
-use Rattle.theory_plan.specs.lemmas.Sufficiency.{ones, releases}
 use Rattle.theory_plan.specs.lemmas.Trials.{Kept, Tried, bases, rooms, back, bytesKept, markOf, keptAt, onLayer, onLayers, based, decidedOn, keptBases, stacked}
 use Rattle.theory_plan.specs.lemmas.Parts.{at, padded, padded-long, part-small}
 use Rattle.core_decide.specs.lemmas.Decision.{keptOf, Sums, Slot, SumTable, basesIn, SettleLayersPre, SettleLayersPost, SettleKeptPre, Decides, SettleKeptPost, jobFrom, DecidePre, DecidePost}
 use Rattle.theory_plan.specs.lemmas.Words.{due-by}
-use Rattle.theory_plan.specs.lemmas.Queue.{each-is, all-ones}
+use Rattle.theory_plan.specs.lemmas.Queue.{each-is, all-ones, ones, releases}
 use Rattle.theory_basics.specs.lemmas.Tables.{all-take}
 use Rattle.core_decide.proofs.Settle.{same-long, marks-of}
+use Rattle.theory_plan.specs.Bases.{Asc}
 
 -- ---- a release for each chunk is enough
 

@@ -6,9 +6,9 @@ use Prim.Native.Nat.{ℕ, zero, suc, _+_, _-_, _≤_, _<_, min}
 use native.Mathlib.Omega.{arith}
 use lib.ListN.{length, getD, set, take, drop, length-set, length-append, length-take, length-drop}
 use lib.Seq.{ext-getD, drop-drop, getD-drop, getD-take, getD-append-add}
-use Rattle.theory_plan.specs.lemmas.Sufficiency.{ones}
 use Rattle.theory_plan.specs.lemmas.Trials.{rooms}
 use Rattle.theory_basics.specs.lemmas.Tables.{drop-next, at-set, below-next}
+use Rattle.theory_plan.specs.lemmas.Queue.{ones}
 
 -- ---- releases
 

@@ -6,8 +6,7 @@ use native.Mathlib.Omega.{arith}
 use lib.ListN.{length, drop, length-drop}
 use Rattle.theory_basics.specs.Tests.{All}
 use Rattle.job.specs.Job.{layers}
-use Rattle.theory_plan.specs.Plan.{kept}
-use Rattle.theory_plan.specs.lemmas.Necessity.{after}
+use Rattle.theory_plan.specs.Plan.{kept, after}
 use Rattle.theory_plan.specs.lemmas.Trials.{Kept, rooms, back, bytesKept, markOf, onLayer, onLayers}
 use Rattle.theory_plan.specs.lemmas.Parts.{at}
 use Rattle.core_decide.specs.lemmas.Decision.{keptOf, TryLayerPre, TryLayerPost, SettleLayersPre, SettleLayersPost}

@@ -3,7 +3,7 @@
 // on. The passes serve any ascending set of kept chunks, over a part of the forecast that starts at
 // any slot: sum_after and keep_bases for the base, then, for kept chunks with their due slots and
 // bytes however they were found, set_releases and settle_layers. Sizes are those of the table that
-// job's fill_sizes fills.
+// core_sizes' fill_sizes fills.
 use job::CHUNKS;
 use job::Programme;
 use job::SUMS;
@@ -15,14 +15,17 @@ ghost use Prim.Native.Nat.{ℕ, _+_, _*_, _-_, _/_, _<_, _≤_, max, min};
 ghost use lib.ListN.{length, getD, take, drop};
 ghost use lib.Dec.{leb, ltb};
 ghost use Rattle.theory_basics.specs.Tests.{All};
-ghost use Rattle.job.specs.Table.{tableAt};
+ghost use Rattle.core_sizes.specs.Table.{tableAt};
 ghost use Rattle.fetch.specs.Marks.{bit};
 ghost use mathlib.Core.List.{_++_};
-ghost use Rattle.theory_plan.specs.lemmas.Sufficiency.{ones};
 ghost use Rattle.theory_plan.specs.lemmas.Trials.{rooms};
 ghost use Rattle.theory_plan.specs.lemmas.Parts.{at, ForecastPart};
 ghost use Rattle.core_moore_hodgson.specs.lemmas.Tables.{KeptIn};
-ghost use Rattle.core_decide.specs.lemmas.Decision.{SetPlacesPost, SumTable, KeepBasesPre, SettleBasesPre, stackIn, basesIn, Slot, TryLayerPre, TryLayerPost, SettleLayersPre, SettleLayersPost, SettleKeptPre, SettleKeptPost, DecidePre, DecidePost};
+ghost use Rattle.core_decide.specs.lemmas.Decision.{SetPlacesPost, SumTable, KeepBasesPre, SettleBasesPre};
+ghost use Rattle.core_decide.specs.lemmas.Decision.{stackIn, basesIn, Slot, TryLayerPre, TryLayerPost};
+ghost use Rattle.core_decide.specs.lemmas.Decision.{SettleLayersPre, SettleLayersPost, SettleKeptPre};
+ghost use Rattle.core_decide.specs.lemmas.Decision.{SettleKeptPost, DecidePre, DecidePost};
+ghost use Rattle.theory_plan.specs.lemmas.Queue.{ones};
 
 pub fn larger(a: u64, b: u64) -> u64
     ensures { λ r. ⌜ r ≡ max a b ⌝ }
@@ -114,7 +117,9 @@ pub fn keep_bases(
     needs: &mut [u64; CHUNKS],
 ) -> usize
     requires { ⌜ KeepBasesPre p (tableAt (now table)) (now after) (now ids) (now dues) (now bytes) (now needs) ⌝ }
-    ensures { λ r. ⌜ KeptIn p (tableAt (now (table .entry))) (stackIn p (tableAt (now (table .entry))) (at (now (after .entry)))) r (now (ids .exit)) (now (dues .exit)) (now (bytes .exit)) ⌝ }
+    ensures { λ r. ⌜ KeptIn p (tableAt (now (table .entry)))
+        (stackIn p (tableAt (now (table .entry))) (at (now (after .entry))))
+        r (now (ids .exit)) (now (dues .exit)) (now (bytes .exit)) ⌝ }
     ensures room { λ _. ⌜ length (now (needs .exit)) ≡ 500 ⌝ }
 {
     let held = job::held_most(p) as usize;
@@ -156,7 +161,9 @@ fn settle_bases(
     needs: &mut [u64; CHUNKS],
 ) -> usize
     requires { ⌜ SettleBasesPre p (tableAt (now table)) (now after) (now ids) (now dues) (now bytes) (now needs) ⌝ }
-    ensures { λ r. ⌜ KeptIn p (tableAt (now (table .entry))) (basesIn p (tableAt (now (table .entry))) (at (now (after .entry)))) r (now (ids .exit)) (now (dues .exit)) (now (bytes .exit)) ⌝ }
+    ensures { λ r. ⌜ KeptIn p (tableAt (now (table .entry)))
+        (basesIn p (tableAt (now (table .entry))) (at (now (after .entry))))
+        r (now (ids .exit)) (now (dues .exit)) (now (bytes .exit)) ⌝ }
     ensures room { λ _. ⌜ length (now (needs .exit)) ≡ 500 ⌝ }
 {
     if core_moore_hodgson::applies(p, table) {
@@ -168,7 +175,8 @@ fn settle_bases(
 // The slot from which each kept chunk may begin.
 pub fn set_releases(held: usize, dues: &[u16; CHUNKS], first: usize, ready: &mut [u16; CHUNKS])
     requires { ⌜ (first ≤ 500) × (length (now dues) ≡ 500) × (length (now ready) ≡ 500) ⌝ }
-    ensures { λ _. ⌜ (length (now (ready .exit)) ≡ 500) × (drop first (now (ready .exit)) ≡ take (500 - first) (ones held ++ drop first (now (dues .entry)))) ⌝ }
+    ensures { λ _. ⌜ (length (now (ready .exit)) ≡ 500)
+        × (drop first (now (ready .exit)) ≡ take (500 - first) (ones held ++ drop first (now (dues .entry)))) ⌝ }
 {
     let mut q = first;
     while q < CHUNKS {
@@ -192,8 +200,15 @@ fn find_rooms(
     first: usize,
     room: &mut [u64; CHUNKS],
 )
-    requires { ⌜ (first ≤ 500) × All Slot (drop first (now ready)) × (length (now after) ≡ 3601) × (length (now ready) ≡ 500) × (length (now bytes) ≡ 500) × (length (now room) ≡ 500) ⌝ }
-    ensures { λ _. ⌜ (length (now (room .exit)) ≡ 500) × (drop first (now (room .exit)) ≡ rooms (at (now (after .entry))) all (drop first (now (bytes .entry))) (drop first (now (ready .entry)))) ⌝ }
+    requires { ⌜ (first ≤ 500)
+        × All Slot (drop first (now ready))
+        × (length (now after) ≡ 3601)
+        × (length (now ready) ≡ 500)
+        × (length (now bytes) ≡ 500)
+        × (length (now room) ≡ 500) ⌝ }
+    ensures { λ _. ⌜ (length (now (room .exit)) ≡ 500)
+        × (drop first (now (room .exit)) ≡ rooms (at (now (after .entry))) all (drop first (now (bytes .entry)))
+        (drop first (now (ready .entry)))) ⌝ }
 {
     let mut left = all;
     let mut q = first;
@@ -228,8 +243,11 @@ fn try_layer(
     bytes: &mut [u32; CHUNKS],
     mark: &mut [u8; CHUNKS],
 )
-    requires { ⌜ TryLayerPre (tableAt (now table)) n (now after) (now ids) (now dues) (now room) first (now bytes) (now mark) ⌝ }
-    ensures { λ _. ⌜ TryLayerPost (tableAt (now (table .entry))) n (now (after .entry)) (now (ids .entry)) (now (dues .entry)) (now (room .entry)) first (now (bytes .entry)) (now (mark .entry)) (now (bytes .exit)) (now (mark .exit)) ⌝ }
+    requires { ⌜ TryLayerPre (tableAt (now table)) n (now after) (now ids) (now dues) (now room) first (now bytes)
+        (now mark) ⌝ }
+    ensures { λ _. ⌜ TryLayerPost (tableAt (now (table .entry))) n (now (after .entry)) (now (ids .entry))
+        (now (dues .entry)) (now (room .entry)) first (now (bytes .entry)) (now (mark .entry))
+        (now (bytes .exit)) (now (mark .exit)) ⌝ }
 {
     let below = n - 1;
     let mut need: u64 = 0;
@@ -268,8 +286,11 @@ pub fn settle_layers(
     room: &mut [u64; CHUNKS],
     mark: &mut [u8; CHUNKS],
 )
-    requires { ⌜ SettleLayersPre layers (tableAt (now table)) (now after) (now ids) (now dues) (now ready) first (now bytes) (now room) (now mark) ⌝ }
-    ensures { λ _. ⌜ SettleLayersPost layers (tableAt (now (table .entry))) all (now (after .entry)) (now (ids .entry)) (now (dues .entry)) (now (ready .entry)) first (now (bytes .entry)) (now (mark .entry)) (now (bytes .exit)) (now (mark .exit)) ⌝ }
+    requires { ⌜ SettleLayersPre layers (tableAt (now table)) (now after) (now ids) (now dues) (now ready) first
+        (now bytes) (now room) (now mark) ⌝ }
+    ensures { λ _. ⌜ SettleLayersPost layers (tableAt (now (table .entry))) all (now (after .entry)) (now (ids .entry))
+        (now (dues .entry)) (now (ready .entry)) first (now (bytes .entry)) (now (mark .entry))
+        (now (bytes .exit)) (now (mark .exit)) ⌝ }
 {
     let mut n: usize = 1;
     while n < layers {
@@ -295,8 +316,11 @@ pub fn settle_kept(
     ready: &mut [u16; CHUNKS],
     mark: &mut [u8; CHUNKS],
 )
-    requires { ⌜ SettleKeptPre p layers (tableAt (now table)) (now after) first (now ids) (now dues) (now bytes) (now room) (now ready) (now mark) ⌝ }
-    ensures { λ _. ⌜ SettleKeptPost p layers (tableAt (now (table .entry))) (now (after .entry)) first (now (ids .entry)) (now (ready .exit)) (now (mark .exit)) ⌝ }
+    requires { ⌜ SettleKeptPre p layers (tableAt (now table)) (now after) first (now ids) (now dues) (now bytes)
+        (now room) (now ready) (now mark) ⌝ }
+    ensures { λ _. ⌜ SettleKeptPost p layers (tableAt (now (table .entry))) (now (after .entry)) first
+        (now (ids .entry))
+        (now (ready .exit)) (now (mark .exit)) ⌝ }
 {
     let held = job::held_most(p) as usize;
     let total = after[0];
@@ -329,7 +353,8 @@ pub fn decide(
     mark: &mut [u8; CHUNKS],
 ) -> usize
     requires { ⌜ DecidePre p layers (tableAt (now table)) start (now part) (now ids) (now ready) (now mark) ⌝ }
-    ensures { λ r. ⌜ DecidePost p layers (tableAt (now (table .entry))) start (now (part .entry)) r (now (ids .exit)) (now (ready .exit)) (now (mark .exit)) ⌝ }
+    ensures { λ r. ⌜ DecidePost p layers (tableAt (now (table .entry))) start (now (part .entry))
+        r (now (ids .exit)) (now (ready .exit)) (now (mark .exit)) ⌝ }
 {
     // Both tables are written before they are read. A filling that is no constant is stored in wide
     // words, faster than cleared.

@@ -8,14 +8,15 @@ use native.Mathlib.Omega.{arith}
 use lib.ListN.{getD, length, length-append, length-map, take}
 use Rattle.theory_basics.specs.Refusals.{_orElse_}
 use Rattle.theory_basics.specs.lemmas.Refusals.{orElse-iff}
-use Rattle.job.specs.Input.{JobInput, jobInput, input-iff, jobIn, jobRefusal}
+use Rattle.job.specs.Input.{JobInput, jobInput, jobIn, jobRefusal}
+use Rattle.job.specs.Theorems.{input-iff}
 use Rattle.job.specs.Job.{Job, chunks}
 use Rattle.fetch.specs.Input.{Whole, whole-iff, listRefusal}
 use Rattle.fetch.specs.Rows.{Row, rowAt, rowBytes, rowChunk, rowLayer, rowSlot, rowsOf}
-use Rattle.fetch.specs.Verdict.{verdict, verdict-iff}
-use Rattle.fetch.specs.VerdictFrom.{slot-iff, slotRefusal, verdictFrom}
+use Rattle.fetch.specs.Slices.{ListSlices, slicesOf, slicesRefusal}
+use Rattle.fetch.specs.Verdict.{verdict}
+use Rattle.fetch.specs.VerdictFrom.{slotRefusal, verdictFrom}
 use Rattle.checker.specs.Checked.{checkFromRefusal, checkRefusal}
-use Rattle.planfile.specs.Calls.{slicesOf}
 use Rattle.planfile.specs.lemmas.Back.{field}
 use Rattle.theory_plan.specs.Plan.{plan}
 use Rattle.theory_plan.specs.Statement.{marksOf}
@@ -32,8 +33,13 @@ use Rattle.report.specs.lemmas.Again.{rows-again}
 use Rattle.core_ffi.specs.Convention.{answered}
 use Rattle.core_ffi.specs.Lists.{checkAnswer, checkFromAnswer}
 use Rattle.core_ffi.specs.lemmas.Largest.{marks-long}
+use Rattle.fetch.specs.Theorems.{verdict-iff, slot-iff}
 
 -- ---- a list and its marks in slices
+
+-- A choice's marks and some rows.
+abbrev pub listOf : Job → (ℕ → ℕ) → List Row → ListSlices
+listOf j choice rows = slicesOf (marksOf j choice) (map rowSlot rows) (map rowChunk rows) (map rowLayer rows) (map rowBytes rows)
 
 whole-list : (j : Job) (choice : ℕ → ℕ) (rows : List Row) → Whole (chunks j) (marksOf j choice) (map rowSlot rows) (map rowChunk rows) (map rowLayer rows) (map rowBytes rows)
 whole-list j choice rows =
@@ -44,17 +50,18 @@ whole-list j choice rows =
       bytes-each = length-map rows rowSlot ∙ sym (length-map rows rowBytes);
     }
 
-passes-in-slices : (h : JobInput) (choice : ℕ → ℕ) (rows : List Row) → jobRefusal h ≡ 0 → verdict (jobIn h) (marksOf (jobIn h) choice) rows ≡ 0 → checkAnswer h (marksOf (jobIn h) choice) (map rowSlot rows) (map rowChunk rows) (map rowLayer rows) (map rowBytes rows) ≡ 0
+passes-in-slices : (h : JobInput) (choice : ℕ → ℕ) (rows : List Row) → jobRefusal h ≡ 0 → verdict (jobIn h) (marksOf (jobIn h) choice) rows ≡ 0 → checkAnswer h (listOf (jobIn h) choice rows) ≡ 0
 unfolding answered
 passes-in-slices h choice rows e v =
-    let marks = marksOf (jobIn h) choice in
-    let fine : checkRefusal h marks (map rowSlot rows) (map rowChunk rows) (map rowLayer rows) (map rowBytes rows) ≡ 0 =
-    orElse-iff (jobRefusal h) (listRefusal (chunks (jobIn h)) marks (map rowSlot rows) (map rowChunk rows) (map rowLayer rows) (map rowBytes rows)) .1 (e, whole-iff (chunks (jobIn h)) marks (map rowSlot rows) (map rowChunk rows) (map rowLayer rows) (map rowBytes rows) .1 (whole-list (jobIn h) choice rows)) in
-    rw fine (ap (verdict (jobIn h) marks) (rows-again rows) ∙ v)
+    let j = jobIn h in
+    let s = listOf j choice rows in
+    let fine : checkRefusal h s ≡ 0 =
+    orElse-iff (jobRefusal h) (slicesRefusal (chunks j) s) .1 (e, whole-iff (chunks j) (s .marks) (s .slots) (s .chunks) (s .layers) (s .bytes) .1 (whole-list j choice rows)) in
+    rw fine (ap (verdict j (marksOf j choice)) (rows-again rows) ∙ v)
 
 -- ---- film_plan, then film_check
 
-pub plan-passes : (h : JobInput) → jobRefusal h ≡ 0 → let j = jobIn h in let rows = planRows j in checkAnswer h (marksOf j (plan j)) (map rowSlot rows) (map rowChunk rows) (map rowLayer rows) (map rowBytes rows) ≡ 0
+pub plan-passes : (h : JobInput) → jobRefusal h ≡ 0 → let j = jobIn h in checkAnswer h (listOf j (plan j) (planRows j)) ≡ 0
 plan-passes h e =
     let j = jobIn h in
     let a = input-iff h .0 e .1 in
@@ -62,7 +69,7 @@ plan-passes h e =
 
 -- ---- film_search, then film_check
 
-pub search-passes : (h : JobInput) (budget : ℕ) → jobRefusal h ≡ 0 → let j = jobIn h in let rows = rowsFound j budget in checkAnswer h (marksOf j (planFound j budget)) (map rowSlot rows) (map rowChunk rows) (map rowLayer rows) (map rowBytes rows) ≡ 0
+pub search-passes : (h : JobInput) (budget : ℕ) → jobRefusal h ≡ 0 → let j = jobIn h in checkAnswer h (listOf j (planFound j budget) (rowsFound j budget)) ≡ 0
 search-passes h budget e =
     let j = jobIn h in
     let a = input-iff h .0 e .1 in
@@ -108,7 +115,11 @@ module _ (h : JobInput) (o : ReplanInput) (e : inputRefusal h o ≡ 0) where
   longer : (f : Row → ℕ) (l : List ℕ) → length (l ++ map f rows) ≡ length l + length rows
   longer f l = omega (arith, length-append l (map f rows), length-map rows f)
 
-  not-refused : checkFromRefusal (rejoined h o) (o .from) marks (o .slots ++ map rowSlot rows) (o .chunks ++ map rowChunk rows) (o .layers ++ map rowLayer rows) (o .bytes ++ map rowBytes rows) ≡ 0
+  -- The marks, and the rows fetched before those from p on.
+  abbrev pub together : ListSlices
+  together = slicesOf marks (o .slots ++ map rowSlot rows) (o .chunks ++ map rowChunk rows) (o .layers ++ map rowLayer rows) (o .bytes ++ map rowBytes rows)
+
+  not-refused : checkFromRefusal (rejoined h o) (o .from) together ≡ 0
   not-refused =
       let fine = input-iff h .0 (parts .0) in
       let r = replan-refusal-iff (jobIn h) (o .from) (fetched o) (o .onward) .0 (parts .2) in
@@ -125,9 +136,9 @@ module _ (h : JobInput) (o : ReplanInput) (e : inputRefusal h o ≡ 0) where
       } in
       let eight = whole-iff (chunks (jobOn h o)) marks a b c d .1 w in
       let slot = slot-iff (h .programme) (o .from) .1 (record { low = r .acceptable .p-low; high = r .acceptable .p-high }) in
-      orElse-iff (checkRefusal (rejoined h o) marks a b c d) (slotRefusal (h .programme) (o .from)) .1
-      (orElse-iff (jobRefusal (rejoined h o)) (listRefusal (chunks (jobOn h o)) marks a b c d) .1 (job, eight), slot)
+      orElse-iff (checkRefusal (rejoined h o) together) (slotRefusal (h .programme) (o .from)) .1
+      (orElse-iff (jobRefusal (rejoined h o)) (slicesRefusal (chunks (jobOn h o)) together) .1 (job, eight), slot)
 
-  pub afresh-passes : checkFromAnswer (rejoined h o) (o .from) marks (o .slots ++ map rowSlot rows) (o .chunks ++ map rowChunk rows) (o .layers ++ map rowLayer rows) (o .bytes ++ map rowBytes rows) ≡ 0
+  pub afresh-passes : checkFromAnswer (rejoined h o) (o .from) together ≡ 0
   unfolding answered
   afresh-passes = rw not-refused (ap (verdictFrom (jobOn h o) (o .from) marks) all-rows ∙ settled-afresh h o e .passes)

@@ -7,5 +7,6 @@ pub mod Texts
 pub mod Meters
 pub mod Programs
 pub mod Theorems
+pub mod Refused
 pub mod Desk
 pub mod lemmas

@@ -1,6 +1,7 @@
 -- Meaning. Fetch lists for callers in C or Rust: the checker's two calls, bookings and counts of
 -- marks. Refusals, verdicts and forecasts are the library's own.
 use Prim.Native.Nat.{ℕ}
+use mathlib.Core.Path.{_≡_}
 use mathlib.Core.List.{List, [], _∷_}
 use lib.ListN.{length}
 use lib.Dec.{leb}
@@ -8,7 +9,7 @@ use Rattle.theory_basics.specs.Lent.{lentAfter}
 use Rattle.theory_basics.specs.Refusals.{unless}
 use Rattle.job.specs.Input.{JobInput, jobIn}
 use Rattle.fetch.specs.Counts.{markCount}
-use Rattle.fetch.specs.Rows.{rowsOf}
+use Rattle.fetch.specs.Slices.{ListSlices, RowSlices, listRows, rowsIn}
 use Rattle.fetch.specs.Verdict.{verdict}
 use Rattle.fetch.specs.VerdictFrom.{verdictFrom}
 use Rattle.checker.specs.Checked.{checkFromRefusal, checkRefusal}
@@ -17,34 +18,36 @@ use Rattle.booking.specs.Booking.{addedBack, takenOff}
 use Rattle.core_ffi.specs.Convention.{answered}
 
 -- The verdict, of either call.
-abbrev pub checkAnswer : JobInput → (marks slots chunks layers bytes : List ℕ) → ℕ
-checkAnswer h marks slots chunks layers bytes =
-    answered (checkRefusal h marks slots chunks layers bytes) (verdict (jobIn h) marks (rowsOf slots chunks layers bytes))
+abbrev pub checkAnswer : JobInput → ListSlices → ℕ
+checkAnswer h s = answered (checkRefusal h s) (verdict (jobIn h) (s .marks) (listRows s))
 
-abbrev pub checkFromAnswer : JobInput → ℕ → (marks slots chunks layers bytes : List ℕ) → ℕ
-checkFromAnswer h from marks slots chunks layers bytes =
-    answered (checkFromRefusal h from marks slots chunks layers bytes) (verdictFrom (jobIn h) from marks (rowsOf slots chunks layers bytes))
+abbrev pub checkFromAnswer : JobInput → ℕ → ListSlices → ℕ
+checkFromAnswer h from s = answered (checkFromRefusal h from s) (verdictFrom (jobIn h) from (s .marks) (listRows s))
 
--- 0, and the job's forecast less the list's bytes.
-abbrev pub bookAnswer : JobInput → (marks slots chunks layers bytes : List ℕ) → ℕ
-bookAnswer h marks slots chunks layers bytes = answered (bookRefusal h marks slots chunks layers bytes) 0
+-- `film_book`.
+pub record BookReturned (h : JobInput) (s : ListSlices) (r : ℕ) (after : List ℕ) : Type 0 where
+  -- 0, or the refusal.
+  pub number : r ≡ answered (bookRefusal h s) 0
+  -- The job's forecast less the list's bytes; on a refusal as it was.
+  pub left : after ≡ forecastAfter (bookRefusal h s) (takenOff (h .forecast) (listRows s)) (h .forecast)
 
-abbrev pub forecastBooked : JobInput → (marks slots chunks layers bytes : List ℕ) → List ℕ
-forecastBooked h marks slots chunks layers bytes =
-    forecastAfter (bookRefusal h marks slots chunks layers bytes) (takenOff (h .forecast) (rowsOf slots chunks layers bytes)) (h .forecast)
+-- `film_release`.
+pub record ReleaseReturned (h : JobInput) (s : RowSlices) (r : ℕ) (after : List ℕ) : Type 0 where
+  -- 0, or the refusal.
+  pub number : r ≡ answered (releaseRefusal h s) 0
+  -- The forecast with the list's bytes added back; on a refusal as it was.
+  pub left : after ≡ forecastAfter (releaseRefusal h s) (addedBack (h .forecast) (rowsIn s)) (h .forecast)
 
--- 0, and the forecast with the list's bytes added back.
-abbrev pub releaseAnswer : JobInput → (slots chunks layers bytes : List ℕ) → ℕ
-releaseAnswer h slots chunks layers bytes = answered (releaseRefusal h slots chunks layers bytes) 0
-
-abbrev pub forecastReleased : JobInput → (slots chunks layers bytes : List ℕ) → List ℕ
-forecastReleased h slots chunks layers bytes =
-    forecastAfter (releaseRefusal h slots chunks layers bytes) (addedBack (h .forecast) (rowsOf slots chunks layers bytes)) (h .forecast)
-
--- 11 without room for one number, else 0, and the count in it: that of marks of any length may be
--- 2^32 or more.
+-- 11 without room for one number.
 abbrev pub countRefusal : List ℕ → ℕ
 countRefusal count = unless 11 (leb 1 (length count))
 
 abbrev pub countAfter : ℕ → (marks count : List ℕ) → List ℕ
 countAfter n marks count = lentAfter (countRefusal count) (markCount n marks ∷ []) count
+
+-- `film_count_marks`.
+pub record CountReturned (marks : List ℕ) (n : ℕ) (count : List ℕ) (r : ℕ) (count' : List ℕ) : Type 0 where
+  -- 0, or 11.
+  pub number : r ≡ answered (countRefusal count) 0
+  -- The count, in front of what the slice held: that of marks of any length may be 2^32 or more.
+  pub after : count' ≡ countAfter n marks count

@@ -12,9 +12,10 @@ use Rattle.theory_basics.specs.Lists.{upTo}
 use Rattle.theory_basics.specs.Refusals.{_orElse_, unless}
 use Rattle.fetch.specs.Rows.{Row, rowBytes, rowChunk, rowLayer, rowSlot}
 use Rattle.job.specs.Input.{JobInput, jobIn}
+use Rattle.fetch.specs.Slices.{ListSlices, slicesOf}
 use Rattle.theory_plan.specs.Plan.{plan}
 use Rattle.theory_plan.specs.Statement.{countsOf, marksOf}
-use Rattle.planner.specs.Answer.{Lent, lentOf, planRefusal, planRows}
+use Rattle.planner.specs.Answer.{planRefusal, planRows}
 use Rattle.planner.specs.declared.Order.{Order}
 use Rattle.planner.specs.declared.Order.the-variants.{Less, Same, More}
 use Rattle.replan.specs.Answer.{ReplanInput, jobOn, planAfresh, refusalOn, rowsOn}
@@ -41,8 +42,8 @@ planSlices marks slots chunks layers bytes counts =
     record { marks = marks; slots = slots; chunks = chunks; layers = layers; bytes = bytes; counts = counts }
 
 -- The library's own of them.
-abbrev pub roomOf : PlanSlices → Lent
-roomOf lent = lentOf (lent .marks) (lent .slots) (lent .chunks) (lent .layers) (lent .bytes)
+abbrev pub roomOf : PlanSlices → ListSlices
+roomOf lent = slicesOf (lent .marks) (lent .slots) (lent .chunks) (lent .layers) (lent .bytes)
 
 -- A plan's marks, rows and counts at the start of the lent planSlices; on a refusal they are as
 -- they were.
@@ -96,18 +97,18 @@ walkOf f = f .steps ∷ cond (f .ended) 1 0 ∷ f .shortfall ∷ []
 unfoldable pub withWalk : ℕ → (counts walk : List ℕ) → ℕ
 withWalk refused counts walk = refused orElse unless 11 (leb 4 (length counts) && leb 3 (length walk))
 
-pub record SearchReturned (h : JobInput) (budget : ℕ) (marks slots chunks layers bytes counts walk : List ℕ) (r : ℕ) (marks' slots' chunks' layers' bytes' counts' walk' : List ℕ) : Type 0 where
+pub record SearchReturned (h : JobInput) (budget : ℕ) (lent : PlanSlices) (walk : List ℕ) (r : ℕ) (lent' : PlanSlices) (walk' : List ℕ) : Type 0 where
   pub plan :
       Returned
-      (withWalk (searchRefusal h budget (lentOf marks slots chunks layers bytes)) counts walk)
+      (withWalk (searchRefusal h budget (roomOf lent)) (lent .counts) walk)
       (marksOf (jobIn h) (planFound (jobIn h) budget))
       (rowsFound (jobIn h) budget)
       (countsOf (jobIn h) (planFound (jobIn h) budget))
-      (planSlices marks slots chunks layers bytes counts)
+      lent
       r
-      (planSlices marks' slots' chunks' layers' bytes' counts')
+      lent'
   pub walk-is :
-      walk' ≡ lentAfter (withWalk (searchRefusal h budget (lentOf marks slots chunks layers bytes)) counts walk) (walkOf (found (jobIn h) budget)) walk
+      walk' ≡ lentAfter (withWalk (searchRefusal h budget (roomOf lent)) (lent .counts) walk) (walkOf (found (jobIn h) budget)) walk
 
 -- ---- two plans' counts
 

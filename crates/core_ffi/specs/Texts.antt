@@ -2,6 +2,7 @@
 -- each answers how many bytes, slots or slots of delay there are; texts and forecasts go to the
 -- start of the lent slice. Refusals and texts are the library's own.
 use Prim.Native.Nat.{ℕ}
+use mathlib.Core.Path.{_≡_}
 use mathlib.Core.List.{List}
 use lib.ListN.{length}
 use Rattle.theory_basics.specs.Lent.{lentAfter}
@@ -14,29 +15,34 @@ use Rattle.trace.specs.Trace.{forecastOf, traceOf}
 use Rattle.wait.specs.Answer.{WaitInput, filmIn, shortest, waitRefusal}
 use Rattle.core_ffi.specs.Convention.{answered}
 
-abbrev pub reportAnswer : JobInput → (out : List ℕ) → ℕ
-reportAnswer h out = answered (reportRefusal h out) (length (planReport (jobIn h)))
+-- `film_report`.
+pub record ReportReturned (h : JobInput) (out : List ℕ) (r : ℕ) (out' : List ℕ) : Type 0 where
+  -- The number of bytes, or the refusal.
+  pub number : r ≡ answered (reportRefusal h out) (length (planReport (jobIn h)))
+  -- The report, in front of what the slice held; on a refusal that alone.
+  pub after : out' ≡ lentAfter (reportRefusal h out) (planReport (jobIn h)) out
 
-abbrev pub reportAfter : JobInput → (out : List ℕ) → List ℕ
-reportAfter h out = lentAfter (reportRefusal h out) (planReport (jobIn h)) out
+-- `film_reasons`.
+pub record ReasonsReturned (h : JobInput) (out : List ℕ) (r : ℕ) (out' : List ℕ) : Type 0 where
+  -- The number of bytes, or the refusal.
+  pub number : r ≡ answered (refusal h out) (length (planText (jobIn h)))
+  -- The lines, in front of what the slice held; on a refusal that alone.
+  pub after : out' ≡ lentAfter (refusal h out) (planText (jobIn h)) out
 
-abbrev pub reasonsAnswer : JobInput → (out : List ℕ) → ℕ
-reasonsAnswer h out = answered (refusal h out) (length (planText (jobIn h)))
+-- `film_read_trace`.
+pub record TraceReadReturned (trace : List ℕ) (slots : ℕ) (forecast : List ℕ) (r : ℕ) (forecast' : List ℕ) : Type 0 where
+  -- The number of slots, or the refusal.
+  pub number : r ≡ answered (traceReadRefusal trace slots (length forecast)) slots
+  -- The trace's forecast, in front of what the slice held; on a refusal that alone.
+  pub after : forecast' ≡ lentAfter (traceReadRefusal trace slots (length forecast)) (forecastOf slots trace) forecast
 
-abbrev pub reasonsAfter : JobInput → (out : List ℕ) → List ℕ
-reasonsAfter h out = lentAfter (refusal h out) (planText (jobIn h)) out
+-- `film_write_trace`.
+pub record TraceWriteReturned (forecast out : List ℕ) (r : ℕ) (out' : List ℕ) : Type 0 where
+  -- The number of bytes, or the refusal.
+  pub number : r ≡ answered (writeRefusal forecast (length out)) (length (traceOf forecast))
+  -- The trace, in front of what the slice held; on a refusal that alone.
+  pub after : out' ≡ lentAfter (writeRefusal forecast (length out)) (traceOf forecast) out
 
-abbrev pub traceReadAnswer : (trace : List ℕ) (slots : ℕ) (forecast : List ℕ) → ℕ
-traceReadAnswer trace slots forecast = answered (traceReadRefusal trace slots (length forecast)) slots
-
-abbrev pub forecastRead : (trace : List ℕ) (slots : ℕ) (forecast : List ℕ) → List ℕ
-forecastRead trace slots forecast = lentAfter (traceReadRefusal trace slots (length forecast)) (forecastOf slots trace) forecast
-
-abbrev pub traceWriteAnswer : (forecast out : List ℕ) → ℕ
-traceWriteAnswer forecast out = answered (writeRefusal forecast (length out)) (length (traceOf forecast))
-
-abbrev pub traceAfter : (forecast out : List ℕ) → List ℕ
-traceAfter forecast out = lentAfter (writeRefusal forecast (length out)) (traceOf forecast) out
-
+-- `film_wait`: the shortest delay, or the refusal.
 abbrev pub waitAnswer : WaitInput → ℕ
 waitAnswer h = answered (waitRefusal h) (shortest (filmIn h))

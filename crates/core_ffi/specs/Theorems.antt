@@ -11,15 +11,17 @@ use lib.ListN.{length}
 use Rattle.theory_basics.specs.Refusals.{_orElse_}
 use Rattle.theory_basics.specs.lemmas.Refusals.{orElse-iff}
 use Rattle.records.specs.File.{fileRefusal}
-use Rattle.job.specs.Input.{JobInput, input-iff, jobIn, jobRefusal}
+use Rattle.job.specs.Input.{JobInput, jobIn, jobRefusal}
+use Rattle.job.specs.Theorems.{input-iff}
 use Rattle.job.specs.Job.{Accepted, Job, layers}
 use Rattle.job.specs.Uneven.{overrides-few}
 use Rattle.fetch.specs.Input.{listRefusal}
+use Rattle.fetch.specs.Slices.{ListSlices}
 use Rattle.jobrecords.specs.Refusal.{jobOfFile, mixed, refusalOf}
 use Rattle.jobrecords.specs.Theorems.{file-accepted}
 use Rattle.jobfile.specs.Theorems.{file-short}
 use Rattle.jobfile.specs.Writer.{jobFile}
-use Rattle.planfile.specs.Calls.{ListSlices, planOf, writeRefusal}
+use Rattle.planfile.specs.Calls.{planOf, writeRefusal}
 use Rattle.planfile.specs.PlanFile.{fileOf, format, planIn}
 use Rattle.planfile.specs.lemmas.Back.{accepts}
 use Rattle.planfile.specs.lemmas.Few.{rows-inside}

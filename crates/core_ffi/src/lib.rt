@@ -7,13 +7,18 @@ use meter::Meter;
 use planfile::PlanRead;
 use planner::Answer;
 use planner::Order;
+use records::Written;
 use trace::TraceRead;
 ghost use Prim.Native.Nat.{_≤_};
 ghost use Rattle.theory_basics.specs.Lent.{over};
 ghost use Rattle.theory_basics.specs.Refusals.{_orElse_};
 ghost use Rattle.core_ffi.specs.Meters.{meterIn, storage};
 ghost use Rattle.core_ffi.specs.Plans.{fourCounts, orderNumber};
-ghost use Rattle.core_ffi.specs.lemmas.Numbers.{bookedNumber, checkedNumber, countsStored, forecastNumber, jobReadNumber, jobWrittenNumber, lengthsRead, planNumber, planReadNumber, planWrittenNumber, programmeRead, reasonNumber, refusedNumber, reportNumber, traceReadNumber, traceWrittenNumber, waitNumber, walkStored};
+ghost use Rattle.core_ffi.specs.lemmas.Numbers.{bookedNumber, checkedNumber, countsStored, forecastNumber};
+ghost use Rattle.core_ffi.specs.lemmas.Numbers.{jobReadNumber, lengthsRead, planNumber};
+ghost use Rattle.core_ffi.specs.lemmas.Numbers.{planReadNumber, programmeRead};
+ghost use Rattle.core_ffi.specs.lemmas.Numbers.{refusedNumber, traceReadNumber};
+ghost use Rattle.core_ffi.specs.lemmas.Numbers.{waitNumber, walkStored, writtenNumber};
 ghost use Rattle.core_ffi.specs.lemmas.Asking.{liveNumber};
 ghost use Rattle.core_ffi.specs.lemmas.Planning.{replanShort};
 ghost use Rattle.job.specs.Input.{jobInput};
@@ -61,7 +66,8 @@ pub fn job_number(read: JobRead) -> u64
 // The programme of a job that was read, and how many layers and SZs it has.
 pub fn store_job(read: JobRead, programme: &mut [u16], lengths: &mut [u64])
     requires { ⌜ (4 ≤ length (now programme)) × (2 ≤ length (now lengths)) ⌝ }
-    ensures { λ _. ⌜ (now (programme .exit) ≡ programmeRead read (now (programme .entry))) × (now (lengths .exit) ≡ lengthsRead read (now (lengths .entry))) ⌝ }
+    ensures { λ _. ⌜ (now (programme .exit) ≡ programmeRead read (now (programme .entry)))
+        × (now (lengths .exit) ≡ lengthsRead read (now (lengths .entry))) ⌝ }
 {
     match read {
         JobRead::Job {
@@ -94,13 +100,13 @@ pub fn mixed_refused(file: &[u8]) -> u64
     job_number(jobfile::read_mixed_job(file, &mut [], &mut []))
 }
 
-// The bytes of the job file, or the refusal.
-pub fn job_written_number(written: jobfile::Written) -> u64
-    ensures { λ r. ⌜ r ≡ jobWrittenNumber written ⌝ }
+// The bytes of a file or text, or the refusal.
+pub fn written_number(written: Written) -> u64
+    ensures { λ r. ⌜ r ≡ writtenNumber written ⌝ }
 {
     match written {
-        jobfile::Written::Bytes(n) => n as u64,
-        jobfile::Written::Refused(n) => refused(n),
+        Written::Bytes(n) => n as u64,
+        Written::Refused(n) => refused(n),
     }
 }
 
@@ -111,16 +117,6 @@ pub fn plan_read_number(read: PlanRead) -> u64
     match read {
         PlanRead::Rows(n) => n as u64,
         PlanRead::Refused(n) => refused(n),
-    }
-}
-
-// The bytes of the plan file, or the refusal.
-pub fn plan_written_number(written: planfile::Written) -> u64
-    ensures { λ r. ⌜ r ≡ planWrittenNumber written ⌝ }
-{
-    match written {
-        planfile::Written::Bytes(n) => n as u64,
-        planfile::Written::Refused(n) => refused(n),
     }
 }
 
@@ -215,7 +211,9 @@ pub fn store(
     kept: &mut [u8],
 )
     requires { ⌜ (10 ≤ length (now slots)) × (10 ≤ length (now bytes)) × (1 ≤ length (now kept)) ⌝ }
-    ensures { λ _. ⌜ (now (slots .exit) ≡ over first (now (slots .entry))) × (now (bytes .exit) ≡ over second (now (bytes .entry))) × (now (kept .exit) ≡ over (count ∷ []) (now (kept .entry))) ⌝ }
+    ensures { λ _. ⌜ (now (slots .exit) ≡ over first (now (slots .entry)))
+        × (now (bytes .exit) ≡ over second (now (bytes .entry)))
+        × (now (kept .exit) ≡ over (count ∷ []) (now (kept .entry))) ⌝ }
 {
     core_slices::copy16(&first, 10, slots);
     core_slices::copy32(&second, 10, bytes);
@@ -284,7 +282,11 @@ pub fn replan_refused(
     fetched_bytes: &[u32],
     onward: &[u32],
 ) -> u64
-    ensures { λ r. ⌜ r ≡ replanShort (jobInput p (now (sizes .entry)) (now («size_chunks» .entry)) (now («size_layers» .entry)) (now («size_bytes» .entry)) (now (forecast .entry))) (replanInput from (now («fetched_slots» .entry)) (now («fetched_chunks» .entry)) (now («fetched_layers» .entry)) (now («fetched_bytes» .entry)) (now (onward .entry))) ⌝ }
+    ensures { λ r. ⌜ r ≡ replanShort
+        (jobInput p (now (sizes .entry)) (now («size_chunks» .entry)) (now («size_layers» .entry))
+        (now («size_bytes» .entry)) (now (forecast .entry)))
+        (replanInput from (now («fetched_slots» .entry)) (now («fetched_chunks» .entry))
+        (now («fetched_layers» .entry)) (now («fetched_bytes» .entry)) (now (onward .entry))) ⌝ }
 {
     let made = replan::replan(
         p,
@@ -343,26 +345,6 @@ pub fn store_walk(answer: Answer, steps: u32, ended: bool, shortfall: u16, walk:
     }
 }
 
-// The bytes of the report, or the refusal.
-pub fn report_number(written: report::Written) -> u64
-    ensures { λ r. ⌜ r ≡ reportNumber written ⌝ }
-{
-    match written {
-        report::Written::Bytes(n) => n as u64,
-        report::Written::Refused(n) => refused(n),
-    }
-}
-
-// The bytes of the lines, or the refusal.
-pub fn reasons_number(written: reasons::Written) -> u64
-    ensures { λ r. ⌜ r ≡ reasonNumber written ⌝ }
-{
-    match written {
-        reasons::Written::Bytes(n) => n as u64,
-        reasons::Written::Refused(n) => refused(n),
-    }
-}
-
 // The slots of the forecast, or the refusal.
 pub fn trace_read_number(read: TraceRead) -> u64
     ensures { λ r. ⌜ r ≡ traceReadNumber read ⌝ }
@@ -370,16 +352,6 @@ pub fn trace_read_number(read: TraceRead) -> u64
     match read {
         TraceRead::Slots(n) => n as u64,
         TraceRead::Refused(n) => refused(n),
-    }
-}
-
-// The bytes of the trace, or the refusal.
-pub fn trace_written_number(written: trace::Written) -> u64
-    ensures { λ r. ⌜ r ≡ traceWrittenNumber written ⌝ }
-{
-    match written {
-        trace::Written::Bytes(n) => n as u64,
-        trace::Written::Refused(n) => refused(n),
     }
 }
 

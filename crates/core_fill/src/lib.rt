@@ -1,14 +1,18 @@
 // Internal. The plan's own list, piece by piece: each piece, with so many bytes left, goes into
 // slot after slot, from its release on, until nothing is left of it. The part of the forecast may
 // start at any slot, and the list may be under way already: the contracts speak of every list that
-// goes on with these pieces. Sizes are those of the table that job's fill_sizes fills.
+// goes on with these pieces. Sizes are those of the table that core_sizes' fill_sizes fills, or
+// what the fetched rows leave of them.
 use job::CHUNKS;
 use job::SizeTable;
 ghost use mathlib.Core.Path.{_≡_};
+ghost use mathlib.Core.List.{[], _∷_};
 ghost use Prim.Native.Nat.{ℕ, _+_, _*_, _-_, _<_, _≤_};
 ghost use lib.ListN.{length, drop, set};
-ghost use Rattle.job.specs.Table.{tableAt};
-ghost use Rattle.core_fill.specs.lemmas.Filling.{PutPiecePre, PutPiecePost, PutPost, begun, lastOf, leftAt, layersOf, queueOf, PutChunkPre, PutAllPre};
+ghost use Rattle.core_sizes.specs.Table.{tableAt};
+ghost use Rattle.core_fill.specs.lemmas.Filling.{PutPiecePre, PutPiecePost, PutPost, begun, lastOf, leftAt};
+ghost use Rattle.core_fill.specs.lemmas.Filling.{layersOf, piece, PutChunkPre};
+ghost use Rattle.core_fill.specs.lemmas.Left.{PutAllPre, PutLeftPre, PutLayerPre, layersLeft, queueIn};
 ghost use Rattle.theory_plan.specs.lemmas.Parts.{ForecastPart};
 
 // The slot t, the bytes left in it, and the rows made.
@@ -30,8 +34,15 @@ fn put_row(
     layer: u8,
     b: u32,
 )
-    requires { ⌜ (n < length (now slots)) × (n < length (now chunks)) × (n < length (now layers)) × (n < length (now bytes)) × (t ≤ 3600) ⌝ }
-    ensures { λ _. ⌜ (now (slots .exit) ≡ set (now (slots .entry)) n t) × (now (chunks .exit) ≡ set (now (chunks .entry)) n chunk) × (now (layers .exit) ≡ set (now (layers .entry)) n layer) × (now (bytes .exit) ≡ set (now (bytes .entry)) n b) ⌝ }
+    requires { ⌜ (n < length (now slots))
+        × (n < length (now chunks))
+        × (n < length (now layers))
+        × (n < length (now bytes))
+        × (t ≤ 3600) ⌝ }
+    ensures { λ _. ⌜ (now (slots .exit) ≡ set (now (slots .entry)) n t)
+        × (now (chunks .exit) ≡ set (now (chunks .entry)) n chunk)
+        × (now (layers .exit) ≡ set (now (layers .entry)) n layer)
+        × (now (bytes .exit) ≡ set (now (bytes .entry)) n b) ⌝ }
 {
     slots[n] = t as u16;
     chunks[n] = chunk;
@@ -40,7 +51,7 @@ fn put_row(
 }
 
 // A chunk does not begin before its release.
-pub fn begin(part: &[u32], start: usize, at: Position, ready: u16) -> Position
+fn begin(part: &[u32], start: usize, at: Position, ready: u16) -> Position
     requires { ⌜ ForecastPart start (now part) × (start ≤ at .slot) × (ready ≤ lastOf start (now part)) ⌝ }
     ensures { λ r. ⌜ r ≡ begun start (now (part .entry)) at ready ⌝ }
 {
@@ -58,7 +69,7 @@ pub fn begin(part: &[u32], start: usize, at: Position, ready: u16) -> Position
 }
 
 // A piece that may begin goes into slot after slot until nothing is left of it.
-pub fn put_piece(
+fn put_piece(
     part: &[u32],
     start: usize,
     at: Position,
@@ -70,8 +81,12 @@ pub fn put_piece(
     layers: &mut [u8],
     bytes: &mut [u32],
 ) -> Position
-    requires { ⌜ PutPiecePre start (now part) 1 at (now slots) (now chunks) (now layers) (now bytes) × (1 ≤ size) × (size ≤ at .left + leftAt start (now part) (at .slot)) ⌝ }
-    ensures { λ r. ⌜ PutPiecePost start (now (part .entry)) chunk layer size at (now (slots .entry)) (now (chunks .entry)) (now (layers .entry)) (now (bytes .entry)) r (now (slots .exit)) (now (chunks .exit)) (now (layers .exit)) (now (bytes .exit)) ⌝ }
+    requires { ⌜ PutPiecePre start (now part) 1 at (now slots) (now chunks) (now layers) (now bytes)
+        × (1 ≤ size)
+        × (size ≤ at .left + leftAt start (now part) (at .slot)) ⌝ }
+    ensures { λ r. ⌜ PutPiecePost start (now (part .entry)) chunk layer size at (now (slots .entry))
+        (now (chunks .entry)) (now (layers .entry)) (now (bytes .entry))
+        r (now (slots .exit)) (now (chunks .exit)) (now (layers .exit)) (now (bytes .exit)) ⌝ }
 {
     let mut t = at.slot;
     let mut c = at.left;
@@ -102,7 +117,7 @@ pub fn put_piece(
 }
 
 // The layers that a chunk carries.
-pub fn put_chunk(
+fn put_chunk(
     part: &[u32],
     start: usize,
     table: &SizeTable,
@@ -115,8 +130,11 @@ pub fn put_chunk(
     layers: &mut [u8],
     bytes: &mut [u32],
 ) -> Position
-    requires { ⌜ PutChunkPre start (now part) (tableAt (now table)) from ready chunk mark (now slots) (now chunks) (now layers) (now bytes) ⌝ }
-    ensures { λ r. ⌜ PutPost start (now (part .entry)) (layersOf (tableAt (now (table .entry))) chunk ready mark) 4 from (now (slots .entry)) (now (chunks .entry)) (now (layers .entry)) (now (bytes .entry)) r (now (slots .exit)) (now (chunks .exit)) (now (layers .exit)) (now (bytes .exit)) ⌝ }
+    requires { ⌜ PutChunkPre start (now part) (tableAt (now table)) from ready chunk mark (now slots) (now chunks)
+        (now layers) (now bytes) ⌝ }
+    ensures { λ r. ⌜ PutPost start (now (part .entry)) (layersOf (tableAt (now (table .entry))) chunk ready mark) 4 from
+        (now (slots .entry)) (now (chunks .entry)) (now (layers .entry)) (now (bytes .entry))
+        r (now (slots .exit)) (now (chunks .exit)) (now (layers .exit)) (now (bytes .exit)) ⌝ }
 {
     let mut at = begin(part, start, from, ready);
     let mut n: u8 = 0;
@@ -128,10 +146,91 @@ pub fn put_chunk(
     at
 }
 
-// The pieces of all kept chunks.
+// A piece, from its release on.
+fn put_layer(
+    part: &[u32],
+    start: usize,
+    from: Position,
+    ready: u16,
+    chunk: u16,
+    layer: u8,
+    size: u32,
+    slots: &mut [u16],
+    chunks: &mut [u16],
+    layers: &mut [u8],
+    bytes: &mut [u32],
+) -> Position
+    requires { ⌜ PutLayerPre start (now part) from ready size (now slots) (now chunks) (now layers) (now bytes) ⌝ }
+    ensures { λ r. ⌜ PutPost start (now (part .entry)) (piece chunk layer size ready ∷ []) 1 from (now (slots .entry))
+        (now (chunks .entry)) (now (layers .entry)) (now (bytes .entry))
+        r (now (slots .exit)) (now (chunks .exit)) (now (layers .exit)) (now (bytes .exit)) ⌝ }
+{
+    let at = begin(part, start, from, ready);
+    put_piece(
+        part,
+        start,
+        at,
+        chunk,
+        layer,
+        size,
+        slots,
+        chunks,
+        layers,
+        bytes,
+    )
+}
+
+// What is left of the layers that a chunk carries: one with nothing left is passed over.
+fn put_left(
+    part: &[u32],
+    start: usize,
+    left: &SizeTable,
+    from: Position,
+    ready: u16,
+    chunk: u16,
+    mark: u8,
+    slots: &mut [u16],
+    chunks: &mut [u16],
+    layers: &mut [u8],
+    bytes: &mut [u32],
+) -> Position
+    requires { ⌜ PutLeftPre start (now part) (tableAt (now left)) from ready chunk mark (now slots) (now chunks)
+        (now layers) (now bytes) ⌝ }
+    ensures { λ r. ⌜ PutPost start (now (part .entry)) (layersLeft (tableAt (now (left .entry))) chunk ready mark) 4
+        from (now (slots .entry)) (now (chunks .entry)) (now (layers .entry)) (now (bytes .entry))
+        r (now (slots .exit)) (now (chunks .exit)) (now (layers .exit)) (now (bytes .exit)) ⌝ }
+{
+    let mut at = from;
+    let mut n: u8 = 0;
+    while fetch::has(mark, n) {
+        let z = core_sizes::size_in(left, chunk, n as usize);
+        if 0 < z {
+            at = put_layer(
+                part,
+                start,
+                at,
+                ready,
+                chunk,
+                n,
+                z,
+                slots,
+                chunks,
+                layers,
+                bytes,
+            );
+            n = n + 1;
+        } else {
+            n = n + 1;
+        }
+    }
+    at
+}
+
+// The pieces of all kept chunks; made afresh, what is left of them.
 pub fn put_all(
     part: &[u32],
     start: usize,
+    afresh: bool,
     table: &SizeTable,
     ids: &[u16; CHUNKS],
     ready: &[u16; CHUNKS],
@@ -143,26 +242,51 @@ pub fn put_all(
     layers: &mut [u8],
     bytes: &mut [u32],
 ) -> Position
-    requires { ⌜ PutAllPre start (now part) (tableAt (now table)) (now ids) (now ready) (now mark) first from (now slots) (now chunks) (now layers) (now bytes) ⌝ }
-    ensures { λ r. ⌜ PutPost start (now (part .entry)) (queueOf (tableAt (now (table .entry))) (drop first (now (ids .entry))) (drop first (now (ready .entry))) (drop first (now (mark .entry)))) (4 * (500 - first)) from (now (slots .entry)) (now (chunks .entry)) (now (layers .entry)) (now (bytes .entry)) r (now (slots .exit)) (now (chunks .exit)) (now (layers .exit)) (now (bytes .exit)) ⌝ }
+    requires { ⌜ PutAllPre afresh start (now part) (tableAt (now table)) (now ids) (now ready) (now mark) first from
+        (now slots) (now chunks) (now layers) (now bytes) ⌝ }
+    ensures { λ r. ⌜ PutPost start (now (part .entry))
+        (queueIn afresh (tableAt (now (table .entry))) (drop first (now (ids .entry))) (drop first (now (ready .entry)))
+        (drop first (now (mark .entry)))) (4 * (500 - first)) from (now (slots .entry)) (now (chunks .entry))
+        (now (layers .entry)) (now (bytes .entry))
+        r (now (slots .exit)) (now (chunks .exit)) (now (layers .exit)) (now (bytes .exit)) ⌝ }
 {
     let mut at = from;
     let mut q = first;
     while q < CHUNKS {
-        at = put_chunk(
-            part,
-            start,
-            table,
-            at,
-            ready[q],
-            ids[q],
-            mark[q],
-            slots,
-            chunks,
-            layers,
-            bytes,
-        );
-        q = q + 1;
+        let chunk = ids[q];
+        let r = ready[q];
+        let m = mark[q];
+        if afresh {
+            at = put_left(
+                part,
+                start,
+                table,
+                at,
+                r,
+                chunk,
+                m,
+                slots,
+                chunks,
+                layers,
+                bytes,
+            );
+            q = q + 1;
+        } else {
+            at = put_chunk(
+                part,
+                start,
+                table,
+                at,
+                r,
+                chunk,
+                m,
+                slots,
+                chunks,
+                layers,
+                bytes,
+            );
+            q = q + 1;
+        }
     }
     at
 }

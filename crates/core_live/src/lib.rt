@@ -11,10 +11,11 @@ ghost use Prim.Native.Nat.{ℕ, _+_, _*_, _-_, _<_, _≤_};
 ghost use lib.ListN.{length};
 ghost use lib.Dec.{leb, ltb, eqb};
 ghost use Rattle.job.specs.Job.{dueSlot, Within};
-ghost use Rattle.job.specs.Table.{tableAt};
+ghost use Rattle.core_sizes.specs.Table.{tableAt};
 ghost use Rattle.core_replan_decide.specs.lemmas.Tables.{Fine, of};
 ghost use Rattle.theory_live.specs.Statement.{firstThat};
-ghost use Rattle.core_live.specs.lemmas.ByTables.{openAt, bringsAt, inTimeAt, lacksAt, couldComeAt, PassedUntilPost};
+ghost use Rattle.core_live.specs.lemmas.ByTables.{openAt, bringsAt, inTimeAt, lacksAt, couldComeAt};
+ghost use Rattle.core_live.specs.lemmas.ByTables.{PassedUntilPost};
 ghost use Rattle.core_live.specs.lemmas.ByTables.{passedAt, lineAt, freshAt, heldAt, AskedFlags};
 ghost use Rattle.core_live.specs.lemmas.ByTables.{Long, PutLayerPost, PiecesStand, piecesAt, AskPre, AskPost};
 

@@ -16,7 +16,7 @@ use Rattle.job.specs.declared.Programme.{Programme}
 use Rattle.job.specs.Job.{dueSlot}
 use Rattle.theory_plan.specs.Bases.{allBut, keptAfter, keptBytes}
 use Rattle.theory_plan.specs.lemmas.Parts.{at}
-use Rattle.theory_plan.specs.lemmas.KeepOrDrop.{Largest, Step, added, added-asc, added-has, bytes-add, bytes-all-but, drops, has-all-but, has-in, kept-asc, stays, step}
+use Rattle.theory_plan.specs.lemmas.KeepOrDrop.{Largest, Step, added, added-asc, added-has, bytes-add, bytes-all-but, drops, has-all-but, has-in, kept-asc, step, stays}
 use Rattle.core_moore_hodgson.specs.lemmas.Tables.{Fit, FindLargestPost, Shows, LeafPost, KeepOrDropPre, KeepOrDropPost, roomIn}
 use Rattle.core_moore_hodgson.proofs.Maxima.{leaf-le}
 

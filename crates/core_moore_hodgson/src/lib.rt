@@ -13,9 +13,11 @@ use job::SlotSums;
 ghost use mathlib.Core.Path.{_≡_};
 ghost use mathlib.Core.Bool.{not};
 ghost use Prim.Native.Nat.{_≤_, max};
-ghost use Rattle.job.specs.Table.{tableAt};
+ghost use Rattle.core_sizes.specs.Table.{tableAt};
 ghost use Rattle.theory_plan.specs.lemmas.Parts.{at};
-ghost use Rattle.core_moore_hodgson.specs.lemmas.Tables.{Maxima, LeafPre, LeafPost, FindLargestPost, KeepOrDropPre, KeepOrDropPost, GatherPre, GatherPost, KeepMostPre, KeptIn, equalIn, mooreHodgsonIn, appliesIn};
+ghost use Rattle.core_moore_hodgson.specs.lemmas.Tables.{Maxima, LeafPre, LeafPost, FindLargestPost};
+ghost use Rattle.core_moore_hodgson.specs.lemmas.Tables.{KeepOrDropPre, KeepOrDropPost, GatherPre, GatherPost};
+ghost use Rattle.core_moore_hodgson.specs.lemmas.Tables.{KeepMostPre, KeptIn, equalIn, mooreHodgsonIn, appliesIn};
 
 fn larger(a: u32, b: u32) -> u32
     ensures { λ r. ⌜ r ≡ max a b ⌝ }
@@ -30,10 +32,10 @@ fn larger(a: u32, b: u32) -> u32
 fn equal_bases(p: Programme, table: &SizeTable) -> bool
     ensures { λ r. ⌜ r ≡ equalIn (p .chunks) (tableAt (now (table .entry))) ⌝ }
 {
-    let own = job::size_at(table, 1, 0);
+    let own = core_sizes::size_at(table, 1, 0);
     let mut i = p.chunks;
     while 0 < i {
-        if job::size_at(table, i, 0) != own {
+        if core_sizes::size_at(table, i, 0) != own {
             return false;
         }
         i = i - 1;
@@ -185,7 +187,9 @@ pub fn keep_most(
     bytes: &mut [u32; CHUNKS],
 ) -> usize
     requires { ⌜ KeepMostPre p (tableAt (now table)) (now after) (now ids) (now dues) (now bytes) ⌝ }
-    ensures { λ r. ⌜ KeptIn p (tableAt (now (table .entry))) (mooreHodgsonIn p (tableAt (now (table .entry))) (at (now (after .entry)))) r (now (ids .exit)) (now (dues .exit)) (now (bytes .exit)) ⌝ }
+    ensures { λ r. ⌜ KeptIn p (tableAt (now (table .entry)))
+        (mooreHodgsonIn p (tableAt (now (table .entry))) (at (now (after .entry))))
+        r (now (ids .exit)) (now (dues .exit)) (now (bytes .exit)) ⌝ }
 {
     let mut tree = [0u32; 1024];
     keep_or_drop(p, table, after, &mut tree);

@@ -1,21 +1,20 @@
--- Laws on a choice laid out: the queue that the tables hold is the choice's, and what the slices
--- hold at the end. Assumes nothing.
+-- Laws on the tables of a decided choice: they tell its own list, its marks and its counts. Assumes
+-- nothing.
 use mathlib.Core.Path.{_≡_, refl, sym, _∙_, ap, subst}
-use mathlib.Core.Bool.{cond}
-use mathlib.Core.List.{List, [], _∷_, _++_, map, append-nil}
-use Prim.Native.Nat.{ℕ, zero, suc, _+_, _*_, _-_, _≤_}
+use mathlib.Core.Bool.{false, cond}
+use mathlib.Core.List.{List, [], _∷_, _++_, map}
+use Prim.Native.Nat.{ℕ, suc, _+_, _*_, _-_, _≤_, _<_}
 use native.Mathlib.Omega.{arith}
 use lib.ListN.{length, getD, take, drop, length-drop}
 use lib.Dec.{leb, ltb, leb→le, nleb→lt}
 use Rattle.theory_basics.specs.Lists.{upTo}
 use Rattle.theory_basics.specs.lemmas.Lists.{upTo-cong}
-use Rattle.theory_basics.specs.Sums.{count}
 use Rattle.theory_basics.specs.Tests.{All}
 use Rattle.theory_basics.specs.lemmas.Tests.{by-cond}
 use Rattle.job.specs.Job.{Job, Accepted, Within, size, chunks, layers, due, forecast, heldMost, lastSlot}
 use Rattle.fetch.specs.Counts.{markCount}
-use Rattle.fetch.specs.Rows.{Row, markByte, rowSlot, rowChunk, rowLayer, rowBytes}
-use Rattle.theory_plan.specs.lemmas.Ascending.{Asc, asc-within}
+use Rattle.fetch.specs.Rows.{Row, markByte}
+use Rattle.theory_plan.specs.lemmas.Ascending.{asc-within}
 use Rattle.theory_plan.specs.lemmas.Choice.{fits-weight, kept-asc}
 use Rattle.theory_plan.specs.Own.{ownList}
 use Rattle.theory_plan.specs.Plan.{kept, after}
@@ -26,19 +25,22 @@ use Rattle.theory_plan.specs.lemmas.Necessity.{Each}
 use Rattle.theory_plan.specs.lemmas.OwnFill.{own-list-is}
 use Rattle.theory_plan.specs.lemmas.Queue.{each, feas-relok, pieces, queue, ready-queue, releases, weight, each-is, all-ones}
 use Rattle.theory_plan.specs.Statement.{Choice, countsOf, marksOf}
+use Rattle.theory_plan.specs.Theorems.{own-list-rows}
 use Rattle.theory_plan.specs.lemmas.Sufficiency.{fetch}
 use Rattle.theory_plan.specs.lemmas.Trials.{levelMark}
 use Rattle.theory_plan.specs.lemmas.Words.{accepted-sized, due-by}
-use Rattle.core_fill.specs.declared.Position.{Position}
 use Rattle.theory_plan.specs.lemmas.Parts.{ForecastPart}
 use Rattle.core_decide.specs.lemmas.Accepted as accepted-job
 use Rattle.core_decide.specs.lemmas.Marks.{mark-picked, markOr}
-use Rattle.core_output.specs.lemmas.Writing.{Decided}
-use Rattle.theory_basics.specs.Lent.{over}
-use Rattle.core_fill.specs.lemmas.Filling.{lastOf, bytesAt, leftAt, onward, load, Fed, Made, PutPost, Levels, queueOf, PutAllPre}
-use Rattle.core_output.proofs.Marks.{front-counts, front-long, marks-stay-long}
+use Rattle.core_output.specs.declared.Output.{Output}
+use Rattle.core_output.specs.lemmas.Writing.{begins, Decided, marksIn, ownResult, rowsIn, told, WritePost, WritePre}
+use Rattle.core_fill.specs.lemmas.Filling.{lastOf, bytesAt, leftAt, onward, load, Fed, Levels, queueOf}
+use Rattle.core_fill.specs.lemmas.Left.{PutAllPre}
+use Rattle.core_output.proofs.Marks.{counts-are}
+use Rattle.core_slices.specs.lemmas.Slices.{Result}
 use Rattle.theory_basics.specs.lemmas.Tables.{all-take}
-use Rattle.core_fill.proofs.Pieces.{left-next, onward-next, same-refl}
+use Rattle.core_fill.proofs.Pieces.{left-next, onward-next}
+use Rattle.theory_plan.specs.Bases.{Asc}
 
 -- ---- the queue of the tables
 
@@ -119,13 +121,10 @@ module _
       let r = ready-queue (due j) (after j) (size j) x 1 (chunks j) (λ k i u v h. accepted-sized j ok k i (record { chunk-low = u; chunk-high = v; layer-in = omega (arith, c k u v) })) (omega arith) ks (releases (due j) (heldMost j) ks) (kept-asc j x) (feas-relok w (due j) (after j) (heldMost j) ks fw) in
       (omega (arith, r .0, fw .whole), r .1)
 
-  pub first-slot : 1 ≤ length f
+  first-slot : 1 ≤ length f
   first-slot = omega (arith, slots-are, ok .delay-in .low)
 
-  abbrev start : Position
-  start = record { slot = 1; left = getD f 0 0; rows = 0 }
-
-  pub all-from : (ss cs ls bs : List ℕ) → 5599 ≤ length ss → 5599 ≤ length cs → 5599 ≤ length ls → 5599 ≤ length bs → PutAllPre 1 f own ids ready mark first start ss cs ls bs
+  all-from : (ss cs ls bs : List ℕ) → 5599 ≤ length ss → 5599 ≤ length cs → 5599 ≤ length ls → 5599 ≤ length bs → PutAllPre false 1 f own ids ready mark first (begins 1 f) ss cs ls bs
   all-from ss cs ls bs a b d e =
       let fs = first-slot in
       let slots = slots-are in
@@ -155,10 +154,6 @@ module _
 
   -- ---- the rows
 
-  fill-none : (B : ℕ → ℕ) (n t : ℕ) → fill B n t [] ≡ []
-  fill-none B zero t = refl
-  fill-none B (suc n) t = fill-none B n (suc t)
-
   rows-are : ownList j x ≡ onward 1 f 1 (getD f 0 0) (queueOf own (drop first ids) (drop first ready) (drop first mark))
   unfolding fetch plan-queue
   rows-are =
@@ -169,35 +164,9 @@ module _
       ∙ onward-next 1 f 0 plan-queue (omega (arith, first-slot))
       ∙ ap (onward 1 f 1 (getD f 0 0)) (sym queued)
 
-  nothing-left : (t c : ℕ) → onward 1 f t c [] ≡ []
-  unfolding onward
-  nothing-left t c = fill-none (bytesAt 1 f) (lastOf 1 f - t) t
-
-  pub record Listed (ss cs ls bs : List ℕ) (n : ℕ) (ss' cs' ls' bs' : List ℕ) : Type 0 where
-    pub counted : n ≡ length (ownList j x)
-    pub slots : ss' ≡ over (map rowSlot (ownList j x)) ss
-    pub chunks-are : cs' ≡ over (map rowChunk (ownList j x)) cs
-    pub layers-are : ls' ≡ over (map rowLayer (ownList j x)) ls
-    pub bytes : bs' ≡ over (map rowBytes (ownList j x)) bs
-
-  pub listed : (k : ℕ) (ss cs ls bs : List ℕ) (r : Position) (ss' cs' ls' bs' : List ℕ) → PutPost 1 f (queueOf own (drop first ids) (drop first ready) (drop first mark)) k start ss cs ls bs r ss' cs' ls' bs' → Listed ss cs ls bs (r .rows) ss' cs' ls' bs'
-  listed k ss cs ls bs r ss' cs' ls' bs' y =
-      let q = queueOf own (drop first ids) (drop first ready) (drop first mark) in
-      let begin : Made (ownList j x) 1 f ss cs ls bs (q ++ []) ss cs ls bs start =
-      record { made = []; says = rows-are ∙ ap (onward 1 f 1 (getD f 0 0)) (sym (append-nil q)); slots = refl; chunks = refl; layers = refl; bytes = refl; counted = refl; long = same-refl ss cs ls bs } in
-      let m = y .makes (ownList j x) ss cs ls bs [] begin in
-      let e : m .made ≡ ownList j x = sym (m .says ∙ ap (λ (l : List Row). m .made ++ l) (nothing-left (r .slot) (r .left)) ∙ append-nil (m .made)) in
-      record {
-        counted = m .counted ∙ ap length e;
-        slots = m .slots ∙ ap (λ (l : List Row). over (map rowSlot l) ss) e;
-        chunks-are = m .chunks ∙ ap (λ (l : List Row). over (map rowChunk l) cs) e;
-        layers-are = m .layers ∙ ap (λ (l : List Row). over (map rowLayer l) ls) e;
-        bytes = m .bytes ∙ ap (λ (l : List Row). over (map rowBytes l) bs) e;
-      }
-
   -- ---- the marks
 
-  pub marks-are : upTo (λ i. markOr 0 (i + 1) (drop first ids) (drop first mark)) (chunks j) ≡ marksOf j x
+  marks-are : upTo (λ i. markOr 0 (i + 1) (drop first ids) (drop first mark)) (chunks j) ≡ marksOf j x
   marks-are =
       upTo-cong _ _ (chunks j) (λ i h.
       ap (λ (l : List ℕ). markOr 0 (i + 1) l (drop first mark)) (o .tables .chunks)
@@ -208,23 +177,39 @@ module _
       one : (c k : ℕ) → c ≤ k → cond (leb 1 c) (levelMark c) 0 ≡ markByte (λ n. ltb n c) k
       one c k h = by-cond (λ (x : ℕ). x ≡ markByte (λ n. ltb n c) k) (leb 1 c) (λ t. sym (mark-level c k h)) (λ t. let e : c ≡ 0 = omega (arith, nleb→lt 1 c t) in sym (mark-level c k h ∙ rw e))
 
-  -- The marks stand at the start of their slice.
-  module _ (marks marks' : List ℕ) (fit : count ≤ length marks) (e : marks' ≡ over (upTo (λ i. markOr 0 (i + 1) (drop first ids) (drop first mark)) count) marks) where
-    pub laid-marks : marks' ≡ over (marksOf j x) marks
-    laid-marks =
-        e
-        ∙ ap (λ (n : ℕ). over (upTo (λ i. markOr 0 (i + 1) (drop first ids) (drop first mark)) n) marks) (o .counted)
-        ∙ ap (λ (l : List ℕ). over l marks) marks-are
-
-    pub laid-long : length marks' ≡ length marks
-    laid-long = marks-stay-long j x marks marks' laid-marks (omega (arith, o .counted))
-
-    pub laid-front-long : length (take count marks') ≡ count
-    laid-front-long = subst (λ (n : ℕ). length (take n marks') ≡ n) (sym (o .counted)) (front-long j x marks marks' laid-marks)
-
-    pub laid-counts : (counts : List ℕ) → counts ≡ upTo (λ n. markCount n (take count marks')) 4 → counts ≡ countsOf j x
-    laid-counts counts e′ =
-        front-counts j x marks marks' laid-marks c counts (e′ ∙ ap (λ (m : ℕ). upTo (λ n. markCount n (take m marks')) 4) (o .counted))
-
-  pub ascending : Asc 1 count (drop first ids)
+  ascending : Asc 1 count (drop first ids)
   ascending = subst (Asc 1 count) (sym (o .tables .chunks)) (subst (λ (n : ℕ). Asc 1 n (kept j x)) (sym (o .counted)) (kept-asc j x))
+
+  -- ---- what is asked of the tables, and what they tell
+
+  module _ (whole : List ℕ) where
+    pub writes-choice : length whole ≡ 500 → {marks : List ℕ} → count ≤ length marks → WritePre count 1 f false own first ids ready mark whole marks
+    writes-choice lw fit =
+        record {
+          some-slot = first-slot;
+          fills = all-from;
+          few-rows = omega (arith, ap length rows-are, own-list-rows j ok x c);
+          within = o .tables .within;
+          few = omega (arith, o .counted, ok .chunks-in .high);
+          ascending = ascending;
+          long = (o .tables .long .0, o .tables .long .2, lw);
+          marks-fit = fit;
+        }
+
+    -- Where no chunk that is left out is whole.
+    module _ (none : (i : ℕ) → i < 500 → getD whole i 0 ≡ 0) where
+      marks-told : marksIn count first ids mark whole ≡ marksOf j x
+      marks-told =
+          ap (λ (n : ℕ). upTo (λ i. markOr (getD whole i 0) (i + 1) (drop first ids) (drop first mark)) n) (o .counted)
+          ∙ upTo-cong _ _ (chunks j) (λ i h. ap (λ (w : ℕ). markOr w (i + 1) (drop first ids) (drop first mark)) (none i (omega (arith, ok .chunks-in .high))))
+          ∙ marks-are
+
+      pub written-choice :
+          {marks slots cs layers bytes : List ℕ} {r : Output} {marks' slots' cs' layers' bytes' : List ℕ} →
+          WritePost (told count 1 f false own first ids ready mark whole) marks slots cs layers bytes r marks' slots' cs' layers' bytes' →
+          WritePost (ownResult j x) marks slots cs layers bytes r marks' slots' cs' layers' bytes'
+      written-choice {marks} {slots} {cs} {layers} {bytes} {r} {marks'} {slots'} {cs'} {layers'} {bytes'} =
+          subst (λ (y : Result). WritePost y marks slots cs layers bytes r marks' slots' cs' layers' bytes')
+          (ap (λ (m : List ℕ). record { marks = m; counts = upTo (λ n. markCount n m) 4; rows = rowsIn 1 f false own first ids ready mark }) marks-told
+          ∙ ap (λ (k : List ℕ). record { marks = marksOf j x; counts = k; rows = rowsIn 1 f false own first ids ready mark }) (counts-are j x c)
+          ∙ ap (λ (l : List Row). record { marks = marksOf j x; counts = countsOf j x; rows = l }) (sym rows-are))

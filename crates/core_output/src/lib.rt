@@ -1,19 +1,20 @@
-// Internal. A decided choice handed over, whoever decided it: its own list, marks and counts into
-// lent slices where these hold it whole. The kept chunks, their releases and their marks stand at
-// the end of tables of 500 places, from a first place on, as core_decide leaves them.
+// Internal. A decided choice handed over, whoever decided it, from the slot on where its forecast
+// starts: its rows, marks and counts into lent slices where these hold it whole. The chunks, their
+// releases and their marks stand at the end of tables of 500 places, from a first place on, as
+// core_decide and core_replan_decide leave them. Made afresh, a plan lists what is left of its
+// layers, and a chunk that stands in no table keeps the mark of what is whole of it.
 use job::CHUNKS;
 use job::ROWS;
 use job::SizeTable;
 ghost use mathlib.Core.Path.{_≡_};
-ghost use Prim.Native.Nat.{_+_, _≤_};
+ghost use Prim.Native.Nat.{_≤_};
 ghost use lib.ListN.{length, getD, drop};
 ghost use lib.Dec.{eqb};
-ghost use Rattle.theory_basics.specs.Lists.{upTo};
 ghost use Rattle.theory_basics.specs.Lent.{over};
-ghost use Rattle.job.specs.Table.{tableAt};
-ghost use Rattle.theory_plan.specs.lemmas.Ascending.{Asc};
-ghost use Rattle.core_output.specs.lemmas.Writing.{WritePre, FillPre, FillPost, WritePost, Each};
-ghost use Rattle.core_decide.specs.lemmas.Marks.{markOr};
+ghost use Rattle.core_sizes.specs.Table.{tableAt};
+ghost use Rattle.core_output.specs.lemmas.Writing.{WritePre, FillPre, FillPost, WritePost};
+ghost use Rattle.core_output.specs.lemmas.Writing.{marksIn, told};
+ghost use Rattle.theory_plan.specs.Bases.{Asc};
 
 // The rows made, and the counts.
 struct Filled {
@@ -45,10 +46,24 @@ fn is_at(ids: &[u16; CHUNKS], q: usize, chunk: usize) -> bool
     false
 }
 
-// A mark for each chunk: the one at its place among the kept chunks, or 0.
-fn spread(ids: &[u16; CHUNKS], mark: &[u8; CHUNKS], first: usize, count: usize, marks: &mut [u8])
-    requires { ⌜ (first ≤ 500) × (count ≤ length (now marks)) × Asc 1 count (drop first (now ids)) × (length (now ids) ≡ 500) × (length (now mark) ≡ 500) ⌝ }
-    ensures { λ _. ⌜ now (marks .exit) ≡ over (upTo (λ i. markOr 0 (i + 1) (drop first (now (ids .entry))) (drop first (now (mark .entry)))) count) (now (marks .entry)) ⌝ }
+// A mark for each chunk: the one at its place in the tables, or else what is whole.
+fn spread(
+    ids: &[u16; CHUNKS],
+    mark: &[u8; CHUNKS],
+    first: usize,
+    whole: &[u8; CHUNKS],
+    count: usize,
+    marks: &mut [u8],
+)
+    requires { ⌜ (first ≤ 500)
+        × (count ≤ 500)
+        × (count ≤ length (now marks))
+        × Asc 1 count (drop first (now ids))
+        × (length (now ids) ≡ 500)
+        × (length (now mark) ≡ 500)
+        × (length (now whole) ≡ 500) ⌝ }
+    ensures { λ _. ⌜ now (marks .exit) ≡ over
+        (marksIn count first (now (ids .entry)) (now (mark .entry)) (now (whole .entry))) (now (marks .entry)) ⌝ }
 {
     let mut q = first;
     let mut i: usize = 0;
@@ -59,7 +74,7 @@ fn spread(ids: &[u16; CHUNKS], mark: &[u8; CHUNKS], first: usize, count: usize, 
             q = q + 1;
             i = chunk;
         } else {
-            marks[i] = 0;
+            marks[i] = whole[i];
             i = chunk;
         }
     }
@@ -68,30 +83,39 @@ fn spread(ids: &[u16; CHUNKS], mark: &[u8; CHUNKS], first: usize, count: usize, 
 // Into slices that have room for any plan.
 fn fill(
     count: usize,
-    forecast: &[u32],
+    part: &[u32],
+    start: usize,
+    afresh: bool,
     table: &SizeTable,
     first: usize,
     ids: &[u16; CHUNKS],
     ready: &[u16; CHUNKS],
     mark: &[u8; CHUNKS],
+    whole: &[u8; CHUNKS],
     marks: &mut [u8],
     slots: &mut [u16],
     chunks: &mut [u16],
     layers: &mut [u8],
     bytes: &mut [u32],
 ) -> Filled
-    requires { ⌜ FillPre count (now forecast) (tableAt (now table)) first (now ids) (now ready) (now mark) (now marks) (now slots) (now chunks) (now layers) (now bytes) ⌝ }
-    ensures { λ r. ⌜ Each count (now (forecast .entry)) (tableAt (now (table .entry))) first (now (ids .entry)) (now (ready .entry)) (now (mark .entry)) (λ j x. FillPost j x (now (marks .entry)) (now (slots .entry)) (now (chunks .entry)) (now (layers .entry)) (now (bytes .entry)) r (now (marks .exit)) (now (slots .exit)) (now (chunks .exit)) (now (layers .exit)) (now (bytes .exit))) ⌝ }
+    requires { ⌜ FillPre count start (now part) afresh (tableAt (now table)) first (now ids) (now ready) (now mark)
+        (now whole) (now marks) (now slots) (now chunks) (now layers) (now bytes) ⌝ }
+    ensures { λ r. ⌜ FillPost
+        (told count start (now (part .entry)) afresh (tableAt (now (table .entry))) first (now (ids .entry))
+        (now (ready .entry)) (now (mark .entry)) (now (whole .entry)))
+        (now (marks .entry)) (now (slots .entry)) (now (chunks .entry)) (now (layers .entry)) (now (bytes .entry))
+        r (now (marks .exit)) (now (slots .exit)) (now (chunks .exit)) (now (layers .exit)) (now (bytes .exit)) ⌝ }
 {
-    let c = forecast[0];
+    let c = part[0];
     let from = core_fill::Position {
-        slot: 1,
+        slot: start,
         left: c,
         rows: 0,
     };
     let end = core_fill::put_all(
-        forecast,
-        1,
+        part,
+        start,
+        afresh,
         table,
         ids,
         ready,
@@ -103,7 +127,7 @@ fn fill(
         layers,
         bytes,
     );
-    spread(ids, mark, first, count, marks);
+    spread(ids, mark, first, whole, count, marks);
     let counts = core_slices::count_layers(&marks[..count]);
     Filled {
         rows: end.rows,
@@ -114,20 +138,28 @@ fn fill(
 // Into slices that may be too short: laid out aside, and copied if it fits whole.
 fn write_aside(
     count: usize,
-    forecast: &[u32],
+    part: &[u32],
+    start: usize,
+    afresh: bool,
     table: &SizeTable,
     first: usize,
     ids: &[u16; CHUNKS],
     ready: &[u16; CHUNKS],
     mark: &[u8; CHUNKS],
+    whole: &[u8; CHUNKS],
     marks: &mut [u8],
     slots: &mut [u16],
     chunks: &mut [u16],
     layers: &mut [u8],
     bytes: &mut [u32],
 ) -> Output
-    requires { ⌜ WritePre count (now forecast) (tableAt (now table)) first (now ids) (now ready) (now mark) (now marks) ⌝ }
-    ensures { λ r. ⌜ Each count (now (forecast .entry)) (tableAt (now (table .entry))) first (now (ids .entry)) (now (ready .entry)) (now (mark .entry)) (λ j x. WritePost j x (now (marks .entry)) (now (slots .entry)) (now (chunks .entry)) (now (layers .entry)) (now (bytes .entry)) r (now (marks .exit)) (now (slots .exit)) (now (chunks .exit)) (now (layers .exit)) (now (bytes .exit))) ⌝ }
+    requires { ⌜ WritePre count start (now part) afresh (tableAt (now table)) first (now ids) (now ready) (now mark)
+        (now whole) (now marks) ⌝ }
+    ensures { λ r. ⌜ WritePost
+        (told count start (now (part .entry)) afresh (tableAt (now (table .entry))) first (now (ids .entry))
+        (now (ready .entry)) (now (mark .entry)) (now (whole .entry)))
+        (now (marks .entry)) (now (slots .entry)) (now (chunks .entry)) (now (layers .entry)) (now (bytes .entry))
+        r (now (marks .exit)) (now (slots .exit)) (now (chunks .exit)) (now (layers .exit)) (now (bytes .exit)) ⌝ }
 {
     let mut own_marks = [0u8; CHUNKS];
     let mut own_slots = [0u16; ROWS];
@@ -136,12 +168,15 @@ fn write_aside(
     let mut own_bytes = [0u32; ROWS];
     let made = fill(
         count,
-        forecast,
+        part,
+        start,
+        afresh,
         table,
         first,
         ids,
         ready,
         mark,
+        whole,
         &mut own_marks,
         &mut own_slots,
         &mut own_chunks,
@@ -174,30 +209,41 @@ fn write_aside(
 // short nothing is written.
 pub fn write_plan(
     count: usize,
-    forecast: &[u32],
+    part: &[u32],
+    start: usize,
+    afresh: bool,
     table: &SizeTable,
     first: usize,
     ids: &[u16; CHUNKS],
     ready: &[u16; CHUNKS],
     mark: &[u8; CHUNKS],
+    whole: &[u8; CHUNKS],
     marks: &mut [u8],
     slots: &mut [u16],
     chunks: &mut [u16],
     layers: &mut [u8],
     bytes: &mut [u32],
 ) -> Output
-    requires { ⌜ WritePre count (now forecast) (tableAt (now table)) first (now ids) (now ready) (now mark) (now marks) ⌝ }
-    ensures { λ r. ⌜ Each count (now (forecast .entry)) (tableAt (now (table .entry))) first (now (ids .entry)) (now (ready .entry)) (now (mark .entry)) (λ j x. WritePost j x (now (marks .entry)) (now (slots .entry)) (now (chunks .entry)) (now (layers .entry)) (now (bytes .entry)) r (now (marks .exit)) (now (slots .exit)) (now (chunks .exit)) (now (layers .exit)) (now (bytes .exit))) ⌝ }
+    requires { ⌜ WritePre count start (now part) afresh (tableAt (now table)) first (now ids) (now ready) (now mark)
+        (now whole) (now marks) ⌝ }
+    ensures { λ r. ⌜ WritePost
+        (told count start (now (part .entry)) afresh (tableAt (now (table .entry))) first (now (ids .entry))
+        (now (ready .entry)) (now (mark .entry)) (now (whole .entry)))
+        (now (marks .entry)) (now (slots .entry)) (now (chunks .entry)) (now (layers .entry)) (now (bytes .entry))
+        r (now (marks .exit)) (now (slots .exit)) (now (chunks .exit)) (now (layers .exit)) (now (bytes .exit)) ⌝ }
 {
     if core_slices::all_at_least(ROWS, slots.len(), chunks.len(), layers.len(), bytes.len()) {
         let made = fill(
             count,
-            forecast,
+            part,
+            start,
+            afresh,
             table,
             first,
             ids,
             ready,
             mark,
+            whole,
             marks,
             slots,
             chunks,
@@ -214,12 +260,15 @@ pub fn write_plan(
     } else {
         write_aside(
             count,
-            forecast,
+            part,
+            start,
+            afresh,
             table,
             first,
             ids,
             ready,
             mark,
+            whole,
             marks,
             slots,
             chunks,

@@ -10,16 +10,14 @@ use Rattle.theory_basics.specs.Sums.{sum}
 use Rattle.theory_basics.specs.Tests.{All}
 use Rattle.job.specs.declared.Programme.{Programme}
 use Rattle.job.specs.Job.{Accepted, Job, Within, chunks, due, dueSlot, heldMost, size}
-use Rattle.theory_plan.specs.Plan.{kept}
-use Rattle.theory_plan.specs.Plan.{picked}
+use Rattle.theory_plan.specs.Plan.{kept, picked}
 use Rattle.theory_plan.specs.lemmas.Kept.{picked-cong, picked-each}
-use Rattle.theory_plan.specs.lemmas.Queue.{each, ones, releases}
+use Rattle.theory_plan.specs.lemmas.Queue.{each, ones, releases, all-ones, each-is}
 use Rattle.theory_plan.specs.Statement.{CanCarry, Choice}
 use Rattle.core_reasons.specs.declared.passes.Stretch.{Stretch}
 use Rattle.core_reasons.specs.lemmas.Tables.{Given, SetTablesPost, FindShortPost, FindShortPre, bytesIn, chunksIn, levelIn, trial}
 use Rattle.core_reasons.specs.lemmas.Passes.{Holds, FindStretchPost, FindStretchPre}
 use Rattle.theory_basics.specs.lemmas.Tables.{all-from, all-take}
-use Rattle.theory_plan.specs.lemmas.Queue.{all-ones, each-is}
 use Rattle.theory_plan.specs.lemmas.Words.{due-by}
 
 map-same : (f g : ℕ → ℕ) (ks : List ℕ) → All (λ k. f k ≡ g k) ks → map f ks ≡ map g ks

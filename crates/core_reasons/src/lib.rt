@@ -13,7 +13,8 @@ mod stretch;
 ghost use mathlib.Core.Path.{_≡_};
 ghost use Prim.Native.Nat.{_/_};
 ghost use Rattle.job.specs.declared.Programme.{Programme};
-ghost use Rattle.core_reasons.specs.lemmas.All.{capOf, PutLinePre, PutLinePost, PutChunkPre, PutChunkPost, PutReasonsPre, PutReasonsPost, Scratch};
+ghost use Rattle.core_reasons.specs.lemmas.All.{capOf, PutLinePre, PutLinePost, PutChunkPre, PutChunkPost};
+ghost use Rattle.core_reasons.specs.lemmas.All.{PutReasonsPre, PutReasonsPost, Scratch};
 
 // How many layers the chunks before the missing one may have in its trial. most: bases were settled
 // by request 9.
@@ -46,8 +47,11 @@ fn put_line(
     out: &mut [u8],
     at: usize,
 ) -> usize
-    requires { ⌜ PutLinePre p held most (now sums) (now after) (now levels) i n have (now dues) (now ready) (now bytes) (now out) at ⌝ }
-    ensures { λ r. ⌜ PutLinePost p most (now (sums .entry)) (now (after .entry)) (now (levels .entry)) i n (now (out .entry)) at (now (out .exit)) r ⌝ }
+    requires { ⌜ PutLinePre p held most (now sums) (now after) (now levels) i n have (now dues) (now ready) (now bytes)
+        (now out) at ⌝ }
+    ensures { λ r. ⌜ PutLinePost p most (now (sums .entry)) (now (after .entry)) (now (levels .entry)) i n
+        (now (out .entry)) at
+        (now (out .exit)) r ⌝ }
     ensures room { λ _. ⌜ Scratch (now (dues .exit)) (now (ready .exit)) (now (bytes .exit)) ⌝ }
 {
     let chunk = i as u64;
@@ -77,8 +81,11 @@ fn put_chunk(
     out: &mut [u8],
     at: usize,
 ) -> usize
-    requires { ⌜ PutChunkPre p held layers most (now sums) (now after) (now levels) i (now dues) (now ready) (now bytes) (now out) at ⌝ }
-    ensures { λ r. ⌜ PutChunkPost p layers most (now (sums .entry)) (now (after .entry)) (now (levels .entry)) i (now (out .entry)) at (now (out .exit)) r ⌝ }
+    requires { ⌜ PutChunkPre p held layers most (now sums) (now after) (now levels) i (now dues) (now ready) (now bytes)
+        (now out) at ⌝ }
+    ensures { λ r. ⌜ PutChunkPost p layers most (now (sums .entry)) (now (after .entry)) (now (levels .entry)) i
+        (now (out .entry)) at
+        (now (out .exit)) r ⌝ }
     ensures room { λ _. ⌜ Scratch (now (dues .exit)) (now (ready .exit)) (now (bytes .exit)) ⌝ }
 {
     let place = i as usize - 1;
@@ -121,7 +128,9 @@ pub fn put_reasons(
     out: &mut [u8],
 ) -> usize
     requires { ⌜ PutReasonsPre p held layers most (now sums) (now after) (now levels) (now out) ⌝ }
-    ensures { λ r. ⌜ PutReasonsPost p layers most (now (sums .entry)) (now (after .entry)) (now (levels .entry)) (now (out .entry)) (now (out .exit)) r ⌝ }
+    ensures { λ r. ⌜ PutReasonsPost p layers most (now (sums .entry)) (now (after .entry)) (now (levels .entry))
+        (now (out .entry))
+        (now (out .exit)) r ⌝ }
 {
     let mut dues = [0u16; CHUNKS];
     let mut ready = [0u16; CHUNKS];

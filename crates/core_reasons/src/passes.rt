@@ -8,7 +8,8 @@ ghost use mathlib.Core.Bool.{_&&_};
 ghost use Prim.Native.Nat.{suc, _+_, _-_, _≤_, _<_, max};
 ghost use lib.ListN.{length, getD};
 ghost use lib.Dec.{ltb};
-ghost use Rattle.core_reasons.specs.lemmas.Passes.{FindStretchPre, FindBeginPre, lateIn, backIn, begun, place, startsIn, FindStretchPost};
+ghost use Rattle.core_reasons.specs.lemmas.Passes.{FindStretchPre, FindBeginPre, lateIn, backIn, begun, place};
+ghost use Rattle.core_reasons.specs.lemmas.Passes.{startsIn, FindStretchPost};
 
 // A stretch of slots, what it carries and what it needs.
 pub struct Stretch {
@@ -41,7 +42,8 @@ fn find_late(
     first: usize,
 ) -> usize
     requires { ⌜ FindStretchPre (now after) (now dues) (now ready) (now bytes) first ⌝ }
-    ensures { λ r. ⌜ r ≡ first + lateIn (now (after .entry)) (now (dues .entry)) (now (ready .entry)) (now (bytes .entry)) first ⌝ }
+    ensures { λ r. ⌜ r ≡ first
+        + lateIn (now (after .entry)) (now (dues .entry)) (now (ready .entry)) (now (bytes .entry)) first ⌝ }
 {
     let all = after[0];
     let mut used: u64 = 0;
@@ -125,7 +127,9 @@ pub(crate) fn find_stretch(
     first: usize,
 ) -> Stretch
     requires { ⌜ FindStretchPre (now after) (now dues) (now ready) (now bytes) first ⌝ }
-    ensures { λ r. ⌜ FindStretchPost (now (after .entry)) (now (dues .entry)) (now (ready .entry)) (now (bytes .entry)) first r ⌝ }
+    ensures { λ r. ⌜ FindStretchPost (now (after .entry)) (now (dues .entry)) (now (ready .entry)) (now (bytes .entry))
+        first
+        r ⌝ }
 {
     let m = find_late(after, dues, ready, bytes, first);
     if m < CHUNKS {

@@ -12,7 +12,8 @@ ghost use Rattle.core_reasons.specs.lemmas.Sentences.{shortOf};
 // Two words, each with a number after it.
 fn put_two(out: &mut [u8], at: usize, word: &[u8], n: u64, other: &[u8], m: u64) -> usize
     requires { ⌜ at + length ((now word ++ digits n) ++ (now other ++ digits m)) ≤ length (now out) ⌝ }
-    ensures { λ r. ⌜ Put (now (out .entry)) at ((now (word .entry) ++ digits n) ++ (now (other .entry) ++ digits m)) (now (out .exit)) r ⌝ }
+    ensures { λ r. ⌜ Put (now (out .entry)) at ((now (word .entry) ++ digits n) ++ (now (other .entry) ++ digits m))
+        (now (out .exit)) r ⌝ }
 {
     let next = core_text::put_field(out, at, word, n);
     core_text::put_field(out, next, other, m)

@@ -9,7 +9,8 @@ use job::SlotSums;
 ghost use mathlib.Core.Path.{_≡_};
 ghost use Prim.Native.Nat.{_-_, _≤_, _<_, min};
 ghost use lib.ListN.{length, take, drop};
-ghost use Rattle.core_reasons.specs.lemmas.Tables.{levelIn, SetTablesPre, SetTablesPost, FindShortPre, FindShortPost};
+ghost use Rattle.core_reasons.specs.lemmas.Tables.{levelIn, SetTablesPre, SetTablesPost, FindShortPre};
+ghost use Rattle.core_reasons.specs.lemmas.Tables.{FindShortPost};
 
 fn smaller(a: u8, b: u8) -> u8
     ensures { λ r. ⌜ r ≡ min a b ⌝ }
@@ -51,7 +52,8 @@ fn set_tables(
     bytes: &mut [u32; CHUNKS],
 ) -> usize
     requires { ⌜ SetTablesPre p (now sums) (now levels) n cap (now dues) (now bytes) ⌝ }
-    ensures { λ r. ⌜ SetTablesPost p (now (sums .entry)) (now (levels .entry)) i n cap r (now (dues .exit)) (now (bytes .exit)) ⌝ }
+    ensures { λ r. ⌜ SetTablesPost p (now (sums .entry)) (now (levels .entry)) i n cap
+        r (now (dues .exit)) (now (bytes .exit)) ⌝ }
 {
     let mut first: usize = CHUNKS;
     let mut k = p.chunks;
@@ -89,7 +91,9 @@ pub(crate) fn find_short(
 ) -> Stretch
     requires { ⌜ FindShortPre p held (now sums) (now after) (now levels) n cap (now dues) (now ready) (now bytes) ⌝ }
     ensures { λ r. ⌜ FindShortPost p (now (sums .entry)) (now (after .entry)) (now (levels .entry)) i n cap r ⌝ }
-    ensures room { λ _. ⌜ (length (now (dues .exit)) ≡ 500) × (length (now (ready .exit)) ≡ 500) × (length (now (bytes .exit)) ≡ 500) ⌝ }
+    ensures room { λ _. ⌜ (length (now (dues .exit)) ≡ 500)
+        × (length (now (ready .exit)) ≡ 500)
+        × (length (now (bytes .exit)) ≡ 500) ⌝ }
 {
     let first = set_tables(p, sums, levels, i, n, cap, dues, bytes);
     core_decide::set_releases(held, dues, first, ready);

@@ -17,13 +17,14 @@ use Rattle.theory_basics.specs.lemmas.Tests.{and-T, same-test, T-and, test, tru
 use Rattle.job.specs.Job.{dueSlot, lastDue}
 use Rattle.job.specs.declared.Programme.{Programme}
 use Rattle.theory_plan.specs.Plan.{picked}
-use Rattle.theory_plan.specs.lemmas.Ascending.{Asc, asc-lower}
+use Rattle.theory_plan.specs.lemmas.Ascending.{asc-lower}
 use Rattle.theory_plan.specs.lemmas.Parts.{at}
 use Rattle.theory_plan.specs.lemmas.Words.{due-by}
 use Rattle.theory_plan.specs.lemmas.Trials.{candidate, keeps, Stack}
 use Rattle.theory_replan.specs.lemmas.Passes.{basesNew, frontOk, pushNew}
 use Rattle.core_replan_decide.proofs.Front.{front-rises, front-stays, front-test, Fronted, fronted-start}
 use Rattle.core_replan_decide.specs.lemmas.Tables.{baseOf, basesCaps, capOf, capsOk, PlacesBelowPost, Fine, FindFrontPost, FindFrontPre, isBegun, keepsCaps, LastBegunPost, NewBasesPost, NewBasesPre, of, pushCaps, NeedCapPost, CanKeepPost, CanKeepPre}
+use Rattle.theory_plan.specs.Bases.{Asc}
 
 -- ---- due slots
 

@@ -19,13 +19,13 @@ use Rattle.job.specs.Job.{Accepted, chunks, due, dueSlot, forecast, heldMost, J
 use Rattle.job.specs.declared.Programme.{Programme}
 use Rattle.fetch.specs.Marks.{bit}
 use Rattle.fetch.specs.Rows.{bytesOfLayer, Row}
-use Rattle.theory_plan.specs.lemmas.Parts.{ForecastPart}
-use Rattle.theory_plan.specs.Plan.{after, needOf, picked}
-use Rattle.theory_plan.specs.lemmas.Ascending.{Asc, asc-lower}
+use Rattle.theory_plan.specs.lemmas.Parts.{ForecastPart, at, left-before, leftAfter, padded, padded-long, part-small}
+use Rattle.theory_plan.specs.Plan.{after, picked}
+use Rattle.theory_plan.specs.lemmas.Feasible.{needOf}
+use Rattle.theory_plan.specs.lemmas.Ascending.{asc-lower}
 use Rattle.theory_plan.specs.lemmas.Kept.{picked-cong, picked-each}
 use Rattle.theory_plan.specs.lemmas.Level.{level}
 use Rattle.theory_plan.specs.lemmas.Linear.{map-map, needs-at, needs-of}
-use Rattle.theory_plan.specs.lemmas.Parts.{at, left-before, leftAfter, padded, padded-long, part-small}
 use Rattle.theory_plan.specs.lemmas.Queue.{all-ones, each, each-is, ones, releases}
 use Rattle.theory_plan.specs.lemmas.Trials.{back, bytesKept, candidate, chunkOf, Kept, levelMark, markOf, onLayer, onLayers, rooms, Stack, Tried}
 use Rattle.theory_plan.specs.lemmas.Words.{carries, layer-of}
@@ -43,6 +43,7 @@ use Rattle.core_replan_decide.specs.lemmas.Decision.{Decided, DecidePre,
 use Rattle.core_replan_decide.specs.lemmas.Begun.{KeepBegunPost, KeepBegunPre, choose, frontOne, scanFront}
 use Rattle.core_replan_decide.specs.lemmas.Composed.{below, front-kept, keptRest, layers-kept, new-kept, news, nothing-fetched, passes-are-plan, rest}
 use Rattle.core_replan_decide.specs.lemmas.Tables.{baseOf, capOf, Falls, Fine, FindFrontPost, FindFrontPre, isBegun, LastBegunPost, NewBasesPost, NewBasesPre, of}
+use Rattle.theory_plan.specs.Bases.{Asc}
 
 -- ---- the forecast from a slot on
 

@@ -10,16 +10,15 @@ use job::SlotSums;
 ghost use mathlib.Core.Path.{_≡_};
 ghost use mathlib.Core.Bool.{_&&_, cond};
 ghost use Prim.Native.Nat.{ℕ, _+_, _-_, _<_, _≤_, max};
-ghost use lib.ListN.{length, getD, drop};
+ghost use lib.ListN.{length};
 ghost use lib.Dec.{leb, ltb, eqb};
-ghost use Rattle.theory_basics.specs.Lists.{upTo};
-ghost use Rattle.theory_basics.specs.Lent.{over};
-ghost use Rattle.job.specs.Table.{tableAt};
-ghost use Rattle.theory_plan.specs.lemmas.Ascending.{Asc};
-ghost use Rattle.core_replan_decide.specs.lemmas.Tables.{Falls, NeedCapPost, PlacesBelowPost, LastBegunPost, FindFrontPre, FindFrontPost, CanKeepPre, CanKeepPost, NewBasesPre, NewBasesPost};
+ghost use Rattle.core_sizes.specs.Table.{tableAt};
+ghost use Rattle.core_replan_decide.specs.lemmas.Tables.{Falls, NeedCapPost, PlacesBelowPost, LastBegunPost};
+ghost use Rattle.core_replan_decide.specs.lemmas.Tables.{FindFrontPre, FindFrontPost, CanKeepPre, CanKeepPost};
+ghost use Rattle.core_replan_decide.specs.lemmas.Tables.{NewBasesPre, NewBasesPost};
 ghost use Rattle.core_replan_decide.specs.lemmas.Begun.{choose, KeepBegunPre, KeepBegunPost};
-ghost use Rattle.core_decide.specs.lemmas.Marks.{markOr};
 ghost use Rattle.core_replan_decide.specs.lemmas.Decision.{DecidePre, DecidePost};
+ghost use Rattle.theory_plan.specs.Bases.{Asc};
 
 // More than any need: 3,601 times the most bytes of a slot.
 const NO_CAP: u64 = 60414754816;
@@ -72,7 +71,8 @@ fn find_front(
     caps: &mut [u64; CHUNKS],
 ) -> usize
     requires { ⌜ FindFrontPre p last (now begun) (now after) (now front) (now caps) ⌝ }
-    ensures { λ r. ⌜ FindFrontPost p start last (now (begun .entry)) (now (after .entry)) r (now (front .exit)) (now (caps .exit)) ⌝ }
+    ensures { λ r. ⌜ FindFrontPost p start last (now (begun .entry)) (now (after .entry))
+        r (now (front .exit)) (now (caps .exit)) ⌝ }
 {
     let mut head: usize = CHUNKS;
     let mut i = last;
@@ -163,7 +163,9 @@ fn can_keep(
     needs: &mut [u64; CHUNKS],
 ) -> bool
     requires { ⌜ CanKeepPre p held (tableAt (now left)) (now after) i first (now needs) ⌝ }
-    ensures { λ r. ⌜ CanKeepPost p start held (tableAt (now (left .entry))) (now (after .entry)) cap lowest i first (now (needs .entry)) (now (needs .exit)) r ⌝ }
+    ensures { λ r. ⌜ CanKeepPost p start held (tableAt (now (left .entry))) (now (after .entry)) cap lowest i first
+        (now (needs .entry))
+        (now (needs .exit)) r ⌝ }
 {
     let d = job::due_slot(p, i);
     let e = d - 1;
@@ -202,8 +204,11 @@ fn new_bases(
     mark: &mut [u8; CHUNKS],
     needs: &mut [u64; CHUNKS],
 ) -> usize
-    requires { ⌜ NewBasesPre p held last (tableAt (now left)) (now after) (now caps) head (now ids) (now dues) (now bytes) (now mark) (now needs) ⌝ }
-    ensures { λ r. ⌜ NewBasesPost p start held last (tableAt (now (left .entry))) (now (after .entry)) (now (caps .entry)) head r (now (ids .exit)) (now (dues .exit)) (now (bytes .exit)) (now (mark .exit)) (now (needs .exit)) ⌝ }
+    requires { ⌜ NewBasesPre p held last (tableAt (now left)) (now after) (now caps) head (now ids) (now dues)
+        (now bytes) (now mark) (now needs) ⌝ }
+    ensures { λ r. ⌜ NewBasesPost p start held last (tableAt (now (left .entry))) (now (after .entry))
+        (now (caps .entry)) head
+        r (now (ids .exit)) (now (dues .exit)) (now (bytes .exit)) (now (mark .exit)) (now (needs .exit)) ⌝ }
 {
     let cap = need_cap(caps, head, held);
     let mut first: usize = CHUNKS;
@@ -252,17 +257,18 @@ fn try_begun(w: u8, z: u32, want: u64, all: u64) -> Chosen
         };
     }
     let more = core_decide::wide(z) + want;
+    let tried = fetch::with(0, 0);
     if more <= all {
         return Chosen {
             need: more,
             bytes: z,
-            mark: 1,
+            mark: tried,
         };
     }
     Chosen {
         need: want,
         bytes: 0,
-        mark: 0,
+        mark: fetch::without(tried, 0),
     }
 }
 
@@ -282,8 +288,12 @@ fn keep_begun(
     bytes: &mut [u32; CHUNKS],
     mark: &mut [u8; CHUNKS],
 ) -> usize
-    requires { ⌜ KeepBegunPre p (tableAt (now left)) (now whole) (now after) (now front) head need from (now ids) (now dues) (now bytes) (now mark) ⌝ }
-    ensures { λ r. ⌜ KeepBegunPost p (tableAt (now (left .entry))) (now (whole .entry)) (now (after .entry)) (now (front .entry)) head need from (now (ids .entry)) (now (dues .entry)) (now (bytes .entry)) (now (mark .entry)) r (now (ids .exit)) (now (dues .exit)) (now (bytes .exit)) (now (mark .exit)) ⌝ }
+    requires { ⌜ KeepBegunPre p (tableAt (now left)) (now whole) (now after) (now front) head need from (now ids)
+        (now dues) (now bytes) (now mark) ⌝ }
+    ensures { λ r. ⌜ KeepBegunPost p (tableAt (now (left .entry))) (now (whole .entry)) (now (after .entry))
+        (now (front .entry)) head need from (now (ids .entry)) (now (dues .entry)) (now (bytes .entry))
+        (now (mark .entry))
+        r (now (ids .exit)) (now (dues .exit)) (now (bytes .exit)) (now (mark .exit)) ⌝ }
 {
     let all = after[0];
     let mut used = need;
@@ -308,51 +318,6 @@ fn keep_begun(
     first
 }
 
-fn wide(x: u16) -> usize
-    ensures { λ r. ⌜ r ≡ x ⌝ }
-{
-    x as usize
-}
-
-// Whether the kept chunk at place q is this one.
-fn is_at(ids: &[u16; CHUNKS], q: usize, chunk: usize) -> bool
-    requires { ⌜ (1 ≤ chunk) × (length (now ids) ≡ 500) ⌝ }
-    ensures { λ r. ⌜ r ≡ eqb (getD (now (ids .entry)) q 0) chunk ⌝ }
-{
-    if q < CHUNKS {
-        return wide(ids[q]) == chunk;
-    }
-    false
-}
-
-// A mark for each chunk: the one at its place among the chunks begun or kept, or else what is
-// whole.
-pub fn spread(
-    ids: &[u16; CHUNKS],
-    mark: &[u8; CHUNKS],
-    first: usize,
-    whole: &[u8; CHUNKS],
-    count: usize,
-    marks: &mut [u8],
-)
-    requires { ⌜ (first ≤ 500) × (count ≤ 500) × (count ≤ length (now marks)) × Asc 1 count (drop first (now ids)) × (length (now ids) ≡ 500) × (length (now mark) ≡ 500) × (length (now whole) ≡ 500) ⌝ }
-    ensures { λ _. ⌜ now (marks .exit) ≡ over (upTo (λ i. markOr (getD (now (whole .entry)) i 0) (i + 1) (drop first (now (ids .entry))) (drop first (now (mark .entry)))) count) (now (marks .entry)) ⌝ }
-{
-    let mut q = first;
-    let mut i: usize = 0;
-    while i < count {
-        let chunk = i + 1;
-        if is_at(ids, q, chunk) {
-            marks[i] = mark[q];
-            q = q + 1;
-            i = chunk;
-        } else {
-            marks[i] = whole[i];
-            i = chunk;
-        }
-    }
-}
-
 // The decision made afresh at slot start, over the part of the forecast from there on: the chunks
 // begun or kept that are due from start on, their releases and their marks, from the place handed
 // back on. left, begun and whole say what the fetched rows leave of each layer, which chunks they
@@ -369,8 +334,11 @@ pub fn decide(
     ready: &mut [u16; CHUNKS],
     mark: &mut [u8; CHUNKS],
 ) -> usize
-    requires { ⌜ DecidePre p layers start (now part) (tableAt (now left)) (now begun) (now whole) (now ids) (now ready) (now mark) ⌝ }
-    ensures { λ r. ⌜ DecidePost p layers start (now (part .entry)) (tableAt (now (left .entry))) (now (begun .entry)) (now (whole .entry)) r (now (ids .exit)) (now (ready .exit)) (now (mark .exit)) ⌝ }
+    requires { ⌜ DecidePre p layers start (now part) (tableAt (now left)) (now begun) (now whole) (now ids) (now ready)
+        (now mark) ⌝ }
+    ensures { λ r. ⌜ DecidePost p layers start (now (part .entry)) (tableAt (now (left .entry))) (now (begun .entry))
+        (now (whole .entry))
+        r (now (ids .exit)) (now (ready .exit)) (now (mark .exit)) ⌝ }
 {
     let held = job::held_most(p) as usize;
     // These tables are written before they are read. A filling that is no constant is stored in

@@ -10,10 +10,11 @@ use lib.Dec.{leb}
 use Rattle.theory_basics.specs.Tests.{allTo}
 use Rattle.theory_basics.specs.lemmas.Tests.{T-true, and-T, true-T}
 use Rattle.job.specs.Job.{Override, lastDue}
-use Rattle.job.specs.Table.{tableAt}
+use Rattle.core_sizes.specs.Table.{tableAt}
 use Rattle.job.specs.declared.Programme.{Programme}
 use Rattle.fetch.specs.Rows.{Row}
-use Rattle.fetch.specs.Verdict.{rule1, rule1-iff, rule3, rule3-iff}
+use Rattle.fetch.specs.Verdict.{rule1, rule3}
+use Rattle.fetch.specs.Theorems.{rule1-iff, rule3-iff}
 use Rattle.core_replan_decide.specs.lemmas.Decision.{jobFrom}
 use Rattle.core_rules.proofs.Exact.{rule1-is, rule3-is, rule6-is}
 use Rattle.core_rules.specs.declared.Pass.{Pass}

@@ -11,7 +11,7 @@ use borrow.Author.Tests.{eq-eqb, le-ltb, lt-ltb}
 use Rattle.theory_basics.specs.Tests.{All, In, allBelow, allTo, here, there}
 use Rattle.theory_basics.specs.lemmas.Tests.{T-true, allBelow-cong, allTo-cong, allTo-iff, any-row, at-row, eqb-iff, not-T-false, same-test, test}
 use Rattle.job.specs.Job.{Accepted, Job, Override, chunks, forecast, lastDue, layers, size}
-use Rattle.job.specs.Table.{spot, tableAt}
+use Rattle.core_sizes.specs.Table.{spot, tableAt}
 use Rattle.job.specs.declared.Programme.{Programme}
 use Rattle.job.specs.lemmas.Within.{all-most, size-most}
 use Rattle.fetch.specs.Rows.{Row, begun, bytesInSlot, bytesOfLayer, carried, hasRow, markByte}

@@ -12,9 +12,10 @@ ghost use Prim.Native.Nat.{ℕ, _-_, _<_, _≤_};
 ghost use lib.ListN.{length};
 ghost use lib.Dec.{leb, ltb};
 ghost use Rattle.theory_basics.specs.Tests.{allBelow};
-ghost use Rattle.job.specs.Table.{tableAt};
+ghost use Rattle.core_sizes.specs.Table.{tableAt};
 ghost use Rattle.fetch.specs.Rows.{rowsOf};
-ghost use Rattle.core_replan_input.specs.lemmas.Gather.{fewBy, SetFlagsPost, InTurnPost, SetLeftPost, GatherPre, GatherPost};
+ghost use Rattle.core_replan_input.specs.lemmas.Gather.{fewBy, SetFlagsPost, InTurnPost, SetLeftPost, GatherPre};
+ghost use Rattle.core_replan_input.specs.lemmas.Gather.{GatherPost};
 
 // Whether rule 3 holds, and whether no sum exceeds its size, for all chunks.
 pub struct Kept {
@@ -90,7 +91,8 @@ fn set_flags(
     whole: &mut [u8; CHUNKS],
 ) -> Kept
     requires { ⌜ (depth ≤ 4) × (count ≤ 500) × (length (now begun) ≡ 500) × (length (now whole) ≡ 500) ⌝ }
-    ensures { λ r. ⌜ SetFlagsPost (tableAt (now (table .entry))) (now (sums .entry)) (now (first .entry)) depth count r (now (begun .exit)) (now (whole .exit)) ⌝ }
+    ensures { λ r. ⌜ SetFlagsPost (tableAt (now (table .entry))) (now (sums .entry)) (now (first .entry)) depth count
+        r (now (begun .exit)) (now (whole .exit)) ⌝ }
 {
     let mut lower = true;
     let mut few = true;
@@ -169,8 +171,11 @@ pub fn gather(
     begun: &mut [u8; CHUNKS],
     whole: &mut [u8; CHUNKS],
 ) -> bool
-    requires { ⌜ GatherPre p depth (now earlier) (now slots) (now chunks) (now layers) (now bytes) (now left) (now begun) (now whole) ⌝ }
-    ensures { λ r. ⌜ GatherPost p (now (table .entry)) depth (now (earlier .entry)) (rowsOf (now (slots .entry)) (now (chunks .entry)) (now (layers .entry)) (now (bytes .entry))) r (now (left .exit)) (now (begun .exit)) (now (whole .exit)) ⌝ }
+    requires { ⌜ GatherPre p depth (now earlier) (now slots) (now chunks) (now layers) (now bytes) (now left)
+        (now begun) (now whole) ⌝ }
+    ensures { λ r. ⌜ GatherPost p (now (table .entry)) depth (now (earlier .entry))
+        (rowsOf (now (slots .entry)) (now (chunks .entry)) (now (layers .entry)) (now (bytes .entry)))
+        r (now (left .exit)) (now (begun .exit)) (now (whole .exit)) ⌝ }
 {
     let last = job::last_due(p);
     let mut slotsum = [0u64; SUMS];

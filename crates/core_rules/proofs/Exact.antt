@@ -17,12 +17,13 @@ use Rattle.theory_basics.specs.lemmas.Lists.{length-upTo, getD-upTo}
 use Rattle.job.specs.declared.Programme.{Programme}
 use Rattle.job.specs.Input.{JobInput, jobIn}
 use Rattle.job.specs.Job.{Job, Accepted, dueSlot, lastDue, chunks, layers, size}
-use Rattle.job.specs.Table.{sizesTable, tableAt}
-use Rattle.job.specs.Uneven.{table-is}
+use Rattle.core_sizes.specs.Table.{sizesTable, tableAt}
+use Rattle.core_sizes.specs.Theorems.{table-is}
 use Rattle.job.specs.lemmas.Within.{all-most, size-most}
 use Rattle.fetch.specs.Rows.{Row, begun, held, heldCount, carried, markByte, bytesInSlot, bytesOfLayer}
 use Rattle.fetch.specs.lemmas.Marks.{mark-cong}
-use Rattle.fetch.specs.Verdict.{rule1, rule2, rule3, rule4, rule6, rule7, lowerCarried, same, same-iff}
+use Rattle.fetch.specs.Verdict.{rule1, rule2, rule3, rule4, rule6, rule7, lowerCarried, same}
+use Rattle.fetch.specs.Theorems.{same-iff}
 use Rattle.core_rules.specs.declared.Pass.{Pass}
 use Rattle.core_rules.specs.lemmas.Tables.{cap, firstOf, Tallied, TallyPost, carriedBy, wholeBy, under, lowerBy, heldBy, Shown}
 use Rattle.theory_basics.specs.lemmas.Ranges.{count-cong}

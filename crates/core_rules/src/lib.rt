@@ -13,9 +13,10 @@ ghost use lib.ListN.{length, getD, set, replicate};
 ghost use lib.Dec.{leb};
 ghost use Rattle.theory_basics.specs.Tests.{allTo};
 ghost use Rattle.job.specs.Job.{dueSlot};
-ghost use Rattle.job.specs.Table.{tableAt};
+ghost use Rattle.core_sizes.specs.Table.{tableAt};
 ghost use Rattle.fetch.specs.Rows.{rowsOf};
-ghost use Rattle.core_rules.specs.lemmas.Tables.{cap, inRange, TallyPost, SeeChunkPost, SeeAllPost, heldBy, MarkTimesPost};
+ghost use Rattle.core_rules.specs.lemmas.Tables.{cap, inRange, TallyPost, SeeChunkPost, SeeAllPost, heldBy};
+ghost use Rattle.core_rules.specs.lemmas.Tables.{MarkTimesPost};
 
 // What the pass over the rows finds: rule 1, and where it holds rule 5.
 pub struct Pass {
@@ -109,8 +110,17 @@ fn add_row(
     l: u8,
     b: u32,
 )
-    requires { ⌜ (s ≤ 3600) × (1 ≤ c) × (c ≤ 500) × (l < 4) × (getD (now slotsum) s 0 ≤ cap) × (getD (now layersum) (4 * (c - 1) + l) 0 ≤ cap) ⌝ }
-    ensures { λ _. ⌜ (now (slotsum .exit) ≡ set (now (slotsum .entry)) s (min cap (getD (now (slotsum .entry)) s 0 + b))) × (now (layersum .exit) ≡ set (now (layersum .entry)) (4 * (c - 1) + l) (min cap (getD (now (layersum .entry)) (4 * (c - 1) + l) 0 + b))) × (now (first .exit) ≡ set (now (first .entry)) c (min (getD (now (first .entry)) c 0) s)) ⌝ }
+    requires { ⌜ (s ≤ 3600)
+        × (1 ≤ c)
+        × (c ≤ 500)
+        × (l < 4)
+        × (getD (now slotsum) s 0 ≤ cap)
+        × (getD (now layersum) (4 * (c - 1) + l) 0 ≤ cap) ⌝ }
+    ensures { λ _. ⌜ (now (slotsum .exit) ≡ set (now (slotsum .entry)) s
+        (min cap (getD (now (slotsum .entry)) s 0 + b)))
+        × (now (layersum .exit) ≡ set (now (layersum .entry)) (4 * (c - 1) + l)
+        (min cap (getD (now (layersum .entry)) (4 * (c - 1) + l) 0 + b)))
+        × (now (first .exit) ≡ set (now (first .entry)) c (min (getD (now (first .entry)) c 0) s)) ⌝ }
 {
     let t = s as usize;
     let i = c as usize;
@@ -133,8 +143,18 @@ pub fn tally(
     layersum: &mut [u64; SIZES],
     first: &mut [u16; 501],
 ) -> Pass
-    requires { ⌜ (last ≤ 3600) × (p .chunks ≤ 500) × (depth ≤ 4) × (length (now slots) ≡ length (now chunks)) × (length (now slots) ≡ length (now layers)) × (length (now slots) ≡ length (now bytes)) × (now slotsum ≡ replicate 3601 0) × (now layersum ≡ replicate 2000 0) × (now first ≡ replicate 501 65535) ⌝ }
-    ensures { λ r. ⌜ TallyPost p last depth (rowsOf (now (slots .entry)) (now (chunks .entry)) (now (layers .entry)) (now (bytes .entry))) r (now (slotsum .exit)) (now (layersum .exit)) (now (first .exit)) ⌝ }
+    requires { ⌜ (last ≤ 3600)
+        × (p .chunks ≤ 500)
+        × (depth ≤ 4)
+        × (length (now slots) ≡ length (now chunks))
+        × (length (now slots) ≡ length (now layers))
+        × (length (now slots) ≡ length (now bytes))
+        × (now slotsum ≡ replicate 3601 0)
+        × (now layersum ≡ replicate 2000 0)
+        × (now first ≡ replicate 501 65535) ⌝ }
+    ensures { λ r. ⌜ TallyPost p last depth
+        (rowsOf (now (slots .entry)) (now (chunks .entry)) (now (layers .entry)) (now (bytes .entry)))
+        r (now (slotsum .exit)) (now (layersum .exit)) (now (first .exit)) ⌝ }
 {
     let mut timely = true;
     let mut i: usize = 0;
@@ -174,7 +194,7 @@ pub fn see_chunk(table: &SizeTable, depth: usize, layersum: &[u64; SIZES], i: u1
     while n < depth {
         let at = from + n;
         let sum = layersum[at];
-        let size = job::size_at(table, i, n) as u64;
+        let size = core_sizes::size_at(table, i, n) as u64;
         if sum == size {
             mark = fetch::with(mark, n as u8);
             lower = both(below, lower);
@@ -198,7 +218,8 @@ pub fn see_all(
     count: u16,
 ) -> Layers
     requires { ⌜ (depth ≤ 4) × (count ≤ 500) × (length (now marks) ≡ count) ⌝ }
-    ensures { λ r. ⌜ SeeAllPost (tableAt (now (table .entry))) (now (layersum .entry)) (now (marks .entry)) depth count r ⌝ }
+    ensures { λ r. ⌜ SeeAllPost (tableAt (now (table .entry))) (now (layersum .entry)) (now (marks .entry)) depth count
+        r ⌝ }
 {
     let mut whole = true;
     let mut lower = true;
@@ -219,7 +240,8 @@ pub fn see_all(
 // Rule 4, slot by slot.
 pub fn within(forecast: &[u32], slotsum: &SlotSums) -> bool
     requires { ⌜ length (now forecast) ≤ 3600 ⌝ }
-    ensures { λ r. ⌜ r ≡ allTo (length (now (forecast .entry))) (λ t. leb (getD (now (slotsum .entry)) t 0) (getD (now (forecast .entry)) (t - 1) 0)) ⌝ }
+    ensures { λ r. ⌜ r ≡ allTo (length (now (forecast .entry)))
+        (λ t. leb (getD (now (slotsum .entry)) t 0) (getD (now (forecast .entry)) (t - 1) 0)) ⌝ }
 {
     let mut t: usize = 0;
     while t < forecast.len() {
@@ -235,7 +257,10 @@ pub fn within(forecast: &[u32], slotsum: &SlotSums) -> bool
 // The slots in which chunks begin to be held, and in which they cease to be. A chunk begun in its
 // due slot is never held.
 fn mark_times(p: Programme, first: &[u16; 501], begins: &mut [u16; SUMS], ends: &mut [u16; SUMS])
-    requires { ⌜ (p .chunks ≤ 500) × ((i : ℕ) → i ≤ p .chunks → dueSlot p i ≤ 3600) × (now begins ≡ replicate 3601 0) × (now ends ≡ replicate 3601 0) ⌝ }
+    requires { ⌜ (p .chunks ≤ 500)
+        × ((i : ℕ) → i ≤ p .chunks → dueSlot p i ≤ 3600)
+        × (now begins ≡ replicate 3601 0)
+        × (now ends ≡ replicate 3601 0) ⌝ }
     ensures { λ _. ⌜ MarkTimesPost p (now (first .entry)) (p .chunks) (now (begins .exit)) (now (ends .exit)) ⌝ }
 {
     let n = p.chunks;
@@ -257,7 +282,10 @@ fn mark_times(p: Programme, first: &[u16; 501], begins: &mut [u16; SUMS], ends: 
 
 // Rule 6, slot by slot.
 pub fn sweep(p: Programme, last: usize, first: &[u16; 501]) -> bool
-    requires { ⌜ (p .chunks ≤ 500) × (last ≤ 3600) × ((i : ℕ) → i ≤ p .chunks → dueSlot p i ≤ 3600) × ((i : ℕ) → 1 ≤ i → i ≤ 500 → 1 ≤ getD (now first) i 0) ⌝ }
+    requires { ⌜ (p .chunks ≤ 500)
+        × (last ≤ 3600)
+        × ((i : ℕ) → i ≤ p .chunks → dueSlot p i ≤ 3600)
+        × ((i : ℕ) → 1 ≤ i → i ≤ 500 → 1 ≤ getD (now first) i 0) ⌝ }
     ensures { λ r. ⌜ r ≡ allTo last (λ t. leb (heldBy p (now (first .entry)) t) (p .limit / p .span)) ⌝ }
 {
     let most = job::held_most(p);

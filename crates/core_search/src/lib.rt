@@ -9,9 +9,10 @@ ghost use mathlib.Core.Path.{_≡_};
 ghost use Prim.Native.Nat.{ℕ, _≤_};
 ghost use lib.ListN.{length, drop};
 ghost use Rattle.job.specs.Job.{lastDue};
-ghost use Rattle.job.specs.Table.{tableAt};
+ghost use Rattle.core_sizes.specs.Table.{tableAt};
 ghost use Rattle.core_moore_hodgson.specs.lemmas.Tables.{KeptIn};
-ghost use Rattle.core_search.specs.lemmas.Tables.{CopyEndPost, KeepBestPost, CanKeepPost, CanKeepPre, SearchPre, SearchPost, DueTable, PlaceBestPre, FindBestPre, FindBestPost};
+ghost use Rattle.core_search.specs.lemmas.Tables.{CopyEndPost, KeepBestPost, CanKeepPost, CanKeepPre, SearchPre};
+ghost use Rattle.core_search.specs.lemmas.Tables.{SearchPost, DueTable, PlaceBestPre, FindBestPre, FindBestPost};
 
 // Where the best set begins, the steps taken, and whether the walk ended.
 pub struct Outcome {
@@ -36,7 +37,8 @@ fn copy_end(from: &[u16; CHUNKS], k: usize, to: &mut [u16; CHUNKS])
 // The set at the end of ids is met: it is copied if it has more chunks than the best one.
 fn keep_best(k: usize, ids: &[u16; CHUNKS], best: &mut [u16; CHUNKS], count: &mut usize)
     requires { ⌜ (k ≤ 500) × (now count ≤ 500) × (length (now ids) ≡ 500) × (length (now best) ≡ 500) ⌝ }
-    ensures { λ _. ⌜ KeepBestPost k (now (ids .entry)) (now (best .entry)) (now (count .entry)) (now (best .exit)) (now (count .exit)) ⌝ }
+    ensures { λ _. ⌜ KeepBestPost k (now (ids .entry)) (now (best .entry)) (now (count .entry))
+        (now (best .exit)) (now (count .exit)) ⌝ }
 {
     let size = CHUNKS - k;
     let most = *count;
@@ -59,7 +61,9 @@ fn can_keep(
     needs: &mut [u64; CHUNKS],
 ) -> bool
     requires { ⌜ CanKeepPre i first held (tableAt (now table)) (now dues) (now after) (now needs) ⌝ }
-    ensures { λ r. ⌜ CanKeepPost i first held (tableAt (now (table .entry))) (now (dues .entry)) (now (after .entry)) (now (needs .entry)) (now (needs .exit)) r ⌝ }
+    ensures { λ r. ⌜ CanKeepPost i first held (tableAt (now (table .entry))) (now (dues .entry)) (now (after .entry))
+        (now (needs .entry))
+        (now (needs .exit)) r ⌝ }
 {
     let c = i as usize - 1;
     let k = first - 1;
@@ -91,8 +95,11 @@ fn search(
     count: &mut usize,
     left: u64,
 ) -> u64
-    requires { ⌜ SearchPre i first held (tableAt (now table)) (now dues) (now after) (now ids) (now needs) (now best) (now count) ⌝ }
-    ensures { λ r. ⌜ SearchPost i first held (tableAt (now (table .entry))) (now (dues .entry)) (now (after .entry)) (now (ids .entry)) (now (needs .entry)) (now (best .entry)) (now (count .entry)) left (now (ids .exit)) (now (needs .exit)) (now (best .exit)) (now (count .exit)) r ⌝ }
+    requires { ⌜ SearchPre i first held (tableAt (now table)) (now dues) (now after) (now ids) (now needs) (now best)
+        (now count) ⌝ }
+    ensures { λ r. ⌜ SearchPost i first held (tableAt (now (table .entry))) (now (dues .entry)) (now (after .entry))
+        (now (ids .entry)) (now (needs .entry)) (now (best .entry)) (now (count .entry)) left
+        (now (ids .exit)) (now (needs .exit)) (now (best .exit)) (now (count .exit)) r ⌝ }
 {
     if i == 0 {
         return left;
@@ -165,7 +172,8 @@ fn set_bases(
     bytes: &mut [u32; CHUNKS],
 )
     requires { ⌜ PlaceBestPre p first (now ids) (now dues) (now bytes) ⌝ }
-    ensures { λ _. ⌜ KeptIn p (tableAt (now (table .entry))) (drop first (now (ids .entry))) first (now (ids .entry)) (now (dues .exit)) (now (bytes .exit)) ⌝ }
+    ensures { λ _. ⌜ KeptIn p (tableAt (now (table .entry))) (drop first (now (ids .entry))) first (now (ids .entry))
+        (now (dues .exit)) (now (bytes .exit)) ⌝ }
 {
     let mut q: usize = CHUNKS;
     while first < q {
@@ -190,7 +198,8 @@ pub fn best_within(
     bytes: &mut [u32; CHUNKS],
 ) -> Outcome
     requires { ⌜ FindBestPre p (tableAt (now table)) (now after) (now ids) (now dues) (now bytes) ⌝ }
-    ensures { λ r. ⌜ FindBestPost p (tableAt (now (table .entry))) (now (after .entry)) budget r (now (ids .exit)) (now (dues .exit)) (now (bytes .exit)) ⌝ }
+    ensures { λ r. ⌜ FindBestPost p (tableAt (now (table .entry))) (now (after .entry)) budget
+        r (now (ids .exit)) (now (dues .exit)) (now (bytes .exit)) ⌝ }
 {
     let held = job::held_most(p) as usize;
     let mut stack = [0u16; CHUNKS];

@@ -1,6 +1,7 @@
 -- Meaning. Marks counted: document 02, request 7, "take eight marks together as a 64-bit word, and
 -- the odd rest by bytes".
 use Prim.Native.Nat.{ℕ, zero, suc, _+_, _*_, _/_, _%_}
+use mathlib.Core.Path.{_≡_}
 use mathlib.Core.Bool.{cond}
 use mathlib.Core.List.{List, [], _∷_}
 use lib.ListN.{length, take, drop}
@@ -40,3 +41,10 @@ overWords n marks = sum (λ k. wordCount (wordAt marks k) n) (length marks / 8)
 
 unfoldable pub overRest : ℕ → List ℕ → ℕ
 overRest n marks = markCount n (drop (length marks / 8 * 8) marks)
+
+-- What `count_marks` answers.
+pub record CountedMarks (marks : List ℕ) (n r : ℕ) : Type 0 where
+  -- How many marks have layer n, one by one.
+  pub counted : r ≡ markCount n marks
+  -- "For marks of any length every count is the sum over words and rest"
+  pub summed : r ≡ overWords n marks + overRest n marks

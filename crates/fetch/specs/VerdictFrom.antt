@@ -1,25 +1,17 @@
--- Meaning, then its theorems. The verdict of the second checker call (RulesFrom): document 01's,
--- with that call's rule 2; and 21, "p not from 1 to d(C)". Where no row stands before p it is the
--- first call.
-use Prim.Native.Nat.{ℕ, _≤_, _<_}
-use mathlib.Core.Path.{_≡_, refl, ap}
-use mathlib.Core.Bool.{Bool, true, false, not, _&&_, _||_}
+-- Meaning. The verdict of the second checker call (RulesFrom): document 01's, with that call's rule
+-- 2; and 21, "p not from 1 to d(C)". Theorems has what they say, and that where no row stands
+-- before p it is the first call.
+use Prim.Native.Nat.{ℕ}
+use mathlib.Core.Bool.{Bool, not, _&&_, _||_}
 use mathlib.Core.List.{List, [], _∷_}
-use mathlib.Core.Logic.{inl, inr, ⊎-elim, _↔_}
-use native.Mathlib.Omega.{arith}
-use lib.Dec.{T, ltb, eqb, eqb→eq, ltb→lt, lt→ltb}
+use lib.Dec.{ltb, eqb}
 use Rattle.theory_basics.specs.Refusals.{unless}
-use Rattle.theory_basics.specs.Tests.{All, In, all, any}
-use Rattle.theory_basics.specs.lemmas.Refusals.{unless-as}
-use Rattle.theory_basics.specs.lemmas.Tests.{T-and, T-or-iff, all-iff, all-map, allBelow-cong, allTo-cong, and-T, at-row, each-row, eqb-iff, if-iff, not-T-false, same-test, test}
-use Rattle.job.specs.Job.{Job, Layer, Within, chunks, lastDue, layers, size}
-use Rattle.job.specs.Refusal.{within, within-iff}
+use Rattle.theory_basics.specs.Tests.{all}
+use Rattle.job.specs.Job.{Job, lastDue, size}
+use Rattle.job.specs.Refusal.{within}
 use Rattle.job.specs.declared.Programme.{Programme}
-use Rattle.fetch.specs.Rows.{Row, Permuted, bytesIf, bytesOfLayer}
-use Rattle.fetch.specs.Rules.{RowInRange, WholeLayers}
-use Rattle.fetch.specs.RulesFrom.{KeepsFrom, WholeFrom}
-use Rattle.fetch.specs.Verdict.{allLayers, layers-iff, lowerCarried, lowest, lowest-iff, rule1, rule1-iff, rule2, rule2-iff, rule3, rule3-iff, rule4, rule4-iff, rule5, rule5-iff, rule6, rule6-iff, rule7, rule7-iff, verdict}
-use Rattle.fetch.specs.lemmas.Rows.{all-permuted, any-permuted, bytes-none, bytes-permuted, lower-permuted}
+use Rattle.fetch.specs.Rows.{Row, bytesOfLayer}
+use Rattle.fetch.specs.Verdict.{allLayers, lowest, rule1, rule3, rule4, rule5, rule6, rule7}
 
 -- Every row of layer n of chunk i is before p.
 abbrev pub layerBefore : ℕ → List Row → ℕ → ℕ → Bool
@@ -40,136 +32,3 @@ verdictFrom j p marks rows =
 -- 21: "p not from 1 to d(C), in either call".
 abbrev pub slotRefusal : Programme → ℕ → ℕ
 slotRefusal f p = unless 21 (within 1 (lastDue f) p)
-
-pub slot-iff : (f : Programme) (p : ℕ) → (slotRefusal f p ≡ 0) ↔ Within 1 (lastDue f) p
-slot-iff f p = unless-as 21 (within 1 (lastDue f) p) (omega arith) (within-iff 1 (lastDue f) p)
-
--- ---- the tests say what the rules say
-
-pub before-iff :
-    (p : ℕ) (rows : List Row) (i n : ℕ) →
-    T (layerBefore p rows i n) ↔ ((x : Row) → In x rows → x .chunk ≡ i → x .layer ≡ n → x .slot < p)
-before-iff p rows i n =
-    let P : Row → Type 0 = λ x. x .chunk ≡ i → x .layer ≡ n → x .slot < p in
-    let a =
-    all-iff (λ x. not (eqb (x .chunk) i && eqb (x .layer) n) || ltb (x .slot) p) P (λ x.
-    let f = if-iff (eqb (x .chunk) i && eqb (x .layer) n) (ltb (x .slot) p) in (
-      λ t c l. ltb→lt (x .slot) p (f .0 t (T-and (eqb (x .chunk) i) (eqb (x .layer) n) (eqb-iff _ _ .1 c) (eqb-iff _ _ .1 l))),
-      λ g. f .1 (λ t. let u = and-T (eqb (x .chunk) i) (eqb (x .layer) n) t in lt→ltb (x .slot) p (g (eqb→eq _ _ (u .0)) (eqb→eq _ _ (u .1)))),
-    )) rows in
-    (λ t x m. at-row P m (a .0 t), λ f. a .1 (each-row P rows f))
-
-pub rule2-from-iff : (j : Job) (p : ℕ) (rows : List Row) → T (rule2From j p rows) ↔ WholeFrom j p rows
-rule2-from-iff j p rows =
-    let s : ℕ → ℕ → ℕ = bytesOfLayer rows in
-    let a = layers-iff j (wholeFrom j p rows) in
-    let whole : (i n : ℕ) → Bool = λ i n. eqb (s i n) (size j i n) in
-    let short : (i n : ℕ) → Bool = λ i n. ltb (s i n) (size j i n) && layerBefore p rows i n in (
-      λ t i n r.
-          ⊎-elim
-          (λ u. inl (eqb→eq _ _ u))
-          (λ u.
-          inr
-          (⊎-elim
-          (λ v. inl (eqb→eq _ _ v))
-          (λ v.
-          let w = and-T (ltb (s i n) (size j i n)) (layerBefore p rows i n) v in
-          inr (record { short = ltb→lt _ _ (w .0); before = before-iff p rows i n .0 (w .1) }))
-          (T-or-iff (whole i n) (short i n) .0 u)))
-          (T-or-iff (eqb (s i n) 0) (whole i n || short i n) .0 (a .0 t i n r)),
-      λ f.
-          a .1 (λ i n r.
-          T-or-iff (eqb (s i n) 0) (whole i n || short i n) .1
-          (⊎-elim
-          (λ u. inl (eqb-iff _ _ .1 u))
-          (λ u.
-          inr
-          (T-or-iff (whole i n) (short i n) .1
-          (⊎-elim
-          (λ v. inl (eqb-iff _ _ .1 v))
-          (λ v. inr (T-and (ltb (s i n) (size j i n)) (layerBefore p rows i n) (lt→ltb _ _ (v .short)) (before-iff p rows i n .1 (v .before))))
-          u)))
-          (f i n r))),
-    )
-
--- The second call passes a list with its marks if and only if it keeps its rules.
-pub verdict-from-iff : (j : Job) (p : ℕ) (marks : List ℕ) (rows : List Row) → (verdictFrom j p marks rows ≡ 0) ↔ KeepsFrom j p marks rows
-unfolding verdictFrom
-verdict-from-iff j p marks rows =
-    let l = lowest-iff 1 (rule1 j rows ∷ rule2From j p rows ∷ rule3 j rows ∷ rule4 j rows ∷ rule5 j rows ∷ rule6 j rows ∷ rule7 j marks rows ∷ []) (omega arith) in (
-      λ e.
-          let a = l .0 e in
-          record {
-            in-range = rule1-iff j rows .0 (a .0);
-            whole = rule2-from-iff j p rows .0 (a .1 .0);
-            lower = rule3-iff j rows .0 (a .1 .1 .0);
-            within = rule4-iff j rows .0 (a .1 .1 .1 .0);
-            on-time = rule5-iff j rows .0 (a .1 .1 .1 .1 .0);
-            few-held = rule6-iff j rows .0 (a .1 .1 .1 .1 .1 .0);
-            marks-say = rule7-iff j marks rows .0 (a .1 .1 .1 .1 .1 .1 .0);
-          },
-      λ k.
-          l .1 (
-            rule1-iff j rows .1 (k .in-range),
-            (
-              rule2-from-iff j p rows .1 (k .whole),
-              (
-                rule3-iff j rows .1 (k .lower),
-                (
-                  rule4-iff j rows .1 (k .within),
-                  (rule5-iff j rows .1 (k .on-time), (rule6-iff j rows .1 (k .few-held), (rule7-iff j marks rows .1 (k .marks-say), tt))),
-                ),
-              ),
-            ),
-          ),
-    )
-
-rule2-permuted : (j : Job) (p : ℕ) {a b : List Row} → Permuted a b → rule2From j p a ≡ rule2From j p b
-rule2-permuted j p h =
-    allTo-cong (chunks j) _ _ (λ i u v.
-    allBelow-cong (layers j) _ _ (λ n w.
-    let sum = bytes-permuted (λ x. eqb (x .chunk) i && eqb (x .layer) n) h in
-    let every = all-permuted (λ x. not (eqb (x .chunk) i && eqb (x .layer) n) || ltb (x .slot) p) h in
-    rw (sum, every)))
-
--- "Rows may repeat and come in any order": the verdict is the same in each.
-pub order-free-from : (j : Job) (p : ℕ) (marks : List ℕ) (a b : List Row) → Permuted a b → verdictFrom j p marks a ≡ verdictFrom j p marks b
-unfolding verdictFrom
-order-free-from j p marks a b h =
-    let sums : (q : Row → Bool) → bytesIf q a ≡ bytesIf q b = λ q. bytes-permuted q h in
-    let every : (q : Row → Bool) → all q a ≡ all q b = λ q. all-permuted q h in
-    let some : (q : Row → Bool) → any q a ≡ any q b = λ q. any-permuted q h in
-    let lower : (i n : ℕ) → lowerCarried j a i n ≡ lowerCarried j b i n = lower-permuted j h in
-    let two : rule2From j p a ≡ rule2From j p b = rule2-permuted j p h in
-    simp (sums, every, some, lower, two)
-
--- ---- where no row stands before p it is the first call
-
-none-before : (j : Job) (p : ℕ) (rows : List Row) → All (λ x. p ≤ x .slot) rows → rule2From j p rows ≡ rule2 j rows
-none-before j p rows later =
-    let two = rule2-iff j rows in
-    let from = rule2-from-iff j p rows in
-    same-test (rule2From j p rows) (rule2 j rows)
-    (λ t. two .1 (λ i n r. ⊎-elim (λ z. inl z) (⊎-elim (λ w. inr w) (λ s. inl (none i n (s .before)))) (from .0 t i n r)))
-    (λ t. from .1 (λ i n r. ⊎-elim (λ z. inl z) (λ w. inr (inl w)) (two .0 t i n r)))
-  where
-    none : (i n : ℕ) → ((x : Row) → In x rows → x .chunk ≡ i → x .layer ≡ n → x .slot < p) → bytesOfLayer rows i n ≡ 0
-    none i n f =
-        bytes-none (λ x. eqb (x .chunk) i && eqb (x .layer) n) rows (λ x m t.
-        let u = and-T (eqb (x .chunk) i) (eqb (x .layer) n) t in
-        omega (arith, f x m (eqb→eq _ _ (u .0)) (eqb→eq _ _ (u .1)), at-row (λ x. p ≤ x .slot) m later))
-
--- "for p with no rows before it": the same verdict.
-pub no-rows-before : (j : Job) (p : ℕ) (marks : List ℕ) (rows : List Row) → All (λ x. p ≤ x .slot) rows → verdictFrom j p marks rows ≡ verdict j marks rows
-unfolding verdictFrom verdict
-no-rows-before j p marks rows later =
-    ap (λ (b : Bool). lowest 1 (rule1 j rows ∷ b ∷ rule3 j rows ∷ rule4 j rows ∷ rule5 j rows ∷ rule6 j rows ∷ rule7 j marks rows ∷ [])) (none-before j p rows later)
-
--- At slot 1 of any rows: a row before it breaks rule 1 in both.
-pub first-slot : (j : Job) (marks : List ℕ) (rows : List Row) → verdictFrom j 1 marks rows ≡ verdict j marks rows
-unfolding verdictFrom verdict
-first-slot j marks rows =
-    ⊎-elim
-    (λ t. no-rows-before j 1 marks rows (all-map (RowInRange j) (λ x. 1 ≤ x .slot) rows (λ x r. r .slot-low) (rule1-iff j rows .0 t)))
-    (λ t. rw (not-T-false (rule1 j rows) t))
-    (test (rule1 j rows))

@@ -7,9 +7,9 @@ ghost use Prim.Native.Nat.{_+_, _*_, _^_, _≤_, _<_};
 ghost use lib.ListN.{length};
 ghost use lib.Count.{ones};
 ghost use Rattle.fetch.specs.Marks.{bit, withLayer, withoutLayer};
-ghost use Rattle.fetch.specs.Counts.{markCount, wordCount, wordOf, overWords, overRest};
+ghost use Rattle.fetch.specs.Counts.{CountedMarks, wordCount, wordOf, overWords, overRest};
 ghost use Rattle.fetch.specs.lemmas.Counts.{eight};
-ghost use Rattle.fetch.specs.Input.{listRefusal};
+ghost use Rattle.fetch.specs.Slices.{slicesOf, slicesRefusal};
 ghost use Rattle.fetch.specs.VerdictFrom.{slotRefusal};
 
 // Whether bit n of a mark byte is set. A byte has no bit 8 or above.
@@ -125,8 +125,7 @@ fn count_rest(marks: &[u8], n: u8) -> usize
 
 // How many marks have layer n, for marks of any length: eight at once, and the odd rest by bytes.
 pub fn count_marks(marks: &[u8], n: u8) -> usize
-    ensures counted { λ r. ⌜ r ≡ markCount n (now (marks .entry)) ⌝ }
-    ensures summed { λ r. ⌜ r ≡ overWords n (now (marks .entry)) + overRest n (now (marks .entry)) ⌝ }
+    ensures { λ r. ⌜ CountedMarks (now (marks .entry)) n r ⌝ }
 {
     count_words(marks, n) + count_rest(marks, n)
 }
@@ -140,7 +139,9 @@ pub fn list_refusal(
     layers: &[u8],
     bytes: &[u32],
 ) -> u8
-    ensures { λ r. ⌜ r ≡ listRefusal count (now (marks .entry)) (now (slots .entry)) (now (chunks .entry)) (now (layers .entry)) (now (bytes .entry)) ⌝ }
+    ensures { λ r. ⌜ r ≡ slicesRefusal count
+        (slicesOf (now (marks .entry)) (now (slots .entry)) (now (chunks .entry)) (now (layers .entry))
+        (now (bytes .entry))) ⌝ }
 {
     if marks.len() != (count as usize) {
         return 8;

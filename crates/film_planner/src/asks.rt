@@ -2,7 +2,8 @@
 use job::Programme;
 ghost use Rattle.core_ffi.specs.Asks.{Asked};
 ghost use Rattle.core_ffi.specs.Convention.{film};
-ghost use Rattle.live.specs.Answer.{liveInput, pieceSlices, rowSlices};
+ghost use Rattle.live.specs.Answer.{liveInput, pieceSlices};
+ghost use Rattle.fetch.specs.Slices.{rowSlices};
 
 // `live::live` for C.
 #[no_mangle]

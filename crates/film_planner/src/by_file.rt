@@ -6,7 +6,7 @@ ghost use Rattle.core_ffi.specs.Programs.{ConvertedFile, PlanOfFile, ReasonsOfF
 pub extern "C" fn film_plan_file(job: &[u8], out: &mut [u8]) -> u64
     ensures { λ r. ⌜ PlanOfFile (now (job .entry)) (now (out .entry)) r (now (out .exit)) ⌝ }
 {
-    core_ffi::plan_written_number(whole_files::plan_file(job, out))
+    core_ffi::written_number(whole_files::plan_file(job, out))
 }
 
 #[no_mangle]
@@ -20,19 +20,19 @@ pub extern "C" fn film_verdict_files(job: &[u8], plan: &[u8]) -> u64
 pub extern "C" fn film_report_file(job: &[u8], out: &mut [u8]) -> u64
     ensures { λ r. ⌜ ReportOfFile (now (job .entry)) (now (out .entry)) r (now (out .exit)) ⌝ }
 {
-    core_ffi::report_number(whole_files::report_file(job, out))
+    core_ffi::written_number(whole_files::report_file(job, out))
 }
 
 #[no_mangle]
 pub extern "C" fn film_reasons_file(job: &[u8], out: &mut [u8]) -> u64
     ensures { λ r. ⌜ ReasonsOfFile (now (job .entry)) (now (out .entry)) r (now (out .exit)) ⌝ }
 {
-    core_ffi::reasons_number(whole_files::reasons_file(job, out))
+    core_ffi::written_number(whole_files::reasons_file(job, out))
 }
 
 #[no_mangle]
 pub extern "C" fn film_convert_file(job: &[u8], out: &mut [u8]) -> u64
     ensures { λ r. ⌜ ConvertedFile (now (job .entry)) (now (out .entry)) r (now (out .exit)) ⌝ }
 {
-    core_ffi::job_written_number(whole_files::convert_file(job, out))
+    core_ffi::written_number(whole_files::convert_file(job, out))
 }

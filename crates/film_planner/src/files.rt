@@ -1,13 +1,11 @@
 // Job and plan files.
 use job::Programme;
-ghost use mathlib.Core.Path.{_≡_};
 ghost use mathlib.Core.List.{[]};
+ghost use Rattle.fetch.specs.Slices.{slicesOf};
 ghost use Rattle.jobrecords.specs.Reader.{buffers};
 ghost use Rattle.jobrecords.specs.Refusal.{mixed, oneSequence};
-ghost use Rattle.jobfile.specs.Writer.{fileWritten};
-ghost use Rattle.planfile.specs.Calls.{readLent, slicesOf, writeLent};
 ghost use Rattle.core_ffi.specs.Convention.{film};
-ghost use Rattle.core_ffi.specs.Files.{JobReturned, jobWriteAnswer, planReadAnswer, planWriteAnswer};
+ghost use Rattle.core_ffi.specs.Files.{JobReturned, JobWriteReturned, PlanReadReturned, PlanWriteReturned, jobRoom};
 
 // `jobfile::read_job` for C.
 #[no_mangle]
@@ -21,7 +19,16 @@ pub extern "C" fn film_read_job(
     size_bytes: &mut [u32],
     forecast: &mut [u32],
 ) -> u64
-    ensures { λ r. ⌜ JobReturned oneSequence (now (file .entry)) (buffers (now (sizes .entry)) (now («size_chunks» .entry)) (now («size_layers» .entry)) (now («size_bytes» .entry)) (now (forecast .entry))) (now (programme .entry)) (now (lengths .entry)) r (buffers (now (sizes .exit)) (now («size_chunks» .exit)) (now («size_layers» .exit)) (now («size_bytes» .exit)) (now (forecast .exit))) (now (programme .exit)) (now (lengths .exit)) ⌝ }
+    ensures { λ r. ⌜ JobReturned oneSequence (now (file .entry))
+        (jobRoom
+        (buffers (now (sizes .entry)) (now («size_chunks» .entry)) (now («size_layers» .entry))
+        (now («size_bytes» .entry)) (now (forecast .entry)))
+        (now (programme .entry)) (now (lengths .entry)))
+        r
+        (jobRoom
+        (buffers (now (sizes .exit)) (now («size_chunks» .exit)) (now («size_layers» .exit))
+        (now («size_bytes» .exit)) (now (forecast .exit)))
+        (now (programme .exit)) (now (lengths .exit))) ⌝ }
 {
     if !core_ffi::holds_job(programme.len(), lengths.len()) {
         return core_ffi::job_refused(file);
@@ -40,7 +47,14 @@ pub extern "C" fn film_read_mixed_job(
     sizes: &mut [u32],
     forecast: &mut [u32],
 ) -> u64
-    ensures { λ r. ⌜ JobReturned mixed (now (file .entry)) (buffers (now (sizes .entry)) [] [] [] (now (forecast .entry))) (now (programme .entry)) (now (lengths .entry)) r (buffers (now (sizes .exit)) [] [] [] (now (forecast .exit))) (now (programme .exit)) (now (lengths .exit)) ⌝ }
+    ensures { λ r. ⌜ JobReturned mixed (now (file .entry))
+        (jobRoom
+        (buffers (now (sizes .entry)) [] [] [] (now (forecast .entry)))
+        (now (programme .entry)) (now (lengths .entry)))
+        r
+        (jobRoom
+        (buffers (now (sizes .exit)) [] [] [] (now (forecast .exit)))
+        (now (programme .exit)) (now (lengths .exit))) ⌝ }
 {
     if !core_ffi::holds_job(programme.len(), lengths.len()) {
         return core_ffi::mixed_refused(file);
@@ -64,8 +78,10 @@ pub extern "C" fn film_write_job(
     forecast: &[u32],
     out: &mut [u8],
 ) -> u64
-    ensures number { λ r. ⌜ r ≡ jobWriteAnswer (film chunks span delay limit (now (sizes .entry)) (now («size_chunks» .entry)) (now («size_layers» .entry)) (now («size_bytes» .entry)) (now (forecast .entry))) (now (out .entry)) ⌝ }
-    ensures file { λ _. ⌜ now (out .exit) ≡ fileWritten (film chunks span delay limit (now (sizes .entry)) (now («size_chunks» .entry)) (now («size_layers» .entry)) (now («size_bytes» .entry)) (now (forecast .entry))) (now (out .entry)) ⌝ }
+    ensures { λ r. ⌜ JobWriteReturned
+        (film chunks span delay limit (now (sizes .entry)) (now («size_chunks» .entry)) (now («size_layers» .entry))
+        (now («size_bytes» .entry)) (now (forecast .entry)))
+        (now (out .entry)) r (now (out .exit)) ⌝ }
 {
     let p = Programme {
         chunks,
@@ -73,7 +89,7 @@ pub extern "C" fn film_write_job(
         delay,
         limit,
     };
-    core_ffi::job_written_number(jobfile::write_job(
+    core_ffi::written_number(jobfile::write_job(
         p,
         sizes,
         size_chunks,
@@ -103,8 +119,15 @@ pub extern "C" fn film_read_plan(
     row_layers: &mut [u8],
     row_bytes: &mut [u32],
 ) -> u64
-    ensures number { λ r. ⌜ r ≡ planReadAnswer (film chunks span delay limit (now (sizes .entry)) (now («size_chunks» .entry)) (now («size_layers» .entry)) (now («size_bytes» .entry)) (now (forecast .entry))) (now (file .entry)) (slicesOf (now (marks .entry)) (now («row_slots» .entry)) (now («row_chunks» .entry)) (now («row_layers» .entry)) (now («row_bytes» .entry))) ⌝ }
-    ensures lent { λ _. ⌜ slicesOf (now (marks .exit)) (now («row_slots» .exit)) (now («row_chunks» .exit)) (now («row_layers» .exit)) (now («row_bytes» .exit)) ≡ readLent (film chunks span delay limit (now (sizes .entry)) (now («size_chunks» .entry)) (now («size_layers» .entry)) (now («size_bytes» .entry)) (now (forecast .entry))) (now (file .entry)) (slicesOf (now (marks .entry)) (now («row_slots» .entry)) (now («row_chunks» .entry)) (now («row_layers» .entry)) (now («row_bytes» .entry))) ⌝ }
+    ensures { λ r. ⌜ PlanReadReturned
+        (film chunks span delay limit (now (sizes .entry)) (now («size_chunks» .entry)) (now («size_layers» .entry))
+        (now («size_bytes» .entry)) (now (forecast .entry)))
+        (now (file .entry))
+        (slicesOf (now (marks .entry)) (now («row_slots» .entry)) (now («row_chunks» .entry))
+        (now («row_layers» .entry)) (now («row_bytes» .entry)))
+        r
+        (slicesOf (now (marks .exit)) (now («row_slots» .exit)) (now («row_chunks» .exit))
+        (now («row_layers» .exit)) (now («row_bytes» .exit))) ⌝ }
 {
     let p = Programme {
         chunks,
@@ -147,8 +170,12 @@ pub extern "C" fn film_write_plan(
     row_bytes: &[u32],
     out: &mut [u8],
 ) -> u64
-    ensures number { λ r. ⌜ r ≡ planWriteAnswer (film chunks span delay limit (now (sizes .entry)) (now («size_chunks» .entry)) (now («size_layers» .entry)) (now («size_bytes» .entry)) (now (forecast .entry))) (slicesOf (now (marks .entry)) (now («row_slots» .entry)) (now («row_chunks» .entry)) (now («row_layers» .entry)) (now («row_bytes» .entry))) (now (out .entry)) ⌝ }
-    ensures file { λ _. ⌜ now (out .exit) ≡ writeLent (film chunks span delay limit (now (sizes .entry)) (now («size_chunks» .entry)) (now («size_layers» .entry)) (now («size_bytes» .entry)) (now (forecast .entry))) (slicesOf (now (marks .entry)) (now («row_slots» .entry)) (now («row_chunks» .entry)) (now («row_layers» .entry)) (now («row_bytes» .entry))) (now (out .entry)) ⌝ }
+    ensures { λ r. ⌜ PlanWriteReturned
+        (film chunks span delay limit (now (sizes .entry)) (now («size_chunks» .entry)) (now («size_layers» .entry))
+        (now («size_bytes» .entry)) (now (forecast .entry)))
+        (slicesOf (now (marks .entry)) (now («row_slots» .entry)) (now («row_chunks» .entry))
+        (now («row_layers» .entry)) (now («row_bytes» .entry)))
+        (now (out .entry)) r (now (out .exit)) ⌝ }
 {
     let p = Programme {
         chunks,
@@ -156,7 +183,7 @@ pub extern "C" fn film_write_plan(
         delay,
         limit,
     };
-    core_ffi::plan_written_number(planfile::write_plan(
+    core_ffi::written_number(planfile::write_plan(
         p,
         sizes,
         size_chunks,

@@ -2,9 +2,10 @@
 use job::Programme;
 ghost use mathlib.Core.Path.{_≡_};
 ghost use Rattle.fetch.specs.Counts.{wordCount};
+ghost use Rattle.fetch.specs.Slices.{rowSlices, slicesOf};
 ghost use Rattle.planner.specs.Answer.{compared};
-ghost use Rattle.core_ffi.specs.Convention.{answered, film};
-ghost use Rattle.core_ffi.specs.Lists.{bookAnswer, checkAnswer, checkFromAnswer, countAfter, countRefusal, forecastBooked, forecastReleased, releaseAnswer};
+ghost use Rattle.core_ffi.specs.Convention.{film};
+ghost use Rattle.core_ffi.specs.Lists.{BookReturned, CountReturned, ReleaseReturned, checkAnswer, checkFromAnswer};
 ghost use Rattle.core_ffi.specs.Plans.{fourCounts, orderNumber};
 
 // `checker::check` for C.
@@ -25,7 +26,11 @@ pub extern "C" fn film_check(
     row_layers: &[u8],
     row_bytes: &[u32],
 ) -> u64
-    ensures { λ r. ⌜ r ≡ checkAnswer (film chunks span delay limit (now (sizes .entry)) (now («size_chunks» .entry)) (now («size_layers» .entry)) (now («size_bytes» .entry)) (now (forecast .entry))) (now (marks .entry)) (now («row_slots» .entry)) (now («row_chunks» .entry)) (now («row_layers» .entry)) (now («row_bytes» .entry)) ⌝ }
+    ensures { λ r. ⌜ r ≡ checkAnswer
+        (film chunks span delay limit (now (sizes .entry)) (now («size_chunks» .entry)) (now («size_layers» .entry))
+        (now («size_bytes» .entry)) (now (forecast .entry)))
+        (slicesOf (now (marks .entry)) (now («row_slots» .entry)) (now («row_chunks» .entry))
+        (now («row_layers» .entry)) (now («row_bytes» .entry))) ⌝ }
 {
     let p = Programme {
         chunks,
@@ -67,7 +72,12 @@ pub extern "C" fn film_check_from(
     row_layers: &[u8],
     row_bytes: &[u32],
 ) -> u64
-    ensures { λ r. ⌜ r ≡ checkFromAnswer (film chunks span delay limit (now (sizes .entry)) (now («size_chunks» .entry)) (now («size_layers» .entry)) (now («size_bytes» .entry)) (now (forecast .entry))) from (now (marks .entry)) (now («row_slots» .entry)) (now («row_chunks» .entry)) (now («row_layers» .entry)) (now («row_bytes» .entry)) ⌝ }
+    ensures { λ r. ⌜ r ≡ checkFromAnswer
+        (film chunks span delay limit (now (sizes .entry)) (now («size_chunks» .entry)) (now («size_layers» .entry))
+        (now («size_bytes» .entry)) (now (forecast .entry)))
+        from
+        (slicesOf (now (marks .entry)) (now («row_slots» .entry)) (now («row_chunks» .entry))
+        (now («row_layers» .entry)) (now («row_bytes» .entry))) ⌝ }
 {
     let p = Programme {
         chunks,
@@ -109,8 +119,12 @@ pub extern "C" fn film_book(
     row_layers: &[u8],
     row_bytes: &[u32],
 ) -> u64
-    ensures number { λ r. ⌜ r ≡ bookAnswer (film chunks span delay limit (now (sizes .entry)) (now («size_chunks» .entry)) (now («size_layers» .entry)) (now («size_bytes» .entry)) (now (forecast .entry))) (now (marks .entry)) (now («row_slots» .entry)) (now («row_chunks» .entry)) (now («row_layers» .entry)) (now («row_bytes» .entry)) ⌝ }
-    ensures left { λ _. ⌜ now (forecast .exit) ≡ forecastBooked (film chunks span delay limit (now (sizes .entry)) (now («size_chunks» .entry)) (now («size_layers» .entry)) (now («size_bytes» .entry)) (now (forecast .entry))) (now (marks .entry)) (now («row_slots» .entry)) (now («row_chunks» .entry)) (now («row_layers» .entry)) (now («row_bytes» .entry)) ⌝ }
+    ensures { λ r. ⌜ BookReturned
+        (film chunks span delay limit (now (sizes .entry)) (now («size_chunks» .entry)) (now («size_layers» .entry))
+        (now («size_bytes» .entry)) (now (forecast .entry)))
+        (slicesOf (now (marks .entry)) (now («row_slots» .entry)) (now («row_chunks» .entry))
+        (now («row_layers» .entry)) (now («row_bytes» .entry)))
+        r (now (forecast .exit)) ⌝ }
 {
     let p = Programme {
         chunks,
@@ -150,8 +164,12 @@ pub extern "C" fn film_release(
     row_layers: &[u8],
     row_bytes: &[u32],
 ) -> u64
-    ensures number { λ r. ⌜ r ≡ releaseAnswer (film chunks span delay limit (now (sizes .entry)) (now («size_chunks» .entry)) (now («size_layers» .entry)) (now («size_bytes» .entry)) (now (forecast .entry))) (now («row_slots» .entry)) (now («row_chunks» .entry)) (now («row_layers» .entry)) (now («row_bytes» .entry)) ⌝ }
-    ensures left { λ _. ⌜ now (forecast .exit) ≡ forecastReleased (film chunks span delay limit (now (sizes .entry)) (now («size_chunks» .entry)) (now («size_layers» .entry)) (now («size_bytes» .entry)) (now (forecast .entry))) (now («row_slots» .entry)) (now («row_chunks» .entry)) (now («row_layers» .entry)) (now («row_bytes» .entry)) ⌝ }
+    ensures { λ r. ⌜ ReleaseReturned
+        (film chunks span delay limit (now (sizes .entry)) (now («size_chunks» .entry)) (now («size_layers» .entry))
+        (now («size_bytes» .entry)) (now (forecast .entry)))
+        (rowSlices (now («row_slots» .entry)) (now («row_chunks» .entry)) (now («row_layers» .entry))
+        (now («row_bytes» .entry)))
+        r (now (forecast .exit)) ⌝ }
 {
     let p = Programme {
         chunks,
@@ -176,8 +194,7 @@ pub extern "C" fn film_release(
 // A count of marks of any length may pass 2^32, so it stands in a lent slice.
 #[no_mangle]
 pub extern "C" fn film_count_marks(marks: &[u8], n: u8, count: &mut [u64]) -> u64
-    ensures number { λ r. ⌜ r ≡ answered (countRefusal (now (count .entry))) 0 ⌝ }
-    ensures count { λ _. ⌜ now (count .exit) ≡ countAfter n (now (marks .entry)) (now (count .entry)) ⌝ }
+    ensures { λ r. ⌜ CountReturned (now (marks .entry)) n (now (count .entry)) r (now (count .exit)) ⌝ }
 {
     if count.len() < 1 {
         return core_ffi::refused(11);
@@ -198,7 +215,8 @@ pub extern "C" fn film_count_word(word: u64, n: u8) -> u64
 // `planner::compare` for C.
 #[no_mangle]
 pub extern "C" fn film_compare(counts: &[u16], others: &[u16]) -> u64
-    ensures { λ r. ⌜ r ≡ orderNumber (compared (fourCounts (now (counts .entry))) (fourCounts (now (others .entry)))) ⌝ }
+    ensures { λ r. ⌜ r ≡ orderNumber (compared (fourCounts (now (counts .entry))) (fourCounts (now (others .entry))))
+        ⌝ }
 {
     let a = core_ffi::four_counts(counts);
     let b = core_ffi::four_counts(others);

@@ -6,7 +6,8 @@ ghost use Rattle.core_ffi.specs.Meters.{Begun, Sampled, meanNumber, storage};
 // `meter::new` into the caller's storage.
 #[no_mangle]
 pub extern "C" fn film_meter_new(slots: &mut [u16], bytes: &mut [u32], kept: &mut [u8]) -> u64
-    ensures { λ r. ⌜ Begun (storage (now (slots .entry)) (now (bytes .entry)) (now (kept .entry))) r (storage (now (slots .exit)) (now (bytes .exit)) (now (kept .exit))) ⌝ }
+    ensures { λ r. ⌜ Begun (storage (now (slots .entry)) (now (bytes .entry)) (now (kept .entry)))
+        r (storage (now (slots .exit)) (now (bytes .exit)) (now (kept .exit))) ⌝ }
 {
     if !core_ffi::holds_meter(slots.len(), bytes.len(), kept.len()) {
         return core_ffi::refused(11);
@@ -27,7 +28,8 @@ pub extern "C" fn film_meter_take(
     slot: u16,
     sample: u32,
 ) -> u64
-    ensures { λ r. ⌜ Sampled (storage (now (slots .entry)) (now (bytes .entry)) (now (kept .entry))) slot sample r (storage (now (slots .exit)) (now (bytes .exit)) (now (kept .exit))) ⌝ }
+    ensures { λ r. ⌜ Sampled (storage (now (slots .entry)) (now (bytes .entry)) (now (kept .entry))) slot sample
+        r (storage (now (slots .exit)) (now (bytes .exit)) (now (kept .exit))) ⌝ }
 {
     if !core_ffi::holds_meter(slots.len(), bytes.len(), kept.len()) {
         return core_ffi::refused_or_11(core_ffi::sample_refusal(slot, sample));

@@ -23,7 +23,14 @@ pub extern "C" fn film_plan(
     row_bytes: &mut [u32],
     counts: &mut [u16],
 ) -> u64
-    ensures { λ r. ⌜ PlanReturned (film chunks span delay limit (now (sizes .entry)) (now («size_chunks» .entry)) (now («size_layers» .entry)) (now («size_bytes» .entry)) (now (forecast .entry))) (planSlices (now (marks .entry)) (now («row_slots» .entry)) (now («row_chunks» .entry)) (now («row_layers» .entry)) (now («row_bytes» .entry)) (now (counts .entry))) r (planSlices (now (marks .exit)) (now («row_slots» .exit)) (now («row_chunks» .exit)) (now («row_layers» .exit)) (now («row_bytes» .exit)) (now (counts .exit))) ⌝ }
+    ensures { λ r. ⌜ PlanReturned
+        (film chunks span delay limit (now (sizes .entry)) (now («size_chunks» .entry)) (now («size_layers» .entry))
+        (now («size_bytes» .entry)) (now (forecast .entry)))
+        (planSlices (now (marks .entry)) (now («row_slots» .entry)) (now («row_chunks» .entry))
+        (now («row_layers» .entry)) (now («row_bytes» .entry)) (now (counts .entry)))
+        r
+        (planSlices (now (marks .exit)) (now («row_slots» .exit)) (now («row_chunks» .exit))
+        (now («row_layers» .exit)) (now («row_bytes» .exit)) (now (counts .exit))) ⌝ }
 {
     let p = Programme {
         chunks,
@@ -85,7 +92,16 @@ pub extern "C" fn film_replan(
     row_bytes: &mut [u32],
     counts: &mut [u16],
 ) -> u64
-    ensures { λ r. ⌜ ReplanReturned (film chunks span delay limit (now (sizes .entry)) (now («size_chunks» .entry)) (now («size_layers» .entry)) (now («size_bytes» .entry)) (now (forecast .entry))) (replanInput from (now («fetched_slots» .entry)) (now («fetched_chunks» .entry)) (now («fetched_layers» .entry)) (now («fetched_bytes» .entry)) (now (onward .entry))) (planSlices (now (marks .entry)) (now («row_slots» .entry)) (now («row_chunks» .entry)) (now («row_layers» .entry)) (now («row_bytes» .entry)) (now (counts .entry))) r (planSlices (now (marks .exit)) (now («row_slots» .exit)) (now («row_chunks» .exit)) (now («row_layers» .exit)) (now («row_bytes» .exit)) (now (counts .exit))) ⌝ }
+    ensures { λ r. ⌜ ReplanReturned
+        (film chunks span delay limit (now (sizes .entry)) (now («size_chunks» .entry)) (now («size_layers» .entry))
+        (now («size_bytes» .entry)) (now (forecast .entry)))
+        (replanInput from (now («fetched_slots» .entry)) (now («fetched_chunks» .entry))
+        (now («fetched_layers» .entry)) (now («fetched_bytes» .entry)) (now (onward .entry)))
+        (planSlices (now (marks .entry)) (now («row_slots» .entry)) (now («row_chunks» .entry))
+        (now («row_layers» .entry)) (now («row_bytes» .entry)) (now (counts .entry)))
+        r
+        (planSlices (now (marks .exit)) (now («row_slots» .exit)) (now («row_chunks» .exit))
+        (now («row_layers» .exit)) (now («row_bytes» .exit)) (now (counts .exit))) ⌝ }
 {
     let p = Programme {
         chunks,
@@ -155,7 +171,17 @@ pub extern "C" fn film_search(
     counts: &mut [u16],
     walk: &mut [u32],
 ) -> u64
-    ensures { λ r. ⌜ SearchReturned (film chunks span delay limit (now (sizes .entry)) (now («size_chunks» .entry)) (now («size_layers» .entry)) (now («size_bytes» .entry)) (now (forecast .entry))) budget (now (marks .entry)) (now («row_slots» .entry)) (now («row_chunks» .entry)) (now («row_layers» .entry)) (now («row_bytes» .entry)) (now (counts .entry)) (now (walk .entry)) r (now (marks .exit)) (now («row_slots» .exit)) (now («row_chunks» .exit)) (now («row_layers» .exit)) (now («row_bytes» .exit)) (now (counts .exit)) (now (walk .exit)) ⌝ }
+    ensures { λ r. ⌜ SearchReturned
+        (film chunks span delay limit (now (sizes .entry)) (now («size_chunks» .entry)) (now («size_layers» .entry))
+        (now («size_bytes» .entry)) (now (forecast .entry)))
+        budget
+        (planSlices (now (marks .entry)) (now («row_slots» .entry)) (now («row_chunks» .entry))
+        (now («row_layers» .entry)) (now («row_bytes» .entry)) (now (counts .entry)))
+        (now (walk .entry))
+        r
+        (planSlices (now (marks .exit)) (now («row_slots» .exit)) (now («row_chunks» .exit))
+        (now («row_layers» .exit)) (now («row_bytes» .exit)) (now (counts .exit)))
+        (now (walk .exit)) ⌝ }
 {
     let p = Programme {
         chunks,

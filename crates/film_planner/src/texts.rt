@@ -3,7 +3,8 @@ use job::Programme;
 ghost use mathlib.Core.Path.{_≡_};
 ghost use Rattle.wait.specs.Answer.{waitInput};
 ghost use Rattle.core_ffi.specs.Convention.{film};
-ghost use Rattle.core_ffi.specs.Texts.{forecastRead, reasonsAfter, reasonsAnswer, reportAfter, reportAnswer, traceAfter, traceReadAnswer, traceWriteAnswer, waitAnswer};
+ghost use Rattle.core_ffi.specs.Texts.{ReasonsReturned, ReportReturned, TraceReadReturned, TraceWriteReturned};
+ghost use Rattle.core_ffi.specs.Texts.{waitAnswer};
 
 // `report::report` for C.
 #[no_mangle]
@@ -19,8 +20,10 @@ pub extern "C" fn film_report(
     forecast: &[u32],
     out: &mut [u8],
 ) -> u64
-    ensures number { λ r. ⌜ r ≡ reportAnswer (film chunks span delay limit (now (sizes .entry)) (now («size_chunks» .entry)) (now («size_layers» .entry)) (now («size_bytes» .entry)) (now (forecast .entry))) (now (out .entry)) ⌝ }
-    ensures text { λ _. ⌜ now (out .exit) ≡ reportAfter (film chunks span delay limit (now (sizes .entry)) (now («size_chunks» .entry)) (now («size_layers» .entry)) (now («size_bytes» .entry)) (now (forecast .entry))) (now (out .entry)) ⌝ }
+    ensures { λ r. ⌜ ReportReturned
+        (film chunks span delay limit (now (sizes .entry)) (now («size_chunks» .entry)) (now («size_layers» .entry))
+        (now («size_bytes» .entry)) (now (forecast .entry)))
+        (now (out .entry)) r (now (out .exit)) ⌝ }
 {
     let p = Programme {
         chunks,
@@ -28,7 +31,7 @@ pub extern "C" fn film_report(
         delay,
         limit,
     };
-    core_ffi::report_number(report::report(
+    core_ffi::written_number(report::report(
         p,
         sizes,
         size_chunks,
@@ -53,8 +56,10 @@ pub extern "C" fn film_reasons(
     forecast: &[u32],
     out: &mut [u8],
 ) -> u64
-    ensures number { λ r. ⌜ r ≡ reasonsAnswer (film chunks span delay limit (now (sizes .entry)) (now («size_chunks» .entry)) (now («size_layers» .entry)) (now («size_bytes» .entry)) (now (forecast .entry))) (now (out .entry)) ⌝ }
-    ensures lines { λ _. ⌜ now (out .exit) ≡ reasonsAfter (film chunks span delay limit (now (sizes .entry)) (now («size_chunks» .entry)) (now («size_layers» .entry)) (now («size_bytes» .entry)) (now (forecast .entry))) (now (out .entry)) ⌝ }
+    ensures { λ r. ⌜ ReasonsReturned
+        (film chunks span delay limit (now (sizes .entry)) (now («size_chunks» .entry)) (now («size_layers» .entry))
+        (now («size_bytes» .entry)) (now (forecast .entry)))
+        (now (out .entry)) r (now (out .exit)) ⌝ }
 {
     let p = Programme {
         chunks,
@@ -62,7 +67,7 @@ pub extern "C" fn film_reasons(
         delay,
         limit,
     };
-    core_ffi::reasons_number(reasons::reasons(
+    core_ffi::written_number(reasons::reasons(
         p,
         sizes,
         size_chunks,
@@ -76,8 +81,8 @@ pub extern "C" fn film_reasons(
 // `trace::read_trace` for C.
 #[no_mangle]
 pub extern "C" fn film_read_trace(trace: &[u8], slots: usize, forecast: &mut [u32]) -> u64
-    ensures number { λ r. ⌜ r ≡ traceReadAnswer (now (trace .entry)) slots (now (forecast .entry)) ⌝ }
-    ensures forecast { λ _. ⌜ now (forecast .exit) ≡ forecastRead (now (trace .entry)) slots (now (forecast .entry)) ⌝ }
+    ensures { λ r. ⌜ TraceReadReturned
+        (now (trace .entry)) slots (now (forecast .entry)) r (now (forecast .exit)) ⌝ }
 {
     core_ffi::trace_read_number(trace::read_trace(trace, slots, forecast))
 }
@@ -85,10 +90,9 @@ pub extern "C" fn film_read_trace(trace: &[u8], slots: usize, forecast: &mut [u3
 // `trace::write_trace` for C.
 #[no_mangle]
 pub extern "C" fn film_write_trace(forecast: &[u32], out: &mut [u8]) -> u64
-    ensures number { λ r. ⌜ r ≡ traceWriteAnswer (now (forecast .entry)) (now (out .entry)) ⌝ }
-    ensures trace { λ _. ⌜ now (out .exit) ≡ traceAfter (now (forecast .entry)) (now (out .entry)) ⌝ }
+    ensures { λ r. ⌜ TraceWriteReturned (now (forecast .entry)) (now (out .entry)) r (now (out .exit)) ⌝ }
 {
-    core_ffi::trace_written_number(trace::write_trace(forecast, out))
+    core_ffi::written_number(trace::write_trace(forecast, out))
 }
 
 // `wait::wait` for C.
@@ -103,7 +107,9 @@ pub extern "C" fn film_wait(
     size_bytes: &[u32],
     forecast: &[u32],
 ) -> u64
-    ensures { λ r. ⌜ r ≡ waitAnswer (waitInput chunks span limit (now (sizes .entry)) (now («size_chunks» .entry)) (now («size_layers» .entry)) (now («size_bytes» .entry)) (now (forecast .entry))) ⌝ }
+    ensures { λ r. ⌜ r ≡ waitAnswer
+        (waitInput chunks span limit (now (sizes .entry)) (now («size_chunks» .entry)) (now («size_layers» .entry))
+        (now («size_bytes» .entry)) (now (forecast .entry))) ⌝ }
 {
     core_ffi::wait_number(wait::wait(
         chunks,

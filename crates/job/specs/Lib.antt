@@ -1,6 +1,6 @@
 pub mod Job
 pub mod Refusal
 pub mod Input
-pub mod Table
+pub mod Theorems
 pub mod Uneven
 pub mod lemmas

@@ -1,8 +1,7 @@
 -- Theorems. Film with uneven chunks: how many SZs a job can have, chunk 1's own sizes, that chunks
--- are equal exactly if there is no SZ, that then their bases are, and that a call's table of sizes
--- says the job's.
+-- are equal exactly if there is no SZ, and that then their bases are.
 use Prim.Native.Nat.{ℕ, _+_, _*_, _≤_}
-use mathlib.Core.Path.{_≡_, refl, sym, subst, fun-ext, _∙_}
+use mathlib.Core.Path.{_≡_, refl, sym, subst, _∙_}
 use mathlib.Core.List.{List, [], _∷_}
 use mathlib.Core.Logic.{_↔_, inl}
 use native.Mathlib.Omega.{arith}
@@ -10,8 +9,6 @@ use lib.ListN.{length, getD}
 use Rattle.theory_basics.specs.Tests.{All}
 use Rattle.theory_basics.specs.lemmas.Tests.{all-map}
 use Rattle.job.specs.Job.{Job, Override, Named, Layer, Accepted, EqualBases, EqualChunks, chunks, layers, size}
-use Rattle.job.specs.Table.{sizesTable, tableAt}
-use Rattle.job.specs.lemmas.Table.{table-says}
 use Rattle.job.specs.lemmas.Spots.{Spot, spots, few, Other, own-where, own-size, head-size}
 
 -- "A file can hold more SZs than any valid job": at most 1,996.
@@ -40,7 +37,3 @@ equal-chunks-bases j some equal i k u v =
     equal i k 0
     (record { chunk-low = u .low; chunk-high = u .high; layer-in = some })
     (record { chunk-low = v .low; chunk-high = v .high; layer-in = some })
-
--- The table that a call fills has every size of an accepted job, for each chunk and layer.
-pub table-is : (j : Job) → Accepted j → tableAt (sizesTable (j .sizes) (j .overrides)) ≡ size j
-table-is j a = fun-ext (λ i. fun-ext (λ n. table-says j a i n))

@@ -2,4 +2,3 @@ pub mod Greatest
 pub mod Within
 pub mod Run
 pub mod Spots
-pub mod Table

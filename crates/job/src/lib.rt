@@ -1,6 +1,6 @@
 // What a job is, and the checks of a job handed in a direct call: refusals 5, 6, 18 and 7, a
-// function a number. The table of its sizes. A refusal is its number, and 0 is none. An SZ is an
-// element of each of three slices: its chunk, its layer, its size.
+// function a number. A refusal is its number, and 0 is none. An SZ is an element of each of three
+// slices: its chunk, its layer, its size.
 ghost use mathlib.Core.Path.{_≡_};
 ghost use mathlib.Core.Bool.{_&&_};
 ghost use Prim.Native.Nat.{_/_, _≤_, max, min};
@@ -8,10 +8,11 @@ ghost use lib.ListN.{length, getD};
 ghost use Rattle.theory_basics.specs.Tests.{all};
 ghost use Rattle.theory_basics.specs.Refusals.{unless, _orElse_};
 ghost use Rattle.job.specs.Job.{dueSlot, lastDue};
-ghost use Rattle.job.specs.Refusal.{within, filmRefusal, delayRefusal, fieldsRefusal, lastDueRefusal, sizesRefusal, named, sized, comes, overridesRefusal, bytesRefusal, slotsRefusal, forecastRefusal};
+ghost use Rattle.job.specs.Refusal.{within, filmRefusal, delayRefusal, fieldsRefusal, lastDueRefusal};
+ghost use Rattle.job.specs.Refusal.{sizesRefusal, named, sized, comes, overridesRefusal, bytesRefusal};
+ghost use Rattle.job.specs.Refusal.{slotsRefusal, forecastRefusal};
 ghost use Rattle.job.specs.Input.{overridesOf, wholeRefusal, jobInput, jobRefusal};
 ghost use Rattle.job.specs.lemmas.Greatest.{greatest};
-ghost use Rattle.job.specs.Table.{spot, ownSizes, overriddenBy, sizesTable, tableAt};
 
 // The limits of a job, as document 01 and request 8 have them: at most 500 chunks, 4 layers, 3,600
 // slots, 16,777,216 bytes in a slot or a layer.
@@ -76,7 +77,7 @@ pub fn held_most(p: Programme) -> u16
 }
 
 // The layer's own size; 0 for a layer that the job doesn't have.
-fn own_size(sizes: &[u32], layer: usize) -> u32
+pub fn own_size(sizes: &[u32], layer: usize) -> u32
     ensures { λ r. ⌜ r ≡ getD (now (sizes .entry)) layer 0 ⌝ }
 {
     if layer < sizes.len() {
@@ -226,13 +227,13 @@ pub fn forecast_refusal(p: Programme, forecast: &[u32]) -> u8
 }
 
 // The length of the shortest of three slices.
-fn fewest(a: usize, b: usize, c: usize) -> usize
+pub fn fewest(a: usize, b: usize, c: usize) -> usize
     ensures { λ r. ⌜ r ≡ min a (min b c) ⌝ }
 {
     fewer(a, fewer(b, c))
 }
 
-// What is left of a after b, or 0.
+// The smaller of two lengths.
 fn fewer(a: usize, b: usize) -> usize
     ensures { λ r. ⌜ r ≡ min a b ⌝ }
 {
@@ -265,7 +266,9 @@ fn comes_before(c: u16, l: u8, chunk: u16, layer: u8) -> bool
 // An SZ that is in order: its chunk after the first and its layer, both in the job, its size in
 // range and not the layer's own, and it comes after layer l of chunk c, the one before it.
 fn in_order(p: Programme, sizes: &[u32], c: u16, l: u8, chunk: u16, layer: u8, size: u32) -> bool
-    ensures { λ r. ⌜ r ≡ (named p (now (sizes .entry)) (record { chunk = chunk; layer = layer; bytes = size }) && sized (record { chunk = chunk; layer = layer; bytes = size })) && comes c l chunk layer ⌝ }
+    ensures { λ r. ⌜ r ≡ (named p (now (sizes .entry)) (record { chunk = chunk; layer = layer; bytes = size })
+        && sized (record { chunk = chunk; layer = layer; bytes = size }))
+        && comes c l chunk layer ⌝ }
 {
     let n = layer as usize;
     let own = own_size(sizes, n);
@@ -279,7 +282,8 @@ fn in_order(p: Programme, sizes: &[u32], c: u16, l: u8, chunk: u16, layer: u8, s
 
 // 18: an SZ's numbers, in one pass over the three slices.
 pub fn overrides_refusal(p: Programme, sizes: &[u32], cs: &[u16], ls: &[u8], bs: &[u32]) -> u8
-    ensures { λ r. ⌜ r ≡ overridesRefusal p (now (sizes .entry)) (overridesOf (now (cs .entry)) (now (ls .entry)) (now (bs .entry))) ⌝ }
+    ensures { λ r. ⌜ r ≡ overridesRefusal p (now (sizes .entry))
+        (overridesOf (now (cs .entry)) (now (ls .entry)) (now (bs .entry))) ⌝ }
 {
     let n = fewest(cs.len(), ls.len(), bs.len());
     let mut chunk: u16 = 0;
@@ -309,7 +313,9 @@ pub fn refusal(
     size_bytes: &[u32],
     forecast: &[u32],
 ) -> u8
-    ensures { λ r. ⌜ r ≡ jobRefusal (jobInput p (now (sizes .entry)) (now («size_chunks» .entry)) (now («size_layers» .entry)) (now («size_bytes» .entry)) (now (forecast .entry))) ⌝ }
+    ensures { λ r. ⌜ r ≡ jobRefusal
+        (jobInput p (now (sizes .entry)) (now («size_chunks» .entry)) (now («size_layers» .entry))
+        (now («size_bytes» .entry)) (now (forecast .entry))) ⌝ }
 {
     let seven = forecast_refusal(p, forecast);
     let named = overrides_refusal(p, sizes, size_chunks, size_layers, size_bytes);
@@ -320,76 +326,4 @@ pub fn refusal(
         fields_refusal(p),
         or_else(due, or_else(six, or_else(whole, or_else(named, seven)))),
     )
-}
-
-// Where layer n of chunk i stands in the table of sizes.
-fn spot_of(i: u16, n: usize) -> usize
-    requires { ⌜ n ≤ 255 ⌝ }
-    ensures { λ r. ⌜ r ≡ spot i n ⌝ }
-{
-    if i == 0 {
-        return n;
-    }
-    (i as usize - 1) * LAYERS + n
-}
-
-// The layers' own sizes, for 500 chunks.
-fn fill_own(sizes: &[u32], table: &mut SizeTable)
-    ensures { λ _. ⌜ (length (now (table .entry)) ≡ 2000 → now (table .exit) ≡ ownSizes (now (sizes .entry))) ⌝ }
-{
-    let a = own_size(sizes, 0);
-    let b = own_size(sizes, 1);
-    let c = own_size(sizes, 2);
-    let d = own_size(sizes, 3);
-    let mut k: usize = 0;
-    while k < SIZES {
-        let k1 = k + 1;
-        let k2 = k + 2;
-        let k3 = k + 3;
-        table[k] = a;
-        table[k1] = b;
-        table[k2] = c;
-        table[k3] = d;
-        k = k + LAYERS;
-    }
-}
-
-// The SZs, from the last to the first. One that has no place is not written.
-fn write_over(cs: &[u16], ls: &[u8], bs: &[u32], table: &mut SizeTable)
-    ensures { λ _. ⌜ (length (now (table .entry)) ≡ 2000 → now (table .exit) ≡ overriddenBy (overridesOf (now (cs .entry)) (now (ls .entry)) (now (bs .entry))) (now (table .entry))) ⌝ }
-{
-    let mut i = fewest(cs.len(), ls.len(), bs.len());
-    while 0 < i {
-        let k = i - 1;
-        let at = spot_of(cs[k], ls[k] as usize);
-        if at < SIZES {
-            table[at] = bs[k];
-            i = k;
-        } else {
-            i = k;
-        }
-    }
-}
-
-// The table of all sizes, which a call fills once: read it by size_at.
-pub fn fill_sizes(sizes: &[u32], cs: &[u16], ls: &[u8], bs: &[u32], table: &mut SizeTable)
-    ensures { λ _. ⌜ (length (now (table .entry)) ≡ 2000 → now (table .exit) ≡ sizesTable (now (sizes .entry)) (overridesOf (now (cs .entry)) (now (ls .entry)) (now (bs .entry)))) ⌝ }
-{
-    fill_own(sizes, table);
-    write_over(cs, ls, bs, table);
-}
-
-// The bytes of layer n of chunk i, out of the table of all sizes. For an accepted job this is its
-// size, for every chunk and layer.
-pub fn size_at(table: &SizeTable, i: u16, n: usize) -> u32
-    ensures { λ r. ⌜ r ≡ tableAt (now (table .entry)) i n ⌝ }
-{
-    if n < LAYERS {
-        let at = spot_of(i, n);
-        if at < SIZES {
-            return table[at];
-        }
-        return table[n];
-    }
-    0
 }

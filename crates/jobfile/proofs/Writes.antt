@@ -8,12 +8,12 @@ use borrow.Author.Tests.{ne-eqb, le-leb, lt-leb}
 use Rattle.theory_basics.specs.Refusals.{_orElse_}
 use Rattle.theory_basics.specs.lemmas.Refusals.{orElse-none, orElse-some}
 use Rattle.job.specs.Job.{Job, Accepted}
-use Rattle.job.specs.Input.{JobInput, WholeSizes, jobIn, jobRefusal, input-iff, overridesOf}
+use Rattle.job.specs.Input.{JobInput, WholeSizes, jobIn, jobRefusal, overridesOf}
+use Rattle.job.specs.Theorems.{input-iff}
 use Rattle.jobrecords.specs.declared.Record.the-variants.{Pg}
-use Rattle.jobfile.specs.declared.Written.{Written}
-use Rattle.jobfile.specs.declared.Written.the-variants.{Bytes, Refused}
+use Rattle.records.specs.declared.Written.the-variants.{Bytes, Refused}
 use Rattle.jobrecords.specs.Records.{EN, encode}
-use Rattle.jobfile.specs.Writer.{runs, layerRecord, overrideRecord, runRecord, jobFile, longRefusal, shortRefusal, writeRefusal, writeAnswer, fileWritten}
+use Rattle.jobfile.specs.Writer.{runs, layerRecord, overrideRecord, runRecord, jobFile, longRefusal, shortRefusal, writeRefusal, writeAnswer, fileWritten, JobWritePromise}
 use Rattle.jobfile.specs.lemmas.Puts.{Puts, recordsBytes, bytes-append, puts-then, length-puts}
 use Rattle.records.specs.lemmas.Puts.{written-fits}
 use Rattle.jobfile.specs.lemmas.FileLength.{file-length, short-file}
@@ -29,17 +29,12 @@ module _ (h : JobInput) (out : List ℕ) where
   abbrev j : Job
   j = jobIn h
 
-  -- What the writer hands over.
-  pub record WriteOutput (r : Written) (out′ : List ℕ) : Type 0 where
-    pub answer : r ≡ writeAnswer h (length out)
-    pub buffer : out′ ≡ fileWritten h out
-
-  refused : (n : ℕ) → writeRefusal h (length out) ≡ n → (n ≡ 0 → ⊥) → WriteOutput (Refused n) out
+  refused : (n : ℕ) → writeRefusal h (length out) ≡ n → (n ≡ 0 → ⊥) → JobWritePromise h out (Refused n) out
   unfolding writeAnswer fileWritten
-  refused n e some = record { answer = rw (e, ne-eqb n 0 some); buffer = rw (e, ne-eqb n 0 some) }
+  refused n e some = record { answer = rw (e, ne-eqb n 0 some); after = rw (e, ne-eqb n 0 some) }
 
   -- 5, 6, 18 or 7.
-  pub output-refused : (n : ℕ) → n ≡ jobRefusal h → (n ≡ 0 → ⊥) → WriteOutput (Refused n) out
+  pub output-refused : (n : ℕ) → n ≡ jobRefusal h → (n ≡ 0 → ⊥) → JobWritePromise h out (Refused n) out
   output-refused n e some = refused n (orElse-some (jobRefusal h) (longRefusal j orElse shortRefusal j (length out)) (λ y. some (e ∙ y)) ∙ sym e) some
 
   module _ (none : jobRefusal h ≡ 0) where
@@ -62,17 +57,17 @@ module _ (h : JobInput) (out : List ℕ) where
         orElse-none (jobRefusal h) (longRefusal j orElse shortRefusal j (length out)) none
         ∙ orElse-none (longRefusal j) (shortRefusal j (length out)) (rw (le-leb (length (jobFile j)) 65536 (omega (arith, short-file j good))))
 
-    pub output-short : length out < length (jobFile j) → WriteOutput (Refused 11) out
+    pub output-short : length out < length (jobFile j) → JobWritePromise h out (Refused 11) out
     output-short l = refused 11 (by-room ∙ rw (lt-leb (length (jobFile j)) (length out) l)) (λ y. omega arith)
 
-    pub output-file : length (jobFile j) ≤ length out → (out′ : List ℕ) (next : ℕ) → Puts out 0 (jobFile j) out′ next → WriteOutput (Bytes next) out′
+    pub output-file : length (jobFile j) ≤ length out → (out′ : List ℕ) (next : ℕ) → Puts out 0 (jobFile j) out′ next → JobWritePromise h out (Bytes next) out′
     unfolding writeAnswer fileWritten
     output-file l out′ next p =
         let e : writeRefusal h (length out) ≡ 0 = by-room ∙ rw (le-leb (length (jobFile j)) (length out) l) in
         let n : 0 + length (jobFile j) ≡ length (jobFile j) = omega arith in
         record {
           answer = rw (e, p .next-is, n);
-          buffer = rw e (p .out-is ∙ written-fits out 0 (jobFile j) (omega arith) ∙ rw n);
+          after = rw e (p .out-is ∙ written-fits out 0 (jobFile j) (omega arith) ∙ rw n);
         }
 
 -- ---- the whole file, a part at a time

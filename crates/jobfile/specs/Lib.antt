@@ -1,3 +1,5 @@
 pub mod Writer
 pub mod Theorems
+pub mod Arranged
+pub mod Mixed
 pub mod lemmas

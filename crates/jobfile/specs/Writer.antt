@@ -16,8 +16,8 @@ use Rattle.job.specs.Job.{Job, Override}
 use Rattle.job.specs.Input.{JobInput, jobIn, jobRefusal}
 use Rattle.jobrecords.specs.declared.Record.{Record}
 use Rattle.jobrecords.specs.declared.Record.the-variants.{Pg, Ly, Sz, Bw, En}
-use Rattle.jobfile.specs.declared.Written.{Written}
-use Rattle.jobfile.specs.declared.Written.the-variants.{Bytes, Refused}
+use Rattle.records.specs.declared.Written.{Written}
+use Rattle.records.specs.declared.Written.the-variants.{Bytes, Refused}
 use Rattle.jobrecords.specs.Records.{encode}
 use Rattle.jobrecords.specs.Refusal.{format}
 
@@ -86,3 +86,13 @@ writeAnswer h room = cond (eqb (writeRefusal h room) 0) (Bytes (length (jobFile 
 
 unfoldable pub fileWritten : JobInput → List ℕ → List ℕ
 fileWritten h out = lentAfter (writeRefusal h (length out)) (jobFile (jobIn h)) out
+
+-- What `write_job` promises of a job as handed and the buffer that it is lent, with its answer and
+-- the buffer afterwards.
+pub record JobWritePromise (h : JobInput) (out : List ℕ) (r : Written) (out' : List ℕ) : Type 0 where
+  -- The number of bytes, or a refusal's number: "Direct calls without files check 5, 6, 7, .. and a
+  -- writer then 9", with 18 before 7, then 11.
+  pub answer : r ≡ writeAnswer h (length out)
+  -- "The job writer puts PG, the LYs, then one BW per longest run"; what is past the file stays
+  -- unchanged, and on a refusal all of it.
+  pub after : out' ≡ fileWritten h out

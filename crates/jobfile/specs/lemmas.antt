@@ -3,3 +3,5 @@ pub mod FileLength
 pub mod Puts
 pub mod Runs
 pub mod Shape
+pub mod Slices
+pub mod Arranged

@@ -10,18 +10,14 @@ ghost use Rattle.job.specs.Input.{WholeSizes, jobInput, jobIn, overridesOf};
 ghost use Rattle.jobrecords.specs.declared.Record.the-variants.{Pg, Ly, Sz, Bw};
 ghost use Rattle.jobrecords.specs.Records.{b, encode};
 ghost use Rattle.jobrecords.specs.Refusal.{mixed, oneSequence};
-ghost use Rattle.jobrecords.specs.Reader.{buffers, readAnswer, lentRead};
+ghost use Rattle.jobrecords.specs.Reader.{buffers, JobReadPromise};
 ghost use Rattle.jobfile.specs.lemmas.Puts.{Puts, recordsBytes};
-ghost use Rattle.jobfile.specs.Writer.{runs, layerRecord, overrideRecord, runRecord, jobFile, writeAnswer, fileWritten};
+ghost use Rattle.jobfile.specs.Writer.{runs, layerRecord, overrideRecord, runRecord, jobFile};
+ghost use Rattle.jobfile.specs.Writer.{JobWritePromise};
 ghost use Rattle.jobfile.specs.lemmas.Runs.{runEnd};
 use job::Programme;
 use jobrecords::JobRead;
-
-// What writing a job file gives: the number of bytes written, or a refusal.
-pub enum Written {
-    Bytes(usize),
-    Refused(u8),
-}
+use records::Written;
 
 // Reads a job file in one sequence into the lent sizes, SZs and forecast. Refusals: 9, then record
 // by record, 17 between 4 and the ranges, at EN 3, 4, 6, 18, 7; then 11 where a buffer is shorter
@@ -34,12 +30,12 @@ pub fn read_job(
     size_bytes: &mut [u32],
     forecast: &mut [u32],
 ) -> JobRead
-    ensures answer { λ r. ⌜ r ≡ readAnswer oneSequence (now (file .entry)) (buffers (now (sizes .entry)) (now («size_chunks» .entry)) (now («size_layers» .entry)) (now («size_bytes» .entry)) (now (forecast .entry))) ⌝ }
-    ensures sizes { λ r. ⌜ now (sizes .exit) ≡ lentRead oneSequence (now (file .entry)) (buffers (now (sizes .entry)) (now («size_chunks» .entry)) (now («size_layers» .entry)) (now («size_bytes» .entry)) (now (forecast .entry))) .sizes ⌝ }
-    ensures chunks { λ r. ⌜ now («size_chunks» .exit) ≡ lentRead oneSequence (now (file .entry)) (buffers (now (sizes .entry)) (now («size_chunks» .entry)) (now («size_layers» .entry)) (now («size_bytes» .entry)) (now (forecast .entry))) .size-chunks ⌝ }
-    ensures layers { λ r. ⌜ now («size_layers» .exit) ≡ lentRead oneSequence (now (file .entry)) (buffers (now (sizes .entry)) (now («size_chunks» .entry)) (now («size_layers» .entry)) (now («size_bytes» .entry)) (now (forecast .entry))) .size-layers ⌝ }
-    ensures bytes { λ r. ⌜ now («size_bytes» .exit) ≡ lentRead oneSequence (now (file .entry)) (buffers (now (sizes .entry)) (now («size_chunks» .entry)) (now («size_layers» .entry)) (now («size_bytes» .entry)) (now (forecast .entry))) .size-bytes ⌝ }
-    ensures forecast { λ r. ⌜ now (forecast .exit) ≡ lentRead oneSequence (now (file .entry)) (buffers (now (sizes .entry)) (now («size_chunks» .entry)) (now («size_layers» .entry)) (now («size_bytes» .entry)) (now (forecast .entry))) .forecast ⌝ }
+    ensures { λ r. ⌜ JobReadPromise oneSequence (now (file .entry))
+        (buffers (now (sizes .entry)) (now («size_chunks» .entry)) (now («size_layers» .entry))
+        (now («size_bytes» .entry)) (now (forecast .entry)))
+        r
+        (buffers (now (sizes .exit)) (now («size_chunks» .exit)) (now («size_layers» .exit))
+        (now («size_bytes» .exit)) (now (forecast .exit))) ⌝ }
 {
     jobrecords::read_job(
         true,
@@ -56,9 +52,10 @@ pub fn read_job(
 // record by record, at EN 3, 4, 6, 7; then 11 where a buffer is shorter than the job's sizes or
 // slots. On a refusal both buffers stay as they are.
 pub fn read_mixed_job(file: &[u8], sizes: &mut [u32], forecast: &mut [u32]) -> JobRead
-    ensures answer { λ r. ⌜ r ≡ readAnswer mixed (now (file .entry)) (buffers (now (sizes .entry)) [] [] [] (now (forecast .entry))) ⌝ }
-    ensures sizes { λ r. ⌜ now (sizes .exit) ≡ lentRead mixed (now (file .entry)) (buffers (now (sizes .entry)) [] [] [] (now (forecast .entry))) .sizes ⌝ }
-    ensures forecast { λ r. ⌜ now (forecast .exit) ≡ lentRead mixed (now (file .entry)) (buffers (now (sizes .entry)) [] [] [] (now (forecast .entry))) .forecast ⌝ }
+    ensures { λ r. ⌜ JobReadPromise mixed (now (file .entry))
+        (buffers (now (sizes .entry)) [] [] [] (now (forecast .entry)))
+        r
+        (buffers (now (sizes .exit)) [] [] [] (now (forecast .exit))) ⌝ }
 {
     jobrecords::read_job(false, file, sizes, &mut [], &mut [], &mut [], forecast)
 }
@@ -178,7 +175,8 @@ fn count_runs(forecast: &[u32]) -> usize
 // The LYs.
 fn put_layers(out: &mut [u8], at: usize, sizes: &[u32]) -> usize
     requires { ⌜ at + length (recordsBytes (map layerRecord (now sizes))) ≤ length (now out) ⌝ }
-    ensures { λ r. ⌜ Puts (now (out .entry)) at (recordsBytes (map layerRecord (now (sizes .entry)))) (now (out .exit)) r ⌝ }
+    ensures { λ r. ⌜ Puts (now (out .entry)) at (recordsBytes (map layerRecord (now (sizes .entry))))
+        (now (out .exit)) r ⌝ }
 {
     let mut next = at;
     let mut i: usize = 0;
@@ -192,8 +190,11 @@ fn put_layers(out: &mut [u8], at: usize, sizes: &[u32]) -> usize
 // The SZs, handed whole.
 fn put_overrides(out: &mut [u8], at: usize, cs: &[u16], ls: &[u8], bs: &[u32]) -> usize
     requires { ⌜ WholeSizes (now cs) (now ls) (now bs) ⌝ }
-    requires { ⌜ at + length (recordsBytes (map overrideRecord (overridesOf (now cs) (now ls) (now bs)))) ≤ length (now out) ⌝ }
-    ensures { λ r. ⌜ Puts (now (out .entry)) at (recordsBytes (map overrideRecord (overridesOf (now (cs .entry)) (now (ls .entry)) (now (bs .entry))))) (now (out .exit)) r ⌝ }
+    requires { ⌜ at + length (recordsBytes (map overrideRecord (overridesOf (now cs) (now ls) (now bs)))) ≤ length
+        (now out) ⌝ }
+    ensures { λ r. ⌜ Puts (now (out .entry)) at
+        (recordsBytes (map overrideRecord (overridesOf (now (cs .entry)) (now (ls .entry)) (now (bs .entry)))))
+        (now (out .exit)) r ⌝ }
 {
     let mut next = at;
     let mut i: usize = 0;
@@ -208,7 +209,8 @@ fn put_overrides(out: &mut [u8], at: usize, cs: &[u16], ls: &[u8], bs: &[u32]) -
 fn put_runs(out: &mut [u8], at: usize, forecast: &[u32]) -> usize
     requires { ⌜ at + length (recordsBytes (map runRecord (runs (now forecast)))) ≤ length (now out) ⌝ }
     requires { ⌜ length (now forecast) < 65536 ⌝ }
-    ensures { λ r. ⌜ Puts (now (out .entry)) at (recordsBytes (map runRecord (runs (now (forecast .entry))))) (now (out .exit)) r ⌝ }
+    ensures { λ r. ⌜ Puts (now (out .entry)) at (recordsBytes (map runRecord (runs (now (forecast .entry)))))
+        (now (out .exit)) r ⌝ }
 {
     let mut next = at;
     let mut i: usize = 0;
@@ -232,9 +234,17 @@ fn put_job(
     out: &mut [u8],
 ) -> usize
     requires { ⌜ WholeSizes (now «size_chunks») (now «size_layers») (now «size_bytes») ⌝ }
-    requires { ⌜ length (jobFile (jobIn (jobInput p (now sizes) (now «size_chunks») (now «size_layers») (now «size_bytes») (now forecast)))) ≤ length (now out) ⌝ }
+    requires { ⌜ length
+        (jobFile
+        (jobIn (jobInput p (now sizes) (now «size_chunks») (now «size_layers») (now «size_bytes») (now forecast))))
+        ≤ length (now out) ⌝ }
     requires { ⌜ length (now forecast) < 65536 ⌝ }
-    ensures { λ r. ⌜ Puts (now (out .entry)) 0 (jobFile (jobIn (jobInput p (now (sizes .entry)) (now («size_chunks» .entry)) (now («size_layers» .entry)) (now («size_bytes» .entry)) (now (forecast .entry))))) (now (out .exit)) r ⌝ }
+    ensures { λ r. ⌜ Puts (now (out .entry)) 0
+        (jobFile
+        (jobIn
+        (jobInput p (now (sizes .entry)) (now («size_chunks» .entry)) (now («size_layers» .entry))
+        (now («size_bytes» .entry)) (now (forecast .entry)))))
+        (now (out .exit)) r ⌝ }
 {
     let layers = put_programme(out, 0, p);
     let overrides = put_layers(out, layers, sizes);
@@ -255,8 +265,10 @@ pub fn write_job(
     forecast: &[u32],
     out: &mut [u8],
 ) -> Written
-    ensures answer { λ r. ⌜ r ≡ writeAnswer (jobInput p (now (sizes .entry)) (now («size_chunks» .entry)) (now («size_layers» .entry)) (now («size_bytes» .entry)) (now (forecast .entry))) (length (now (out .entry))) ⌝ }
-    ensures buffer { λ r. ⌜ now (out .exit) ≡ fileWritten (jobInput p (now (sizes .entry)) (now («size_chunks» .entry)) (now («size_layers» .entry)) (now («size_bytes» .entry)) (now (forecast .entry))) (now (out .entry)) ⌝ }
+    ensures { λ r. ⌜ JobWritePromise
+        (jobInput p (now (sizes .entry)) (now («size_chunks» .entry)) (now («size_layers» .entry))
+        (now («size_bytes» .entry)) (now (forecast .entry)))
+        (now (out .entry)) r (now (out .exit)) ⌝ }
 {
     let n = job::refusal(p, sizes, size_chunks, size_layers, size_bytes, forecast);
     if n != 0 {

@@ -22,7 +22,7 @@ use Rattle.jobrecords.specs.declared.Progress.{Progress}
 use Rattle.jobrecords.specs.declared.Ending.{Ending}
 use Rattle.jobrecords.specs.declared.Ending.the-variants.{Whole, Broken}
 use Rattle.jobrecords.specs.Refusal.{format, refusalOf, jobOfFile}
-use Rattle.jobrecords.specs.Reader.{Buffers, buffers, roomRefusal, jobAnswer, lentBy, jobReadRefusal, readAnswer, lentRead}
+use Rattle.jobrecords.specs.Reader.{Buffers, buffers, roomRefusal, jobAnswer, lentBy, jobReadRefusal, readAnswer, lentRead, JobReadPromise}
 use Rattle.jobrecords.specs.lemmas.Reading.{counted, jobFrom, Inside, Complete, Refuses, ReadAllPost, roomBy}
 use Rattle.jobrecords.proofs.Uneven.{how-many}
 
@@ -44,35 +44,15 @@ holds n k m a b c d e none =
     record { for-sizes = leb-iff n a .0 (t .0); for-chunks = leb-iff k b .0 (u .0); for-layers = leb-iff k c .0 (v .0); for-bytes = leb-iff k d .0 (w .0); for-forecast = leb-iff m e .0 (w .1) }
 
 module _ (q : Bool) (s : List ℕ) (lent : Buffers) where
-  -- What the reader answers and leaves.
-  pub record ReadInto (r : JobRead) (lent′ : Buffers) : Type 0 where
-    pub answer : r ≡ readAnswer q s lent
-    pub sizes : lent′ .sizes ≡ lentRead q s lent .sizes
-    pub size-chunks : lent′ .size-chunks ≡ lentRead q s lent .size-chunks
-    pub size-layers : lent′ .size-layers ≡ lentRead q s lent .size-layers
-    pub size-bytes : lent′ .size-bytes ≡ lentRead q s lent .size-bytes
-    pub forecast : lent′ .forecast ≡ lentRead q s lent .forecast
-
-  read-into : (r : JobRead) (lent′ : Buffers) → r ≡ readAnswer q s lent → lent′ ≡ lentRead q s lent → ReadInto r lent′
-  read-into r lent′ a e =
-      record {
-        answer = a;
-        sizes = ap (λ (b : Buffers). b .sizes) e;
-        size-chunks = ap (λ (b : Buffers). b .size-chunks) e;
-        size-layers = ap (λ (b : Buffers). b .size-layers) e;
-        size-bytes = ap (λ (b : Buffers). b .size-bytes) e;
-        forecast = ap (λ (b : Buffers). b .forecast) e;
-      }
-
-  refused : (n : ℕ) → jobReadRefusal q s lent ≡ n → (n ≡ 0 → ⊥) → ReadInto (jobRead.Refused n) lent
+  refused : (n : ℕ) → jobReadRefusal q s lent ≡ n → (n ≡ 0 → ⊥) → JobReadPromise q s lent (jobRead.Refused n) lent
   unfolding readAnswer lentRead
-  refused n e some = read-into (jobRead.Refused n) lent (rw (e, ne-eqb n 0 some)) (rw (e, ne-eqb n 0 some))
+  refused n e some = record { answer = rw (e, ne-eqb n 0 some); after = rw (e, ne-eqb n 0 some) }
 
   -- Input refusals come first.
-  by-file : (n : ℕ) → refusalOf q s ≡ n → (n ≡ 0 → ⊥) → ReadInto (jobRead.Refused n) lent
+  by-file : (n : ℕ) → refusalOf q s ≡ n → (n ≡ 0 → ⊥) → JobReadPromise q s lent (jobRead.Refused n) lent
   by-file n e some = refused n (orElse-some (refusalOf q s) (roomRefusal (jobOfFile q s) lent) (λ y. some (sym e ∙ y)) ∙ e) some
 
-  pub read-long : 65536 < length s → ReadInto (jobRead.Refused 9) lent
+  pub read-long : 65536 < length s → JobReadPromise q s lent (jobRead.Refused 9) lent
   unfolding fileRefusal
   read-long l = by-file 9 (rw (lt-leb (length s) 65536 l)) (λ e. omega arith)
 
@@ -81,7 +61,7 @@ module _ (q : Bool) (s : List ℕ) (lent : Buffers) where
     unfolding fileRefusal
     by-records = rw (le-leb (length s) 65536 short)
 
-    pub read-broken : (n : ℕ) → x ≡ Broken n → ReadInto (jobRead.Refused n) lent
+    pub read-broken : (n : ℕ) → x ≡ Broken n → JobReadPromise q s lent (jobRead.Refused n) lent
     read-broken n e = let u : Refuses q s n = rw e at h in by-file n (by-records ∙ u .is) (u .some)
 
     -- A whole job, with sizes and slots in the tables and the SZs in the file.
@@ -106,7 +86,7 @@ module _ (q : Bool) (s : List ℕ) (lent : Buffers) where
             ∙ ap (λ (k : Job). roomRefusal k lent) (sym (complete .job-is))
             ∙ rw (length-take-le (j .layers) z layers-inside, how-many s (j .ends - 9 * j .overrides) (j .overrides), length-take-le (j .slots) f slots-inside) (sym is)
 
-        pub read-short : (n ≡ 0 → ⊥) → ReadInto (jobRead.Refused n) lent
+        pub read-short : (n ≡ 0 → ⊥) → JobReadPromise q s lent (jobRead.Refused n) lent
         read-short some = refused n room-is some
 
         module _ (none : n ≡ 0) where
@@ -116,11 +96,11 @@ module _ (q : Bool) (s : List ℕ) (lent : Buffers) where
           pub read-job :
               (a b c d e : List ℕ) → a ≡ over (take (j .layers) z) (lent .sizes) → b ≡ over (overrideChunks (counted s j)) (lent .size-chunks) → c ≡ over (overrideLayers (counted s j)) (lent .size-layers) →
               d ≡ over (overrideBytes (counted s j)) (lent .size-bytes) → e ≡ over (take (j .slots) f) (lent .forecast) →
-              ReadInto (jobRead.Job (j .programme) (j .layers) (j .overrides) (j .slots)) (buffers a b c d e)
+              JobReadPromise q s lent (jobRead.Job (j .programme) (j .layers) (j .overrides) (j .slots)) (buffers a b c d e)
           unfolding readAnswer lentRead
           read-job a b c d e ea eb ec ed ee =
               let zero = room-is ∙ none in
               let r : JobRead = jobRead.Job (j .programme) (j .layers) (j .overrides) (j .slots) in
               let answer : r ≡ jobAnswer (jobFrom s j z f) = rw (length-take-le (j .layers) z layers-inside, how-many s (j .ends - 9 * j .overrides) (j .overrides), length-take-le (j .slots) f slots-inside) in
               let left : buffers a b c d e ≡ lentBy 0 (jobFrom s j z f) lent = rw (ea, eb, ec, ed, ee) in
-              read-into r (buffers a b c d e) (rw zero (answer ∙ ap jobAnswer (complete .job-is))) (rw zero (left ∙ ap (λ (k : Job). lentBy 0 k lent) (complete .job-is)))
+              record { answer = rw zero (answer ∙ ap jobAnswer (complete .job-is)); after = rw zero (left ∙ ap (λ (k : Job). lentBy 0 k lent) (complete .job-is)) }

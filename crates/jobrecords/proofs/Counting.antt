@@ -18,7 +18,7 @@ use Rattle.records.specs.Fields.{hAt, wAt, marked}
 use Rattle.records.specs.File.{Front, got, none}
 use Rattle.records.specs.lemmas.Reading.{Reads}
 use Rattle.job.specs.Job.{Override}
-use Rattle.job.specs.Refusal.{within-iff}
+use Rattle.job.specs.Theorems.{within-iff}
 use Rattle.jobrecords.specs.declared.Record.{Record}
 use Rattle.jobrecords.specs.declared.Record.the-variants.{Pg, Ly, Sz, Bw, En}
 use Rattle.jobrecords.specs.declared.Progress.{Progress}

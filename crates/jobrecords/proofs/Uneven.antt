@@ -11,7 +11,8 @@ use Rattle.theory_basics.specs.lemmas.Lists.{length-upTo}
 use Rattle.job.specs.declared.Programme.{Programme}
 use Rattle.job.specs.Job.{Override}
 use Rattle.job.specs.Refusal.{overridesRefusal}
-use Rattle.job.specs.Input.{overridesOf, overrideChunks, overrideLayers, overrideBytes, slices-back}
+use Rattle.job.specs.Input.{overridesOf, overrideChunks, overrideLayers, overrideBytes}
+use Rattle.job.specs.Theorems.{slices-back}
 use Rattle.jobrecords.specs.lemmas.Few.{too-many}
 use Rattle.jobrecords.specs.lemmas.Reading.{overrideOn, overridesOn}
 

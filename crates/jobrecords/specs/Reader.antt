@@ -3,6 +3,7 @@
 -- "11. A lent buffer is shorter than the whole result, after all input refusals. In a longer one
 -- the bytes past the result stay unchanged".
 use Prim.Native.Nat.{ℕ, _+_}
+use mathlib.Core.Path.{_≡_}
 use mathlib.Core.Bool.{Bool, cond, _&&_}
 use mathlib.Core.List.{List}
 use lib.ListN.{length, drop}
@@ -77,3 +78,12 @@ module _ (sequenced : Bool) (s : List ℕ) (lent : Buffers) where
   -- The lent buffers afterwards.
   unfoldable pub lentRead : Buffers
   lentRead = lentBy jobReadRefusal (jobOfFile sequenced s) lent
+
+-- What `read_job` promises of a file and the buffers that it is lent, with its answer and the
+-- buffers afterwards.
+pub record JobReadPromise (sequenced : Bool) (file : List ℕ) (lent : Buffers) (r : JobRead) (lent' : Buffers) : Type 0 where
+  -- The job, or a refusal's number: those of the file first, and "11. A lent buffer is shorter than
+  -- the whole result, after all input refusals".
+  pub answer : r ≡ readAnswer sequenced file lent
+  -- "In a longer one the bytes past the result stay unchanged"; on a refusal all of them.
+  pub after : lent' ≡ lentRead sequenced file lent

@@ -67,7 +67,8 @@ isRunOf bytes En = false
 
 -- Whether a record may stand after the record q before it: PG first and only first; LY after PG or
 -- LY; SZ after these or an SZ; BW after any of them, but not after a run of the same bytes. EN is
--- never out of sequence: what is lacking there has its own number.
+-- never out of sequence: what is lacking there has its own number. Order has this a line a pair
+-- (`Follows`, `follows-iff`).
 abbrev pub follows : Record → Record → Bool
 follows q (Pg p) = eqb (place q) 0
 follows q (Ly size) = within 1 2 (place q)

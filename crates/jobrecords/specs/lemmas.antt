@@ -2,6 +2,7 @@ pub mod Clean
 pub mod Exact
 pub mod Few
 pub mod Joined
+pub mod Lent
 pub mod Mixed
 pub mod Reading
 pub mod Sequence

@@ -14,8 +14,11 @@ ghost use Rattle.job.specs.Refusal.{within, overridesRefusal};
 ghost use Rattle.job.specs.Input.{overrideChunks, overrideLayers, overrideBytes};
 ghost use Rattle.jobrecords.specs.Records.{front, isEnd};
 ghost use Rattle.jobrecords.specs.Refusal.{layerFault, runFault};
-ghost use Rattle.jobrecords.specs.lemmas.Reading.{noRecords, readWhole, lastMark, runFollows, faultAfter, overridesOn, endRefusal, endedBy, readRefusalOf, endRefusalOf, Inside, Sized, Room, Fine, TakeRecordPost, OneStepPre, OneStepPost, ReadAllPost, roomBy};
-ghost use Rattle.jobrecords.specs.Reader.{readFront, readAt, buffers, readAnswer, lentRead};
+ghost use Rattle.jobrecords.specs.lemmas.Reading.{noRecords, readWhole, lastMark, runFollows, faultAfter};
+ghost use Rattle.jobrecords.specs.lemmas.Reading.{overridesOn, endRefusal, endedBy, readRefusalOf, endRefusalOf};
+ghost use Rattle.jobrecords.specs.lemmas.Reading.{Inside, Sized, Room, Fine, TakeRecordPost, OneStepPre};
+ghost use Rattle.jobrecords.specs.lemmas.Reading.{OneStepPost, ReadAllPost, roomBy};
+ghost use Rattle.jobrecords.specs.Reader.{readFront, readAt, buffers, JobReadPromise};
 use job::MOST_BYTES;
 use job::OVERRIDES;
 use job::Programme;
@@ -234,9 +237,12 @@ fn run_fault(slots: usize, count: u16, bytes: u32) -> u8
 fn gather(file: &[u8], from: usize, n: usize, cs: &mut [u16], ls: &mut [u8], bs: &mut [u32])
     requires { ⌜ from + 9 * n ≤ length (now file) ⌝ }
     requires { ⌜ (n ≤ length (now cs)) × (n ≤ length (now ls)) × (n ≤ length (now bs)) ⌝ }
-    ensures chunks { λ _. ⌜ now (cs .exit) ≡ over (overrideChunks (overridesOn (now (file .entry)) from n)) (now (cs .entry)) ⌝ }
-    ensures layers { λ _. ⌜ now (ls .exit) ≡ over (overrideLayers (overridesOn (now (file .entry)) from n)) (now (ls .entry)) ⌝ }
-    ensures bytes { λ _. ⌜ now (bs .exit) ≡ over (overrideBytes (overridesOn (now (file .entry)) from n)) (now (bs .entry)) ⌝ }
+    ensures chunks { λ _. ⌜ now (cs .exit) ≡ over (overrideChunks (overridesOn (now (file .entry)) from n))
+        (now (cs .entry)) ⌝ }
+    ensures layers { λ _. ⌜ now (ls .exit) ≡ over (overrideLayers (overridesOn (now (file .entry)) from n))
+        (now (ls .entry)) ⌝ }
+    ensures bytes { λ _. ⌜ now (bs .exit) ≡ over (overrideBytes (overridesOn (now (file .entry)) from n))
+        (now (bs .entry)) ⌝ }
 {
     let mut i: usize = 0;
     while i < n {
@@ -396,7 +402,8 @@ fn take_record(
     requires { ⌜ Room j (now sizes) (now slots) ⌝ }
     requires { ⌜ 9 * j .overrides ≤ j .ends ⌝ }
     requires { ⌜ Fine j «record» ⌝ }
-    ensures { λ r. ⌜ TakeRecordPost j (now (sizes .entry)) (now (slots .entry)) «record» next r (now (sizes .exit)) (now (slots .exit)) ⌝ }
+    ensures { λ r. ⌜ TakeRecordPost j (now (sizes .entry)) (now (slots .entry)) «record» next
+        r (now (sizes .exit)) (now (slots .exit)) ⌝ }
 {
     let n = j.layers;
     let overrides = j.overrides;
@@ -617,12 +624,12 @@ pub fn read_job(
     size_bytes: &mut [u32],
     forecast: &mut [u32],
 ) -> JobRead
-    ensures answer { λ r. ⌜ r ≡ readAnswer sequenced (now (file .entry)) (buffers (now (sizes .entry)) (now («size_chunks» .entry)) (now («size_layers» .entry)) (now («size_bytes» .entry)) (now (forecast .entry))) ⌝ }
-    ensures sizes { λ r. ⌜ now (sizes .exit) ≡ lentRead sequenced (now (file .entry)) (buffers (now (sizes .entry)) (now («size_chunks» .entry)) (now («size_layers» .entry)) (now («size_bytes» .entry)) (now (forecast .entry))) .sizes ⌝ }
-    ensures chunks { λ r. ⌜ now («size_chunks» .exit) ≡ lentRead sequenced (now (file .entry)) (buffers (now (sizes .entry)) (now («size_chunks» .entry)) (now («size_layers» .entry)) (now («size_bytes» .entry)) (now (forecast .entry))) .size-chunks ⌝ }
-    ensures layers { λ r. ⌜ now («size_layers» .exit) ≡ lentRead sequenced (now (file .entry)) (buffers (now (sizes .entry)) (now («size_chunks» .entry)) (now («size_layers» .entry)) (now («size_bytes» .entry)) (now (forecast .entry))) .size-layers ⌝ }
-    ensures bytes { λ r. ⌜ now («size_bytes» .exit) ≡ lentRead sequenced (now (file .entry)) (buffers (now (sizes .entry)) (now («size_chunks» .entry)) (now («size_layers» .entry)) (now («size_bytes» .entry)) (now (forecast .entry))) .size-bytes ⌝ }
-    ensures forecast { λ r. ⌜ now (forecast .exit) ≡ lentRead sequenced (now (file .entry)) (buffers (now (sizes .entry)) (now («size_chunks» .entry)) (now («size_layers» .entry)) (now («size_bytes» .entry)) (now (forecast .entry))) .forecast ⌝ }
+    ensures { λ r. ⌜ JobReadPromise sequenced (now (file .entry))
+        (buffers (now (sizes .entry)) (now («size_chunks» .entry)) (now («size_layers» .entry))
+        (now («size_bytes» .entry)) (now (forecast .entry)))
+        r
+        (buffers (now (sizes .exit)) (now («size_chunks» .exit)) (now («size_layers» .exit))
+        (now («size_bytes» .exit)) (now (forecast .exit))) ⌝ }
 {
     if FILE_BYTES < file.len() {
         return JobRead::Refused(9);

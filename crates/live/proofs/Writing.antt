@@ -13,7 +13,7 @@ use Rattle.theory_basics.specs.lemmas.Refusals.{orElse-none, orElse-some}
 use Rattle.theory_basics.specs.lemmas.Tests.{tests, true-T}
 use Rattle.job.specs.Input.{JobInput, jobIn}
 use Rattle.job.specs.Job.{Accepted, chunks, jobOf}
-use Rattle.job.specs.Table.{sizesTable, tableAt}
+use Rattle.core_sizes.specs.Table.{sizesTable, tableAt}
 use Rattle.theory_plan.specs.Own.{Piece}
 use Rattle.theory_replan.specs.Refusal.{fetchedKept}
 use Rattle.theory_live.specs.Statement.{pieceBytes, pieceChunk, pieceLayer}

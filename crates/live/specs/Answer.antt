@@ -11,7 +11,8 @@ use Rattle.theory_basics.specs.Refusals.{_orElse_, unless}
 use Rattle.job.specs.Input.{JobInput, jobIn, jobRefusal}
 use Rattle.job.specs.Job.{Job, forecast, lastSlot}
 use Rattle.fetch.specs.Input.{listRefusal}
-use Rattle.fetch.specs.Rows.{Row, rowsOf}
+use Rattle.fetch.specs.Rows.{Row}
+use Rattle.fetch.specs.Slices.{RowSlices, rowsIn}
 use Rattle.theory_plan.specs.Own.{Piece}
 use Rattle.theory_replan.specs.Statement.{Acceptable, joined}
 use Rattle.theory_live.specs.Refusal.{liveRefusal}
@@ -20,16 +21,6 @@ use Rattle.live.specs.declared.Answer.the-variants.{Pieces, Refused}
 use Rattle.live.specs.declared.Answer.{Answer}
 
 -- ---- what is handed and lent
-
--- The rows fetched, in four slices.
-pub record RowSlices : Type 0 where
-  pub slots : List ℕ
-  pub chunks : List ℕ
-  pub layers : List ℕ
-  pub bytes : List ℕ
-
-abbrev pub rowSlices : (slots chunks layers bytes : List ℕ) → RowSlices
-rowSlices slots chunks layers bytes = record { slots = slots; chunks = chunks; layers = layers; bytes = bytes }
 
 -- The job, the slot p, the rows fetched before it, and a rate in bytes a slot. The job's forecast
 -- before p says what those slots could carry; from p on it is not used.
@@ -54,7 +45,7 @@ pieceSlices chunks layers bytes = record { chunks = chunks; layers = layers; byt
 -- ---- the result
 
 abbrev pub fetched : LiveInput → List Row
-fetched i = rowsOf (i .rows .slots) (i .rows .chunks) (i .rows .layers) (i .rows .bytes)
+fetched i = rowsIn (i .rows)
 
 -- The asks of the slot at the rate.
 abbrev pub pieces : LiveInput → List Piece

@@ -9,7 +9,8 @@ use lib.ListN.{length}
 use Rattle.theory_basics.specs.Refusals.{_orElse_}
 use Rattle.theory_basics.specs.lemmas.Refusals.{orElse-iff, orElse-none, orElse-some}
 use Rattle.theory_basics.specs.lemmas.Tests.{test}
-use Rattle.job.specs.Input.{input-iff, jobIn, jobRefusal}
+use Rattle.job.specs.Input.{jobIn, jobRefusal}
+use Rattle.job.specs.Theorems.{input-iff}
 use Rattle.job.specs.Job.{Accepted, forecast, lastSlot}
 use Rattle.fetch.specs.Input.{listRefusal}
 use Rattle.fetch.specs.Rows.{Row}

@@ -11,9 +11,10 @@ ghost use Prim.Native.Nat.{_-_};
 ghost use lib.ListN.{drop};
 ghost use lib.Dec.{leb};
 ghost use Rattle.job.specs.Input.{jobInput};
-ghost use Rattle.job.specs.Table.{tableAt};
-ghost use Rattle.live.specs.Answer.{liveInput, LivePromise, pieceSlices, rowSlices};
+ghost use Rattle.core_sizes.specs.Table.{tableAt};
+ghost use Rattle.live.specs.Answer.{liveInput, LivePromise, pieceSlices};
 ghost use Rattle.live.specs.lemmas.Writing.{WritePiecesPre, WritePiecesPost};
+ghost use Rattle.fetch.specs.Slices.{rowSlices};
 
 // How many pieces are asked, or the refusal's number.
 pub enum Answer {
@@ -150,7 +151,7 @@ pub fn live(
     let mut left = [unset; SIZES];
     let mut begun = [0u8; CHUNKS];
     let mut whole = [0u8; CHUNKS];
-    job::fill_sizes(sizes, size_chunks, size_layers, size_bytes, &mut table);
+    core_sizes::fill_sizes(sizes, size_chunks, size_layers, size_bytes, &mut table);
     let kept = core_replan_input::gather(
         p,
         &table,

@@ -1,6 +1,6 @@
 -- Theorems. The refusals and the forecast of the meter at their edges, by computation on the
 -- definitions that the public contracts cite.
-use Prim.Native.Nat.{ℕ}
+use Prim.Native.Nat.{ℕ, _*_}
 use mathlib.Core.Path.{_≡_, refl}
 use mathlib.Core.List.{[], _∷_, _++_}
 use native.Mathlib.Omega.{arith}
@@ -9,7 +9,7 @@ use Rattle.meter.specs.declared.Meter.{Meter}
 use Rattle.meter.specs.declared.Answer.the-variants.{Bytes, Refused}
 use Rattle.meter.specs.Meter.{empty, taken}
 use Rattle.meter.specs.Forecast.{forecastOf, answerOf}
-use Rattle.meter.specs.Harmonic.{NotAbove}
+use Rattle.meter.specs.Harmonic.{NotAbove, product, quotients}
 
 -- A meter that keeps one sample of 9 bytes in slot 5.
 abbrev pub one : Meter
@@ -88,10 +88,15 @@ pub far-apart-forecast : answerOf far-apart ≡ Bytes 9
 unfolding answerOf forecastOf
 far-apart-forecast = refl
 
+-- ---- the exact mean of 2, 3 and 6 bytes is 3
+
+pub worked : (quotients (2 ∷ 3 ∷ 6 ∷ []) ≡ 36) × (3 * product (2 ∷ 3 ∷ 6 ∷ []) ≡ 3 * 36)
+worked = (refl, refl)
+
 -- ---- one byte above the mean
 
 -- Of 15,000,000 and 10,000,100 bytes the exact mean is a little below 12,000,072, which shares
 -- rounded down would forecast.
 pub just-below : (forecastOf (15000000 ∷ 10000100 ∷ []) ≡ 12000071) × (NotAbove 12000072 (15000000 ∷ 10000100 ∷ []) → ⊥)
 unfolding forecastOf
-just-below = (refl, λ h. omega (arith, h))
+just-below = (refl, λ h. omega (arith, h .at-most))

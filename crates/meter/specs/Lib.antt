@@ -3,4 +3,5 @@ pub mod Forecast
 pub mod Harmonic
 pub mod Edges
 pub mod Promises
+pub mod Kept
 pub mod lemmas

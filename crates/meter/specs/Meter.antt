@@ -2,6 +2,7 @@
 -- 13. A meter means a list of samples, the newest last. The struct stores that list in its first
 -- cells.
 use Prim.Native.Nat.{ℕ, _-_, _≤_, _<_}
+use mathlib.Core.Path.{_≡_}
 use mathlib.Core.Bool.{Bool, true, _&&_, cond}
 use mathlib.Core.List.{List, [], _∷_, _++_, map}
 use lib.ListN.{length, getD, drop, replicate}
@@ -107,3 +108,10 @@ taken m slot bytes =
     let x = sample slot bytes in
     let n = takeRefusal l x in
     record { code = n; meter = cond (eqb n 0) (storing (with-sample l x) m) m }
+
+-- What `update` promises of a lent meter and a sample, with its answer and the meter afterwards.
+pub record Updated (m : Meter) (slot bytes r : ℕ) (m' : Meter) : Type 0 where
+  -- 0, or the refusal's number.
+  pub code : r ≡ taken m slot bytes .code
+  -- "The meter lent by the link reader is brought up to date in its own storage."
+  pub meter : m' ≡ taken m slot bytes .meter

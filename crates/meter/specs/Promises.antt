@@ -17,8 +17,8 @@ use Rattle.meter.specs.declared.Meter.{Meter}
 use Rattle.meter.specs.declared.Answer.the-variants.{Bytes, Refused}
 use Rattle.meter.specs.Meter.{Sample, sample, samplesOf, empty, SampleInRange, inRange, lastSampleSlot, InOrder, inOrder, lastTen, sampleRefusal, meterRefusal, lateRefusal, takeRefusal, with-sample, taken}
 use Rattle.meter.specs.Forecast.{bytesOf, isZero, meanOf, forecastOf, meterForecastRefusal, answerOf}
-use Rattle.meter.specs.Harmonic.{product, others, NotAbove, WholePart}
-use Rattle.meter.specs.lemmas.Mean.{mean-high, mean-some, mean-not-above, mean-near, whole-part, others-pos, zero-in, counts, one-less-at-most}
+use Rattle.meter.specs.Harmonic.{product, NotAbove, WholePart}
+use Rattle.meter.specs.lemmas.Mean.{others, of-whole, under-not-above, whole-of, mean-high, mean-some, mean-not-above, mean-near, whole-part, others-pos, zero-in, counts, one-less-at-most}
 use Rattle.meter.specs.lemmas.Steady.{power-steady, other-steady}
 use Rattle.meter.specs.lemmas.Order.{in-range-iff, in-order-iff, ten-first, then-after, Fine, fine-snoc, last-ten-in-order, stored-samples}
 
@@ -139,7 +139,7 @@ forecast-says l o some =
     record {
       zero-if = λ i. refl;
       mean-or-one-less = λ n. absurd (n i);
-      never-more = omega arith;
+      never-more = record { zero-if = λ i. refl; at-most = omega arith };
       some-if = λ n. absurd (n i);
       high = omega arith;
     })
@@ -149,8 +149,8 @@ forecast-says l o some =
     let not-more = mean-not-above bs some a in
     record {
       zero-if = λ i. absurd (T-not (any isZero bs) t (any-row isZero i tt));
-      mean-or-one-less = λ n h w. one-less-at-most bs h (meanOf bs) w not-more (mean-near bs some a);
-      never-more = not-more;
+      mean-or-one-less = λ n h w. one-less-at-most bs h (meanOf bs) (of-whole bs h a w) not-more (mean-near bs some a);
+      never-more = under-not-above bs (meanOf bs) a not-more;
       some-if = λ n. mean-some bs some a;
       high = mean-high bs some a;
     })
@@ -180,7 +180,7 @@ pub has-whole-part : (l : List Sample) → InOrder l → 0 < length l → (In 0 
 has-whole-part l o some n =
     let bs = bytesOf l in
     let a = counts l (o .each) (⊎-elim (λ t. absurd (n (zero-in bs t))) (λ t. t) (test (any isZero bs))) in
-    (length bs * product bs / others bs, whole-part bs (others-pos bs (omega (arith, length-map l (λ x. x .bytes))) a))
+    (length bs * product bs / others bs, whole-of bs (length bs * product bs / others bs) a (whole-part bs (others-pos bs (omega (arith, length-map l (λ x. x .bytes))) a)))
 
 -- ---- a steady link, whose k samples have b bytes each
 

@@ -18,8 +18,9 @@ use Rattle.records.specs.File.{fileRefusal}
 use Rattle.job.specs.Job.{chunks}
 use Rattle.job.specs.Input.{JobInput, jobIn, jobRefusal}
 use Rattle.fetch.specs.Rows.{Row}
+use Rattle.fetch.specs.Slices.{ListSlices, slicesOf, room}
 use Rattle.planfile.specs.PlanFile.{format, planIn}
-use Rattle.planfile.specs.Calls.{ListSlices, slicesOf, room, planReadRefusal, readAnswer, readLent}
+use Rattle.planfile.specs.Calls.{PlanReadPromise, planReadRefusal}
 use Rattle.planfile.specs.lemmas.Scan.{answerOf, markOn, rowOn, Laid, FileRowsPost, filled}
 use Rattle.planfile.specs.lemmas.Writing.{map-upTo}
 use Rattle.planfile.specs.declared.PlanRead.{PlanRead}
@@ -68,17 +69,14 @@ pub record MayCopy (count rows : ℕ) (file : List ℕ) (lent : ListSlices) : Ty
   pub for-bytes : rows ≤ length (lent .bytes)
   pub inside : 5 * count + 11 * rows ≤ length file
 
-abbrev pub PlanReadOutput : JobInput → List ℕ → ListSlices → PlanRead → ListSlices → Type 0
-PlanReadOutput h file lent a after = (a ≡ readAnswer h file lent) × (after ≡ readLent h file lent)
-
 module _ (h : JobInput) (file : List ℕ) (lent : ListSlices) (r : ℕ) (e : r ≡ jobRefusal h) where
   abbrev count : ℕ
   count = chunks (jobIn h)
 
-  refuses : (n : ℕ) → (n ≡ 0 → ⊥) → planReadRefusal h file lent ≡ n → PlanReadOutput h file lent (Refused n) lent
-  refuses n p q = (rw (q, ne-eqb n 0 p), rw (q, ne-eqb n 0 p))
+  refuses : (n : ℕ) → (n ≡ 0 → ⊥) → planReadRefusal h file lent ≡ n → PlanReadPromise h file lent (Refused n) lent
+  refuses n p q = record { answer = rw (q, ne-eqb n 0 p); after = rw (q, ne-eqb n 0 p) }
 
-  pub job-refused : (r ≡ 0 → ⊥) → PlanReadOutput h file lent (Refused r) lent
+  pub job-refused : (r ≡ 0 → ⊥) → PlanReadPromise h file lent (Refused r) lent
   unfolding planReadRefusal
   job-refused n = refuses r n (rw (← e) (orElse-some r (fileRefusal (format count) file orElse unless 11 (room lent count (length (planIn count file .rows)))) n))
 
@@ -87,7 +85,7 @@ module _ (h : JobInput) (file : List ℕ) (lent : ListSlices) (r : ℕ) (e : r �
     unfolding planReadRefusal
     from-file = rw (← e, z)
 
-    pub file-refused : (n : ℕ) → a ≡ Refused n → PlanReadOutput h file lent a lent
+    pub file-refused : (n : ℕ) → a ≡ Refused n → PlanReadPromise h file lent a lent
     file-refused n q =
         let f = fileRefusal (format count) file in
         let u = answer-refused f (length (planIn count file .rows)) n (sym q ∙ d .answer) in
@@ -117,20 +115,22 @@ module _ (h : JobInput) (file : List ℕ) (lent : ListSlices) (r : ℕ) (e : r �
               inside = rw (accepted .1) (laid .inside);
             }
 
-        pub short : b ≡ false → PlanReadOutput h file lent (Refused 11) lent
+        pub short : b ≡ false → PlanReadPromise h file lent (Refused 11) lent
         short t = refuses 11 (λ w. omega arith) (only-room ∙ rw (sym s ∙ t))
 
-        pub whole : b ≡ true → (after : ListSlices) → after ≡ filledAll count file n lent → PlanReadOutput h file lent (Rows n) after
+        pub whole : b ≡ true → (after : ListSlices) → after ≡ filledAll count file n lent → PlanReadPromise h file lent (Rows n) after
         whole t after filled-is =
             let none : planReadRefusal h file lent ≡ 0 = only-room ∙ rw (sym s ∙ t) in
             let plan = planIn count file in
-            let rows : plan .rows ≡ upTo (rowOn file count) n = rw (accepted .1) (laid .rows-are) in (
-              rw (none, ← accepted .1),
-              filled-is
+            let rows : plan .rows ≡ upTo (rowOn file count) n = rw (accepted .1) (laid .rows-are) in
+            record {
+              answer = rw (none, ← accepted .1);
+              after =
+                  filled-is
                   ∙ rw none (same-slices
                   (over (markOn file) count (plan .marks) (lent .marks) (laid .marks-are))
                   (over (λ i. rowOn file count i .slot) n (map (λ x. x .slot) (plan .rows)) (lent .slots) (ap (map (λ (x : Row). x .slot)) rows ∙ map-upTo (λ x. x .slot) (rowOn file count) n))
                   (over (λ i. rowOn file count i .chunk) n (map (λ x. x .chunk) (plan .rows)) (lent .chunks) (ap (map (λ (x : Row). x .chunk)) rows ∙ map-upTo (λ x. x .chunk) (rowOn file count) n))
                   (over (λ i. rowOn file count i .layer) n (map (λ x. x .layer) (plan .rows)) (lent .layers) (ap (map (λ (x : Row). x .layer)) rows ∙ map-upTo (λ x. x .layer) (rowOn file count) n))
-                  (over (λ i. rowOn file count i .bytes) n (map (λ x. x .bytes) (plan .rows)) (lent .bytes) (ap (map (λ (x : Row). x .bytes)) rows ∙ map-upTo (λ x. x .bytes) (rowOn file count) n))),
-            )
+                  (over (λ i. rowOn file count i .bytes) n (map (λ x. x .bytes) (plan .rows)) (lent .bytes) (ap (map (λ (x : Row). x .bytes)) rows ∙ map-upTo (λ x. x .bytes) (rowOn file count) n)));
+            }

@@ -15,14 +15,15 @@ use Rattle.records.specs.Fields.{written}
 use Rattle.job.specs.Job.{chunks}
 use Rattle.job.specs.Input.{JobInput, jobIn, jobRefusal}
 use Rattle.fetch.specs.Rows.{rowAt, rowsOf}
-use Rattle.fetch.specs.Input.{Whole, listRefusal, whole-iff}
+use Rattle.fetch.specs.Input.{Whole, whole-iff}
+use Rattle.fetch.specs.Slices.{ListSlices, slicesRefusal}
 use Rattle.planfile.specs.Records.{en}
 use Rattle.planfile.specs.PlanFile.{kps, ftOf, fileOf}
-use Rattle.planfile.specs.Calls.{ListSlices, planOf, writeRest, writeRefusal, writtenBy}
+use Rattle.planfile.specs.Calls.{PlanWritePromise, planOf, writeRest, writeRefusal, writtenBy}
 use Rattle.planfile.specs.lemmas.Writing.{planRecordsBytes, file-parts, length-file, length-kps, length-fts, two-puts}
 use Rattle.records.specs.lemmas.Puts.{written-whole}
-use Rattle.planfile.specs.declared.Written.{Written}
-use Rattle.planfile.specs.declared.Written.the-variants.{Bytes, Refused}
+use Rattle.records.specs.declared.Written.{Written}
+use Rattle.records.specs.declared.Written.the-variants.{Bytes, Refused}
 
 -- The length of the file by the handed slices.
 abbrev pub sizeOf : ListSlices → ℕ
@@ -40,7 +41,7 @@ refuses s out refused r n e = (rw (e, ne-eqb r 0 n), rw (e, ne-eqb r 0 n))
 
 -- ---- for so many chunks
 
-module _ (count : ℕ) (s : ListSlices) (out : List ℕ) (r : ℕ) (e : r ≡ listRefusal count (s .marks) (s .slots) (s .chunks) (s .layers) (s .bytes)) where
+module _ (count : ℕ) (s : ListSlices) (out : List ℕ) (r : ℕ) (e : r ≡ slicesRefusal count s) where
   abbrev refused : ℕ
   refused = writeRest count s out
 
@@ -81,11 +82,14 @@ module _ (count : ℕ) (s : ListSlices) (out : List ℕ) (r : ℕ) (e : r ≡ li
 
 -- ---- for a handed job
 
-module _ (h : JobInput) (s : ListSlices) (out : List ℕ) (r : ℕ) (e : r ≡ jobRefusal h) where
-  pub job-refused : (r ≡ 0 → ⊥) → Writes (writeRefusal h s out) s out (Refused r) out
-  unfolding writeRefusal
-  job-refused n = refuses s out (writeRefusal h s out) r n (rw (← e) (orElse-some r (writeRest (chunks (jobIn h)) s out) n))
+promised : (h : JobInput) (s : ListSlices) (out : List ℕ) (a : Written) (after : List ℕ) → Writes (writeRefusal h s out) s out a after → PlanWritePromise h s out a after
+promised h s out a after w = record { answer = w .0; after = w .1 }
 
-  pub job-accepted : r ≡ 0 → (a : Written) (after : List ℕ) → Writes (writeRest (chunks (jobIn h)) s out) s out a after → Writes (writeRefusal h s out) s out a after
+module _ (h : JobInput) (s : ListSlices) (out : List ℕ) (r : ℕ) (e : r ≡ jobRefusal h) where
+  pub job-refused : (r ≡ 0 → ⊥) → PlanWritePromise h s out (Refused r) out
   unfolding writeRefusal
-  job-accepted z a after t = rw (orElse-none (jobRefusal h) (writeRest (chunks (jobIn h)) s out) (sym e ∙ z)) t
+  job-refused n = promised h s out (Refused r) out (refuses s out (writeRefusal h s out) r n (rw (← e) (orElse-some r (writeRest (chunks (jobIn h)) s out) n)))
+
+  pub job-accepted : r ≡ 0 → (a : Written) (after : List ℕ) → Writes (writeRest (chunks (jobIn h)) s out) s out a after → PlanWritePromise h s out a after
+  unfolding writeRefusal
+  job-accepted z a after t = promised h s out a after (rw (orElse-none (jobRefusal h) (writeRest (chunks (jobIn h)) s out) (sym e ∙ z)) t)

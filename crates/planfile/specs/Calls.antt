@@ -3,6 +3,7 @@
 -- "Direct calls without files check 5, 6, 7, then 8 .. and a writer then 9"; 18 "after 6 and before
 -- 7"; "11. A lent buffer is shorter than the whole result, after all input refusals".
 use Prim.Native.Nat.{ℕ}
+use mathlib.Core.Path.{_≡_}
 use mathlib.Core.Bool.{Bool, cond, _&&_}
 use mathlib.Core.List.{List, map}
 use lib.ListN.{length}
@@ -12,31 +13,14 @@ use Rattle.theory_basics.specs.Refusals.{unless, _orElse_}
 use Rattle.records.specs.File.{fileRefusal}
 use Rattle.job.specs.Job.{chunks}
 use Rattle.job.specs.Input.{JobInput, jobIn, jobRefusal}
-use Rattle.fetch.specs.Rows.{rowsOf}
-use Rattle.fetch.specs.Input.{listRefusal}
+use Rattle.fetch.specs.Slices.{ListSlices, listRows, slicesRefusal, room}
 use Rattle.planfile.specs.PlanFile.{format, Plan, planIn, fileOf}
 use Rattle.planfile.specs.declared.PlanRead.{PlanRead}
-use Rattle.planfile.specs.declared.Written.{Written}
+use Rattle.records.specs.declared.Written.{Written}
 use Rattle.planfile.specs.declared.PlanRead.the-variants as planRead
-use Rattle.planfile.specs.declared.Written.the-variants as written
-
--- The five slices of a plan, handed or lent: the marks, and the rows field by field.
-pub record ListSlices : Type 0 where
-  pub marks : List ℕ
-  pub slots : List ℕ
-  pub chunks : List ℕ
-  pub layers : List ℕ
-  pub bytes : List ℕ
-
-abbrev pub slicesOf : List ℕ → List ℕ → List ℕ → List ℕ → List ℕ → ListSlices
-slicesOf marks slots chunks layers bytes = record { marks = marks; slots = slots; chunks = chunks; layers = layers; bytes = bytes }
+use Rattle.records.specs.declared.Written.the-variants as written
 
 -- ---- reading
-
--- The slices hold so many marks and so many rows.
-abbrev pub room : ListSlices → ℕ → ℕ → Bool
-room lent marks rows =
-    leb marks (length (lent .marks)) && (leb rows (length (lent .slots)) && (leb rows (length (lent .chunks)) && (leb rows (length (lent .layers)) && leb rows (length (lent .bytes)))))
 
 -- The handed job's 5, 6, 18, 7, then the file's refusal, then 11.
 unfoldable pub planReadRefusal : JobInput → List ℕ → ListSlices → ℕ
@@ -63,16 +47,25 @@ readLent h file lent =
       bytes = lentAfter refused (map (λ x. x .bytes) (plan .rows)) (lent .bytes);
     }
 
+-- What `read_plan` promises of a job as handed, a file and the slices that it is lent, with its
+-- answer and the slices afterwards.
+pub record PlanReadPromise (h : JobInput) (file : List ℕ) (lent : ListSlices) (r : PlanRead) (lent' : ListSlices) : Type 0 where
+  -- The number of rows, or a refusal's number: "A plan reader checks the job it is handed by 5, 6,
+  -- 7 before its file", with 18 before 7, then 11.
+  pub answer : r ≡ readAnswer h file lent
+  -- "In a longer one the bytes past the result stay unchanged"; on a refusal all of them.
+  pub after : lent' ≡ readLent h file lent
+
 -- ---- writing
 
 -- The plan that five slices hand over.
 abbrev pub planOf : ListSlices → Plan
-planOf s = record { marks = s .marks; rows = rowsOf (s .slots) (s .chunks) (s .layers) (s .bytes) }
+planOf s = record { marks = s .marks; rows = listRows s }
 
 -- After the job's: 8, then 9 for a file above 65,536 bytes, then 11.
 unfoldable pub writeRest : ℕ → ListSlices → List ℕ → ℕ
 writeRest count s out =
-    listRefusal count (s .marks) (s .slots) (s .chunks) (s .layers) (s .bytes)
+    slicesRefusal count s
     orElse unless 9 (leb (length (fileOf (planOf s))) 65536)
     orElse unless 11 (leb (length (fileOf (planOf s))) (length out))
 
@@ -90,3 +83,12 @@ writeAnswer h s out = writtenBy (writeRefusal h s out) s
 -- The plan's file at the front of the lent buffer.
 abbrev pub writeLent : JobInput → ListSlices → List ℕ → List ℕ
 writeLent h s out = lentAfter (writeRefusal h s out) (fileOf (planOf s)) out
+
+-- What `write_plan` promises of a job and a list as handed and the buffer that it is lent, with its
+-- answer and the buffer afterwards.
+pub record PlanWritePromise (h : JobInput) (s : ListSlices) (out : List ℕ) (r : Written) (out' : List ℕ) : Type 0 where
+  -- The number of bytes, or a refusal's number: "Direct calls without files check 5, 6, 7, then 8
+  -- .. and a writer then 9", with 18 before 7, then 11.
+  pub answer : r ≡ writeAnswer h s out
+  -- The file; what is past it stays unchanged, and on a refusal all of it.
+  pub after : out' ≡ writeLent h s out

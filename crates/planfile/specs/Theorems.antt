@@ -16,8 +16,9 @@ use Rattle.job.specs.Job.{Job, Accepted, chunks}
 use Rattle.job.specs.Input.{JobInput, jobIn, jobRefusal}
 use Rattle.fetch.specs.Rows.{rowAt}
 use Rattle.fetch.specs.Input.{Whole, whole-iff}
+use Rattle.fetch.specs.Slices.{ListSlices, slicesOf, room}
 use Rattle.planfile.specs.PlanFile.{format, Plan, InWidth, InOrder, planIn, fileOf}
-use Rattle.planfile.specs.Calls.{ListSlices, slicesOf, room, planReadRefusal, readAnswer, readLent, planOf, writeRest, writeRefusal}
+use Rattle.planfile.specs.Calls.{planReadRefusal, readAnswer, readLent, planOf, writeRest, writeRefusal}
 use Rattle.planfile.specs.lemmas.Writing.{length-file}
 use Rattle.planfile.specs.lemmas.Few.{rows-inside}
 use Rattle.planfile.specs.lemmas.Back.{file-accepted, file-says, accepts, field, not-short, nine-by-size}

@@ -10,13 +10,15 @@ ghost use Rattle.records.specs.File.{fileRefusal};
 ghost use Rattle.theory_basics.specs.Lent.{lentAfter};
 ghost use Rattle.records.specs.Fields.{written};
 ghost use Rattle.fetch.specs.Rows.{rowsOf};
+ghost use Rattle.fetch.specs.Slices.{slicesOf};
 ghost use Rattle.planfile.specs.Records.{encode, readAt};
 ghost use Rattle.planfile.specs.PlanFile.{format, kps, ftOf, fileOf};
-ghost use Rattle.planfile.specs.Calls.{slicesOf, readAnswer, readLent, planOf, writeRest, writtenBy, writeAnswer, writeLent};
+ghost use Rattle.planfile.specs.Calls.{PlanReadPromise, PlanWritePromise, planOf, writeRest, writtenBy};
 ghost use Rattle.planfile.specs.lemmas.Writing.{planRecordsBytes};
 ghost use Rattle.planfile.specs.lemmas.Scan.{refusalOf, inTurn, FileRowsPost, markOn, rowOn, filled};
 use job::Programme;
 use records::FILE_BYTES;
+use records::Written;
 
 // A record without its mark.
 pub enum Record {
@@ -42,12 +44,6 @@ pub enum Read {
 // The number of rows read, or the refusal.
 pub enum PlanRead {
     Rows(usize),
-    Refused(u8),
-}
-
-// The number of bytes written, or the refusal.
-pub enum Written {
-    Bytes(usize),
     Refused(u8),
 }
 
@@ -177,7 +173,8 @@ fn has_room(
     layers: usize,
     bytes: usize,
 ) -> bool
-    ensures { λ r. ⌜ r ≡ leb count marks && (leb rows slots && (leb rows chunks && (leb rows layers && leb rows bytes))) ⌝ }
+    ensures { λ r. ⌜ r ≡ leb count marks && (leb rows slots && (leb rows chunks && (leb rows layers && leb rows bytes)))
+        ⌝ }
 {
     if marks < count {
         return false;
@@ -217,11 +214,19 @@ fn copy_rows(
     layers: &mut [u8],
     bytes: &mut [u32],
 )
-    requires { ⌜ (rows ≤ length (now slots)) × (rows ≤ length (now chunks)) × (rows ≤ length (now layers)) × (rows ≤ length (now bytes)) × (5 * count + 11 * rows ≤ length (now file)) ⌝ }
-    ensures slots { λ _. ⌜ now (slots .exit) ≡ filled (λ i. rowOn (now (file .entry)) count i .slot) rows (now (slots .entry)) ⌝ }
-    ensures chunks { λ _. ⌜ now (chunks .exit) ≡ filled (λ i. rowOn (now (file .entry)) count i .chunk) rows (now (chunks .entry)) ⌝ }
-    ensures layers { λ _. ⌜ now (layers .exit) ≡ filled (λ i. rowOn (now (file .entry)) count i .layer) rows (now (layers .entry)) ⌝ }
-    ensures bytes { λ _. ⌜ now (bytes .exit) ≡ filled (λ i. rowOn (now (file .entry)) count i .bytes) rows (now (bytes .entry)) ⌝ }
+    requires { ⌜ (rows ≤ length (now slots))
+        × (rows ≤ length (now chunks))
+        × (rows ≤ length (now layers))
+        × (rows ≤ length (now bytes))
+        × (5 * count + 11 * rows ≤ length (now file)) ⌝ }
+    ensures slots { λ _. ⌜ now (slots .exit) ≡ filled (λ i. rowOn (now (file .entry)) count i .slot) rows
+        (now (slots .entry)) ⌝ }
+    ensures chunks { λ _. ⌜ now (chunks .exit) ≡ filled (λ i. rowOn (now (file .entry)) count i .chunk) rows
+        (now (chunks .entry)) ⌝ }
+    ensures layers { λ _. ⌜ now (layers .exit) ≡ filled (λ i. rowOn (now (file .entry)) count i .layer) rows
+        (now (layers .entry)) ⌝ }
+    ensures bytes { λ _. ⌜ now (bytes .exit) ≡ filled (λ i. rowOn (now (file .entry)) count i .bytes) rows
+        (now (bytes .entry)) ⌝ }
 {
     let mut i: usize = 0;
     while i < rows {
@@ -253,8 +258,15 @@ pub fn read_plan(
     layers: &mut [u8],
     bytes: &mut [u32],
 ) -> PlanRead
-    ensures answer { λ r. ⌜ r ≡ readAnswer (jobInput p (now (sizes .entry)) (now («size_chunks» .entry)) (now («size_layers» .entry)) (now («size_bytes» .entry)) (now (forecast .entry))) (now (file .entry)) (slicesOf (now (marks .entry)) (now (slots .entry)) (now (chunks .entry)) (now (layers .entry)) (now (bytes .entry))) ⌝ }
-    ensures lent { λ _. ⌜ slicesOf (now (marks .exit)) (now (slots .exit)) (now (chunks .exit)) (now (layers .exit)) (now (bytes .exit)) ≡ readLent (jobInput p (now (sizes .entry)) (now («size_chunks» .entry)) (now («size_layers» .entry)) (now («size_bytes» .entry)) (now (forecast .entry))) (now (file .entry)) (slicesOf (now (marks .entry)) (now (slots .entry)) (now (chunks .entry)) (now (layers .entry)) (now (bytes .entry))) ⌝ }
+    ensures { λ r. ⌜ PlanReadPromise
+        (jobInput p (now (sizes .entry)) (now («size_chunks» .entry)) (now («size_layers» .entry))
+        (now («size_bytes» .entry)) (now (forecast .entry)))
+        (now (file .entry))
+        (slicesOf (now (marks .entry)) (now (slots .entry)) (now (chunks .entry)) (now (layers .entry))
+        (now (bytes .entry)))
+        r
+        (slicesOf (now (marks .exit)) (now (slots .exit)) (now (chunks .exit)) (now (layers .exit))
+        (now (bytes .exit))) ⌝ }
 {
     let refused = job::refusal(p, sizes, size_chunks, size_layers, size_bytes, forecast);
     if refused != 0 {
@@ -329,8 +341,14 @@ fn put_kps(out: &mut [u8], marks: &[u8])
 
 // FT for every row, from a place on.
 fn put_fts(out: &mut [u8], from: usize, slots: &[u16], chunks: &[u16], layers: &[u8], bytes: &[u32])
-    requires { ⌜ (length (now slots) ≡ length (now chunks)) × (length (now slots) ≡ length (now layers)) × (length (now slots) ≡ length (now bytes)) × (from + 11 * length (now slots) ≤ length (now out)) ⌝ }
-    ensures { λ _. ⌜ now (out .exit) ≡ written (now (out .entry)) from (planRecordsBytes (map ftOf (rowsOf (now (slots .entry)) (now (chunks .entry)) (now (layers .entry)) (now (bytes .entry))))) ⌝ }
+    requires { ⌜ (length (now slots) ≡ length (now chunks))
+        × (length (now slots) ≡ length (now layers))
+        × (length (now slots) ≡ length (now bytes))
+        × (from + 11 * length (now slots) ≤ length (now out)) ⌝ }
+    ensures { λ _. ⌜ now (out .exit) ≡ written (now (out .entry)) from
+        (planRecordsBytes
+        (map ftOf (rowsOf (now (slots .entry)) (now (chunks .entry)) (now (layers .entry)) (now (bytes .entry)))))
+        ⌝ }
 {
     let mut i: usize = 0;
     while i < slots.len() {
@@ -351,8 +369,20 @@ fn write_file(
     bytes: &[u32],
     out: &mut [u8],
 ) -> Written
-    ensures answer { λ r. ⌜ r ≡ writtenBy (writeRest count (slicesOf (now (marks .entry)) (now (slots .entry)) (now (chunks .entry)) (now (layers .entry)) (now (bytes .entry))) (now (out .entry))) (slicesOf (now (marks .entry)) (now (slots .entry)) (now (chunks .entry)) (now (layers .entry)) (now (bytes .entry))) ⌝ }
-    ensures lent { λ _. ⌜ now (out .exit) ≡ lentAfter (writeRest count (slicesOf (now (marks .entry)) (now (slots .entry)) (now (chunks .entry)) (now (layers .entry)) (now (bytes .entry))) (now (out .entry))) (fileOf (planOf (slicesOf (now (marks .entry)) (now (slots .entry)) (now (chunks .entry)) (now (layers .entry)) (now (bytes .entry))))) (now (out .entry)) ⌝ }
+    ensures answer { λ r. ⌜ r ≡ writtenBy
+        (writeRest count
+        (slicesOf (now (marks .entry)) (now (slots .entry)) (now (chunks .entry)) (now (layers .entry))
+        (now (bytes .entry))) (now (out .entry)))
+        (slicesOf (now (marks .entry)) (now (slots .entry)) (now (chunks .entry)) (now (layers .entry))
+        (now (bytes .entry))) ⌝ }
+    ensures lent { λ _. ⌜ now (out .exit) ≡ lentAfter
+        (writeRest count
+        (slicesOf (now (marks .entry)) (now (slots .entry)) (now (chunks .entry)) (now (layers .entry))
+        (now (bytes .entry))) (now (out .entry)))
+        (fileOf
+        (planOf
+        (slicesOf (now (marks .entry)) (now (slots .entry)) (now (chunks .entry)) (now (layers .entry))
+        (now (bytes .entry))))) (now (out .entry)) ⌝ }
 {
     let refused = fetch::list_refusal(count, marks, slots, chunks, layers, bytes);
     if refused != 0 {
@@ -392,8 +422,12 @@ pub fn write_plan(
     bytes: &[u32],
     out: &mut [u8],
 ) -> Written
-    ensures answer { λ r. ⌜ r ≡ writeAnswer (jobInput p (now (sizes .entry)) (now («size_chunks» .entry)) (now («size_layers» .entry)) (now («size_bytes» .entry)) (now (forecast .entry))) (slicesOf (now (marks .entry)) (now (slots .entry)) (now (chunks .entry)) (now (layers .entry)) (now (bytes .entry))) (now (out .entry)) ⌝ }
-    ensures lent { λ _. ⌜ now (out .exit) ≡ writeLent (jobInput p (now (sizes .entry)) (now («size_chunks» .entry)) (now («size_layers» .entry)) (now («size_bytes» .entry)) (now (forecast .entry))) (slicesOf (now (marks .entry)) (now (slots .entry)) (now (chunks .entry)) (now (layers .entry)) (now (bytes .entry))) (now (out .entry)) ⌝ }
+    ensures { λ r. ⌜ PlanWritePromise
+        (jobInput p (now (sizes .entry)) (now («size_chunks» .entry)) (now («size_layers» .entry))
+        (now («size_bytes» .entry)) (now (forecast .entry)))
+        (slicesOf (now (marks .entry)) (now (slots .entry)) (now (chunks .entry)) (now (layers .entry))
+        (now (bytes .entry)))
+        (now (out .entry)) r (now (out .exit)) ⌝ }
 {
     let job = job::refusal(p, sizes, size_chunks, size_layers, size_bytes, forecast);
     if job != 0 {

@@ -9,7 +9,8 @@ ghost use Prim.Native.Nat.{_≤_};
 ghost use lib.ListN.{length};
 ghost use mathlib.Core.Bool.{cond};
 ghost use Rattle.job.specs.Input.{jobInput, jobRefusal};
-ghost use Rattle.planner.specs.Answer.{PlanOutput, DecidedByLists, PicturesOfLists, BestOfLists, SteadyBases, compared};
+ghost use Rattle.fetch.specs.Slices.{slicesOf};
+ghost use Rattle.planner.specs.Answer.{PlanOutput, PlanPromise, compared};
 
 // How many rows the plan has, or the refusal's number.
 pub enum Answer {
@@ -58,8 +59,9 @@ pub fn refused(n: u8) -> Planned
 }
 
 // The answer for what was laid: its rows and counts where the slices hold it whole, else 11.
-fn answered(made: Output) -> Planned
-    ensures { λ r. ⌜ (r .answer ≡ cond (made .whole) (Answer.Rows (made .rows)) (Answer.Refused 11)) × (r .counts ≡ cond (made .whole) (made .counts) (0 ∷ 0 ∷ 0 ∷ 0 ∷ [])) ⌝ }
+pub fn answered(made: Output) -> Planned
+    ensures { λ r. ⌜ (r .answer ≡ cond (made .whole) (Answer.Rows (made .rows)) (Answer.Refused 11))
+        × (r .counts ≡ cond (made .whole) (made .counts) (0 ∷ 0 ∷ 0 ∷ 0 ∷ [])) ⌝ }
 {
     if made.whole {
         let counts = made.counts;
@@ -85,17 +87,30 @@ fn write_decided(
     layers: &mut [u8],
     bytes: &mut [u32],
 ) -> Planned
-    requires { ⌜ (jobRefusal (jobInput p (now sizes) (now «size_chunks») (now «size_layers») (now «size_bytes») (now forecast)) ≡ 0) × (p .chunks ≤ length (now marks)) ⌝ }
-    ensures { λ r. ⌜ PlanOutput (jobInput p (now (sizes .entry)) (now («size_chunks» .entry)) (now («size_layers» .entry)) (now («size_bytes» .entry)) (now (forecast .entry))) (now (marks .entry)) (now (slots .entry)) (now (chunks .entry)) (now (layers .entry)) (now (bytes .entry)) r (now (marks .exit)) (now (slots .exit)) (now (chunks .exit)) (now (layers .exit)) (now (bytes .exit)) ⌝ }
+    requires { ⌜ (jobRefusal
+        (jobInput p (now sizes) (now «size_chunks») (now «size_layers») (now «size_bytes») (now forecast)) ≡ 0)
+        × (p .chunks ≤ length (now marks)) ⌝ }
+    ensures { λ r. ⌜ PlanOutput
+        (jobInput p (now (sizes .entry)) (now («size_chunks» .entry)) (now («size_layers» .entry))
+        (now («size_bytes» .entry)) (now (forecast .entry)))
+        (slicesOf (now (marks .entry)) (now (slots .entry)) (now (chunks .entry))
+        (now (layers .entry)) (now (bytes .entry)))
+        r
+        (slicesOf (now (marks .exit)) (now (slots .exit)) (now (chunks .exit))
+        (now (layers .exit)) (now (bytes .exit))) ⌝ }
 {
     // Every place is written before it is read. A filling that is no constant is stored in wide
     // words, faster than cleared.
     let unset = p.chunks as u32;
     let mut table = [unset; SIZES];
-    job::fill_sizes(sizes, size_chunks, size_layers, size_bytes, &mut table);
+    core_sizes::fill_sizes(sizes, size_chunks, size_layers, size_bytes, &mut table);
     let mut ids = [0u16; CHUNKS];
     let mut ready = [0u16; CHUNKS];
-    let mut mark = [1u8; CHUNKS];
+    // A kept chunk has its base.
+    let base = fetch::with(0, 0);
+    let mut mark = [base; CHUNKS];
+    // A chunk that is left out has the mark 0.
+    let none = [0u8; CHUNKS];
     let count = p.chunks as usize;
     let first = core_decide::decide(
         p,
@@ -110,11 +125,14 @@ fn write_decided(
     let made = core_output::write_plan(
         count,
         forecast,
+        1,
+        false,
         &table,
         first,
         &ids,
         &ready,
         &mark,
+        &none,
         marks,
         slots,
         chunks,
@@ -139,11 +157,14 @@ pub fn plan(
     layers: &mut [u8],
     bytes: &mut [u32],
 ) -> Planned
-    ensures output { λ r. ⌜ PlanOutput (jobInput p (now (sizes .entry)) (now («size_chunks» .entry)) (now («size_layers» .entry)) (now («size_bytes» .entry)) (now (forecast .entry))) (now (marks .entry)) (now (slots .entry)) (now (chunks .entry)) (now (layers .entry)) (now (bytes .entry)) r (now (marks .exit)) (now (slots .exit)) (now (chunks .exit)) (now (layers .exit)) (now (bytes .exit)) ⌝ }
-    ensures decided { λ _. ⌜ DecidedByLists (jobInput p (now (sizes .entry)) (now («size_chunks» .entry)) (now («size_layers» .entry)) (now («size_bytes» .entry)) (now (forecast .entry))) ⌝ }
-    ensures pictures { λ _. ⌜ PicturesOfLists (jobInput p (now (sizes .entry)) (now («size_chunks» .entry)) (now («size_layers» .entry)) (now («size_bytes» .entry)) (now (forecast .entry))) ⌝ }
-    ensures best { λ _. ⌜ BestOfLists (jobInput p (now (sizes .entry)) (now («size_chunks» .entry)) (now («size_layers» .entry)) (now («size_bytes» .entry)) (now (forecast .entry))) ⌝ }
-    ensures steady { λ _. ⌜ SteadyBases (jobInput p (now (sizes .entry)) (now («size_chunks» .entry)) (now («size_layers» .entry)) (now («size_bytes» .entry)) (now (forecast .entry))) ⌝ }
+    ensures { λ r. ⌜ PlanPromise
+        (jobInput p (now (sizes .entry)) (now («size_chunks» .entry)) (now («size_layers» .entry))
+        (now («size_bytes» .entry)) (now (forecast .entry)))
+        (slicesOf (now (marks .entry)) (now (slots .entry)) (now (chunks .entry))
+        (now (layers .entry)) (now (bytes .entry)))
+        r
+        (slicesOf (now (marks .exit)) (now (slots .exit)) (now (chunks .exit))
+        (now (layers .exit)) (now (bytes .exit))) ⌝ }
 {
     let no = job::refusal(p, sizes, size_chunks, size_layers, size_bytes, forecast);
     if 0 < no {

@@ -12,12 +12,20 @@ pub record Prints (text old : List ℕ) (count : ℕ) (new : List ℕ) : Type 0 
   pub counted : count ≡ length text
   pub buffer : new ≡ over text old
 
+-- The two files that `film_verdict` reads.
+pub record TwoFiles : Type 0 where
+  pub job : List ℕ
+  pub plan : List ℕ
+
+abbrev pub twoFiles : (job plan : List ℕ) → TwoFiles
+twoFiles job plan = record { job = job; plan = plan }
+
 -- Of each program, for the files as its function is handed them.
 abbrev pub PrintsPlan : (job old : List ℕ) (count : ℕ) (new : List ℕ) → Type 0
 PrintsPlan job old count new = Prints (planPrinted job) old count new
 
-abbrev pub PrintsVerdict : (job plan old : List ℕ) (count : ℕ) (new : List ℕ) → Type 0
-PrintsVerdict job plan old count new = Prints (verdictPrinted job plan) old count new
+abbrev pub PrintsVerdict : TwoFiles → (old : List ℕ) (count : ℕ) (new : List ℕ) → Type 0
+PrintsVerdict files old count new = Prints (verdictPrinted (files .job) (files .plan)) old count new
 
 abbrev pub PrintsReport : (job old : List ℕ) (count : ℕ) (new : List ℕ) → Type 0
 PrintsReport job old count new = Prints (reportPrinted job) old count new

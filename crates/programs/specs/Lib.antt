@@ -1,3 +1,4 @@
 pub mod Printed
 pub mod Calls
 pub mod Theorems
+pub mod lemmas

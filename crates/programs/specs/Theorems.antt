@@ -13,7 +13,8 @@ use Rattle.theory_basics.specs.lemmas.Refusals.{orElse-none, orElse-some}
 use Rattle.records.specs.Fields.{Bytes}
 use Rattle.records.specs.File.{fileRefusal}
 use Rattle.job.specs.Job.{Accepted, Job, chunks}
-use Rattle.fetch.specs.Verdict.{verdict, verdict-iff}
+use Rattle.fetch.specs.Verdict.{verdict}
+use Rattle.fetch.specs.Theorems.{verdict-iff}
 use Rattle.jobrecords.specs.Refusal.{oneSequence, mixed, refusalOf, jobOfFile}
 use Rattle.jobrecords.specs.Theorems.{file-accepted, also-mixed}
 use Rattle.jobfile.specs.Writer.{jobFile}

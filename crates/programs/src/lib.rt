@@ -2,12 +2,14 @@
 // files are. A program reads, calls its function here and writes; what is read and written no
 // contract can say.
 use checker::Checked;
+use records::Written;
 ghost use mathlib.Core.List.{[], _∷_, _++_};
 ghost use Prim.Native.Nat.{_≤_};
 ghost use lib.ListN.{length};
 ghost use Rattle.theory_basics.specs.Text.{digits};
 ghost use Rattle.programs.specs.Calls.{Prints, PrintsConverted, PrintsPlan, PrintsReasons, PrintsReport};
-ghost use Rattle.programs.specs.Calls.{PrintsVerdict};
+ghost use Rattle.programs.specs.Calls.{PrintsVerdict, twoFiles};
+ghost use Rattle.programs.specs.lemmas.Answered.{PrintsAnswer};
 
 // What a program reads of a file: one byte more than a file may have, so that a longer one is 9.
 pub const READ_BYTES: usize = 65537;
@@ -36,22 +38,32 @@ fn put_line(out: &mut [u8], word: &[u8; 8], n: u8) -> usize
     core_text::put_word(out, at, b"\n")
 }
 
+// The bytes of a text that stands in the buffer, or the refusal's line.
+fn print_answer(written: Written, out: &mut [u8]) -> usize
+    requires { ⌜ 12 ≤ length (now out) ⌝ }
+    ensures { λ r. ⌜ PrintsAnswer written (now (out .entry)) r (now (out .exit)) ⌝ }
+{
+    match written {
+        Written::Bytes(n) => n,
+        Written::Refused(n) => put_line(out, b"refused ", n),
+    }
+}
+
 // What `film_plan` prints for its standard input, of which it reads READ_BYTES, so that a longer
 // one is refused by 9.
 pub fn print_plan(job: &[u8], out: &mut [u8; PLAN_BYTES]) -> usize
     ensures { λ r. ⌜ PrintsPlan (now (job .entry)) (now (out .entry)) r (now (out .exit)) ⌝ }
 {
-    match whole_files::plan_file(job, out) {
-        planfile::Written::Bytes(n) => n,
-        planfile::Written::Refused(n) => put_line(out, b"refused ", n),
-    }
+    let written = whole_files::plan_file(job, out);
+    print_answer(written, out)
 }
 
 // What `film_verdict` prints for the files `job` and `plan`. Of each it reads READ_BYTES, and none
 // of a file that can't be opened.
 pub fn print_verdict(job: &[u8], plan: &[u8], out: &mut [u8; VERDICT_BYTES]) -> usize
     ensures { λ r. ⌜ PrintsVerdict
-        (now (job .entry)) (now (plan .entry)) (now (out .entry)) r (now (out .exit)) ⌝ }
+        (twoFiles (now (job .entry)) (now (plan .entry)))
+        (now (out .entry)) r (now (out .exit)) ⌝ }
 {
     match whole_files::verdict_files(job, plan) {
         Checked::Verdict(n) => put_line(out, b"verdict ", n),
@@ -63,28 +75,22 @@ pub fn print_verdict(job: &[u8], plan: &[u8], out: &mut [u8; VERDICT_BYTES]) -> 
 pub fn print_report(job: &[u8], out: &mut [u8; REPORT_BYTES]) -> usize
     ensures { λ r. ⌜ PrintsReport (now (job .entry)) (now (out .entry)) r (now (out .exit)) ⌝ }
 {
-    match whole_files::report_file(job, out) {
-        report::Written::Bytes(n) => n,
-        report::Written::Refused(n) => put_line(out, b"refused ", n),
-    }
+    let written = whole_files::report_file(job, out);
+    print_answer(written, out)
 }
 
 // What `film_reasons` prints for its standard input.
 pub fn print_reasons(job: &[u8], out: &mut [u8; REASONS_BYTES]) -> usize
     ensures { λ r. ⌜ PrintsReasons (now (job .entry)) (now (out .entry)) r (now (out .exit)) ⌝ }
 {
-    match whole_files::reasons_file(job, out) {
-        reasons::Written::Bytes(n) => n,
-        reasons::Written::Refused(n) => put_line(out, b"refused ", n),
-    }
+    let written = whole_files::reasons_file(job, out);
+    print_answer(written, out)
 }
 
 // What `film_convert` prints for its standard input.
 pub fn print_converted(job: &[u8], out: &mut [u8; CONVERTED_BYTES]) -> usize
     ensures { λ r. ⌜ PrintsConverted (now (job .entry)) (now (out .entry)) r (now (out .exit)) ⌝ }
 {
-    match whole_files::convert_file(job, out) {
-        jobfile::Written::Bytes(n) => n,
-        jobfile::Written::Refused(n) => put_line(out, b"refused ", n),
-    }
+    let written = whole_files::convert_file(job, out);
+    print_answer(written, out)
 }

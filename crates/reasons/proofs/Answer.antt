@@ -1,25 +1,30 @@
 -- Laws on what the call hands over: a refusal by the job, 11, or the text in front of the old
 -- bytes. Assumes nothing.
 use Prim.Native.Nat.{ℕ, _+_, _≤_, _<_}
-use mathlib.Core.Path.{_≡_, refl, sym, ap, _∙_}
-use mathlib.Core.List.{List, _++_}
+use mathlib.Core.Path.{_≡_, refl, sym, ap, subst, _∙_}
+use mathlib.Core.List.{List, [], _∷_, _++_}
 use native.Mathlib.Omega.{arith}
 use lib.ListN.{length, drop, take}
 use lib.Dec.{leb}
 use borrow.Author.Tests.{eq-eqb, le-leb, lt-leb, ne-eqb}
 use Rattle.theory_basics.specs.Refusals.{unless}
+use Rattle.theory_basics.specs.Tests.{All, In, here, there}
 use Rattle.theory_basics.specs.lemmas.Refusals.{orElse-none, orElse-some}
-use Rattle.job.specs.Input.{JobInput, input-iff, jobIn, jobRefusal}
-use Rattle.job.specs.Job.{Accepted}
+use Rattle.job.specs.Input.{JobInput, jobIn, jobRefusal}
+use Rattle.job.specs.Job.{Accepted, Job}
 use Rattle.records.specs.Fields.{written}
 use Rattle.records.specs.lemmas.Puts.{written-whole}
 use Rattle.theory_plan.specs.Plan.{plan}
+use Rattle.theory_plan.specs.Statement.{IsPlan}
 use Rattle.theory_reasons.specs.Lines.{linesOf, planText}
-use Rattle.theory_reasons.specs.Statement.{against}
-use Rattle.theory_reasons.specs.Theorems.{plan-reasons, text-fits}
+use Rattle.theory_reasons.specs.Statement.{Line, Place, Reason, Under, against, lower, missing, short}
+use Rattle.theory_reasons.specs.Theorems.{line-refused, missing-iff, plan-reasons, stretch-forbids, text-fits}
 use Rattle.core_text.specs.lemmas.Places.{Put, put-front, put-whole}
-use Rattle.reasons.specs.Answer.{LinesOfPlan, Told, refusal}
-use Rattle.reasons.specs.declared.Written.the-variants.{Bytes, Refused}
+use Rattle.reasons.specs.Answer.{LinesOfPlan, ReasonsPromise, TrueLine, TrueReason, refusal}
+use Rattle.reasons.specs.lemmas.Told.{Told}
+use Rattle.records.specs.declared.Written.{Written}
+use Rattle.records.specs.declared.Written.the-variants.{Bytes, Refused}
+use Rattle.job.specs.Theorems.{input-iff}
 
 pub none : {k refused : ℕ} → k ≡ refused → k ≤ 0 → refused ≡ 0
 none e h = omega arith
@@ -62,12 +67,39 @@ module _ (h : JobInput) (old : List ℕ) where
         let fit : length (planText (jobIn h)) ≤ length old = omega (arith, p .place) in
         told n new fit (omega (arith, p .place)) (e ∙ ap (written old 0) t ∙ written-whole old (planText (jobIn h)) fit)
 
-pub lines-of-plan : (h : JobInput) → LinesOfPlan h
+-- ---- what the text says
+
+-- What the line under each place says, of every line.
+under-all : (R : ℕ → ℕ → Line → Type 0) (P : Line → Type 0) (xs : List Place) (ls : List Line) → Under R xs ls →
+    ((x : Place) → In x xs → (l : Line) → R (x .chunk) (x .layer) l → P l) → All P ls
+under-all R P [] [] u g = tt
+under-all R P [] (l ∷ ls) u g = absurd u
+under-all R P (x ∷ xs) [] u g = absurd u
+under-all R P (x ∷ xs) (l ∷ ls) u g = (g x here l (u .0), under-all R P xs ls (u .1) (λ y i m r. g y (there i) m r))
+
+true-line : (j : Job) → Accepted j → (p : ℕ → ℕ) → IsPlan j p → (x : Place) → In x (missing j p) → (l : Line) → Reason j p (against j p) (x .chunk) (x .layer) l → TrueLine j p l
+true-line j a p d x at (short i n first last carried needed) r =
+    let m = missing-iff j p x .0 at in
+    let exact : p (x .chunk) ≡ x .layer = omega (arith, m .not-carried, r .2 .lower-carried) in
+    let there-is : TrueReason j (against j p (x .chunk) (x .layer)) first last =
+    record { short = r .2 .stretch .short; never = line-refused j a p d (x .chunk) (x .layer) (m .layer) exact .1 } in
+    subst (λ (k : ℕ). TrueReason j (against j p k n) first last) (sym (r .0))
+    (subst (λ (k : ℕ). TrueReason j (against j p (x .chunk) k) first last) (sym (r .1)) there-is)
+true-line j a p d x at (lower i n below) r = tt
+
+lines-of-plan : (h : JobInput) → LinesOfPlan h
 unfolding planText
 lines-of-plan h z p d =
     let j = jobIn h in
+    let its : List Line = linesOf j (plan j) (against j (plan j)) in
+    let only = plan-reasons j (accepted h z) p d in
     record {
-      lines = linesOf j (plan j) (against j (plan j));
-      reasons = plan-reasons j (accepted h z) p d;
+      lines = its;
+      reasons = only;
       text = refl;
+      are-true = under-all (Reason j p (against j p)) (TrueLine j p) (missing j p) its (only its .1 refl) (true-line j (accepted h z) p d);
     }
+
+pub promised : {h : JobInput} {out out' : List ℕ} {r : Written} → Told h out out' r → ReasonsPromise h out r out'
+promised {h = h} t =
+    record { result = t .result; buffer = t .buffer; lines = lines-of-plan h; forbids = λ z. stretch-forbids (jobIn h) (accepted h z) }

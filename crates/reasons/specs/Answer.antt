@@ -10,14 +10,15 @@ use mathlib.Core.Logic.{_↔_}
 use lib.ListN.{length}
 use lib.Dec.{leb, eqb}
 use Rattle.theory_basics.specs.Lent.{lentAfter}
+use Rattle.theory_basics.specs.Tests.{All}
 use Rattle.theory_basics.specs.Refusals.{unless, _orElse_}
 use Rattle.job.specs.Input.{JobInput, jobIn, jobRefusal}
 use Rattle.job.specs.Job.{Job}
-use Rattle.theory_plan.specs.Statement.{IsPlan}
+use Rattle.theory_plan.specs.Statement.{CanCarry, Choice, IsPlan}
 use Rattle.theory_reasons.specs.Lines.{planText}
-use Rattle.theory_reasons.specs.Statement.{Line, Reasons, against, reasonsText}
-use Rattle.reasons.specs.declared.Written.{Written}
-use Rattle.reasons.specs.declared.Written.the-variants.{Bytes, Refused}
+use Rattle.theory_reasons.specs.Statement.{Line, Reasons, Short, against, lower, reasonsText, short}
+use Rattle.records.specs.declared.Written.{Written}
+use Rattle.records.specs.declared.Written.the-variants.{Bytes, Refused}
 
 -- The answer: the refusal, or with none the number of bytes written.
 abbrev pub answer : ℕ → ℕ → Written
@@ -28,16 +29,44 @@ answer refused n = cond (eqb refused 0) (Bytes n) (Refused refused)
 abbrev pub refusal : JobInput → List ℕ → ℕ
 refusal h out = jobRefusal h orElse unless 11 (leb (length (planText (jobIn h))) (length out))
 
--- What the call hands over for a job as handed, and what it leaves in the lent buffer.
-pub record Told (h : JobInput) (old now : List ℕ) (r : Written) : Type 0 where
-  pub result : r ≡ answer (refusal h old) (length (planText (jobIn h)))
-  pub buffer : now ≡ lentAfter (refusal h old) (planText (jobIn h)) old
+-- ---- what the text says
 
--- What the text is: of every plan of the job the lines, and they alone.
+-- A line of the first kind is a true reason: the stretch that it names needs more than it carries,
+-- and what it is held against no passing list in playing order carries.
+pub record TrueReason (j : Job) (choice : ℕ → ℕ) (first last : ℕ) : Type 0 where
+  pub short : Short j choice first last
+  pub never : CanCarry j choice → ⊥
+
+abbrev pub TrueLine : Job → (ℕ → ℕ) → Line → Type 0
+TrueLine j p (short i n first last carried needed) = TrueReason j (against j p i n) first last
+TrueLine j p (lower i n below) = Unit {0}
+
+-- Of a plan of the job the lines, and they alone; each of the first kind is a true reason.
 pub record OfPlan (j : Job) (p : ℕ → ℕ) : Type 0 where
   pub lines : List Line
   pub reasons : (ls : List Line) → Reasons j p (against j p) ls ↔ (ls ≡ lines)
   pub text : planText j ≡ reasonsText lines
+  pub are-true : All (TrueLine j p) lines
 
 abbrev pub LinesOfPlan : JobInput → Type 0
 LinesOfPlan h = jobRefusal h ≡ 0 → (p : ℕ → ℕ) → IsPlan (jobIn h) p → OfPlan (jobIn h) p
+
+-- Any choice with a stretch that needs more than it carries is carried by no passing list in
+-- playing order.
+abbrev pub StretchForbids : JobInput → Type 0
+StretchForbids h =
+    jobRefusal h ≡ 0 → (choice : ℕ → ℕ) → Choice (jobIn h) choice → (first last : ℕ) → Short (jobIn h) choice first last → CanCarry (jobIn h) choice → ⊥
+
+-- ---- the call
+
+-- What `reasons` promises of a job as handed and the buffer that it is lent, with its answer and
+-- the buffer afterwards.
+pub record ReasonsPromise (h : JobInput) (out : List ℕ) (r : Written) (out' : List ℕ) : Type 0 where
+  -- The number of bytes, or a refusal's number.
+  pub result : r ≡ answer (refusal h out) (length (planText (jobIn h)))
+  -- "In a longer one the bytes past the result stay unchanged"; on a refusal all of them.
+  pub buffer : out' ≡ lentAfter (refusal h out) (planText (jobIn h)) out
+  -- "For each layer of the job that its plan doesn't carry", whichever plan of the job is taken.
+  pub lines : LinesOfPlan h
+  -- Why a line of the first kind is a reason.
+  pub forbids : StretchForbids h

@@ -5,6 +5,7 @@ use job::CHUNKS;
 use job::Programme;
 use job::SIZES;
 use job::SUMS;
+use records::Written;
 
 mod tables;
 
@@ -15,13 +16,8 @@ ghost use Rattle.job.specs.Job.{Accepted};
 ghost use Rattle.theory_reasons.specs.Lines.{planText};
 ghost use Rattle.core_text.specs.lemmas.Places.{Put};
 ghost use mathlib.Core.Path.{_≡_};
-ghost use Rattle.reasons.specs.Answer.{LinesOfPlan, Told};
-
-// The number of bytes written, or the number of a refusal.
-pub enum Written {
-    Bytes(usize),
-    Refused(u8),
-}
+ghost use Rattle.reasons.specs.Answer.{ReasonsPromise};
+ghost use Rattle.reasons.specs.lemmas.Told.{Told};
 
 // All lines of an accepted job's plan.
 fn put_plan(
@@ -33,8 +29,19 @@ fn put_plan(
     forecast: &[u32],
     out: &mut [u8],
 ) -> usize
-    requires { ⌜ Accepted (jobIn (jobInput p (now sizes) (now «size_chunks») (now «size_layers») (now «size_bytes») (now forecast))) × (length (planText (jobIn (jobInput p (now sizes) (now «size_chunks») (now «size_layers») (now «size_bytes») (now forecast)))) ≤ length (now out)) ⌝ }
-    ensures { λ r. ⌜ Put (now (out .entry)) 0 (planText (jobIn (jobInput p (now (sizes .entry)) (now («size_chunks» .entry)) (now («size_layers» .entry)) (now («size_bytes» .entry)) (now (forecast .entry))))) (now (out .exit)) r ⌝ }
+    requires { ⌜ Accepted
+        (jobIn (jobInput p (now sizes) (now «size_chunks») (now «size_layers») (now «size_bytes») (now forecast)))
+        × (length
+        (planText
+        (jobIn
+        (jobInput p (now sizes) (now «size_chunks») (now «size_layers») (now «size_bytes») (now forecast)))) ≤ length
+        (now out)) ⌝ }
+    ensures { λ r. ⌜ Put (now (out .entry)) 0
+        (planText
+        (jobIn
+        (jobInput p (now (sizes .entry)) (now («size_chunks» .entry)) (now («size_layers» .entry))
+        (now («size_bytes» .entry)) (now (forecast .entry)))))
+        (now (out .exit)) r ⌝ }
 {
     // Every place is written before it is read. A filling that is no constant is stored in wide
     // words, faster than cleared.
@@ -44,11 +51,13 @@ fn put_plan(
     let mut after = [unset as u64; SUMS];
     let mut ids = [0u16; CHUNKS];
     let mut ready = [0u16; CHUNKS];
-    let mut mark = [1u8; CHUNKS];
+    // A kept chunk has its base.
+    let base = fetch::with(0, 0);
+    let mut mark = [base; CHUNKS];
     let mut levels = [0u8; CHUNKS];
     let layers = sizes.len();
     let held = job::held_most(p) as usize;
-    job::fill_sizes(sizes, size_chunks, size_layers, size_bytes, &mut table);
+    core_sizes::fill_sizes(sizes, size_chunks, size_layers, size_bytes, &mut table);
     let most = core_moore_hodgson::applies(p, &table);
     let first = core_decide::decide(
         p,
@@ -76,8 +85,12 @@ fn put_tight(
     forecast: &[u32],
     out: &mut [u8],
 ) -> Written
-    requires { ⌜ jobRefusal (jobInput p (now sizes) (now «size_chunks») (now «size_layers») (now «size_bytes») (now forecast)) ≡ 0 ⌝ }
-    ensures { λ r. ⌜ Told (jobInput p (now (sizes .entry)) (now («size_chunks» .entry)) (now («size_layers» .entry)) (now («size_bytes» .entry)) (now (forecast .entry))) (now (out .entry)) (now (out .exit)) r ⌝ }
+    requires { ⌜ jobRefusal
+        (jobInput p (now sizes) (now «size_chunks») (now «size_layers») (now «size_bytes») (now forecast)) ≡ 0 ⌝ }
+    ensures { λ r. ⌜ Told
+        (jobInput p (now (sizes .entry)) (now («size_chunks» .entry)) (now («size_layers» .entry))
+        (now («size_bytes» .entry)) (now (forecast .entry))) (now (out .entry))
+        (now (out .exit)) r ⌝ }
 {
     let mut text = [0u8; 94000];
     let n = put_plan(
@@ -107,8 +120,10 @@ pub fn reasons(
     forecast: &[u32],
     out: &mut [u8],
 ) -> Written
-    ensures told { λ r. ⌜ Told (jobInput p (now (sizes .entry)) (now («size_chunks» .entry)) (now («size_layers» .entry)) (now («size_bytes» .entry)) (now (forecast .entry))) (now (out .entry)) (now (out .exit)) r ⌝ }
-    ensures lines { λ _. ⌜ LinesOfPlan (jobInput p (now (sizes .entry)) (now («size_chunks» .entry)) (now («size_layers» .entry)) (now («size_bytes» .entry)) (now (forecast .entry))) ⌝ }
+    ensures { λ r. ⌜ ReasonsPromise
+        (jobInput p (now (sizes .entry)) (now («size_chunks» .entry)) (now («size_layers» .entry))
+        (now («size_bytes» .entry)) (now (forecast .entry)))
+        (now (out .entry)) r (now (out .exit)) ⌝ }
 {
     let no = job::refusal(p, sizes, size_chunks, size_layers, size_bytes, forecast);
     if 0 < no {

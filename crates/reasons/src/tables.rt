@@ -33,8 +33,14 @@ pub(crate) fn set_levels(
     first: usize,
     levels: &mut [u8; CHUNKS],
 )
-    requires { ⌜ (first ≤ 500) × All (Within 1 500) (drop first (now ids)) × (length (now ids) ≡ 500) × (length (now mark) ≡ 500) × (length (now levels) ≡ 500) ⌝ }
-    ensures { λ _. ⌜ (length (now (levels .exit)) ≡ 500) × (now (levels .exit) ≡ spread (drop first (now (ids .entry))) (drop first (now (mark .entry))) (now (levels .entry))) ⌝ }
+    requires { ⌜ (first ≤ 500)
+        × All (Within 1 500) (drop first (now ids))
+        × (length (now ids) ≡ 500)
+        × (length (now mark) ≡ 500)
+        × (length (now levels) ≡ 500) ⌝ }
+    ensures { λ _. ⌜ (length (now (levels .exit)) ≡ 500)
+        × (now (levels .exit) ≡ spread (drop first (now (ids .entry))) (drop first (now (mark .entry)))
+        (now (levels .entry))) ⌝ }
 {
     let mut q = first;
     while q < CHUNKS {

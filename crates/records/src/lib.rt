@@ -9,6 +9,12 @@ ghost use Rattle.records.specs.Fields.{h, w, hAt, wAt, marked, written};
 // The most bytes that a file may have.
 pub const FILE_BYTES: usize = 65536;
 
+// What a call that writes into a lent buffer answers: the number of bytes written, or a refusal.
+pub enum Written {
+    Bytes(usize),
+    Refused(u8),
+}
+
 // A byte as a wider number.
 fn wide(x: u8) -> u16
     ensures { λ r. ⌜ (r ≡ x) × (r < 256) ⌝ }
@@ -85,7 +91,8 @@ pub fn put(out: &mut [u8], at: usize, bytes: &[u8])
 // Bytes go to a place of a buffer that has room for them.
 fn put_whole(out: &mut [u8], at: usize, bytes: &[u8])
     requires { ⌜ at + length (now bytes) ≤ length (now out) ⌝ }
-    ensures { λ _. ⌜ now (out .exit) ≡ paste (now (out .entry)) at (now (bytes .entry)) (length (now (bytes .entry))) ⌝ }
+    ensures { λ _. ⌜ now (out .exit) ≡ paste (now (out .entry)) at (now (bytes .entry)) (length (now (bytes .entry)))
+        ⌝ }
 {
     let mut i: usize = 0;
     while i < bytes.len() {

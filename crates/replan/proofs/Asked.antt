@@ -18,7 +18,8 @@ use Rattle.job.specs.Input.{JobInput, jobIn, jobRefusal}
 use Rattle.job.specs.Job.{Within, lastDue}
 use Rattle.fetch.specs.Input.{Whole, whole-iff, listRefusal}
 use Rattle.fetch.specs.Rows.{rowAt}
-use Rattle.fetch.specs.VerdictFrom.{slot-iff, slotRefusal}
+use Rattle.fetch.specs.VerdictFrom.{slotRefusal}
+use Rattle.fetch.specs.Theorems.{slot-iff}
 use Rattle.theory_replan.specs.Refusal.{before-iff, beforeRefusal, fetchedKept, onward-iff, replanRefusal}
 use Rattle.replan.specs.Answer.{ReplanInput, fetched, inputRefusal, jobOn}
 use Rattle.replan.specs.lemmas.Asked.{askedRefusal, partRefusal}

@@ -1,2 +1,4 @@
 pub mod Asked
 pub mod Outputs
+pub mod Rest
+pub mod Laid

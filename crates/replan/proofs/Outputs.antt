@@ -11,22 +11,23 @@ use borrow.Author.Tests.{le-leb, lt-leb}
 use Rattle.theory_basics.specs.Refusals.{_orElse_, unless}
 use Rattle.theory_basics.specs.Tests.{All}
 use Rattle.theory_basics.specs.lemmas.Refusals.{orElse-none, orElse-some}
-use Rattle.job.specs.Input.{JobInput, input-iff, jobIn}
+use Rattle.job.specs.Input.{JobInput, jobIn}
+use Rattle.job.specs.Theorems.{input-iff}
 use Rattle.job.specs.Job.{Accepted, chunks}
-use Rattle.job.specs.Table.{sizesTable, tableAt}
-use Rattle.job.specs.Uneven.{table-is}
+use Rattle.core_sizes.specs.Table.{sizesTable, tableAt}
+use Rattle.core_sizes.specs.Theorems.{table-is}
 use Rattle.fetch.specs.Rows.{Row}
+use Rattle.fetch.specs.Slices.{ListSlices, slicesOf}
 use Rattle.theory_replan.specs.Desk.{replans}
 use Rattle.theory_replan.specs.Refusal.{fetchedKept, joined-in, replan-refusal-iff, Replannable}
 use Rattle.core_rules.specs.lemmas.Tables.{Shown}
 use Rattle.core_replan_input.specs.lemmas.Gather.{GatherPost, GatherPre}
 use Rattle.planner.proofs.Outputs.{OnlyNumber, over-refused}
-use Rattle.planner.specs.Answer.{Lent, lentOf}
 use Rattle.planner.specs.declared.Planned.{Planned}
 use Rattle.planner.specs.lemmas.Outputs.{Outputs, shortRefusal}
 use Rattle.core_slices.specs.lemmas.Slices.{Result}
 use Rattle.replan.specs.Answer.{fetched, ReplanOutput, ReplanInput, holdsOn, inputRefusal, jobOn, planAfresh, refusalOn, rowsOn}
-use Rattle.core_replan_output.specs.lemmas.Writing.{Each, WritePre, madeAfresh, WritePost}
+use Rattle.replan.specs.lemmas.Afresh.{Each, WriteAfreshPre, madeAfresh, WriteAfreshPost}
 use Rattle.replan.specs.lemmas.Asked.{askedRefusal}
 use Rattle.replan.specs.Theorems.{afresh-none, settled-afresh}
 use Rattle.replan.proofs.Asked.{Asked, asked-none, input-is}
@@ -46,12 +47,12 @@ module _ (h : JobInput) (o : ReplanInput) where
   result = madeAfresh (jobOn h o) (o .from) (fetched o) (planAfresh h o)
 
   module _ (marks slots cs layers bytes : List ℕ) where
-    abbrev lent : Lent
-    lent = lentOf marks slots cs layers bytes
+    abbrev lent : ListSlices
+    lent = slicesOf marks slots cs layers bytes
 
     output-by :
         (refused : ℕ) → refusalOn h o lent ≡ refused → {r : Planned} {marks' slots' cs' layers' bytes' : List ℕ} →
-        Outputs refused result marks slots cs layers bytes r marks' slots' cs' layers' bytes' → ReplanOutput h o marks slots cs layers bytes r marks' slots' cs' layers' bytes'
+        Outputs refused result marks slots cs layers bytes r marks' slots' cs' layers' bytes' → ReplanOutput h o (slicesOf marks slots cs layers bytes) r (slicesOf marks' slots' cs' layers' bytes')
     output-by refused e {r} {marks'} {slots'} {cs'} {layers'} {bytes'} x =
         let y = subst (λ (k : ℕ). Outputs k result marks slots cs layers bytes r marks' slots' cs' layers' bytes') (sym e) x in
         record {
@@ -64,21 +65,21 @@ module _ (h : JobInput) (o : ReplanInput) where
           bytes-are = y .bytes-are;
         }
 
-    refused-by : (k : ℕ) → inputRefusal h o ≡ k → 0 < k → (r : Planned) → OnlyNumber r k → ReplanOutput h o marks slots cs layers bytes r marks slots cs layers bytes
+    refused-by : (k : ℕ) → inputRefusal h o ≡ k → 0 < k → (r : Planned) → OnlyNumber r k → ReplanOutput h o (slicesOf marks slots cs layers bytes) r (slicesOf marks slots cs layers bytes)
     refused-by k e p r x =
         output-by k (orElse-some (inputRefusal h o) (unless 11 (holdsOn h o lent)) (λ z. omega arith) ∙ e) (over-refused result k k refl (λ z. omega arith) x)
 
     -- 5, 6, 18, 7, 8, 21, and 7 of the handed forecast.
-    pub refused-asked : (k : ℕ) → k ≡ askedRefusal h o → 0 < k → (r : Planned) → OnlyNumber r k → ReplanOutput h o marks slots cs layers bytes r marks slots cs layers bytes
+    pub refused-asked : (k : ℕ) → k ≡ askedRefusal h o → 0 < k → (r : Planned) → OnlyNumber r k → ReplanOutput h o (slicesOf marks slots cs layers bytes) r (slicesOf marks slots cs layers bytes)
     refused-asked k e p = refused-by k (input-is h o ∙ orElse-some (askedRefusal h o) (unless 22 (fetchedKept (jobOn h o) (fetched o))) (λ z. omega arith) ∙ sym e) p
 
     -- 22.
-    refused-kept : askedRefusal h o ≡ 0 → fetchedKept (jobOn h o) (fetched o) ≡ false → (r : Planned) → OnlyNumber r 22 → ReplanOutput h o marks slots cs layers bytes r marks slots cs layers bytes
+    refused-kept : askedRefusal h o ≡ 0 → fetchedKept (jobOn h o) (fetched o) ≡ false → (r : Planned) → OnlyNumber r 22 → ReplanOutput h o (slicesOf marks slots cs layers bytes) r (slicesOf marks slots cs layers bytes)
     refused-kept z f = refused-by 22 (input-is h o ∙ orElse-none (askedRefusal h o) (unless 22 (fetchedKept (jobOn h o) (fetched o))) z ∙ rw f) (omega arith)
 
     module _ (z : inputRefusal h o ≡ 0) where
       -- 11.
-      pub short-marks : length marks < chunks (jobIn h) → (r : Planned) → OnlyNumber r 11 → ReplanOutput h o marks slots cs layers bytes r marks slots cs layers bytes
+      pub short-marks : length marks < chunks (jobIn h) → (r : Planned) → OnlyNumber r 11 → ReplanOutput h o (slicesOf marks slots cs layers bytes) r (slicesOf marks slots cs layers bytes)
       short-marks f r x =
           output-by 11 (orElse-none (inputRefusal h o) (unless 11 (holdsOn h o lent)) z ∙ rw (lt-leb (chunks (jobIn h)) (length marks) f)) (over-refused result 11 11 refl (λ z. omega arith) x)
 
@@ -86,7 +87,7 @@ module _ (h : JobInput) (o : ReplanInput) where
       pub fit-marks :
           chunks (jobIn h) ≤ length marks → {r : Planned} {marks' slots' cs' layers' bytes' : List ℕ} →
           Outputs (shortRefusal (rowsOn h o) slots cs layers bytes) result marks slots cs layers bytes r marks' slots' cs' layers' bytes' →
-          ReplanOutput h o marks slots cs layers bytes r marks' slots' cs' layers' bytes'
+          ReplanOutput h o (slicesOf marks slots cs layers bytes) r (slicesOf marks' slots' cs' layers' bytes')
       fit-marks f =
           output-by (shortRefusal (rowsOn h o) slots cs layers bytes) (orElse-none (inputRefusal h o) (unless 11 (holdsOn h o lent)) z ∙ rw (le-leb (chunks (jobIn h)) (length marks) f))
 
@@ -137,7 +138,7 @@ module _ (h : JobInput) (o : ReplanInput) (z : askedRefusal h o ≡ 0) where
     kept-is = g .kept (h .sizes) (jobIn h .overrides) (o .onward) shown-on (subst (λ (p : ℕ). All (λ (x : Row). x .slot < p) (fetched o)) starts (asked .before))
 
     -- 22.
-    pub not-kept : kept ≡ false → (marks slots cs layers bytes : List ℕ) (r : Planned) → OnlyNumber r 22 → ReplanOutput h o marks slots cs layers bytes r marks slots cs layers bytes
+    pub not-kept : kept ≡ false → (marks slots cs layers bytes : List ℕ) (r : Planned) → OnlyNumber r 22 → ReplanOutput h o (slicesOf marks slots cs layers bytes) r (slicesOf marks slots cs layers bytes)
     not-kept f marks slots cs layers bytes = refused-kept h o marks slots cs layers bytes z (sym kept-is ∙ f)
 
     module _ (t : kept ≡ true) where
@@ -149,7 +150,7 @@ module _ (h : JobInput) (o : ReplanInput) (z : askedRefusal h o ≡ 0) where
       replannable : Replannable (jobIn h) (o .from) (fetched o) (o .onward)
       replannable = replan-refusal-iff (jobIn h) (o .from) (fetched o) (o .onward) .0 (afresh-none h o none-left .1)
 
-      pub lay-from : {marks : List ℕ} → chunks (jobIn h) ≤ length marks → WritePre (h .programme) (length (h .sizes)) (o .from) (o .onward) (tableAt left) begun whole marks
+      pub lay-from : {marks : List ℕ} → chunks (jobIn h) ≤ length marks → WriteAfreshPre (h .programme) (length (h .sizes)) (o .from) (o .onward) (tableAt left) begun whole marks
       lay-from fit =
           record {
             real =
@@ -171,8 +172,8 @@ module _ (h : JobInput) (o : ReplanInput) (z : askedRefusal h o ≡ 0) where
 
       pub output-laid :
           {marks slots cs layers bytes : List ℕ} {r : Planned} {marks' slots' cs' layers' bytes' : List ℕ} → chunks (jobIn h) ≤ length marks →
-          Each (h .programme) (length (h .sizes)) (o .from) (o .onward) (tableAt left) begun whole (λ j rows plan. WritePost j (o .from) rows plan marks slots cs layers bytes r marks' slots' cs' layers' bytes') →
-          ReplanOutput h o marks slots cs layers bytes r marks' slots' cs' layers' bytes'
+          Each (h .programme) (length (h .sizes)) (o .from) (o .onward) (tableAt left) begun whole (λ j rows plan. WriteAfreshPost j (o .from) rows plan marks slots cs layers bytes r marks' slots' cs' layers' bytes') →
+          ReplanOutput h o (slicesOf marks slots cs layers bytes) r (slicesOf marks' slots' cs' layers' bytes')
       output-laid {marks} {slots} {cs} {layers} {bytes} fit e =
           fit-marks h o marks slots cs layers bytes none-left fit
           (e .of (h .sizes) (jobIn h .overrides) earlier (fetched o) (planAfresh h o) refl starts accepted-on (replannable .acceptable)

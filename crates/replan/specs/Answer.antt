@@ -3,10 +3,10 @@
 -- its refusals are stated in theory_replan: Statement, Own, Refusal.
 use Prim.Native.Nat.{ℕ, _-_, _≤_}
 use mathlib.Core.Path.{_≡_}
-use mathlib.Core.Bool.{Bool, cond, _&&_}
+use mathlib.Core.Bool.{Bool, cond}
 use mathlib.Core.List.{List, [], _∷_, _++_, map}
 use lib.ListN.{length, drop}
-use lib.Dec.{leb, eqb}
+use lib.Dec.{eqb}
 use Rattle.theory_basics.specs.Lent.{lentAfter}
 use Rattle.theory_basics.specs.Refusals.{_orElse_, unless}
 use Rattle.job.specs.Input.{JobInput, jobIn, jobRefusal}
@@ -14,9 +14,9 @@ use Rattle.job.specs.Job.{Job, chunks, lastSlot}
 use Rattle.fetch.specs.Input.{listRefusal}
 use Rattle.fetch.specs.Rows.{Permuted, Row, rowBytes, rowChunk, rowLayer, rowSlot, rowsOf}
 use Rattle.fetch.specs.VerdictFrom.{verdictFrom}
+use Rattle.fetch.specs.Slices.{ListSlices, room}
 use Rattle.theory_plan.specs.Own.{ownList}
 use Rattle.theory_plan.specs.Statement.{Same, SettledByTrials, countsOf, marksOf}
-use Rattle.planner.specs.Answer.{Lent, lentOf}
 use Rattle.planner.specs.declared.Answer.the-variants.{Refused, Rows}
 use Rattle.planner.specs.declared.Answer.{Answer}
 use Rattle.planner.specs.declared.Planned.{Planned}
@@ -66,34 +66,32 @@ inputRefusal h o =
     orElse replanRefusal (jobIn h) (o .from) (fetched o) (o .onward)
 
 -- 11: "A lent buffer is shorter than the whole result".
-abbrev pub holdsOn : JobInput → ReplanInput → Lent → Bool
-holdsOn h o l =
-    let n = length (rowsOn h o) in
-    leb (chunks (jobIn h)) (l .marks) && (leb n (l .slots) && (leb n (l .chunks) && (leb n (l .layers) && leb n (l .bytes))))
+abbrev pub holdsOn : JobInput → ReplanInput → ListSlices → Bool
+holdsOn h o lent = room lent (chunks (jobIn h)) (length (rowsOn h o))
 
-abbrev pub refusalOn : JobInput → ReplanInput → Lent → ℕ
+abbrev pub refusalOn : JobInput → ReplanInput → ListSlices → ℕ
 refusalOn h o l = inputRefusal h o orElse unless 11 (holdsOn h o l)
 
 -- ---- what is handed over
 
 -- How many rows, or the refusal's number.
-abbrev pub answerOn : JobInput → ReplanInput → Lent → Answer
+abbrev pub answerOn : JobInput → ReplanInput → ListSlices → Answer
 answerOn h o l = cond (eqb (refusalOn h o l) 0) (Rows (length (rowsOn h o))) (Refused (refusalOn h o l))
 
 -- The four counts; zeros beside a refusal.
-abbrev pub countsOn : JobInput → ReplanInput → Lent → List ℕ
+abbrev pub countsOn : JobInput → ReplanInput → ListSlices → List ℕ
 countsOn h o l = cond (eqb (refusalOn h o l) 0) (countsOf (jobOn h o) (planAfresh h o)) (0 ∷ 0 ∷ 0 ∷ 0 ∷ [])
 
 -- And what stands in the lent slices: the result, then the old contents; on a refusal the old
 -- contents alone.
-pub record ReplanOutput (h : JobInput) (o : ReplanInput) (marks slots chunks layers bytes : List ℕ) (r : Planned) (marks' slots' chunks' layers' bytes' : List ℕ) : Type 0 where
-  pub answer : r .answer ≡ answerOn h o (lentOf marks slots chunks layers bytes)
-  pub counts : r .counts ≡ countsOn h o (lentOf marks slots chunks layers bytes)
-  pub marks-are : marks' ≡ lentAfter (refusalOn h o (lentOf marks slots chunks layers bytes)) (marksOf (jobOn h o) (planAfresh h o)) marks
-  pub slots-are : slots' ≡ lentAfter (refusalOn h o (lentOf marks slots chunks layers bytes)) (map rowSlot (rowsOn h o)) slots
-  pub chunks-are : chunks' ≡ lentAfter (refusalOn h o (lentOf marks slots chunks layers bytes)) (map rowChunk (rowsOn h o)) chunks
-  pub layers-are : layers' ≡ lentAfter (refusalOn h o (lentOf marks slots chunks layers bytes)) (map rowLayer (rowsOn h o)) layers
-  pub bytes-are : bytes' ≡ lentAfter (refusalOn h o (lentOf marks slots chunks layers bytes)) (map rowBytes (rowsOn h o)) bytes
+pub record ReplanOutput (h : JobInput) (o : ReplanInput) (lent : ListSlices) (r : Planned) (lent' : ListSlices) : Type 0 where
+  pub answer : r .answer ≡ answerOn h o lent
+  pub counts : r .counts ≡ countsOn h o lent
+  pub marks-are : lent' .marks ≡ lentAfter (refusalOn h o lent) (marksOf (jobOn h o) (planAfresh h o)) (lent .marks)
+  pub slots-are : lent' .slots ≡ lentAfter (refusalOn h o lent) (map rowSlot (rowsOn h o)) (lent .slots)
+  pub chunks-are : lent' .chunks ≡ lentAfter (refusalOn h o lent) (map rowChunk (rowsOn h o)) (lent .chunks)
+  pub layers-are : lent' .layers ≡ lentAfter (refusalOn h o lent) (map rowLayer (rowsOn h o)) (lent .layers)
+  pub bytes-are : lent' .bytes ≡ lentAfter (refusalOn h o lent) (map rowBytes (rowsOn h o)) (lent .bytes)
 
 -- ---- what holds of it
 
@@ -118,3 +116,14 @@ abbrev pub StandingGoesOn : JobInput → ReplanInput → Type 0
 StandingGoesOn h o =
     jobRefusal h ≡ 0 → (q : ℕ → ℕ) → SettledByTrials (jobIn h) q → 1 ≤ o .from → o .from ≤ lastSlot (jobIn h) →
     Permuted (fetched o) (rowsBefore (o .from) (ownList (jobIn h) q)) → o .onward ≡ drop (o .from - 1) (h .forecast) → GoesOn h o q
+
+-- The promise of `replan`.
+pub record ReplanPromise (h : JobInput) (o : ReplanInput) (lent : ListSlices) (r : Planned) (lent' : ListSlices) : Type 0 where
+  -- "The result is the marks, the counts and only the rows from p on", or the refusal's number;
+  -- every lent byte, on a refusal too.
+  pub output : ReplanOutput h o lent r lent'
+  -- "Layers are settled as in document 01, over lists that begin with the handed rows"; "together
+  -- with the handed rows they pass that call".
+  pub settled : SettledAfresh h o
+  -- "The new rows are exactly the rest of that plan."
+  pub standing : StandingGoesOn h o

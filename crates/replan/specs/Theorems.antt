@@ -11,14 +11,15 @@ use Rattle.theory_basics.specs.Lent.{lentAfter, over}
 use Rattle.theory_basics.specs.Refusals.{_orElse_, unless}
 use Rattle.theory_basics.specs.lemmas.Refusals.{orElse-iff}
 use Rattle.theory_basics.specs.lemmas.Tests.{not-T-false, test}
-use Rattle.job.specs.Input.{JobInput, input-iff, jobIn, jobRefusal}
+use Rattle.job.specs.Input.{JobInput, jobIn, jobRefusal}
+use Rattle.job.specs.Theorems.{input-iff}
 use Rattle.job.specs.Job.{Accepted, Job, chunks}
 use Rattle.fetch.specs.Input.{listRefusal}
 use Rattle.fetch.specs.Rows.{Permuted, Row, rowBytes, rowChunk, rowLayer, rowSlot, rowsOf}
-use Rattle.fetch.specs.VerdictFrom.{verdict-from-iff}
+use Rattle.fetch.specs.Theorems.{verdict-from-iff}
+use Rattle.fetch.specs.Slices.{ListSlices, room, slicesOf}
 use Rattle.theory_plan.specs.Statement.{Same, countsOf, marksOf}
 use Rattle.theory_plan.specs.Theorems.{same-counts, same-marks}
-use Rattle.planner.specs.Answer.{Lent, lentOf}
 use Rattle.planner.specs.declared.Answer.the-variants.{Refused, Rows}
 use Rattle.planner.specs.declared.Planned.{Planned}
 use Rattle.theory_replan.specs.Desk.{Continues, replans, standing-continues}
@@ -57,13 +58,13 @@ standing-goes-on h o z q is lo hi same unchanged =
 -- The same answer to every call: the refusal, 11 too, the plan, the rows, and so whatever is handed
 -- over.
 pub record SameAnswer (h : JobInput) (a b : ReplanInput) : Type 0 where
-  pub refused : (l : Lent) → refusalOn h a l ≡ refusalOn h b l
+  pub refused : (l : ListSlices) → refusalOn h a l ≡ refusalOn h b l
   pub plan : inputRefusal h a ≡ 0 → Same (jobOn h b) (planAfresh h a) (planAfresh h b)
   pub rows : inputRefusal h a ≡ 0 → rowsOn h a ≡ rowsOn h b
   pub output :
       {marks slots chunks layers bytes : List ℕ} {r : Planned} {marks' slots' chunks' layers' bytes' : List ℕ} →
-      ReplanOutput h a marks slots chunks layers bytes r marks' slots' chunks' layers' bytes' →
-      ReplanOutput h b marks slots chunks layers bytes r marks' slots' chunks' layers' bytes'
+      ReplanOutput h a (slicesOf marks slots chunks layers bytes) r (slicesOf marks' slots' chunks' layers' bytes') →
+      ReplanOutput h b (slicesOf marks slots chunks layers bytes) r (slicesOf marks' slots' chunks' layers' bytes')
 
 -- What is given only if there is no refusal.
 given-alike : {A : Type 0} (n : ℕ) (x y other : A) → (n ≡ 0 → x ≡ y) → cond (eqb n 0) x other ≡ cond (eqb n 0) y other
@@ -101,25 +102,24 @@ module _
       order-free k from (fetched a) (fetched b) same .rows (planAfresh h a)
       ∙ own-rest-cong k from (fetched b) (planAfresh h a) (planAfresh h b) (plans z)
 
-  abbrev short : List Row → Lent → ℕ
+  abbrev short : List Row → ListSlices → ℕ
   short rows l =
-      let n = length rows in
-      unless 11 (leb (chunks (jobIn h)) (l .marks) && (leb n (l .slots) && (leb n (l .chunks) && (leb n (l .layers) && leb n (l .bytes)))))
+      unless 11 (room l (chunks (jobIn h)) (length rows))
 
-  refusals : (l : Lent) → refusalOn h a l ≡ refusalOn h b l
+  refusals : (l : ListSlices) → refusalOn h a l ≡ refusalOn h b l
   refusals l =
       given-alike (inputRefusal h a) (short (rowsOn h a) l) (short (rowsOn h b) l) (inputRefusal h a) (λ z. ap (λ (m : List Row). short m l) (rows-alike z))
       ∙ ap (λ (n : ℕ). n orElse short (rowsOn h b) l) inputs
 
-  none : (l : Lent) → refusalOn h a l ≡ 0 → inputRefusal h a ≡ 0
+  none : (l : ListSlices) → refusalOn h a l ≡ 0 → inputRefusal h a ≡ 0
   none l z = orElse-iff (inputRefusal h a) (short (rowsOn h a) l) .0 z .0
 
-  slice : (l : Lent) (p q old : List ℕ) → (inputRefusal h a ≡ 0 → p ≡ q) → lentAfter (refusalOn h a l) p old ≡ lentAfter (refusalOn h b l) q old
+  slice : (l : ListSlices) (p q old : List ℕ) → (inputRefusal h a ≡ 0 → p ≡ q) → lentAfter (refusalOn h a l) p old ≡ lentAfter (refusalOn h b l) q old
   slice l p q old f =
       given-alike (refusalOn h a l) (over p old) (over q old) old (λ z. ap (λ (m : List ℕ). over m old) (f (none l z)))
       ∙ ap (λ (m : ℕ). lentAfter m q old) (refusals l)
 
-  column : (l : Lent) (g : Row → ℕ) (old : List ℕ) → lentAfter (refusalOn h a l) (map g (rowsOn h a)) old ≡ lentAfter (refusalOn h b l) (map g (rowsOn h b)) old
+  column : (l : ListSlices) (g : Row → ℕ) (old : List ℕ) → lentAfter (refusalOn h a l) (map g (rowsOn h a)) old ≡ lentAfter (refusalOn h b l) (map g (rowsOn h b)) old
   column l g old = slice l (map g (rowsOn h a)) (map g (rowsOn h b)) old (λ z. ap (map g) (rows-alike z))
 
   -- "Rows may repeat and come in any order."
@@ -130,7 +130,7 @@ module _
         plan = plans;
         rows = rows-alike;
         output = λ {marks} {slots} {chunks = chs} {layers} {bytes} x.
-            let l = lentOf marks slots chs layers bytes in
+            let l = slicesOf marks slots chs layers bytes in
             let n = refusalOn h a l in
             record {
               answer =

@@ -4,6 +4,7 @@
 use job::CHUNKS;
 use job::Programme;
 use job::SIZES;
+use job::SizeTable;
 use planner::Planned;
 ghost use mathlib.Core.Path.{_≡_};
 ghost use Prim.Native.Nat.{_≤_};
@@ -12,8 +13,11 @@ ghost use Rattle.theory_basics.specs.Refusals.{unless};
 ghost use Rattle.theory_basics.specs.Tests.{all};
 ghost use Rattle.job.specs.Input.{jobInput};
 ghost use Rattle.job.specs.Job.{lastDue};
-ghost use Rattle.replan.specs.Answer.{replanInput, ReplanOutput, SettledAfresh, StandingGoesOn};
+ghost use Rattle.core_sizes.specs.Table.{tableAt};
+ghost use Rattle.replan.specs.Answer.{ReplanPromise, replanInput};
+ghost use Rattle.fetch.specs.Slices.{slicesOf};
 ghost use Rattle.replan.specs.lemmas.Asked.{partRefusal, askedRefusal};
+ghost use Rattle.replan.specs.lemmas.Afresh.{Each, WriteAfreshPre, WriteAfreshPost};
 
 // 21: a handed row not before the slot.
 fn before_refusal(from: u16, slots: &[u16]) -> u8
@@ -56,7 +60,11 @@ pub fn asked_refusal(
     fetched_bytes: &[u32],
     onward: &[u32],
 ) -> u8
-    ensures { λ r. ⌜ r ≡ askedRefusal (jobInput p (now (sizes .entry)) (now («size_chunks» .entry)) (now («size_layers» .entry)) (now («size_bytes» .entry)) (now (forecast .entry))) (replanInput from (now («fetched_slots» .entry)) (now («fetched_chunks» .entry)) (now («fetched_layers» .entry)) (now («fetched_bytes» .entry)) (now (onward .entry))) ⌝ }
+    ensures { λ r. ⌜ r ≡ askedRefusal
+        (jobInput p (now (sizes .entry)) (now («size_chunks» .entry)) (now («size_layers» .entry))
+        (now («size_bytes» .entry)) (now (forecast .entry)))
+        (replanInput from (now («fetched_slots» .entry)) (now («fetched_chunks» .entry))
+        (now («fetched_layers» .entry)) (now («fetched_bytes» .entry)) (now (onward .entry))) ⌝ }
 {
     let job = job::refusal(p, sizes, size_chunks, size_layers, size_bytes, forecast);
     if job != 0 {
@@ -84,6 +92,67 @@ pub fn asked_refusal(
     part_refusal(p, from, onward)
 }
 
+// The plan made afresh, decided and handed over. left, begun and whole say what the fetched rows
+// leave of each layer, which chunks they begin, and the marks of the layers whole in them.
+fn write_afresh(
+    p: Programme,
+    depth: usize,
+    part: &[u32],
+    start: usize,
+    left: &SizeTable,
+    begun: &[u8; CHUNKS],
+    whole: &[u8; CHUNKS],
+    marks: &mut [u8],
+    slots: &mut [u16],
+    chunks: &mut [u16],
+    layers: &mut [u8],
+    bytes: &mut [u32],
+) -> Planned
+    requires { ⌜ WriteAfreshPre p depth start (now part) (tableAt (now left)) (now begun) (now whole) (now marks) ⌝ }
+    ensures { λ r. ⌜ Each p depth start (now (part .entry)) (tableAt (now (left .entry))) (now (begun .entry))
+        (now (whole .entry))
+        (λ j fetched plan.
+        WriteAfreshPost j start fetched plan (now (marks .entry)) (now (slots .entry)) (now (chunks .entry))
+        (now (layers .entry)) (now (bytes .entry))
+        r (now (marks .exit)) (now (slots .exit)) (now (chunks .exit)) (now (layers .exit)) (now (bytes .exit)))
+        ⌝ }
+{
+    let mut ids = [0u16; CHUNKS];
+    let mut ready = [0u16; CHUNKS];
+    let mut mark = [0u8; CHUNKS];
+    let count = p.chunks as usize;
+    let first = core_replan_decide::decide(
+        p,
+        depth,
+        part,
+        start,
+        left,
+        begun,
+        whole,
+        &mut ids,
+        &mut ready,
+        &mut mark,
+    );
+    let made = core_output::write_plan(
+        count,
+        part,
+        start,
+        true,
+        left,
+        first,
+        &ids,
+        &ready,
+        &mark,
+        whole,
+        marks,
+        slots,
+        chunks,
+        layers,
+        bytes,
+    );
+    planner::answered(made)
+}
+
 // The plan made afresh at a slot, from the rows fetched before it and the forecast from it on, into
 // lent marks, one a chunk, and rows: only those from the slot on, by slot, chunk, layer. Refusals
 // 5, 6, 18, 7, 8, 21, 7 of the handed forecast, 22, then 11 where a slice is shorter than the
@@ -107,9 +176,16 @@ pub fn replan(
     layers: &mut [u8],
     bytes: &mut [u32],
 ) -> Planned
-    ensures output { λ r. ⌜ ReplanOutput (jobInput p (now (sizes .entry)) (now («size_chunks» .entry)) (now («size_layers» .entry)) (now («size_bytes» .entry)) (now (forecast .entry))) (replanInput from (now («fetched_slots» .entry)) (now («fetched_chunks» .entry)) (now («fetched_layers» .entry)) (now («fetched_bytes» .entry)) (now (onward .entry))) (now (marks .entry)) (now (slots .entry)) (now (chunks .entry)) (now (layers .entry)) (now (bytes .entry)) r (now (marks .exit)) (now (slots .exit)) (now (chunks .exit)) (now (layers .exit)) (now (bytes .exit)) ⌝ }
-    ensures settled { λ _. ⌜ SettledAfresh (jobInput p (now (sizes .entry)) (now («size_chunks» .entry)) (now («size_layers» .entry)) (now («size_bytes» .entry)) (now (forecast .entry))) (replanInput from (now («fetched_slots» .entry)) (now («fetched_chunks» .entry)) (now («fetched_layers» .entry)) (now («fetched_bytes» .entry)) (now (onward .entry))) ⌝ }
-    ensures standing { λ _. ⌜ StandingGoesOn (jobInput p (now (sizes .entry)) (now («size_chunks» .entry)) (now («size_layers» .entry)) (now («size_bytes» .entry)) (now (forecast .entry))) (replanInput from (now («fetched_slots» .entry)) (now («fetched_chunks» .entry)) (now («fetched_layers» .entry)) (now («fetched_bytes» .entry)) (now (onward .entry))) ⌝ }
+    ensures { λ r. ⌜ ReplanPromise
+        (jobInput p (now (sizes .entry)) (now («size_chunks» .entry)) (now («size_layers» .entry))
+        (now («size_bytes» .entry)) (now (forecast .entry)))
+        (replanInput from (now («fetched_slots» .entry)) (now («fetched_chunks» .entry))
+        (now («fetched_layers» .entry)) (now («fetched_bytes» .entry)) (now (onward .entry)))
+        (slicesOf (now (marks .entry)) (now (slots .entry)) (now (chunks .entry))
+        (now (layers .entry)) (now (bytes .entry)))
+        r
+        (slicesOf (now (marks .exit)) (now (slots .exit)) (now (chunks .exit))
+        (now (layers .exit)) (now (bytes .exit))) ⌝ }
 {
     let no = asked_refusal(
         p,
@@ -137,7 +213,7 @@ pub fn replan(
     let mut left = [unset; SIZES];
     let mut begun = [0u8; CHUNKS];
     let mut whole = [0u8; CHUNKS];
-    job::fill_sizes(sizes, size_chunks, size_layers, size_bytes, &mut table);
+    core_sizes::fill_sizes(sizes, size_chunks, size_layers, size_bytes, &mut table);
     let kept = core_replan_input::gather(
         p,
         &table,
@@ -157,7 +233,7 @@ pub fn replan(
     if marks.len() < p.chunks as usize {
         return planner::refused(11);
     }
-    core_replan_output::write_plan(
+    write_afresh(
         p,
         depth,
         onward,

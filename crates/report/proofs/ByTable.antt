@@ -11,8 +11,8 @@ use Rattle.theory_basics.specs.Lists.{upTo}
 use Rattle.theory_basics.specs.lemmas.Lists.{upTo-cong}
 use Rattle.theory_basics.specs.Sums.{pre, sum}
 use Rattle.job.specs.Job.{Accepted, Job, chunks, layers, lastSlot, forecast}
-use Rattle.job.specs.Table.{sizesTable}
-use Rattle.job.specs.lemmas.Table.{table-says}
+use Rattle.core_sizes.specs.Table.{sizesTable}
+use Rattle.core_sizes.specs.lemmas.Table.{table-says}
 use Rattle.fetch.specs.Rows.{Row, rowAt, rowsOf, carried, layerCount, layersCarried}
 use Rattle.fetch.specs.lemmas.Rows.{bytes-snoc}
 use Rattle.theory_basics.specs.lemmas.Ranges.{pre-cong, sum-cong}

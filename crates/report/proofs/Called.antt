@@ -15,10 +15,12 @@ use Rattle.theory_basics.specs.Sums.{sum}
 use Rattle.theory_basics.specs.lemmas.Refusals.{orElse-some}
 use Rattle.theory_basics.specs.lemmas.Tests.{eqb-iff, test}
 use Rattle.theory_basics.specs.Refusals.{unless}
-use Rattle.job.specs.Input.{JobInput, input-iff, jobIn, jobRefusal}
+use Rattle.job.specs.Input.{JobInput, jobIn, jobRefusal}
+use Rattle.job.specs.Theorems.{input-iff}
 use Rattle.job.specs.Job.{Accepted, chunks}
 use Rattle.fetch.specs.Rows.{Row, rowsOf, rowSlot, rowChunk, rowLayer, rowBytes}
-use Rattle.planner.specs.Answer.{PlanOutput, Lent, answerOf, given, holds, lentOf, planRefusal, planRows, sliceAfter}
+use Rattle.fetch.specs.Slices.{ListSlices, slicesOf}
+use Rattle.planner.specs.Answer.{PlanOutput, answerOf, given, holds, planRefusal, planRows, sliceAfter}
 use Rattle.planner.specs.declared.Answer.the-variants.{Rows as made, Refused as refused}
 use Rattle.planner.specs.declared.Planned.{Planned}
 use Rattle.report.specs.declared.table.Spent.the-variants.{Bytes as sent, Refused as unsent}
@@ -30,8 +32,8 @@ use Rattle.report.proofs.Own.{few, own-rows, spent-again}
 abbrev pub zeros : ℕ → List ℕ
 zeros n = replicate n 0
 
-abbrev room : Lent
-room = lentOf (zeros 500) (zeros 5599) (zeros 5599) (zeros 5599) (zeros 5599)
+abbrev room : ListSlices
+room = slicesOf (zeros 500) (zeros 5599) (zeros 5599) (zeros 5599) (zeros 5599)
 
 -- ---- what the call answers: the rows, or the job's refusal
 
@@ -62,7 +64,7 @@ module _ (h : JobInput) where
   refused-case true n e = let z : _≡_ {A = ℕ} 0 1 = cc in absurd (omega arith)
   refused-case false n e = (cc, cc)
 
-module _ {h : JobInput} {r : Planned} {m s c l b : List ℕ} (p : PlanOutput h (zeros 500) (zeros 5599) (zeros 5599) (zeros 5599) (zeros 5599) r m s c l b) where
+module _ {h : JobInput} {r : Planned} {m s c l b : List ℕ} (p : PlanOutput h (slicesOf (zeros 500) (zeros 5599) (zeros 5599) (zeros 5599) (zeros 5599)) r (slicesOf m s c l b)) where
   pub answered-rows : {n : ℕ} → r .answer ≡ made n → (jobRefusal h ≡ 0) × (n ≡ length (planRows (jobIn h)))
   answered-rows {n} e =
       let u = rows-case h (eqb (jobRefusal h) 0) n (sym (p .answer ∙ answers h) ∙ e) in
@@ -99,7 +101,7 @@ pub record Made (h : JobInput) (n : ℕ) (slots cs layers bytes : List ℕ) : Ty
   pub bytes-are : Column (map rowBytes (planRows (jobIn h))) n bytes
 
 pub made-columns :
-    {h : JobInput} {r : Planned} {m s c l b : List ℕ} → PlanOutput h (zeros 500) (zeros 5599) (zeros 5599) (zeros 5599) (zeros 5599) r m s c l b →
+    {h : JobInput} {r : Planned} {m s c l b : List ℕ} → PlanOutput h (slicesOf (zeros 500) (zeros 5599) (zeros 5599) (zeros 5599) (zeros 5599)) r (slicesOf m s c l b) →
     {n : ℕ} → r .answer ≡ made n → Made h n s c l b
 made-columns {h} p {n} e =
     let rows = planRows (jobIn h) in

@@ -10,7 +10,7 @@ use lib.Seq.{getD-set-same, getD-set-other}
 use lib.Dec.{eqb}
 use borrow.Author.Tests.{eqb-true, eqb-false}
 use Rattle.theory_basics.specs.Lists.{upTo}
-use Rattle.job.specs.Table.{tableAt}
+use Rattle.core_sizes.specs.Table.{tableAt}
 use Rattle.fetch.specs.Rows.{Row, rowAt, rowsOf, bytesIf, bytesOfLayer}
 use Rattle.fetch.specs.lemmas.Rows.{bytes-snoc}
 use Rattle.theory_basics.specs.lemmas.Ranges.{sum-most, cond-most}

@@ -9,16 +9,17 @@ use lib.Dec.{T, eqb, eqb→eq}
 use lib.ListN.{length, getD}
 use Rattle.theory_basics.specs.Sums.{sum}
 use Rattle.theory_basics.specs.lemmas.Refusals.{orElse-none, orElse-some}
-use Rattle.job.specs.Input.{JobInput, input-iff, jobIn, jobRefusal}
+use Rattle.job.specs.Input.{JobInput, jobIn, jobRefusal}
+use Rattle.job.specs.Theorems.{input-iff}
 use Rattle.job.specs.Job.{Accepted}
-use Rattle.job.specs.Table.{sizesTable}
-use Rattle.job.specs.lemmas.Table.{table-says}
+use Rattle.core_sizes.specs.Table.{sizesTable}
+use Rattle.core_sizes.specs.lemmas.Table.{table-says}
 use Rattle.job.specs.lemmas.Within.{size-most}
 use Rattle.planner.specs.Answer.{planRows}
 use Rattle.report.specs.Answer.{Answered, Reported, plan-report-fits, planReport, reportRefusal, roomRefusal}
 use Rattle.report.specs.Report.{bytesInRows}
-use Rattle.report.specs.declared.Written.{Written}
-use Rattle.report.specs.declared.Written.the-variants.{Refused}
+use Rattle.records.specs.declared.Written.{Written}
+use Rattle.records.specs.declared.Written.the-variants.{Refused}
 use Rattle.report.specs.declared.table.Spent.{Spent}
 use Rattle.report.specs.declared.table.Spent.the-variants.{Bytes as sent, Refused as unsent}
 use Rattle.report.specs.lemmas.Tables.{SizesIn, Tabled, linesBy}

@@ -19,8 +19,8 @@ use Rattle.theory_plan.specs.Theorems.{plan-carried, plan-exists, plan-rows-uni
 use Rattle.theory_plan.specs.lemmas.Words.{accepted-sized}
 use Rattle.report.specs.Report.{reportOf}
 use Rattle.report.specs.Theorems.{report-fits}
-use Rattle.report.specs.declared.Written.{Written}
-use Rattle.report.specs.declared.Written.the-variants.{Bytes, Refused}
+use Rattle.records.specs.declared.Written.{Written}
+use Rattle.records.specs.declared.Written.the-variants.{Bytes, Refused}
 
 -- The report of a job is that of its plan's own list.
 unfoldable pub planReport : Job → List ℕ
@@ -43,9 +43,12 @@ pub record Answered (t old now : List ℕ) (r : Written) : Type 0 where
 abbrev pub reportRefusal : JobInput → List ℕ → ℕ
 reportRefusal h out = jobRefusal h orElse roomRefusal (planReport (jobIn h)) out
 
--- What the call hands over for a job as handed, and what it leaves in the lent buffer.
+-- What `report` promises of a job as handed and the buffer that it is lent, with the buffer
+-- afterwards and its answer.
 pub record Reported (h : JobInput) (old now : List ℕ) (r : Written) : Type 0 where
+  -- The number of bytes, or a refusal's number.
   pub result : r ≡ answer (reportRefusal h old) (length (planReport (jobIn h)))
+  -- The report; "in a longer one the bytes past the result stay unchanged", and on a refusal all.
   pub buffer : now ≡ lentAfter (reportRefusal h old) (planReport (jobIn h)) old
 
 -- Whichever plan of an accepted job is taken, this is its report.

@@ -7,6 +7,7 @@ use job::ROWS;
 use job::SIZES;
 use job::SizeTable;
 use planner::Answer;
+use records::Written;
 
 mod lines;
 mod table;
@@ -22,12 +23,6 @@ ghost use Rattle.report.specs.Answer.{Answered, Reported};
 ghost use Rattle.core_text.specs.lemmas.Places.{Put};
 ghost use Rattle.report.specs.lemmas.Tables.{SizesIn, Tabled, chunkLineBy, countBy, linesBy};
 
-// The number of bytes written, or the number of a refusal.
-pub enum Written {
-    Bytes(usize),
-    Refused(u8),
-}
-
 // A line for each chunk: number, layers carried, bytes carried.
 fn chunk_lines(
     out: &mut [u8],
@@ -37,8 +32,13 @@ fn chunk_lines(
     table: &[u64; SIZES],
     count: u16,
 ) -> usize
-    requires { ⌜ (depth ≤ 4) × (count ≤ 500) × (at + length (text (upTo (λ k. chunkLineBy (now sizes) (now table) depth (k + 1)) count)) ≤ length (now out)) × SizesIn (now sizes) ⌝ }
-    ensures { λ r. ⌜ Put (now (out .entry)) at (text (upTo (λ k. chunkLineBy (now (sizes .entry)) (now (table .entry)) depth (k + 1)) count)) (now (out .exit)) r ⌝ }
+    requires { ⌜ (depth ≤ 4)
+        × (count ≤ 500)
+        × (at + length (text (upTo (λ k. chunkLineBy (now sizes) (now table) depth (k + 1)) count)) ≤ length (now out))
+        × SizesIn (now sizes) ⌝ }
+    ensures { λ r. ⌜ Put (now (out .entry)) at
+        (text (upTo (λ k. chunkLineBy (now (sizes .entry)) (now (table .entry)) depth (k + 1)) count))
+        (now (out .exit)) r ⌝ }
 {
     let mut next = at;
     let mut i: u16 = 0;
@@ -60,8 +60,13 @@ fn layer_counts(
     table: &[u64; SIZES],
     count: u16,
 ) -> usize
-    requires { ⌜ (depth ≤ 4) × (count ≤ 500) × (at + length (text (upTo (λ n. 32 ∷ digits (countBy (now sizes) (now table) count n)) depth)) ≤ length (now out)) ⌝ }
-    ensures { λ r. ⌜ Put (now (out .entry)) at (text (upTo (λ n. 32 ∷ digits (countBy (now (sizes .entry)) (now (table .entry)) count n)) depth)) (now (out .exit)) r ⌝ }
+    requires { ⌜ (depth ≤ 4)
+        × (count ≤ 500)
+        × (at + length (text (upTo (λ n. 32 ∷ digits (countBy (now sizes) (now table) count n)) depth)) ≤ length
+        (now out)) ⌝ }
+    ensures { λ r. ⌜ Put (now (out .entry)) at
+        (text (upTo (λ n. 32 ∷ digits (countBy (now (sizes .entry)) (now (table .entry)) count n)) depth))
+        (now (out .exit)) r ⌝ }
 {
     let mut next = at;
     let mut n: usize = 0;
@@ -82,8 +87,13 @@ fn layers_line(
     table: &[u64; SIZES],
     count: u16,
 ) -> usize
-    requires { ⌜ (depth ≤ 4) × (count ≤ 500) × (at + length (line (ascii "layers") (upTo (λ n. digits (countBy (now sizes) (now table) count n)) depth)) ≤ length (now out)) ⌝ }
-    ensures { λ r. ⌜ Put (now (out .entry)) at (line (ascii "layers") (upTo (λ n. digits (countBy (now (sizes .entry)) (now (table .entry)) count n)) depth)) (now (out .exit)) r ⌝ }
+    requires { ⌜ (depth ≤ 4)
+        × (count ≤ 500)
+        × (at + length (line (ascii "layers") (upTo (λ n. digits (countBy (now sizes) (now table) count n)) depth))
+        ≤ length (now out)) ⌝ }
+    ensures { λ r. ⌜ Put (now (out .entry)) at
+        (line (ascii "layers") (upTo (λ n. digits (countBy (now (sizes .entry)) (now (table .entry)) count n)) depth))
+        (now (out .exit)) r ⌝ }
 {
     records::put(out, at, b"layers");
     let from = at + 6;
@@ -120,8 +130,14 @@ fn put_lines(
     left: u64,
     out: &mut [u8],
 ) -> usize
-    requires { ⌜ (depth ≤ 4) × (1 ≤ p .chunks) × (p .chunks ≤ 500) × (1 ≤ p .span) × (length (linesBy p (now sizes) depth (now table) spent left) ≤ length (now out)) × SizesIn (now sizes) ⌝ }
-    ensures { λ r. ⌜ Put (now (out .entry)) 0 (linesBy p (now (sizes .entry)) depth (now (table .entry)) spent left) (now (out .exit)) r ⌝ }
+    requires { ⌜ (depth ≤ 4)
+        × (1 ≤ p .chunks)
+        × (p .chunks ≤ 500)
+        × (1 ≤ p .span)
+        × (length (linesBy p (now sizes) depth (now table) spent left) ≤ length (now out))
+        × SizesIn (now sizes) ⌝ }
+    ensures { λ r. ⌜ Put (now (out .entry)) 0 (linesBy p (now (sizes .entry)) depth (now (table .entry)) spent left)
+        (now (out .exit)) r ⌝ }
 {
     let count = p.chunks;
     let film = film_slots(p);
@@ -157,8 +173,14 @@ fn write_lines(
     left: u64,
     out: &mut [u8],
 ) -> Written
-    requires { ⌜ (depth ≤ 4) × (1 ≤ p .chunks) × (p .chunks ≤ 500) × (1 ≤ p .span) × (length (linesBy p (now sizes) depth (now table) spent left) ≤ 7633) × SizesIn (now sizes) ⌝ }
-    ensures { λ r. ⌜ Answered (linesBy p (now (sizes .entry)) depth (now (table .entry)) spent left) (now (out .entry)) (now (out .exit)) r ⌝ }
+    requires { ⌜ (depth ≤ 4)
+        × (1 ≤ p .chunks)
+        × (p .chunks ≤ 500)
+        × (1 ≤ p .span)
+        × (length (linesBy p (now sizes) depth (now table) spent left) ≤ 7633)
+        × SizesIn (now sizes) ⌝ }
+    ensures { λ r. ⌜ Answered (linesBy p (now (sizes .entry)) depth (now (table .entry)) spent left) (now (out .entry))
+        (now (out .exit)) r ⌝ }
 {
     let mut text = [0u8; 7633];
     let n = put_lines(p, sizes, depth, table, spent, left, &mut text);
@@ -177,7 +199,10 @@ fn plan_table(
     table: &mut [u64; SIZES],
 ) -> table::Spent
     requires { ⌜ now table ≡ replicate 2000 0 ⌝ }
-    ensures { λ r. ⌜ Tabled (jobInput p (now (sizes .entry)) (now («size_chunks» .entry)) (now («size_layers» .entry)) (now («size_bytes» .entry)) (now (forecast .entry))) (now (table .exit)) r ⌝ }
+    ensures { λ r. ⌜ Tabled
+        (jobInput p (now (sizes .entry)) (now («size_chunks» .entry)) (now («size_layers» .entry))
+        (now («size_bytes» .entry)) (now (forecast .entry)))
+        (now (table .exit)) r ⌝ }
 {
     let mut marks = [0u8; CHUNKS];
     let mut slots = [0u16; ROWS];
@@ -219,7 +244,10 @@ pub fn report(
     forecast: &[u32],
     out: &mut [u8],
 ) -> Written
-    ensures { λ r. ⌜ Reported (jobInput p (now (sizes .entry)) (now («size_chunks» .entry)) (now («size_layers» .entry)) (now («size_bytes» .entry)) (now (forecast .entry))) (now (out .entry)) (now (out .exit)) r ⌝ }
+    ensures { λ r. ⌜ Reported
+        (jobInput p (now (sizes .entry)) (now («size_chunks» .entry)) (now («size_layers» .entry))
+        (now («size_bytes» .entry)) (now (forecast .entry))) (now (out .entry))
+        (now (out .exit)) r ⌝ }
 {
     let mut table = [0u64; SIZES];
     let made = plan_table(
@@ -237,7 +265,7 @@ pub fn report(
             let left = less(table::sum_of(forecast), spent);
             let unset = p.chunks as u32;
             let mut stored = [unset; SIZES];
-            job::fill_sizes(sizes, size_chunks, size_layers, size_bytes, &mut stored);
+            core_sizes::fill_sizes(sizes, size_chunks, size_layers, size_bytes, &mut stored);
             write_lines(p, &stored, sizes.len(), &table, spent, left, out)
         }
     }

@@ -25,8 +25,13 @@ pub(crate) fn put_end(out: &mut [u8], at: usize) -> usize
 
 // The line `slots`: d(C), C and H.
 pub(crate) fn slots_line(out: &mut [u8], at: usize, last: u64, count: u64, held: u64) -> usize
-    requires { ⌜ at + length (line (ascii "slots") (digits last ∷ ascii "chunks" ∷ digits count ∷ ascii "held" ∷ digits held ∷ [])) ≤ length (now out) ⌝ }
-    ensures { λ r. ⌜ Put (now (out .entry)) at (line (ascii "slots") (digits last ∷ ascii "chunks" ∷ digits count ∷ ascii "held" ∷ digits held ∷ [])) (now (out .exit)) r ⌝ }
+    requires { ⌜ at
+        + length
+        (line (ascii "slots") (digits last ∷ ascii "chunks" ∷ digits count ∷ ascii "held" ∷ digits held ∷ [])) ≤ length
+        (now out) ⌝ }
+    ensures { λ r. ⌜ Put (now (out .entry)) at
+        (line (ascii "slots") (digits last ∷ ascii "chunks" ∷ digits count ∷ ascii "held" ∷ digits held ∷ []))
+        (now (out .exit)) r ⌝ }
 {
     let slots = core_text::put_field(out, at, b"slots ", last);
     let chunks = core_text::put_field(out, slots, b" chunks ", count);
@@ -37,7 +42,8 @@ pub(crate) fn slots_line(out: &mut [u8], at: usize, last: u64, count: u64, held:
 // The line of a chunk.
 pub(crate) fn chunk_line(out: &mut [u8], at: usize, i: u64, layers: u64, bytes: u64) -> usize
     requires { ⌜ at + length (line (digits i) (digits layers ∷ digits bytes ∷ [])) ≤ length (now out) ⌝ }
-    ensures { λ r. ⌜ Put (now (out .entry)) at (line (digits i) (digits layers ∷ digits bytes ∷ [])) (now (out .exit)) r ⌝ }
+    ensures { λ r. ⌜ Put (now (out .entry)) at (line (digits i) (digits layers ∷ digits bytes ∷ [])) (now (out .exit)) r
+        ⌝ }
 {
     let number = core_text::put_number(out, at, i);
     let carried = put_next(out, number, layers);
@@ -47,8 +53,10 @@ pub(crate) fn chunk_line(out: &mut [u8], at: usize, i: u64, layers: u64, bytes: 
 
 // The line `bytes`: bytes in rows, and forecast bytes unspent.
 pub(crate) fn bytes_line(out: &mut [u8], at: usize, spent: u64, left: u64) -> usize
-    requires { ⌜ at + length (line (ascii "bytes") (digits spent ∷ ascii "left" ∷ digits left ∷ [])) ≤ length (now out) ⌝ }
-    ensures { λ r. ⌜ Put (now (out .entry)) at (line (ascii "bytes") (digits spent ∷ ascii "left" ∷ digits left ∷ [])) (now (out .exit)) r ⌝ }
+    requires { ⌜ at + length (line (ascii "bytes") (digits spent ∷ ascii "left" ∷ digits left ∷ [])) ≤ length (now out)
+        ⌝ }
+    ensures { λ r. ⌜ Put (now (out .entry)) at (line (ascii "bytes") (digits spent ∷ ascii "left" ∷ digits left ∷ []))
+        (now (out .exit)) r ⌝ }
 {
     let bytes = core_text::put_field(out, at, b"bytes ", spent);
     let end = core_text::put_field(out, bytes, b" left ", left);
@@ -66,8 +74,12 @@ fn switch_line(out: &mut [u8], at: usize, switch: u64) -> usize
 
 // The switch sum by the slots of film: quotient and remainder.
 fn rate_line(out: &mut [u8], at: usize, switch: u64, film: u64) -> usize
-    requires { ⌜ (1 ≤ film) × (at + length (line (ascii "rate") (digits (switch / film) ∷ digits (switch % film) ∷ [])) ≤ length (now out)) ⌝ }
-    ensures { λ r. ⌜ Put (now (out .entry)) at (line (ascii "rate") (digits (switch / film) ∷ digits (switch % film) ∷ [])) (now (out .exit)) r ⌝ }
+    requires { ⌜ (1 ≤ film)
+        × (at + length (line (ascii "rate") (digits (switch / film) ∷ digits (switch % film) ∷ [])) ≤ length (now out))
+        ⌝ }
+    ensures { λ r. ⌜ Put (now (out .entry)) at
+        (line (ascii "rate") (digits (switch / film) ∷ digits (switch % film) ∷ []))
+        (now (out .exit)) r ⌝ }
 {
     let whole = switch / film;
     let rest = switch % film;

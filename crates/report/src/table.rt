@@ -9,7 +9,8 @@ ghost use lib.Dec.{eqb};
 ghost use Rattle.theory_basics.specs.Sums.{sum};
 ghost use Rattle.fetch.specs.Rows.{rowsOf};
 ghost use Rattle.report.specs.Report.{apart};
-ghost use Rattle.report.specs.lemmas.Tables.{Rows, SizesIn, Summed, bytesAt, carriedBy, ChunkBy, countBy, pictureBy, changeOf, heldOf, switchBy};
+ghost use Rattle.report.specs.lemmas.Tables.{Rows, SizesIn, Summed, bytesAt, carriedBy, ChunkBy, countBy};
+ghost use Rattle.report.specs.lemmas.Tables.{pictureBy, changeOf, heldOf, switchBy};
 
 // What a chunk carries: how many layers and how many bytes.
 pub struct Chunk {
@@ -54,7 +55,8 @@ pub(crate) fn sum_of(s: &[u32]) -> u64
 // A row's bytes go to those of its layer of its chunk.
 fn add_row(table: &mut [u64; SIZES], c: u16, l: u8, b: u32)
     requires { ⌜ (1 ≤ c) × (c ≤ 500) × (l < 4) × (bytesAt (now table) c l ≤ 35184372088832) ⌝ }
-    ensures { λ _. ⌜ now (table .exit) ≡ set (now (table .entry)) (4 * (c - 1) + l) (bytesAt (now (table .entry)) c l + b) ⌝ }
+    ensures { λ _. ⌜ now (table .exit) ≡ set (now (table .entry)) (4 * (c - 1) + l)
+        (bytesAt (now (table .entry)) c l + b) ⌝ }
 {
     let at = 4 * ((c as usize) - 1) + (l as usize);
     table[at] = add(table[at], b);
@@ -69,7 +71,9 @@ pub(crate) fn add_rows(
     table: &mut [u64; SIZES],
 )
     requires { ⌜ Rows (now slots) (now chunks) (now layers) (now bytes) × (now table ≡ replicate 2000 0) ⌝ }
-    ensures { λ _. ⌜ Summed (rowsOf (now (slots .entry)) (now (chunks .entry)) (now (layers .entry)) (now (bytes .entry))) (now (table .exit)) ⌝ }
+    ensures { λ _. ⌜ Summed
+        (rowsOf (now (slots .entry)) (now (chunks .entry)) (now (layers .entry)) (now (bytes .entry)))
+        (now (table .exit)) ⌝ }
 {
     let mut i: usize = 0;
     while i < slots.len() {
@@ -101,7 +105,7 @@ fn is_carried(sizes: &SizeTable, table: &[u64; SIZES], i: u16, n: usize) -> bool
     ensures { λ r. ⌜ r ≡ carriedBy (now (sizes .entry)) (now (table .entry)) i n ⌝ }
 {
     let sum = bytes_at(table, i, n);
-    same(sum, job::size_at(sizes, i, n))
+    same(sum, core_sizes::size_at(sizes, i, n))
 }
 
 // A number, or 0 for a layer that is not carried.

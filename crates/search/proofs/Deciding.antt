@@ -35,7 +35,7 @@ use Rattle.search.specs.lemmas.Deciding.{DecidesFound, DecidePost, Short
 pub found-fits : (j : Job) → Accepted j → (budget : ℕ) → Fits j (basesOf (found j budget .kept))
 found-fits j ok budget =
     let ks = found j budget .kept in
-    can-carry-fits j (basesOf ks) (bases-choice j ks (ok .layers-in .low)) (found-carried j ok budget (found j budget) (found-is-found j ok budget) .1)
+    can-carry-fits j (accepted-sized j ok) (basesOf ks) (bases-choice j ks (ok .layers-in .low)) (found-carried j ok budget (found j budget) (found-is-found j ok budget) .1)
 
 pub plan-found-fits : (j : Job) → Accepted j → (budget : ℕ) → Fits j (planFound j budget)
 plan-found-fits j ok budget = planned-fits j (found j budget .kept) (found-fits j ok budget)

@@ -17,20 +17,21 @@ use Rattle.theory_basics.specs.lemmas.Tests.{T-true, not-T-false, same-test, te
 use Rattle.fetch.specs.Marks.{bit}
 use Rattle.fetch.specs.Rows.{markByte, rowSlot, rowChunk, rowLayer, rowBytes}
 use Rattle.fetch.specs.lemmas.Marks.{mark-bit}
-use Rattle.job.specs.Input.{JobInput, jobIn, jobRefusal, input-iff}
+use Rattle.job.specs.Input.{JobInput, jobIn, jobRefusal}
+use Rattle.job.specs.Theorems.{input-iff}
 use Rattle.job.specs.Job.{Accepted, Job, chunks, layers, size}
+use Rattle.fetch.specs.Slices.{ListSlices, slicesOf}
 use Rattle.theory_plan.specs.Statement.{countsOf, marksOf}
 use Rattle.core_decide.specs.lemmas.Decision.{Decides}
 use Rattle.core_output.specs.declared.Output.{Output}
-use Rattle.core_output.specs.lemmas.Writing.{Decided, WritePost}
+use Rattle.core_output.specs.lemmas.Writing.{Decided, ownResult, WritePost}
 use Rattle.core_output.proofs.Writing.{unlaid}
-use Rattle.planner.specs.Answer.{Lent, lentOf}
 use Rattle.planner.specs.declared.Answer.the-variants.{Rows}
 use Rattle.theory_search.specs.Search.{found, planOver}
 use Rattle.theory_search.specs.Statement.{IsPlanOver}
 use Rattle.theory_search.specs.Theorems.{as-document-01, equal-plan, found-is-found, found-unique, good-enough, larger-budget, over-exists, over-unique}
 use Rattle.search.specs.declared.Searched.{Searched}
-use Rattle.search.specs.Answer.{FoundByWalk, GoodEnoughFound, SearchOutput, MoreSteps, given, holdsFound, planFound, rowsFound, searchRefusal}
+use Rattle.search.specs.Answer.{FoundByWalk, GoodEnoughFound, MoreSteps, SearchOutput, SearchPromise, given, holdsFound, planFound, rowsFound, searchRefusal}
 use Rattle.search.specs.lemmas.Deciding.{AllOf, AnsweredPost, OnlyNumber}
 use Rattle.search.proofs.Deciding.{plan-found-fits}
 
@@ -47,11 +48,11 @@ module _ (h : JobInput) (budget : ℕ) (marks slots cs layers bytes : List ℕ) 
   abbrev j : Job
   j = jobIn h
 
-  abbrev lent : Lent
-  lent = lentOf marks slots cs layers bytes
+  abbrev lent : ListSlices
+  lent = slicesOf marks slots cs layers bytes
 
   abbrev OutputTo : Searched → (marks slots cs layers bytes : List ℕ) → Type 0
-  OutputTo r = SearchOutput h budget marks slots cs layers bytes r
+  OutputTo r marks' slots' cs' layers' bytes' = SearchOutput h budget (slicesOf marks slots cs layers bytes) r (slicesOf marks' slots' cs' layers' bytes')
 
   output-refused : (k : ℕ) → searchRefusal h budget lent ≡ k → (k ≡ 0 → ⊥) → (r : Searched) → OnlyNumber r k → OutputTo r marks slots cs layers bytes
   output-refused k e o r x =
@@ -86,7 +87,7 @@ module _ (h : JobInput) (budget : ℕ) (marks slots cs layers bytes : List ℕ) 
 
   module _
       (z : jobRefusal h ≡ 0) (fit : chunks j ≤ length marks) {made : Output} {marks' slots' cs' layers' bytes' : List ℕ}
-      (l : WritePost j (planFound j budget) marks slots cs layers bytes made marks' slots' cs' layers' bytes') {steps short : ℕ} {ended : Bool}
+      (l : WritePost (ownResult j (planFound j budget)) marks slots cs layers bytes made marks' slots' cs' layers' bytes') {steps short : ℕ} {ended : Bool}
       (st : steps ≡ found j budget .steps) (en : ended ≡ found j budget .ended) (sh : short ≡ found j budget .shortfall) (r : Searched) where
     -- Whole,
     laid-whole :
@@ -139,7 +140,7 @@ set-in-marks j some ks x over i u v =
     ∙ ap (λ (n : ℕ). ltb 0 (x n)) e
     ∙ same-test (ltb 0 (x i)) (has ks i) (λ t. k .0 (ltb→lt 0 (x i) t)) (λ t. lt→ltb 0 (x i) (k .1 t))
 
-pub found-by-walk : (h : JobInput) (budget : ℕ) → FoundByWalk h budget
+found-by-walk : (h : JobInput) (budget : ℕ) → FoundByWalk h budget
 found-by-walk h budget z =
     let j = jobIn h in
     let ok = accepted h z in
@@ -153,13 +154,13 @@ found-by-walk h budget z =
       in-marks = set-in-marks j (ok .layers-in .low) (found j budget .kept) (planFound j budget) over;
     }
 
-pub good-enough-found : (h : JobInput) (budget : ℕ) → GoodEnoughFound h budget
+good-enough-found : (h : JobInput) (budget : ℕ) → GoodEnoughFound h budget
 good-enough-found h budget z =
     let j = jobIn h in
     let ok = accepted h z in
     good-enough j ok budget (found j budget) (found-is-found j ok budget) (planFound j budget) (over-exists j ok (found j budget .kept))
 
-pub more-steps : (h : JobInput) (budget : ℕ) → MoreSteps h budget
+more-steps : (h : JobInput) (budget : ℕ) → MoreSteps h budget
 more-steps h budget z =
     let j = jobIn h in
     let ok = accepted h z in
@@ -169,3 +170,8 @@ more-steps h budget z =
       two-a-chunk = λ l p d. as-document-01 j ok budget (found j budget) is p d l;
       equal-chunks = λ equal l p d. over-unique j (found j budget .kept) p (planFound j budget) (equal-plan j ok equal budget (found j budget) is l p d) (over-exists j ok (found j budget .kept));
     }
+
+-- The rest of the promise needs no look at the code.
+pub promise-of : {h : JobInput} {budget : ℕ} {lent lent' : ListSlices} {r : Searched} → SearchOutput h budget lent r lent' → SearchPromise h budget lent r lent'
+promise-of {h} {budget} x =
+    record { output = x; found = found-by-walk h budget; enough = good-enough-found h budget; more-steps = more-steps h budget }

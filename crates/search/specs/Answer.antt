@@ -4,10 +4,10 @@
 -- of both are stated in theory_search: Statement; they are computed in theory_search: Search.
 use Prim.Native.Nat.{ℕ, suc, _+_, _*_, _-_, _≤_}
 use mathlib.Core.Path.{_≡_}
-use mathlib.Core.Bool.{Bool, false, cond, _&&_}
+use mathlib.Core.Bool.{Bool, false, cond}
 use mathlib.Core.List.{List, [], _∷_, map}
 use lib.ListN.{length, getD}
-use lib.Dec.{leb, eqb}
+use lib.Dec.{eqb}
 use Rattle.theory_basics.specs.Lent.{lentAfter}
 use Rattle.theory_basics.specs.Lists.{has}
 use Rattle.theory_basics.specs.Refusals.{unless, _orElse_}
@@ -15,9 +15,9 @@ use Rattle.job.specs.Job.{EqualChunks, Job, chunks}
 use Rattle.job.specs.Input.{JobInput, jobIn, jobRefusal}
 use Rattle.fetch.specs.Marks.{bit}
 use Rattle.fetch.specs.Rows.{Row, rowSlot, rowChunk, rowLayer, rowBytes}
+use Rattle.fetch.specs.Slices.{ListSlices, room}
 use Rattle.theory_plan.specs.Own.{ownList}
 use Rattle.theory_plan.specs.Statement.{Same, SettledByTrials, countOf, countsOf, marksOf}
-use Rattle.planner.specs.Answer.{Lent, lentOf}
 use Rattle.planner.specs.declared.Answer.{Answer}
 use Rattle.planner.specs.declared.Answer.the-variants.{Rows, Refused}
 use Rattle.theory_search.specs.Statement.{Found, GoodEnough, IsFound, IsPlanOver}
@@ -37,44 +37,42 @@ rowsFound j budget = ownList j (planFound j budget)
 -- ---- the refusals
 
 -- 11: "A lent buffer is shorter than the whole result".
-abbrev pub holdsFound : Job → ℕ → Lent → Bool
-holdsFound j budget l =
-    let n = length (rowsFound j budget) in
-    leb (chunks j) (l .marks) && (leb n (l .slots) && (leb n (l .chunks) && (leb n (l .layers) && leb n (l .bytes))))
+abbrev pub holdsFound : Job → ℕ → ListSlices → Bool
+holdsFound j budget lent = room lent (chunks j) (length (rowsFound j budget))
 
 -- 5, 6, 18, 7, then 11; 0 for none.
-abbrev pub searchRefusal : JobInput → ℕ → Lent → ℕ
+abbrev pub searchRefusal : JobInput → ℕ → ListSlices → ℕ
 searchRefusal h budget l = jobRefusal h orElse unless 11 (holdsFound (jobIn h) budget l)
 
 -- ---- what is handed over
 
 -- Where nothing is refused; a refusal carries only its number: beside it counts, steps and
 -- shortfall are 0, and the walk has not ended.
-abbrev pub given : JobInput → ℕ → Lent → Bool
+abbrev pub given : JobInput → ℕ → ListSlices → Bool
 given h budget l = eqb (searchRefusal h budget l) 0
 
 -- How many rows, or the refusal's number.
-abbrev pub answerOf : JobInput → ℕ → Lent → Answer
+abbrev pub answerOf : JobInput → ℕ → ListSlices → Answer
 answerOf h budget l = cond (given h budget l) (Rows (length (rowsFound (jobIn h) budget))) (Refused (searchRefusal h budget l))
 
-abbrev pub searchCounts : JobInput → ℕ → Lent → List ℕ
+abbrev pub searchCounts : JobInput → ℕ → ListSlices → List ℕ
 searchCounts h budget l = cond (given h budget l) (countsOf (jobIn h) (planFound (jobIn h) budget)) (0 ∷ 0 ∷ 0 ∷ 0 ∷ [])
 
 -- A lent slice at exit: the result, then the old contents; on a refusal the old contents alone.
-abbrev pub sliceAfter : JobInput → ℕ → Lent → List ℕ → List ℕ → List ℕ
+abbrev pub sliceAfter : JobInput → ℕ → ListSlices → List ℕ → List ℕ → List ℕ
 sliceAfter h budget l result old = lentAfter (searchRefusal h budget l) result old
 
-pub record SearchOutput (h : JobInput) (budget : ℕ) (marks slots chunks layers bytes : List ℕ) (r : Searched) (marks' slots' chunks' layers' bytes' : List ℕ) : Type 0 where
-  pub answer : r .answer ≡ answerOf h budget (lentOf marks slots chunks layers bytes)
-  pub counts : r .counts ≡ searchCounts h budget (lentOf marks slots chunks layers bytes)
-  pub steps : r .steps ≡ cond (given h budget (lentOf marks slots chunks layers bytes)) (found (jobIn h) budget .steps) 0
-  pub ended : r .ended ≡ cond (given h budget (lentOf marks slots chunks layers bytes)) (found (jobIn h) budget .ended) false
-  pub shortfall : r .shortfall ≡ cond (given h budget (lentOf marks slots chunks layers bytes)) (found (jobIn h) budget .shortfall) 0
-  pub marks-are : marks' ≡ sliceAfter h budget (lentOf marks slots chunks layers bytes) (marksOf (jobIn h) (planFound (jobIn h) budget)) marks
-  pub slots-are : slots' ≡ sliceAfter h budget (lentOf marks slots chunks layers bytes) (map rowSlot (rowsFound (jobIn h) budget)) slots
-  pub chunks-are : chunks' ≡ sliceAfter h budget (lentOf marks slots chunks layers bytes) (map rowChunk (rowsFound (jobIn h) budget)) chunks
-  pub layers-are : layers' ≡ sliceAfter h budget (lentOf marks slots chunks layers bytes) (map rowLayer (rowsFound (jobIn h) budget)) layers
-  pub bytes-are : bytes' ≡ sliceAfter h budget (lentOf marks slots chunks layers bytes) (map rowBytes (rowsFound (jobIn h) budget)) bytes
+pub record SearchOutput (h : JobInput) (budget : ℕ) (lent : ListSlices) (r : Searched) (lent' : ListSlices) : Type 0 where
+  pub answer : r .answer ≡ answerOf h budget lent
+  pub counts : r .counts ≡ searchCounts h budget lent
+  pub steps : r .steps ≡ cond (given h budget lent) (found (jobIn h) budget .steps) 0
+  pub ended : r .ended ≡ cond (given h budget lent) (found (jobIn h) budget .ended) false
+  pub shortfall : r .shortfall ≡ cond (given h budget lent) (found (jobIn h) budget .shortfall) 0
+  pub marks-are : lent' .marks ≡ sliceAfter h budget lent (marksOf (jobIn h) (planFound (jobIn h) budget)) (lent .marks)
+  pub slots-are : lent' .slots ≡ sliceAfter h budget lent (map rowSlot (rowsFound (jobIn h) budget)) (lent .slots)
+  pub chunks-are : lent' .chunks ≡ sliceAfter h budget lent (map rowChunk (rowsFound (jobIn h) budget)) (lent .chunks)
+  pub layers-are : lent' .layers ≡ sliceAfter h budget lent (map rowLayer (rowsFound (jobIn h) budget)) (lent .layers)
+  pub bytes-are : lent' .bytes ≡ sliceAfter h budget lent (map rowBytes (rowsFound (jobIn h) budget)) (lent .bytes)
 
 -- ---- what holds of it
 
@@ -104,3 +102,16 @@ pub record Steps (j : Job) (budget : ℕ) : Type 0 where
 
 abbrev pub MoreSteps : JobInput → ℕ → Type 0
 MoreSteps h budget = jobRefusal h ≡ 0 → Steps (jobIn h) budget
+
+-- The promise of `search`.
+pub record SearchPromise (h : JobInput) (budget : ℕ) (lent : ListSlices) (r : Searched) (lent' : ListSlices) : Type 0 where
+  -- "The result is the best set met .., the steps .. actually taken, whether the walk ended .., and
+  -- a shortfall", with the plan over that set, or the refusal's number; every lent byte, on a
+  -- refusal too.
+  pub output : SearchOutput h budget lent r lent'
+  -- The set is the walk's, cut at the budget, and the plan the one over it.
+  pub found : FoundByWalk h budget
+  -- It passes and is in playing order, and none is better by more than the shortfall.
+  pub enough : GoodEnoughFound h budget
+  -- "A larger budget never finds fewer."
+  pub more-steps : MoreSteps h budget

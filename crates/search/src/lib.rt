@@ -14,11 +14,12 @@ ghost use mathlib.Core.Bool.{cond};
 ghost use Prim.Native.Nat.{_-_, _≤_};
 ghost use lib.ListN.{length};
 ghost use Rattle.job.specs.Input.{jobInput, jobRefusal};
-ghost use Rattle.job.specs.Table.{tableAt};
+ghost use Rattle.core_sizes.specs.Table.{tableAt};
+ghost use Rattle.fetch.specs.Slices.{slicesOf};
 ghost use Rattle.theory_plan.specs.lemmas.Parts.{at};
 ghost use Rattle.core_moore_hodgson.specs.lemmas.Tables.{mooreHodgsonIn};
 ghost use Rattle.core_decide.specs.lemmas.Decision.{DecidePre};
-ghost use Rattle.search.specs.Answer.{SearchOutput, FoundByWalk, GoodEnoughFound, MoreSteps};
+ghost use Rattle.search.specs.Answer.{SearchOutput, SearchPromise};
 ghost use Rattle.search.specs.lemmas.Deciding.{AnsweredPost, DecidePost, OnlyNumber, ShortfallPre};
 
 // The number of rows or the refusal's number, how many chunks carry each layer, the steps taken,
@@ -55,7 +56,8 @@ fn refused(n: u8) -> Searched
 // The count of request 9 without the limit, less the count found; 0 if the walk ended.
 fn shortfall(p: Programme, table: &SizeTable, after: &SlotSums, first: usize, ended: bool) -> u16
     requires { ⌜ ShortfallPre p (tableAt (now table)) (now after) first ⌝ }
-    ensures { λ r. ⌜ r ≡ cond ended 0 (length (mooreHodgsonIn p (tableAt (now (table .entry))) (at (now (after .entry)))) - (500 - first)) ⌝ }
+    ensures { λ r. ⌜ r ≡ cond ended 0
+        (length (mooreHodgsonIn p (tableAt (now (table .entry))) (at (now (after .entry)))) - (500 - first)) ⌝ }
 {
     if ended {
         return 0;
@@ -85,7 +87,8 @@ fn decide(
     mark: &mut [u8; CHUNKS],
 ) -> Decision
     requires { ⌜ DecidePre p layers (tableAt (now table)) 1 (now forecast) (now ids) (now ready) (now mark) ⌝ }
-    ensures { λ r. ⌜ DecidePost p layers (tableAt (now (table .entry))) (now (forecast .entry)) budget r (now (ids .exit)) (now (ready .exit)) (now (mark .exit)) ⌝ }
+    ensures { λ r. ⌜ DecidePost p layers (tableAt (now (table .entry))) (now (forecast .entry)) budget
+        r (now (ids .exit)) (now (ready .exit)) (now (mark .exit)) ⌝ }
 {
     let mut after = [0u64; SUMS];
     let mut room = [0u64; CHUNKS];
@@ -150,14 +153,28 @@ fn write_found(
     layers: &mut [u8],
     bytes: &mut [u32],
 ) -> Searched
-    requires { ⌜ (jobRefusal (jobInput p (now sizes) (now «size_chunks») (now «size_layers») (now «size_bytes») (now forecast)) ≡ 0) × (p .chunks ≤ length (now marks)) ⌝ }
-    ensures { λ r. ⌜ SearchOutput (jobInput p (now (sizes .entry)) (now («size_chunks» .entry)) (now («size_layers» .entry)) (now («size_bytes» .entry)) (now (forecast .entry))) budget (now (marks .entry)) (now (slots .entry)) (now (chunks .entry)) (now (layers .entry)) (now (bytes .entry)) r (now (marks .exit)) (now (slots .exit)) (now (chunks .exit)) (now (layers .exit)) (now (bytes .exit)) ⌝ }
+    requires { ⌜ (jobRefusal
+        (jobInput p (now sizes) (now «size_chunks») (now «size_layers») (now «size_bytes») (now forecast)) ≡ 0)
+        × (p .chunks ≤ length (now marks)) ⌝ }
+    ensures { λ r. ⌜ SearchOutput
+        (jobInput p (now (sizes .entry)) (now («size_chunks» .entry)) (now («size_layers» .entry))
+        (now («size_bytes» .entry)) (now (forecast .entry)))
+        budget
+        (slicesOf (now (marks .entry)) (now (slots .entry)) (now (chunks .entry))
+        (now (layers .entry)) (now (bytes .entry)))
+        r
+        (slicesOf (now (marks .exit)) (now (slots .exit)) (now (chunks .exit))
+        (now (layers .exit)) (now (bytes .exit))) ⌝ }
 {
     let mut table = [0u32; SIZES];
-    job::fill_sizes(sizes, size_chunks, size_layers, size_bytes, &mut table);
+    core_sizes::fill_sizes(sizes, size_chunks, size_layers, size_bytes, &mut table);
     let mut ids = [0u16; CHUNKS];
     let mut ready = [0u16; CHUNKS];
-    let mut mark = [1u8; CHUNKS];
+    // A kept chunk has its base.
+    let base = fetch::with(0, 0);
+    let mut mark = [base; CHUNKS];
+    // A chunk that is left out has the mark 0.
+    let none = [0u8; CHUNKS];
     let count = p.chunks as usize;
     let out = decide(
         p,
@@ -173,11 +190,14 @@ fn write_found(
     let made = core_output::write_plan(
         count,
         forecast,
+        1,
+        false,
         &table,
         first,
         &ids,
         &ready,
         &mark,
+        &none,
         marks,
         slots,
         chunks,
@@ -204,10 +224,15 @@ pub fn search(
     layers: &mut [u8],
     bytes: &mut [u32],
 ) -> Searched
-    ensures output { λ r. ⌜ SearchOutput (jobInput p (now (sizes .entry)) (now («size_chunks» .entry)) (now («size_layers» .entry)) (now («size_bytes» .entry)) (now (forecast .entry))) budget (now (marks .entry)) (now (slots .entry)) (now (chunks .entry)) (now (layers .entry)) (now (bytes .entry)) r (now (marks .exit)) (now (slots .exit)) (now (chunks .exit)) (now (layers .exit)) (now (bytes .exit)) ⌝ }
-    ensures found { λ _. ⌜ FoundByWalk (jobInput p (now (sizes .entry)) (now («size_chunks» .entry)) (now («size_layers» .entry)) (now («size_bytes» .entry)) (now (forecast .entry))) budget ⌝ }
-    ensures enough { λ _. ⌜ GoodEnoughFound (jobInput p (now (sizes .entry)) (now («size_chunks» .entry)) (now («size_layers» .entry)) (now («size_bytes» .entry)) (now (forecast .entry))) budget ⌝ }
-    ensures steps { λ _. ⌜ MoreSteps (jobInput p (now (sizes .entry)) (now («size_chunks» .entry)) (now («size_layers» .entry)) (now («size_bytes» .entry)) (now (forecast .entry))) budget ⌝ }
+    ensures { λ r. ⌜ SearchPromise
+        (jobInput p (now (sizes .entry)) (now («size_chunks» .entry)) (now («size_layers» .entry))
+        (now («size_bytes» .entry)) (now (forecast .entry)))
+        budget
+        (slicesOf (now (marks .entry)) (now (slots .entry)) (now (chunks .entry))
+        (now (layers .entry)) (now (bytes .entry)))
+        r
+        (slicesOf (now (marks .exit)) (now (slots .exit)) (now (chunks .exit))
+        (now (layers .exit)) (now (bytes .exit))) ⌝ }
 {
     let no = job::refusal(p, sizes, size_chunks, size_layers, size_bytes, forecast);
     if 0 < no {

@@ -8,8 +8,8 @@ use crate::rooms::job_of;
 use crate::rooms::room8;
 use crate::rooms::room32;
 use crate::rooms::then;
-use jobfile::Written;
 use jobrecords::JobRead;
+use records::Written;
 
 fn job_written(written: Written) {
     match written {

@@ -9,7 +9,7 @@ use crate::rooms::room8;
 use crate::rooms::room16;
 use crate::rooms::room32;
 use planfile::PlanRead;
-use planfile::Written;
+use records::Written;
 
 fn plan_written(written: Written) {
     match written {

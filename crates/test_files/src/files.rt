@@ -10,6 +10,7 @@ use job::Programme;
 use job::SLOTS;
 use jobrecords::JobRead;
 use planfile::PlanRead;
+use records::Written;
 
 // The bytes of a case file go to the start of file, at most as many as that has. A file that can't
 // be opened is read as empty.
@@ -85,8 +86,8 @@ fn written(
         forecast,
         &mut out,
     ) {
-        jobfile::Written::Bytes(n) => written_bytes(&out, n),
-        jobfile::Written::Refused(n) => refused(n),
+        Written::Bytes(n) => written_bytes(&out, n),
+        Written::Refused(n) => refused(n),
     }
 }
 

@@ -4,7 +4,7 @@ use crate::print::line;
 use crate::print::refused;
 use job::Programme;
 use planfile::PlanRead;
-use planfile::Written;
+use records::Written;
 
 // A job of so many chunks, due in slots 1, 2, ..
 fn job_of(chunks: u16) -> Programme {

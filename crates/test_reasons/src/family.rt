@@ -3,7 +3,7 @@
 use crate::cases::line;
 use crate::cases::pair;
 use job::Programme;
-use reasons::Written;
+use records::Written;
 ghost use Prim.Native.Nat.{_<_};
 
 // What is counted of the texts.

@@ -2,7 +2,7 @@
 use crate::cases::line;
 use crate::cases::word;
 use job::Programme;
-use report::Written;
+use records::Written;
 
 fn programme(chunks: u16) -> Programme {
     Programme {

@@ -2,7 +2,7 @@
 use crate::print::pair;
 use crate::print::refused;
 use crate::print::word;
-use trace::Written;
+use records::Written;
 
 fn answered(answer: Written) {
     match answer {

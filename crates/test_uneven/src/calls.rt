@@ -5,6 +5,7 @@ use crate::print::word;
 use checker::Checked;
 use job::Programme;
 use planner::Answer;
+use records::Written;
 
 // Job A, but of so many chunks.
 pub(crate) fn job_of(chunks: u16) -> Programme {
@@ -35,8 +36,8 @@ fn write(lengths: Lengths, size_chunks: &[u16], size_layers: &[u8], size_bytes: 
         &mut out,
     );
     match written {
-        jobfile::Written::Bytes(n) => pair(b"written ", n),
-        jobfile::Written::Refused(n) => pair(b"refused ", n as usize),
+        Written::Bytes(n) => pair(b"written ", n),
+        Written::Refused(n) => pair(b"refused ", n as usize),
     }
 }
 
@@ -99,8 +100,8 @@ fn report(lengths: Lengths, size_chunks: &[u16], size_layers: &[u8], size_bytes:
         &mut out,
     );
     match written {
-        report::Written::Bytes(n) => pair(b", report ", n),
-        report::Written::Refused(n) => pair(b", refused ", n as usize),
+        Written::Bytes(n) => pair(b", report ", n),
+        Written::Refused(n) => pair(b", refused ", n as usize),
     }
     word(b"\n");
 }

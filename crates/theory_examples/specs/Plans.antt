@@ -7,7 +7,8 @@ use mathlib.Core.Path.{_≡_, refl, sym, ap, _∙_}
 use lib.ListN.{getD}
 use native.Mathlib.Omega.{arith}
 use Rattle.job.specs.Job.{Accepted, HoldsAll, Job, jobOf, sizeIn}
-use Rattle.job.specs.Refusal.{accepted-iff, refusal}
+use Rattle.job.specs.Refusal.{refusal}
+use Rattle.job.specs.Theorems.{accepted-iff}
 use Rattle.fetch.specs.Rows.{Row, layerCount}
 use Rattle.fetch.specs.Rules.{Passes}
 use Rattle.fetch.specs.Verdict.{verdict}
@@ -25,7 +26,7 @@ pub record PlanIs (j : Job) (marks counts : List ℕ) (rows : List Row) : Type 0
   pub rows-are : (p : ℕ → ℕ) → IsPlan j p → ownList j p ≡ rows
 
 -- What is computed of the computed plan holds of every plan.
-planned :
+pub planned :
     (j : Job) (marks counts : List ℕ) (rows : List Row) → refusal j ≡ 0 → marksOf j (plan j) ≡ marks →
     countsOf j (plan j) ≡ counts → ownList j (plan j) ≡ rows → PlanIs j marks counts rows
 planned j marks counts rows ok m c r =
@@ -41,7 +42,7 @@ planned j marks counts rows ok m c r =
 -- ---- job A
 
 -- Job A with another limit or another forecast.
-abbrev A-with : ℕ → List ℕ → Job
+abbrev pub A-with : ℕ → List ℕ → Job
 A-with limit forecast = jobOf (record { chunks = 3; span = 2; delay = 2; limit = limit }) (2 ∷ 1 ∷ []) [] forecast
 
 -- A: marks 0, 3, 1. Rows (1,2,0,2) (1,2,1,1) (5,3,0,2).
@@ -69,7 +70,7 @@ A-no-forecast = planned _ _ _ _ refl refl refl refl
 -- ---- one chunk
 
 -- C 1, L 1, size 5.
-abbrev one-chunk : ℕ → ℕ → List ℕ → Job
+abbrev pub one-chunk : ℕ → ℕ → List ℕ → Job
 one-chunk delay limit forecast = jobOf (record { chunks = 1; span = 1; delay = delay; limit = limit }) (5 ∷ []) [] forecast
 
 -- C 1, L 1, s 1, limit 0, size 5: B = 5 gives marks 1;

@@ -5,7 +5,7 @@ use mathlib.Core.Path.{_≡_, refl, sym, _∙_}
 use mathlib.Core.List.{List}
 use Rattle.theory_basics.specs.Text.{ascii, digits}
 use Rattle.job.specs.Job.{Accepted, sizeIn}
-use Rattle.job.specs.Refusal.{accepted-iff}
+use Rattle.job.specs.Theorems.{accepted-iff}
 use Rattle.theory_plan.specs.Plan.{plan}
 use Rattle.theory_plan.specs.Statement.{IsPlan}
 use Rattle.theory_reasons.specs.Lines.{planText, stretchOf}

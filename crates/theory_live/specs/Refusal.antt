@@ -14,7 +14,8 @@ use Rattle.theory_basics.specs.lemmas.Tables.{all-drop}
 use Rattle.theory_basics.specs.lemmas.Tests.{test}
 use Rattle.job.specs.Job.{Accepted, Job, Within, forecast, lastSlot}
 use Rattle.fetch.specs.Rows.{Row}
-use Rattle.fetch.specs.VerdictFrom.{slot-iff, slotRefusal}
+use Rattle.fetch.specs.VerdictFrom.{slotRefusal}
+use Rattle.fetch.specs.Theorems.{slot-iff}
 use Rattle.theory_replan.specs.Refusal.{beforeRefusal, fetchedKept, joined-unchanged, onward-iff, onwardRefusal, replan-refusal-iff, replanRefusal}
 use Rattle.theory_replan.specs.Statement.{Acceptable, joined}
 use Rattle.theory_live.specs.Statement.{act}

@@ -5,7 +5,8 @@ use mathlib.Core.Path.{_≡_, refl, _∙_}
 use mathlib.Core.List.{[], _∷_}
 use lib.ListN.{getD}
 use Rattle.job.specs.Job.{Accepted, Job, jobOf, sizeIn}
-use Rattle.job.specs.Refusal.{accepted-iff, refusal}
+use Rattle.job.specs.Refusal.{refusal}
+use Rattle.job.specs.Theorems.{accepted-iff}
 use Rattle.theory_plan.specs.Bases.{keptAfter, mooreHodgson}
 use Rattle.theory_plan.specs.Plan.{plan, planByTrials}
 use Rattle.theory_plan.specs.Statement.{IsPlan, SettledByTrials, marksOf}

@@ -3,15 +3,15 @@
 -- that takes no list. What a plan is says Statement (`IsPlan`); that this is it, and the only one,
 -- say `plan-exists` and `plan-unique` of Theorems, and that the test says whether some list can
 -- carry the choice, `decision`. So nobody has to believe the test.
-use Prim.Native.Nat.{ℕ, zero, suc, _+_, _-_, max}
-use mathlib.Core.Bool.{Bool, true, not, cond, _&&_}
+use Prim.Native.Nat.{ℕ, zero, suc, _+_, _-_, min}
+use mathlib.Core.Bool.{Bool, not, cond, _&&_}
 use mathlib.Core.List.{List, [], _∷_}
-use lib.ListN.{drop}
-use lib.Dec.{leb, eqb}
+use lib.Dec.{leb, ltb, eqb}
 use Rattle.theory_basics.specs.Sums.{pre, sum}
 use Rattle.theory_basics.specs.Tests.{allTo}
 use Rattle.job.specs.Job.{Job, chunks, due, forecast, heldMost, lastSlot, layers, size}
 use Rattle.theory_plan.specs.Bases.{baseSize, isKept}
+use Rattle.theory_plan.specs.lemmas.Feasible.{feas}
 
 -- ---- the kept chunks of a choice
 
@@ -34,30 +34,22 @@ after j t = pre (forecast j) (lastSlot j) - pre (forecast j) t
 
 -- ---- whether they fit
 
--- Throughout, w k are the bytes of chunk k, d k its due slot, A t what is forecast after slot t,
--- and h how many chunks may be held.
-
--- How much of the forecast, counted from its end, the chunks use up.
-abbrev pub needOf : (w d A : ℕ → ℕ) → List ℕ → ℕ
-needOf w d A [] = 0
-needOf w d A (k ∷ ks) = w k + max (A (d k)) (needOf w d A ks)
-
--- For each chunk, those from h places behind it on fit into the slots from its due slot on.
-abbrev pub tails : (w d A : ℕ → ℕ) (h : ℕ) → List ℕ → Bool
-tails w d A h [] = true
-tails w d A h (k ∷ ks) = leb (needOf w d A (drop h (k ∷ ks))) (A (d k - 1)) && tails w d A h ks
-
--- The chunks fit: all of them into the whole forecast, and each behind the chunk that must be gone
--- when it begins.
-unfoldable pub feas : (w d A : ℕ → ℕ) (h : ℕ) → List ℕ → Bool
-feas w d A h ks = leb (needOf w d A ks) (A 0) && tails w d A h ks
-
--- The test that a choice fits.
+-- The test that a choice fits: by what its chunks need of the forecast (lemmas Feasible, which
+-- nobody has to read: `Theorems.decision` says what the test says).
 unfoldable pub fits : Job → (ℕ → ℕ) → Bool
 unfolding feas
 fits j lv = feas (bytes j lv) (due j) (after j) (heldMost j) (kept j lv)
 
 -- ---- the trials
+
+-- What chunk k carries of the layers settled before layer n of chunk i.
+abbrev pub settled : (ℕ → ℕ) → ℕ → ℕ → ℕ → ℕ
+settled plan n i k = min (plan k) (cond (ltb i k) (suc n) n)
+
+-- The layers settled as carried so far, and layer n of chunk i: the choice that is tried
+-- (Statement, `Trial`).
+abbrev pub tried : (ℕ → ℕ) → ℕ → ℕ → ℕ → ℕ
+tried plan n i k = cond (eqb k i) (suc n) (settled plan n i k)
 
 -- One layer more for chunk i.
 abbrev pub raise : (ℕ → ℕ) → ℕ → ℕ → ℕ

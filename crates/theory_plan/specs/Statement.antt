@@ -9,12 +9,11 @@
 --   Own, in this crate: the own list of a choice
 --   Plan, in this crate: the plan computed, so that a contract can name it
 -- Theorems proves what this file states.
-use Prim.Native.Nat.{ℕ, suc, _+_, _≤_, _<_, min}
+use Prim.Native.Nat.{ℕ, suc, _+_, _≤_, _<_}
 use mathlib.Core.Path.{_≡_}
-use mathlib.Core.Bool.{cond}
 use mathlib.Core.List.{List}
-use mathlib.Core.Logic.{_↔_}
-use lib.Dec.{T, ltb, eqb}
+use mathlib.Core.Logic.{_⊎_, _↔_}
+use lib.Dec.{T, ltb}
 use Rattle.theory_basics.specs.Lists.{upTo}
 use Rattle.theory_basics.specs.Sums.{count}
 use Rattle.job.specs.Job.{Job, Layer, EqualBases, HoldsAll, chunks, layers}
@@ -43,34 +42,42 @@ countsOf j choice = upTo (countOf j choice) 4
 
 -- ---- what can be carried
 
--- The list carries the layers of the choice and no others.
-abbrev pub CarriesExactly : Job → List Row → (ℕ → ℕ) → Type 0
-CarriesExactly j rows choice = (i n : ℕ) → Layer j i n → Carried j rows i n ↔ (n < choice i)
+-- The list carries these layers and no others: layer n of chunk i exactly if `these i n`.
+abbrev pub CarriesOnly : Job → List Row → (ℕ → ℕ → Type 0) → Type 0
+CarriesOnly j rows these = (i n : ℕ) → Layer j i n → Carried j rows i n ↔ these i n
 
--- Some passing list in playing order carries the choice and no other layers.
-pub record CanCarry (j : Job) (choice : ℕ → ℕ) : Type 0 where
+-- Some passing list in playing order carries these layers and no others.
+pub record CanCarryOnly (j : Job) (these : ℕ → ℕ → Type 0) : Type 0 where
   pub rows : List Row
   pub passes : Passes j rows
   pub in-order : PlayingOrder j rows
-  pub exactly : CarriesExactly j rows choice
+  pub exactly : CarriesOnly j rows these
+
+-- The same of the layers of a choice.
+abbrev pub CarriesExactly : Job → List Row → (ℕ → ℕ) → Type 0
+CarriesExactly j rows choice = CarriesOnly j rows (λ i n. n < choice i)
+
+abbrev pub CanCarry : Job → (ℕ → ℕ) → Type 0
+CanCarry j choice = CanCarryOnly j (λ i n. n < choice i)
 
 -- ---- the plan
 
--- "Layers are settled from 0 upward, and within a layer chunks from C down to 1": when layer n of
--- chunk i is tried, the plan has settled layers 0 to n of the chunks after i, and the layers below
--- n of the others. This is what chunk k carries of them.
-abbrev pub settled : (ℕ → ℕ) → ℕ → ℕ → ℕ → ℕ
-settled plan n i k = min (plan k) (cond (ltb i k) (suc n) n)
+-- "Layers are settled from 0 upward, and within a layer chunks from C down to 1": layer m of chunk
+-- k is settled before layer n of chunk i.
+abbrev pub SettledBefore : (m k n i : ℕ) → Type 0
+SettledBefore m k n i = (m < n) ⊎ ((m ≡ n) × (i < k))
 
--- The layers settled as carried so far, and layer n of chunk i.
-abbrev pub tried : (ℕ → ℕ) → ℕ → ℕ → ℕ → ℕ
-tried plan n i k = cond (eqb k i) (suc n) (settled plan n i k)
+-- "the layers settled as carried so far, this one", when layer n of chunk i is tried: layer m of
+-- chunk k is one of them. The choice of these layers is computed by `Plan.tried`, and
+-- `Theorems.tried-is-trial` says so.
+abbrev pub Trial : (plan : ℕ → ℕ) (n i : ℕ) → (k m : ℕ) → Type 0
+Trial plan n i k m = (SettledBefore m k n i × (m < plan k)) ⊎ ((m ≡ n) × (k ≡ i))
 
 -- Document 01's decision of layer n. "A chunk that lacks the layer below is passed over. Otherwise
 -- the layer is carried exactly if some list in playing order passes that carries the layers settled
 -- as carried so far, this one and no others." (n ≤ plan i: the layers below n are carried.)
 abbrev pub Settles : Job → (ℕ → ℕ) → ℕ → Type 0
-Settles j plan n = (i : ℕ) → Layer j i n → (n < plan i) ↔ ((n ≤ plan i) × CanCarry j (tried plan n i))
+Settles j plan n = (i : ℕ) → Layer j i n → (n < plan i) ↔ ((n ≤ plan i) × CanCarryOnly j (Trial plan n i))
 
 -- Document 01's way by itself: every layer is settled by such trials, the base too.
 pub record SettledByTrials (j : Job) (plan : ℕ → ℕ) : Type 0 where

@@ -1,7 +1,7 @@
 -- Theorems. What Statement states, proved: the decision, that there is exactly one plan, the shape
 -- of its own list, document 01's way by itself, and demand 3. What request 9 says of bases stands
 -- in Pictures.
-use Prim.Native.Nat.{ℕ, zero, suc, _+_, _≤_}
+use Prim.Native.Nat.{ℕ, zero, suc, _+_, _≤_, _<_}
 use mathlib.Core.Path.{_≡_, ap, subst, sym}
 use mathlib.Core.List.{List}
 use mathlib.Core.Logic.{⊎-elim, _↔_}
@@ -12,19 +12,21 @@ use Rattle.theory_basics.specs.lemmas.Lists.{upTo-cong}
 use Rattle.theory_basics.specs.lemmas.Tests.{test}
 use Rattle.fetch.specs.Rows.{Row, layerCount, markByte, marksGiven}
 use Rattle.fetch.specs.Rules.{Keeps, Passes, PlayingOrder}
-use Rattle.fetch.specs.Verdict.{verdict, verdict-iff}
+use Rattle.fetch.specs.Verdict.{verdict}
+use Rattle.fetch.specs.Theorems.{verdict-iff}
 use Rattle.job.specs.Job.{Accepted, EqualBases, EqualChunks, Job, Layer, chunks, layers, size}
 use Rattle.job.specs.Uneven.{equal-chunks-bases}
 use Rattle.theory_plan.specs.lemmas.Best.{by-trials-fits, first-difference, is-plan-fits, most-bases, most-of-layer}
-use Rattle.theory_plan.specs.Statement.{Best, ByMooreHodgson, CanCarry, CarriesExactly, Choice, IsPlan, Same, SettledByTrials, Settles, countOf, countsOf, marksOf}
+use Rattle.theory_plan.specs.Statement.{Best, ByMooreHodgson, CanCarry, CarriesExactly, Choice, IsPlan, Same, SettledByTrials, Settles, Trial, countOf, countsOf, marksOf}
 use Rattle.theory_plan.specs.lemmas.Choice.{can-carry-fits, can-carry-iff-fits, fits-can-carry, own, own-exactly, own-in-order, own-passes}
 use Rattle.theory_plan.specs.lemmas.Level.{count-carried, keeps-marks}
 use Rattle.theory_basics.specs.lemmas.Ranges.{count-cong, count-none}
 use Rattle.theory_plan.specs.Own.{Ascending, ownList}
 use Rattle.theory_plan.specs.lemmas.Shape.{own-ascending, own-few-rows}
 use Rattle.theory_plan.specs.lemmas.OwnFill.{own-list-is}
-use Rattle.theory_plan.specs.Plan.{fits, plan, planByTrials}
+use Rattle.theory_plan.specs.Plan.{fits, plan, planByTrials, tried}
 use Rattle.theory_plan.specs.lemmas.Plan.{fits-iff, plan-is-plan, trials-settled}
+use Rattle.theory_plan.specs.lemmas.Tried.{trial-iff}
 use Rattle.theory_plan.specs.lemmas.Unique.{own-list-cong, plans-agree, trials-agree}
 use Rattle.theory_plan.specs.lemmas.Words.{Sized, accepted-sized, layer-of}
 
@@ -42,6 +44,11 @@ decision j sized lv c =
     let b = fits-iff j lv in
     (λ s. b .1 (a .0 s), λ t. a .1 (b .0 t))
 
+-- The layers that a trial asks about (`Trial`) are those of the choice that is computed.
+pub tried-is-trial :
+    (plan : ℕ → ℕ) (n i : ℕ) → n ≤ plan i → (k m : ℕ) → (m < tried plan n i k) ↔ Trial plan n i k m
+tried-is-trial = trial-iff
+
 -- The list with the choice's marks passes, is in playing order and carries the choice and no other
 -- layers.
 abbrev pub CarriesWith : Job → (ℕ → ℕ) → List Row → Type 0
@@ -51,7 +58,7 @@ CarriesWith j choice rows = Keeps j (marksOf j choice) rows × PlayingOrder j ro
 pub own-carries : (j : Job) → Sized j → (choice : ℕ → ℕ) → Choice j choice → CanCarry j choice → CarriesWith j choice (ownList j choice)
 unfolding own
 own-carries j sized lv c s =
-    let f = can-carry-fits j lv c s in
+    let f = can-carry-fits j sized lv c s in
     let e = own-exactly j sized lv c f in
     subst (CarriesWith j lv) (sym (own-list-is j lv)) (keeps-marks j (own j lv) lv e (own-passes j sized lv c f), own-in-order j sized lv c f, e)
 

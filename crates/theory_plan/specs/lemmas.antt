@@ -6,6 +6,7 @@ pub mod Best
 pub mod Choice
 pub mod Count
 pub mod Exchange
+pub mod Feasible
 pub mod Fill
 pub mod Kept
 pub mod Level
@@ -25,9 +26,11 @@ pub mod Stretches
 pub mod Sufficiency
 pub mod Totals
 pub mod Trials
+pub mod Tried
 pub mod Unique
 pub mod Upper
 pub mod KeepOrDrop
 pub mod MooreHodgson
 pub mod Whole
 pub mod Words
+pub mod OwnMost

@@ -1,19 +1,18 @@
 -- Meaning. The reason under each missing layer: document 02, request 14. A choice says of each
 -- chunk how many layers it carries, from the base up (Statement of crate theory_plan); its kept
 -- chunks are those with at least one.
-use Prim.Native.Nat.{ℕ, zero, suc, _-_, _≤_, _<_, min}
+use Prim.Native.Nat.{ℕ, zero, suc, _+_, _≤_, _<_, min}
 use mathlib.Core.Path.{_≡_}
-use mathlib.Core.Bool.{Bool, cond, _&&_}
+use mathlib.Core.Bool.{cond, _&&_}
 use mathlib.Core.List.{List, [], _∷_, _++_, map}
 use mathlib.Core.Logic.{_⊎_}
 use lib.Dec.{leb, ltb, eqb}
-use lib.ListN.{length, getD}
-use Rattle.theory_basics.specs.Sums.{pre, sum}
+use lib.ListN.{replicate}
+use Rattle.theory_basics.specs.Sums.{pre}
 use Rattle.job.specs.Job.{Job, Layer, chunks, due, forecast, heldMost, lastSlot, layers}
 use Rattle.theory_basics.specs.Tests.{All}
 use Rattle.theory_basics.specs.Text.{ascii, digits, line, text}
-use Rattle.theory_plan.specs.Plan.{byMooreHodgson, bytes, kept}
-use Rattle.theory_plan.specs.Statement.{tried}
+use Rattle.theory_plan.specs.Plan.{byMooreHodgson, bytes, kept, tried}
 
 -- ---- carry and need
 
@@ -21,26 +20,23 @@ use Rattle.theory_plan.specs.Statement.{tried}
 unfoldable pub carry : Job → ℕ → ℕ → ℕ
 carry j a b = pre (λ t. cond (leb a t) (forecast j t) 0) b
 
--- How many chunks a choice keeps, and the m-th of them in playing order, counted from 0.
-abbrev pub keptCount : Job → (ℕ → ℕ) → ℕ
-keptCount j choice = length (kept j choice)
-
-abbrev pub keptChunk : Job → (ℕ → ℕ) → ℕ → ℕ
-keptChunk j choice m = getD (kept j choice) m 0
-
 -- "In playing order the first H kept chunks can begin in slot 1, each later one from the due slot
--- of the kept chunk H places before it."
-abbrev pub canBegin : Job → (ℕ → ℕ) → ℕ → ℕ
-canBegin j choice m = cond (ltb m (heldMost j)) 1 (due j (keptChunk j choice (m - heldMost j)))
+-- of the kept chunk H places before it": the slots from which they can begin, in turn.
+abbrev pub beginSlots : Job → List ℕ → List ℕ
+beginSlots j kept = replicate (heldMost j) 1 ++ map (due j) kept
 
--- The m-th kept chunk can't begin before slot a and is due by slot b.
-abbrev pub between : Job → (ℕ → ℕ) → ℕ → ℕ → ℕ → Bool
-between j choice a b m = leb a (canBegin j choice m) && leb (due j (keptChunk j choice m)) b
+-- The bytes of the chunks that can't begin before slot a and are due by slot b, of the kept ones,
+-- each with the slot from which it can begin.
+abbrev pub bytesNeeded : Job → (ℕ → ℕ) → (a b : ℕ) → (begins kept : List ℕ) → ℕ
+bytesNeeded j choice a b ss [] = 0
+bytesNeeded j choice a b [] (k ∷ ks) = 0
+bytesNeeded j choice a b (s ∷ ss) (k ∷ ks) =
+    cond (leb a s && leb (due j k) b) (bytes j choice k) 0 + bytesNeeded j choice a b ss ks
 
 -- "Need is the bytes .. of chunks that can't begin before the first slot named and are due by the
 -- last one." All of them count, also where several can begin from the same slot.
 unfoldable pub need : Job → (ℕ → ℕ) → ℕ → ℕ → ℕ
-need j choice a b = sum (λ m. cond (between j choice a b m) (bytes j choice (keptChunk j choice m)) 0) (keptCount j choice)
+need j choice a b = bytesNeeded j choice a b (beginSlots j (kept j choice)) (kept j choice)
 
 -- ---- the stretch named
 

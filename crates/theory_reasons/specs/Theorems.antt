@@ -20,7 +20,8 @@ use Rattle.theory_plan.specs.lemmas.OneSize.{trials-last}
 use Rattle.theory_plan.specs.lemmas.Words.{accepted-sized}
 use Rattle.theory_reasons.specs.Lines.{linesOf, planText, stretchOf}
 use Rattle.theory_reasons.specs.Reading.{readLine, readReasons}
-use Rattle.theory_reasons.specs.Statement.{InTurn, IsMissing, Line, Named, Place, Reason, Reasons, Short, against, allBasesKept, canBegin, carry, keptChunk, keptCount, missing, need, reasonsText, sentence, settledBefore, short}
+use Rattle.theory_reasons.specs.Statement.{InTurn, IsMissing, Line, Named, Place, Reason, Reasons, Short, against, allBasesKept, carry, missing, need, reasonsText, sentence, settledBefore, short}
+use Rattle.theory_reasons.specs.lemmas.Kept.{canBegin, keptChunk, keptCount}
 use Rattle.theory_reasons.specs.lemmas.Agree.{against-agree, reasons-agree}
 use Rattle.theory_reasons.specs.lemmas.Bridge.{fits-none-short}
 use Rattle.theory_reasons.specs.lemmas.Named.{is-named-unique, named-unique, passed, passed-searched, stretch-named, stretch-of-named, stretch-passed}
@@ -41,7 +42,7 @@ stretch-exists j a choice c never = refused-stretch j a choice c never .named
 -- The sentence is a true reason: a choice with a stretch that needs more than it carries is carried
 -- by no passing list in playing order.
 pub stretch-forbids : (j : Job) → Accepted j → (choice : ℕ → ℕ) → Choice j choice → (a b : ℕ) → Short j choice a b → CanCarry j choice → ⊥
-stretch-forbids j acc choice c a b s can = fits-none-short j acc choice (can-carry-fits j choice c can) a b s
+stretch-forbids j acc choice c a b s can = fits-none-short j acc choice (can-carry-fits j (accepted-sized j acc) choice c can) a b s
 
 -- "Of several, the smallest last slot is named, then the greatest first slot": one and no other,
 -- which the search gives.

@@ -1,5 +1,6 @@
 pub mod Runs
 pub mod First
+pub mod Kept
 pub mod Search
 pub mod Bridge
 pub mod Named

@@ -8,7 +8,8 @@ use Rattle.job.specs.Job.{Job, sizeIn}
 use Rattle.fetch.specs.Rows.{Row}
 use Rattle.fetch.specs.VerdictFrom.{slotRefusal, verdictFrom}
 use Rattle.theory_plan.specs.Examples.{poor}
-use Rattle.theory_plan.specs.Plan.{feas, plan}
+use Rattle.theory_plan.specs.Plan.{plan}
+use Rattle.theory_plan.specs.lemmas.Feasible.{feas}
 use Rattle.theory_plan.specs.Statement.{marksOf}
 use Rattle.theory_replan.specs.Own.{ownRest}
 use Rattle.theory_replan.specs.Plan.{fitsFrom, replan}

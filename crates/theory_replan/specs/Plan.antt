@@ -11,7 +11,8 @@ use Rattle.theory_basics.specs.Sums.{sum}
 use Rattle.theory_basics.specs.Tests.{all, allTo}
 use Rattle.job.specs.Job.{Job, chunks, due, heldMost, layers, size}
 use Rattle.fetch.specs.Rows.{Row, bytesOfLayer, hasRow, layersCarried}
-use Rattle.theory_plan.specs.Plan.{after, feas, picked, raise}
+use Rattle.theory_plan.specs.Plan.{after, picked, raise, settled}
+use Rattle.theory_plan.specs.lemmas.Feasible.{feas}
 
 -- ---- whether a choice still fits
 
@@ -40,6 +41,17 @@ fitsFrom j p fetched choice =
     && feas (bytesLeft j fetched choice) (due j) (afterFrom j p) (heldMost j) (busyChunks j fetched choice))
 
 -- ---- the trials
+
+-- What chunk k carries of the layers settled as carried so far: those whole before p, and those
+-- settled before layer n of chunk i. (Layers whole before p are, by rule 3, the lowest ones of
+-- their chunk.)
+abbrev pub settledFrom : Job → List Row → (ℕ → ℕ) → ℕ → ℕ → ℕ → ℕ
+settledFrom j fetched plan n i k = max (layersCarried j fetched k) (settled plan n i k)
+
+-- The choice that is tried: what is settled before layer n of chunk i, and that layer (Statement,
+-- `TrialFrom`).
+abbrev pub triedFrom : Job → List Row → (ℕ → ℕ) → ℕ → ℕ → ℕ → ℕ
+triedFrom j fetched plan n i k = cond (eqb k i) (suc n) (settledFrom j fetched plan n i k)
 
 -- Chunk i is due from p on, and the choice fits.
 abbrev pub openTo : Job → ℕ → List Row → ℕ → (ℕ → ℕ) → Bool

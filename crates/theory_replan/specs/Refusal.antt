@@ -16,10 +16,12 @@ use Rattle.theory_basics.specs.lemmas.Refusals.{and-as, orElse-as, unless-as}
 use Rattle.theory_basics.specs.lemmas.Tables.{all-take}
 use Rattle.theory_basics.specs.lemmas.Tests.{all-append, all-iff, at-row, each-row, eqb-iff, if-iff, leb-iff, ltb-iff}
 use Rattle.job.specs.Job.{Accepted, Job, Layer, Within, lastSlot, size, withForecast}
-use Rattle.job.specs.Refusal.{bytes-iff, bytesRefusal}
+use Rattle.job.specs.Refusal.{bytesRefusal}
+use Rattle.job.specs.Theorems.{bytes-iff}
 use Rattle.fetch.specs.Rows.{Row, begun, bytesOfLayer}
-use Rattle.fetch.specs.Verdict.{allLayers, layers-iff, rule1, rule1-iff, rule3, rule3-iff, rule4, rule4-iff, rule5, rule5-iff, rule6, rule6-iff}
-use Rattle.fetch.specs.VerdictFrom.{slot-iff, slotRefusal}
+use Rattle.fetch.specs.Verdict.{allLayers, rule1, rule3, rule4, rule5, rule6}
+use Rattle.fetch.specs.Theorems.{layers-iff, rule1-iff, rule3-iff, rule4-iff, rule5-iff, rule6-iff, slot-iff}
+use Rattle.fetch.specs.VerdictFrom.{slotRefusal}
 use Rattle.theory_replan.specs.Statement.{Acceptable, joined}
 
 -- 21: "in planning a handed row not before p".

@@ -3,25 +3,23 @@
 -- rows fetched before p". What they are made of stands once, elsewhere:
 --   fetch, RulesFrom: the second checker call: its rule 2, `KeepsFrom` (with marks), `PassesFrom`
 --   fetch, VerdictFrom: its verdict, 0 exactly if its rules are kept
---   theory_plan, Statement: a choice, the layers settled so far, the counts and marks of a choice
+--   theory_plan, Statement: a choice, what a trial asks about, the counts and marks of a choice
 --   Own, in this crate: the rows from p on
 --   Refusal, in this crate: the refusals
--- Theorems proves what this file states, and Desk as the desk calls it.
-use Prim.Native.Nat.{ℕ, suc, _-_, _≤_, _<_, max}
-use mathlib.Core.Path.{_≡_}
+-- Theorems proves what this file states, and Desk as the desk calls it; there stands what a
+-- standing plan is promised (`Continues`).
+use Prim.Native.Nat.{ℕ, _-_, _≤_, _<_}
 use mathlib.Core.Bool.{cond}
 use mathlib.Core.List.{List, [], _∷_, _++_}
 use mathlib.Core.Logic.{_⊎_, _↔_}
-use lib.Dec.{T, ltb, eqb}
+use lib.Dec.{T, ltb}
 use lib.ListN.{take}
 use Rattle.theory_basics.specs.Tests.{All, In}
 use Rattle.job.specs.Job.{Job, Layer, due, lastSlot, size, withForecast}
-use Rattle.fetch.specs.Rows.{Row, Carried, begun, bytesOfLayer, layersCarried}
+use Rattle.fetch.specs.Rows.{Row, Carried, begun, bytesOfLayer}
 use Rattle.fetch.specs.Rules.{FewHeld, RowInRange, LowerCarried, OnTime, PlayingOrder, WithinForecast}
 use Rattle.fetch.specs.RulesFrom.{PassesFrom}
-use Rattle.theory_plan.specs.Own.{ownList}
-use Rattle.theory_plan.specs.Statement.{CarriesExactly, Choice, Same, settled}
-use Rattle.theory_replan.specs.Own.{ownRest}
+use Rattle.theory_plan.specs.Statement.{CarriesOnly, Choice, Trial}
 
 -- ---- what is handed on
 
@@ -60,48 +58,37 @@ pub record Acceptable (j : Job) (p : ℕ) (fetched : List Row) : Type 0 where
 -- ---- what can still be carried
 
 -- Some list that begins with the rows fetched, all its other rows in slots from p on, passes the
--- second call in playing order and carries the choice and no other layers. (So a begun layer that
--- is not of the choice stays spent: its fetched rows are in the list, and its chunk is held to its
--- due slot.)
-pub record CanCarryFrom (j : Job) (p : ℕ) (fetched : List Row) (choice : ℕ → ℕ) : Type 0 where
+-- second call in playing order and carries these layers and no others. (So a begun layer that is
+-- not one of them stays spent: its fetched rows are in the list, and its chunk is held to its due
+-- slot.)
+pub record CanCarryOnlyFrom (j : Job) (p : ℕ) (fetched : List Row) (these : ℕ → ℕ → Type 0) : Type 0 where
   pub more : List Row
   pub later : All (λ x. p ≤ x .slot) more
   pub passes : PassesFrom j p (fetched ++ more)
   pub in-order : PlayingOrder j (fetched ++ more)
-  pub exactly : CarriesExactly j (fetched ++ more) choice
+  pub exactly : CarriesOnly j (fetched ++ more) these
+
+-- The same of the layers of a choice.
+abbrev pub CanCarryFrom : Job → ℕ → List Row → (ℕ → ℕ) → Type 0
+CanCarryFrom j p fetched choice = CanCarryOnlyFrom j p fetched (λ i n. n < choice i)
 
 -- ---- the plan made afresh
 
--- The layers settled as carried so far: those whole before p, and those that the trials before that
--- of layer n of chunk i have settled. (Layers whole before p are, by rule 3, the lowest ones of
--- their chunk.)
-abbrev pub settledFrom : Job → List Row → (ℕ → ℕ) → ℕ → ℕ → ℕ → ℕ
-settledFrom j fetched plan n i k = max (layersCarried j fetched k) (settled plan n i k)
-
--- What the trial of layer n of chunk i carries: what is settled before it, and that layer.
-abbrev pub triedFrom : Job → List Row → (ℕ → ℕ) → ℕ → ℕ → ℕ → ℕ
-triedFrom j fetched plan n i k = cond (eqb k i) (suc n) (settledFrom j fetched plan n i k)
+-- The layers that the trial of layer n of chunk i asks about: "Layers whole before p are carried",
+-- and beside them those settled as carried so far and this one, as in document 01. The choice of
+-- these layers is computed by `Plan.triedFrom`, and `Theorems.tried-from-is-trial` says so.
+abbrev pub TrialFrom : Job → List Row → (plan : ℕ → ℕ) (n i : ℕ) → (k m : ℕ) → Type 0
+TrialFrom j fetched plan n i k m = Carried j fetched k m ⊎ Trial plan n i k m
 
 -- "Layers whole before p are carried. Chunks due before p are settled by what they have. Others are
 -- settled as in document 01, bases too, over lists that begin with the rows fetched": a layer is
 -- carried exactly if it is whole before p, or else its chunk is due from p on, the layer below is
 -- carried, and some such list carries the layers settled as carried so far, this one and no others.
+abbrev pub SettlesFrom : Job → ℕ → List Row → (ℕ → ℕ) → Type 0
+SettlesFrom j p fetched plan =
+    (i n : ℕ) → Layer j i n →
+    (n < plan i) ↔ (Carried j fetched i n ⊎ ((p ≤ due j i) × (n ≤ plan i) × CanCarryOnlyFrom j p fetched (TrialFrom j fetched plan n i)))
+
 pub record IsReplan (j : Job) (p : ℕ) (fetched : List Row) (plan : ℕ → ℕ) : Type 0 where
   pub choice : Choice j plan
-  pub decided :
-      (i n : ℕ) → Layer j i n →
-      (n < plan i) ↔ (Carried j fetched i n ⊎ ((p ≤ due j i) × (n ≤ plan i) × CanCarryFrom j p fetched (triedFrom j fetched plan n i)))
-
--- ---- a standing plan
-
--- "If the standing plan was settled for the whole job in document 01's way, bases too, the rows are
--- all its own before p and the forecast hasn't changed, the new rows are exactly the rest of that
--- plan." Of such a plan q:
-pub record GoesOn (j : Job) (q : ℕ → ℕ) (p : ℕ) : Type 0 where
-  -- its rows before p are not refused,
-  pub acceptable : Acceptable j p (rowsBefore p (ownList j q))
-  -- it is the plan made afresh, and the only one,
-  pub again : IsReplan j p (rowsBefore p (ownList j q)) q
-  pub only : (plan : ℕ → ℕ) → IsReplan j p (rowsBefore p (ownList j q)) plan → Same j plan q
-  -- and its own rows are the rest.
-  pub rest : (plan : ℕ → ℕ) → IsReplan j p (rowsBefore p (ownList j q)) plan → ownRest j p (rowsBefore p (ownList j q)) plan ≡ rowsFrom p (ownList j q)
+  pub decided : SettlesFrom j p fetched plan

@@ -1,7 +1,8 @@
 -- Theorems. What Statement states of planning afresh, proved: the decision, that there is exactly
 -- one plan made afresh, that the fetched rows with the own rows from p on pass the second call with
 -- its marks, in playing order, and carry exactly it, that the fetched rows may come in any order,
--- and that a standing plan goes on, from slot 1 too. Desk says the same as the desk calls it.
+-- and that from slot 1 it is the whole plan. Desk says the same as the desk calls it, and that a
+-- standing plan goes on.
 use Prim.Native.Nat.{ℕ, _≤_, _<_}
 use mathlib.Core.Path.{_≡_, _∙_, subst}
 use mathlib.Core.List.{List, [], _++_}
@@ -20,13 +21,14 @@ use Rattle.theory_plan.specs.Theorems.{trials-carried}
 use Rattle.theory_plan.specs.lemmas.Level.{count-carried}
 use Rattle.theory_plan.specs.lemmas.Words.{accepted-sized}
 use Rattle.theory_replan.specs.Own.{ownRest}
-use Rattle.theory_replan.specs.Plan.{fitsFrom, replan}
+use Rattle.theory_replan.specs.Plan.{fitsFrom, replan, triedFrom}
 use Rattle.theory_replan.specs.Refusal.{replanRefusal}
-use Rattle.theory_replan.specs.Statement.{Acceptable, CanCarryFrom, GoesOn, IsReplan, rowsBefore, rowsFrom}
+use Rattle.theory_replan.specs.Statement.{Acceptable, CanCarryFrom, IsReplan, rowsBefore, rowsFrom, TrialFrom}
 use Rattle.theory_replan.specs.lemmas.AnyOrder.{refusal-order-free, replan-order-free, rest-order-free}
 use Rattle.theory_replan.specs.lemmas.Decision.{can-carry-from-iff, rest-exactly, rest-in-order, rest-keeps, rest-later}
 use Rattle.theory_replan.specs.lemmas.Plan.{fits-from-iff, is-replan-fits, replan-is-replan, replans-agree}
 use Rattle.theory_replan.specs.lemmas.Standing.{before-all, from-all, standing-plan}
+use Rattle.theory_replan.specs.lemmas.Tried.{trial-from-iff}
 
 -- ---- the decision
 
@@ -39,6 +41,13 @@ decision-from j a p fetched ok lv c =
     let d = can-carry-from-iff j (accepted-sized j a) p fetched ok lv c in
     let t = fits-from-iff j p fetched lv in
     (λ s. t .1 (d .0 s), λ u. d .1 (t .0 u))
+
+-- The layers that a trial asks about (`TrialFrom`) are those of the choice that is computed, where
+-- the layer tried is not whole before p.
+pub tried-from-is-trial :
+    (j : Job) (p : ℕ) (fetched : List Row) → Acceptable j p fetched → (plan : ℕ → ℕ) (n i : ℕ) → Layer j i n → (Carried j fetched i n → ⊥) →
+    n ≤ plan i → (k m : ℕ) → Layer j k m → (m < triedFrom j fetched plan n i k) ↔ TrialFrom j fetched plan n i k m
+tried-from-is-trial j p fetched ok = trial-from-iff j fetched (ok .lower)
 
 -- ---- exactly one plan made afresh
 
@@ -98,10 +107,7 @@ pub order-free : (j : Job) (p : ℕ) (a b : List Row) → Permuted a b → Order
 order-free j p a b h =
     record { refused = λ onward. refusal-order-free j p onward h; plan = replan-order-free j p h; rows = rest-order-free j h p }
 
--- ---- a plan of the whole job goes on
-
-pub goes-on : (j : Job) → Accepted j → (q : ℕ → ℕ) → SettledByTrials j q → (p : ℕ) → 1 ≤ p → p ≤ lastSlot j → GoesOn j q p
-goes-on = standing-plan
+-- ---- from the start
 
 -- At slot 1, with no rows, planning afresh is document 01's way by itself: the same choice and the
 -- same list.

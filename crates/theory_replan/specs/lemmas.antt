@@ -15,5 +15,6 @@ pub mod Settle
 pub mod Shape
 pub mod Standing
 pub mod Take
+pub mod Tried
 pub mod Unfetched
 pub mod Upper

@@ -6,7 +6,8 @@ use mathlib.Core.Path.{_≡_, refl}
 use mathlib.Core.Bool.{Bool, true, false}
 use mathlib.Core.List.{List, [], _∷_}
 use Rattle.job.specs.Job.{Job, sizeIn}
-use Rattle.theory_plan.specs.Plan.{feas, fits}
+use Rattle.theory_plan.specs.Plan.{fits}
+use Rattle.theory_plan.specs.lemmas.Feasible.{feas}
 use Rattle.theory_search.specs.Statement.{Found, met, mostWithoutLimit, refused, wholeWalk}
 use Rattle.theory_search.specs.Search.{fitting, found}
 

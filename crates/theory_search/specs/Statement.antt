@@ -47,9 +47,11 @@ pub data Step : Type 0 where
 abbrev pub walk : (List ℕ → Bool) → ℕ → List ℕ → List Step
 walk allowed zero ks = []
 walk allowed (suc i) ks =
-    let kept = met (suc i ∷ ks) ∷ walk allowed i (suc i ∷ ks) in
-    let skipped = met ks ∷ walk allowed i ks in
-    cond (allowed (suc i ∷ ks)) kept (refused ∷ []) ++ skipped
+    -- chunk i + 1 kept, and all that follows from it; or one step that leads no further
+    let keepTry = cond (allowed (suc i ∷ ks)) (met (suc i ∷ ks) ∷ walk allowed i (suc i ∷ ks)) (refused ∷ []) in
+    -- chunk i + 1 skipped, and all that follows from it
+    let skipTry = met ks ∷ walk allowed i ks in
+    keepTry ++ skipTry
 
 -- The whole walk: all chunks are untried.
 abbrev pub wholeWalk : Job → (List ℕ → Bool) → List Step
@@ -95,11 +97,16 @@ shortfallOf j ended kept = cond ended 0 (mostWithoutLimit j - length kept)
 -- actually taken, whether the walk ended (also yes if its last step spends the budget), and a
 -- shortfall."
 pub record IsFound (j : Job) (budget : ℕ) (found : Found) : Type 0 where
+  -- a test that says which sets some passing list allows: the walk goes by it
   pub allowed : List ℕ → Bool
   pub tells : Tells j allowed
+  -- of the sets met in the first `budget` steps the best, first met among equals
   pub best : FirstOfMost (setsMet (take budget (wholeWalk j allowed))) (found .kept)
+  -- as many steps as the budget and the walk have
   pub taken : found .steps ≡ length (take budget (wholeWalk j allowed))
+  -- the budget is enough for the whole walk
   pub ends : T (found .ended) ↔ (length (wholeWalk j allowed) ≤ budget)
+  -- 0 if it ended, else what request 9 would keep without the limit, less the count found
   pub short : found .shortfall ≡ shortfallOf j (found .ended) (found .kept)
 
 -- ---- the plan over a set of bases

@@ -102,7 +102,7 @@ module _ (j : Job) (ok : Accepted j) (budget : ℕ) (f : Found) (is : IsFound j 
       let q : ℕ → Bool = λ i. ltb 0 (level j rows i) in
       let c : chunks j + 0 ≡ chunks j = omega arith in
       let p = rw c at (onto-picked q (chunks j) 0) in
-      let r = walk-reaches j (is .allowed) good q (chunks j) [] [] (omega arith) tt (omega arith) (subst (Good j) (sym p) (list-bases-good j rows passes o)) in
+      let r = walk-reaches j (is .allowed) good q (chunks j) [] [] (omega arith) tt (omega arith) (subst (Good j) (sym p) (list-bases-good j (accepted-sized j ok) rows passes o)) in
       let k : f .kept ≡ bestIn [] w = kept-is ∙ ap (bestIn []) (take-all budget w (is .ends .0 e)) in
       omega (arith, r, ap length k, ap length p, list-bases-counted j rows passes (ok .layers-in .low))
 

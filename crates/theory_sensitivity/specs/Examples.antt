@@ -11,7 +11,8 @@ use Rattle.theory_basics.specs.Tests.{allTo}
 use Rattle.theory_basics.specs.Division.{dividedUp}
 use Rattle.theory_basics.specs.lemmas.Tests.{T-or-iff, allTo-at}
 use Rattle.job.specs.Job.{Accepted, EqualChunks, Job, Within, forecast, jobOf, lastSlot, sizeIn, withForecast}
-use Rattle.job.specs.Refusal.{accepted-iff, refusal}
+use Rattle.job.specs.Refusal.{refusal}
+use Rattle.job.specs.Theorems.{accepted-iff}
 use Rattle.job.specs.Uneven.{equal-iff}
 use Rattle.theory_plan.specs.Plan.{plan}
 use Rattle.theory_plan.specs.Statement.{countsOf}

@@ -16,7 +16,7 @@ use Rattle.trace.specs.lemmas.Tally.{widthFrom, written-length}
 use Rattle.theory_basics.specs.Text.{digits}
 use Rattle.trace.specs.Trace.{linesFrom, writable, linesBytes, unwritableRefusal, traceOf}
 use Rattle.job.specs.Refusal.{within}
-use Rattle.trace.specs.declared.Written.the-variants.{Bytes, Refused}
+use Rattle.records.specs.declared.Written.the-variants.{Bytes, Refused}
 use Rattle.trace.specs.Answer.{Wrote, writeRefusal}
 use Rattle.core_text.specs.lemmas.Places.{Put, put-length, put-none, put-room, put-then, put-whole}
 use Rattle.trace.proofs.Repeats.{bytes-append}

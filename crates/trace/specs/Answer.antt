@@ -12,8 +12,8 @@ use Rattle.theory_basics.specs.Refusals.{unless, _orElse_}
 use Rattle.trace.specs.Trace.{forecastOf, traceRefusal, unwritableRefusal, traceOf}
 use Rattle.trace.specs.declared.TraceRead.{TraceRead}
 use Rattle.trace.specs.declared.TraceRead.the-variants as read
-use Rattle.trace.specs.declared.Written.{Written}
-use Rattle.trace.specs.declared.Written.the-variants as wrote
+use Rattle.records.specs.declared.Written.{Written}
+use Rattle.records.specs.declared.Written.the-variants as wrote
 
 -- 7, 14, 15, then 11: fewer places lent than slots are asked for.
 abbrev pub traceReadRefusal : List ℕ → ℕ → ℕ → ℕ
@@ -22,9 +22,13 @@ traceReadRefusal trace slots room = traceRefusal slots trace orElse unless 11 (l
 abbrev pub readAnswer : ℕ → ℕ → TraceRead
 readAnswer refused slots = cond (eqb refused 0) (read.Slots slots) (read.Refused refused)
 
--- The answer, and the lent forecast afterwards.
+-- What `read_trace` promises of a trace and the forecast that it is lent, with the forecast
+-- afterwards and its answer.
 pub record Read (trace : List ℕ) (slots : ℕ) (old new : List ℕ) (r : TraceRead) : Type 0 where
+  -- The number of slots, or a refusal's number.
   pub answer : r ≡ readAnswer (traceReadRefusal trace slots (length old)) slots
+  -- "Read such a trace for a stated number of slots"; what is past them stays unchanged, and on a
+  -- refusal all of it.
   pub buffer : new ≡ lentAfter (traceReadRefusal trace slots (length old)) (forecastOf slots trace) old
 
 -- 7, 15, then 11: a lent buffer shorter than the trace.
@@ -34,7 +38,11 @@ writeRefusal forecast room = unwritableRefusal forecast orElse unless 11 (leb (l
 abbrev pub writeAnswer : ℕ → ℕ → Written
 writeAnswer refused n = cond (eqb refused 0) (wrote.Bytes n) (wrote.Refused refused)
 
--- The answer, and the lent buffer afterwards.
+-- What `write_trace` promises of a forecast and the buffer that it is lent, with the buffer
+-- afterwards and its answer.
 pub record Wrote (forecast old new : List ℕ) (r : Written) : Type 0 where
+  -- The number of bytes, or a refusal's number.
   pub answer : r ≡ writeAnswer (writeRefusal forecast (length old)) (length (traceOf forecast))
+  -- "the trace with each slot's lines at its first millisecond"; what is past it stays unchanged,
+  -- and on a refusal all of it.
   pub buffer : new ≡ lentAfter (writeRefusal forecast (length old)) (traceOf forecast) old

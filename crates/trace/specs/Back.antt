@@ -14,7 +14,7 @@ use Rattle.theory_basics.specs.Refusals.{unless}
 use Rattle.theory_basics.specs.lemmas.Refusals.{orElse-iff, orElse-none}
 use Rattle.trace.specs.declared.TraceRead.{TraceRead}
 use Rattle.trace.specs.declared.TraceRead.the-variants as read
-use Rattle.trace.specs.declared.Written.the-variants as wrote
+use Rattle.records.specs.declared.Written.the-variants as wrote
 use Rattle.trace.specs.Answer.{Read, Wrote, traceReadRefusal, writeRefusal}
 use Rattle.trace.specs.Theorems.{reads-back, never-refused}
 use Rattle.trace.specs.Trace.{unwritableRefusal, traceOf, traceRefusal}

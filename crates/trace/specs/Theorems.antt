@@ -18,7 +18,8 @@ use Rattle.theory_basics.specs.lemmas.Digits.{digits-first, digits-one}
 use Rattle.theory_basics.specs.lemmas.Tables.{all-at}
 use Rattle.theory_basics.specs.lemmas.Tests.{all-append, all-iff, all-map, eqb-iff}
 use Rattle.job.specs.Job.{Within}
-use Rattle.job.specs.Refusal.{within, within-iff}
+use Rattle.job.specs.Refusal.{within}
+use Rattle.job.specs.Theorems.{within-iff}
 use Rattle.trace.specs.Trace.{Means, NotBelow, aboveRefusal, forecastOf, unwritableRefusal, found, howMany, inSlot, linesFrom, linesRefusal, slotBytes, slotsRefusal, time, times, traceOf, traceRefusal, writable}
 use Rattle.trace.specs.lemmas.Lines.{lines-found, means-found}
 use Rattle.trace.specs.lemmas.Lists.{All-replicate}

@@ -3,6 +3,7 @@
 // nothing is written before the last refusal.
 use job::MOST_BYTES;
 use job::SLOTS;
+use records::Written;
 
 mod repeated;
 
@@ -23,12 +24,6 @@ ghost use Rattle.trace.specs.lemmas.Tally.{bump, widthFrom};
 // What reading a trace gives: the number of slots in the lent forecast, or a refusal.
 pub enum TraceRead {
     Slots(usize),
-    Refused(u8),
-}
-
-// What writing a trace gives: the number of bytes written, or a refusal.
-pub enum Written {
-    Bytes(usize),
     Refused(u8),
 }
 
@@ -147,7 +142,10 @@ fn few_lines(counts: &[u32; SLOTS], slots: usize) -> bool
 
 // 1,500 bytes for each line.
 fn put_forecast(counts: &[u32; SLOTS], slots: usize, out: &mut [u32])
-    requires { ⌜ (slots ≤ 3600) × (slots ≤ length (now out)) × (length (now counts) ≡ 3600) × (fewLines (take slots (now counts)) ≡ true) ⌝ }
+    requires { ⌜ (slots ≤ 3600)
+        × (slots ≤ length (now out))
+        × (length (now counts) ≡ 3600)
+        × (fewLines (take slots (now counts)) ≡ true) ⌝ }
     ensures { λ _. ⌜ now (out .exit) ≡ over (linesForecast (take slots (now (counts .entry)))) (now (out .entry)) ⌝ }
 {
     let mut k: usize = 0;

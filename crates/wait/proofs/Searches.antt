@@ -12,8 +12,8 @@ use lib.Dec.{leb, ltb, ltb→lt, nltb→le}
 use Rattle.theory_basics.specs.lemmas.Ranges.{pre-mono, pre-most}
 use Rattle.theory_basics.specs.lemmas.Tests.{same-test, test}
 use Rattle.job.specs.Job.{Override, sizeIn}
-use Rattle.job.specs.Table.{sizesTable}
-use Rattle.job.specs.lemmas.Table.{table-says}
+use Rattle.core_sizes.specs.Table.{sizesTable}
+use Rattle.core_sizes.specs.lemmas.Table.{table-says}
 use Rattle.job.specs.lemmas.Within.{all-most}
 use Rattle.theory_plan.specs.Plan.{plan}
 use Rattle.theory_plan.specs.Theorems.{plan-exists}
@@ -23,11 +23,11 @@ use Rattle.theory_plan.specs.lemmas.Words.{accepted-sized}
 use Rattle.wait.specs.Answer.{firstFrom, shortest, skipsNone, tries}
 use Rattle.wait.specs.Theorems.{job-accepted, skips-none-iff, works-iff-plan}
 use Rattle.wait.specs.Wait.{Film, FilmInRange, Tried, filmOf, jobAt}
-use Rattle.wait.specs.lemmas.Bases.{no-skip-iff}
 use Rattle.wait.specs.lemmas.First.{first-below, first-same}
 use Rattle.wait.specs.lemmas.Scan.{keepsAll, kept-with-iff, keptWith, left, needsFrom}
 use Rattle.wait.proofs.Passes.{due-in}
 use Rattle.wait.specs.lemmas.Table.{BaseTable, Free, KeepsAllPost, FindDelayPre, SumTable, dueAt, keptBy, leftAt, never, sizeAt}
+use Rattle.theory_plan.specs.lemmas.AllBases.{no-skip-iff}
 
 -- ---- one s after the other
 

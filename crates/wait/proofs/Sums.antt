@@ -8,7 +8,7 @@ use native.Mathlib.Numerals.{add-one}
 use lib.ListN.{length, getD, set, length-set}
 use lib.Seq.{getD-set-same}
 use Rattle.theory_basics.specs.lemmas.Tables.{at-set, below-next}
-use Rattle.job.specs.Table.{tableAt}
+use Rattle.core_sizes.specs.Table.{tableAt}
 use Rattle.theory_plan.specs.lemmas.Parts.{Small}
 use Rattle.wait.specs.lemmas.Scan.{brought}
 use Rattle.wait.specs.lemmas.Table.{BaseTable, SumTable}

@@ -123,3 +123,13 @@ DelayMeans h r = (s : ℕ) → (r ≡ Delay s) ↔ Answered h s
 -- works.
 abbrev pub SixteenMeans : WaitInput → Answer → Type 0
 SixteenMeans h r = (r ≡ Refused 16) ↔ ((WholeSizesIn h × FilmInRange (filmIn h)) × NoneWorks (filmIn h))
+
+-- What `wait` promises of a film as handed, with its answer.
+pub record WaitPromise (h : WaitInput) (r : Answer) : Type 0 where
+  -- The smallest s, or a refusal's number: "5 without s and d(C), 6, and 7", with 18 before 7, then
+  -- 16.
+  pub answer : r ≡ answerOf h
+  -- "find the smallest s for which the plan skips no base layer"
+  pub delay : DelayMeans h r
+  -- "16, exactly if no s within the forecast works, a forecast too short for s = 1 included."
+  pub sixteen : SixteenMeans h r

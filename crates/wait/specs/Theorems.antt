@@ -15,18 +15,20 @@ use Rattle.theory_basics.specs.Tests.{all}
 use Rattle.theory_basics.specs.lemmas.Refusals.{orElse-as, orElse-none, orElse-some, unless-as}
 use Rattle.theory_basics.specs.lemmas.Tables.{all-take}
 use Rattle.theory_basics.specs.lemmas.Tests.{all-map, allTo-iff, by-cond, eqb-iff, ltb-iff, test}
-use Rattle.job.specs.Input.{whole-iff, wholeRefusal}
+use Rattle.job.specs.Input.{wholeRefusal}
+use Rattle.job.specs.Theorems.{whole-iff, bytes-iff, film-iff, overrides-iff, sizes-iff, within-iff}
 use Rattle.job.specs.Job.{Accepted, EqualChunks, Named, Within, chunks, lastDue}
-use Rattle.job.specs.Refusal.{bytes-iff, bytesRefusal, film-iff, named, overrides-iff, rising, sized, sizes-iff, within, within-iff}
+use Rattle.job.specs.Refusal.{bytesRefusal, named, rising, sized, within}
 use Rattle.theory_plan.specs.Plan.{plan}
-use Rattle.theory_plan.specs.Statement.{CanCarry, IsPlan}
+use Rattle.theory_plan.specs.Statement.{CanCarry, IsPlan, NoSkip}
 use Rattle.theory_plan.specs.Theorems.{plan-exists, plan-unique}
 use Rattle.theory_plan.specs.lemmas.Words.{accepted-sized}
 use Rattle.wait.specs.declared.Answer.the-variants.{Delay, Refused}
 use Rattle.wait.specs.Answer.{DelayMeans, WaitInput, WholeSizesIn, SixteenMeans, answerOf, eighteenRefusal, filmIn, fiveRefusal, inputRefusal, numbersRefusal, sevenRefusal, shortest, sixRefusal, sixteenRefusal, skipsNone, slotsRefusal, tries, waitRefusal}
-use Rattle.wait.specs.Wait.{Film, FilmInRange, NoSkip, NoneWorks, ShortestWait, SomeList, SomeOrdered, Tried, Works, jobAt, programmeAt}
-use Rattle.wait.specs.lemmas.Bases.{basesAlone, no-skip-any, no-skip-can-carry, no-skip-ordered}
+use Rattle.wait.specs.Wait.{Film, FilmInRange, NoneWorks, ShortestWait, SomeList, SomeOrdered, Tried, Works, jobAt, programmeAt}
+use Rattle.wait.specs.lemmas.Bases.{no-skip-any, no-skip-can-carry, no-skip-ordered}
 use Rattle.wait.specs.lemmas.First.{first-none, first-some}
+use Rattle.theory_plan.specs.lemmas.AllBases.{basesAlone}
 
 -- ---- the input
 

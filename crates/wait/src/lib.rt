@@ -13,9 +13,10 @@ ghost use Prim.Native.Nat.{_*_, _-_, _/_, _≤_, min};
 ghost use lib.ListN.{length};
 ghost use Rattle.theory_plan.specs.lemmas.Parts.{Small};
 ghost use Rattle.job.specs.Input.{overridesOf};
-ghost use Rattle.job.specs.Table.{sizesTable};
+ghost use Rattle.core_sizes.specs.Table.{sizesTable};
 ghost use Rattle.wait.specs.Wait.{FilmInRange};
-ghost use Rattle.wait.specs.Answer.{DelayMeans, SixteenMeans, answerOf, filmIn, firstFrom, waitInput, inputRefusal, shortest, slotsRefusal};
+ghost use Rattle.wait.specs.Answer.{WaitPromise, filmIn, firstFrom, waitInput};
+ghost use Rattle.wait.specs.Answer.{inputRefusal, shortest, slotsRefusal};
 ghost use Rattle.wait.specs.lemmas.Table.{BaseTable, KeepsAllPost, KeepsAllPre, FindDelayPre, SumTable, keptBy};
 
 // The start delay, or the refusal's number.
@@ -64,7 +65,7 @@ fn read_bases(chunks: u16, table: &SizeTable, bases: &mut [u32; CHUNKS])
     while i < chunks {
         let next = i + 1;
         let q = i as usize;
-        bases[q] = job::size_at(table, next, 0);
+        bases[q] = core_sizes::size_at(table, next, 0);
         i = next;
     }
 }
@@ -79,11 +80,14 @@ fn set_bases(
     bases: &mut [u32; CHUNKS],
 )
     requires { ⌜ (chunks ≤ 500) × (length (now bases) ≡ 500) ⌝ }
-    ensures { λ _. ⌜ BaseTable chunks (sizesTable (now (sizes .entry)) (overridesOf (now («size_chunks» .entry)) (now («size_layers» .entry)) (now («size_bytes» .entry)))) (now (bases .exit)) ⌝ }
+    ensures { λ _. ⌜ BaseTable chunks
+        (sizesTable (now (sizes .entry))
+        (overridesOf (now («size_chunks» .entry)) (now («size_layers» .entry)) (now («size_bytes» .entry))))
+        (now (bases .exit)) ⌝ }
 {
     let unset = chunks as u32;
     let mut table = [unset; SIZES];
-    job::fill_sizes(sizes, size_chunks, size_layers, size_bytes, &mut table);
+    core_sizes::fill_sizes(sizes, size_chunks, size_layers, size_bytes, &mut table);
     read_bases(chunks, &table, bases);
 }
 
@@ -183,8 +187,16 @@ fn shortest_delay(
     size_bytes: &[u32],
     forecast: &[u32],
 ) -> usize
-    requires { ⌜ (p .delay ≡ 1) × FilmInRange (filmIn (waitInput (p .chunks) (p .span) (p .limit) (now sizes) (now «size_chunks») (now «size_layers») (now «size_bytes») (now forecast))) ⌝ }
-    ensures { λ r. ⌜ (r ≡ shortest (filmIn (waitInput (p .chunks) (p .span) (p .limit) (now (sizes .entry)) (now («size_chunks» .entry)) (now («size_layers» .entry)) (now («size_bytes» .entry)) (now (forecast .entry))))) × (r ≤ 3600) ⌝ }
+    requires { ⌜ (p .delay ≡ 1)
+        × FilmInRange
+        (filmIn
+        (waitInput (p .chunks) (p .span) (p .limit) (now sizes) (now «size_chunks») (now «size_layers»)
+        (now «size_bytes») (now forecast))) ⌝ }
+    ensures { λ r. ⌜ (r ≡ shortest
+        (filmIn
+        (waitInput (p .chunks) (p .span) (p .limit) (now (sizes .entry)) (now («size_chunks» .entry))
+        (now («size_layers» .entry)) (now («size_bytes» .entry)) (now (forecast .entry)))))
+        × (r ≤ 3600) ⌝ }
 {
     let unset = p.chunks as u32;
     let mut sums = [wide(unset); SUMS];
@@ -231,7 +243,9 @@ fn input_refusal(
     size_bytes: &[u32],
     forecast: &[u32],
 ) -> u8
-    ensures { λ r. ⌜ r ≡ inputRefusal (waitInput (p .chunks) (p .span) (p .limit) (now (sizes .entry)) (now («size_chunks» .entry)) (now («size_layers» .entry)) (now («size_bytes» .entry)) (now (forecast .entry))) ⌝ }
+    ensures { λ r. ⌜ r ≡ inputRefusal
+        (waitInput (p .chunks) (p .span) (p .limit) (now (sizes .entry)) (now («size_chunks» .entry))
+        (now («size_layers» .entry)) (now («size_bytes» .entry)) (now (forecast .entry))) ⌝ }
 {
     let seven = job::or_else(slots_refusal(forecast), job::bytes_refusal(forecast));
     let numbers = job::overrides_refusal(p, sizes, size_chunks, size_layers, size_bytes);
@@ -254,9 +268,10 @@ pub fn wait(
     size_bytes: &[u32],
     forecast: &[u32],
 ) -> Answer
-    ensures answer { λ r. ⌜ r ≡ answerOf (waitInput chunks span limit (now (sizes .entry)) (now («size_chunks» .entry)) (now («size_layers» .entry)) (now («size_bytes» .entry)) (now (forecast .entry))) ⌝ }
-    ensures delay { λ r. ⌜ DelayMeans (waitInput chunks span limit (now (sizes .entry)) (now («size_chunks» .entry)) (now («size_layers» .entry)) (now («size_bytes» .entry)) (now (forecast .entry))) r ⌝ }
-    ensures sixteen { λ r. ⌜ SixteenMeans (waitInput chunks span limit (now (sizes .entry)) (now («size_chunks» .entry)) (now («size_layers» .entry)) (now («size_bytes» .entry)) (now (forecast .entry))) r ⌝ }
+    ensures { λ r. ⌜ WaitPromise
+        (waitInput chunks span limit (now (sizes .entry)) (now («size_chunks» .entry)) (now («size_layers» .entry))
+        (now («size_bytes» .entry)) (now (forecast .entry)))
+        r ⌝ }
 {
     let p = Programme {
         chunks,

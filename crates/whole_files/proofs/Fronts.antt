@@ -12,7 +12,7 @@ use Rattle.job.specs.Input.{JobInput, jobIn}
 use Rattle.job.specs.Job.{chunks}
 use Rattle.fetch.specs.Input.{Whole}
 use Rattle.fetch.specs.Rows.{Row, rowBytes, rowChunk, rowLayer, rowSlot}
-use Rattle.planfile.specs.Calls.{ListSlices, slicesOf}
+use Rattle.fetch.specs.Slices.{ListSlices, slicesOf}
 use Rattle.planfile.specs.PlanFile.{Plan}
 
 pub front : (refused : ℕ) (t old l : List ℕ) (n : ℕ) → refused ≡ 0 → n ≡ length t → l ≡ lentAfter refused t old → take n l ≡ t

@@ -13,12 +13,14 @@ use Rattle.theory_basics.specs.Refusals.{unless, _orElse_}
 use Rattle.theory_basics.specs.lemmas.Refusals.{orElse-iff, orElse-some}
 use Rattle.theory_basics.specs.lemmas.Tests.{by-cond, test}
 use Rattle.records.specs.File.{fileRefusal}
-use Rattle.job.specs.Input.{JobInput, input-iff, jobIn, jobRefusal}
+use Rattle.job.specs.Input.{JobInput, jobIn, jobRefusal}
+use Rattle.job.specs.Theorems.{input-iff}
 use Rattle.job.specs.Job.{Accepted, Job, chunks}
 use Rattle.fetch.specs.Input as rows
+use Rattle.fetch.specs.Slices.{ListSlices, slicesOf, room}
 use Rattle.fetch.specs.Rows.{Row, rowBytes, rowChunk, rowLayer, rowSlot, rowsOf}
 use Rattle.jobrecords.specs.Refusal.{oneSequence}
-use Rattle.planfile.specs.Calls.{ListSlices, readAnswer, readLent, planReadRefusal, room, slicesOf}
+use Rattle.planfile.specs.Calls.{readAnswer, readLent, planReadRefusal}
 use Rattle.planfile.specs.PlanFile.{Plan, format, planIn}
 use Rattle.planfile.specs.lemmas.Few.{rows-inside}
 use Rattle.planfile.specs.declared.PlanRead.{PlanRead}
@@ -89,7 +91,7 @@ module _ (h : JobInput) (file : List ℕ) where
       sym (refused-answer own n _ (sym file-alone ∙ known .0) (known .1))
 
   -- The marks and rows of a plan file are judged.
-  judged : jobRefusal h ≡ 0 → fileRefusal (format (chunks (jobIn h))) file ≡ 0 → (s : ListSlices) → s ≡ slicesOfPlan (planIn (chunks (jobIn h)) file) → checked h (s .marks) (s .slots) (s .chunks) (s .layers) (s .bytes) ≡ verdictOnFile h file
+  judged : jobRefusal h ≡ 0 → fileRefusal (format (chunks (jobIn h))) file ≡ 0 → (s : ListSlices) → s ≡ slicesOfPlan (planIn (chunks (jobIn h)) file) → checked h s ≡ verdictOnFile h file
   judged z f s e =
       let count : ℕ = chunks (jobIn h) in
       let p = planIn count file in
@@ -99,7 +101,7 @@ module _ (h : JobInput) (file : List ℕ) where
   pub file-judged :
       (read : PlanRead) (new : ListSlices) (n : ℕ) (ms ss cs ls bs : List ℕ) (r : Checked) → read ≡ readAnswer h file empty → new ≡ readLent h file empty → read ≡ planRead.Rows n →
       ms ≡ take (chunks (jobIn h)) (new .marks) → ss ≡ take n (new .slots) → cs ≡ take n (new .chunks) → ls ≡ take n (new .layers) → bs ≡ take n (new .bytes) →
-      r ≡ checked h ms ss cs ls bs → r ≡ verdictOnFile h file
+      r ≡ checked h (slicesOf ms ss cs ls bs) → r ≡ verdictOnFile h file
   file-judged read new n ms ss cs ls bs r e l g em es ec el eb v =
       let count : ℕ = chunks (jobIn h) in
       let p = planIn count file in

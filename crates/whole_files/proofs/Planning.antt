@@ -12,17 +12,19 @@ use Rattle.theory_basics.specs.Lent.{lentAfter}
 use Rattle.theory_basics.specs.Refusals.{unless, _orElse_}
 use Rattle.theory_basics.specs.lemmas.Refusals.{orElse-iff}
 use Rattle.theory_basics.specs.lemmas.Tests.{by-cond}
-use Rattle.job.specs.Input.{JobInput, input-iff, jobIn, jobRefusal}
+use Rattle.job.specs.Input.{JobInput, jobIn, jobRefusal}
+use Rattle.job.specs.Theorems.{input-iff}
 use Rattle.job.specs.Job.{Accepted, Job, chunks}
 use Rattle.fetch.specs.Input as rows
+use Rattle.fetch.specs.Slices.{ListSlices, slicesOf}
 use Rattle.fetch.specs.Rows.{rowBytes, rowChunk, rowLayer, rowSlot}
-use Rattle.planfile.specs.Calls.{ListSlices, planOf, slicesOf, writeAnswer, writeLent, writeRefusal, writeRest}
+use Rattle.planfile.specs.Calls.{planOf, writeAnswer, writeLent, writeRefusal, writeRest}
 use Rattle.planfile.specs.PlanFile.{Plan, fileOf}
-use Rattle.planfile.specs.declared.Written.{Written}
-use Rattle.planfile.specs.declared.Written.the-variants as planFile
+use Rattle.records.specs.declared.Written.{Written}
+use Rattle.records.specs.declared.Written.the-variants as planFile
 use Rattle.theory_plan.specs.Plan.{plan}
 use Rattle.theory_plan.specs.Statement.{marksOf}
-use Rattle.planner.specs.Answer.{PlanOutput, Lent, answerOf, holds, lentOf, planRefusal, planRows}
+use Rattle.planner.specs.Answer.{PlanOutput, answerOf, holds, planRefusal, planRows}
 use Rattle.planner.specs.declared.Answer.{Answer}
 use Rattle.planner.specs.declared.Answer.the-variants.{Rows, Refused}
 use Rattle.planner.specs.declared.Planned.{Planned}
@@ -37,20 +39,20 @@ use Rattle.whole_files.proofs.Writing.{never-second, wrote-refused}
 abbrev pub empty : (u v : ℕ) → ListSlices
 empty u v = slicesOf (replicate 500 0) (replicate 5599 u) (replicate 5599 u) (replicate 5599 0) (replicate 5599 v)
 
-holds-any : (j : Job) → Accepted j → (l : Lent) → 500 ≤ l .marks → 5599 ≤ l .slots → 5599 ≤ l .chunks → 5599 ≤ l .layers → 5599 ≤ l .bytes → unless 11 (holds j l) ≡ 0
+holds-any : (j : Job) → Accepted j → (l : ListSlices) → 500 ≤ length (l .marks) → 5599 ≤ length (l .slots) → 5599 ≤ length (l .chunks) → 5599 ≤ length (l .layers) → 5599 ≤ length (l .bytes) → unless 11 (holds j l) ≡ 0
 holds-any j a l m s c n b =
     let few = plan-rows-few j a in
     rw (
-      le-leb (chunks j) (l .marks) (omega (arith, a .chunks-in .high)),
-      le-leb (length (planRows j)) (l .slots) (omega arith),
-      le-leb (length (planRows j)) (l .chunks) (omega arith),
-      le-leb (length (planRows j)) (l .layers) (omega arith),
-      le-leb (length (planRows j)) (l .bytes) (omega arith),
+      le-leb (chunks j) (length (l .marks)) (omega (arith, a .chunks-in .high)),
+      le-leb (length (planRows j)) (length (l .slots)) (omega arith),
+      le-leb (length (planRows j)) (length (l .chunks)) (omega arith),
+      le-leb (length (planRows j)) (length (l .layers)) (omega arith),
+      le-leb (length (planRows j)) (length (l .bytes)) (omega arith),
     )
 
 module _ (h : JobInput) (u v : ℕ) where
-  abbrev room : Lent
-  room = let s = empty u v in lentOf (s .marks) (s .slots) (s .chunks) (s .layers) (s .bytes)
+  abbrev room : ListSlices
+  room = let s = empty u v in slicesOf (s .marks) (s .slots) (s .chunks) (s .layers) (s .bytes)
 
   accepted : jobRefusal h ≡ 0 → Accepted (jobIn h)
   accepted z = input-iff h .0 z .1
@@ -68,7 +70,7 @@ module _ (h : JobInput) (u v : ℕ) where
       (λ t q. let z : _≡_ {A = ℕ} 0 1 = cc in absurd (omega arith))
       (λ t q. let same : planRefusal h room ≡ n = cc in (same, λ z. T-not (eqb (planRefusal h room) 0) t (rw (same ∙ z) (eqb-refl 0))))
       (sym e ∙ g) in
-      wrote-refused planFile.Bytes planFile.Refused (jobRefusal h) n (fileOf (planOfJob (jobIn h))) old (sym job-alone ∙ known .0) (known .1)
+      wrote-refused (jobRefusal h) n (fileOf (planOfJob (jobIn h))) old (sym job-alone ∙ known .0) (known .1)
 
   -- The plan's slices are those of its file,
   file-same : planOf (slicesOfPlan (planOfJob (jobIn h))) ≡ planOfJob (jobIn h)
@@ -85,7 +87,7 @@ module _ (h : JobInput) (u v : ℕ) where
 
   pub plan-written :
       (made : Planned) (new : ListSlices) (n : ℕ) (ms ss cs ls bs old : List ℕ) (r : Written) (out : List ℕ) →
-      PlanOutput h (empty u v .marks) (empty u v .slots) (empty u v .chunks) (empty u v .layers) (empty u v .bytes) made (new .marks) (new .slots) (new .chunks) (new .layers) (new .bytes) →
+      PlanOutput h (slicesOf (empty u v .marks) (empty u v .slots) (empty u v .chunks) (empty u v .layers) (empty u v .bytes)) made (slicesOf (new .marks) (new .slots) (new .chunks) (new .layers) (new .bytes)) →
       made .answer ≡ Rows n → ms ≡ take (chunks (jobIn h)) (new .marks) → ss ≡ take n (new .slots) → cs ≡ take n (new .chunks) → ls ≡ take n (new .layers) →
       bs ≡ take n (new .bytes) → r ≡ writeAnswer h (slicesOf ms ss cs ls bs) old → out ≡ writeLent h (slicesOf ms ss cs ls bs) old → PlanOfJob h old r out
   plan-written made new n ms ss cs ls bs old r out p g em es ec el eb ra oa =

@@ -15,15 +15,15 @@ use Rattle.theory_basics.specs.lemmas.Refusals.{orElse-iff}
 use Rattle.theory_basics.specs.lemmas.Tests.{by-cond, test}
 use Rattle.job.specs.declared.Programme.{Programme}
 use Rattle.job.specs.Job.{Accepted, Job, Override, layers}
-use Rattle.job.specs.Input.{JobInput, WholeSizes, overrideBytes, overrideChunks, jobInput, input-iff, jobIn, jobRefusal, overrideLayers, slices-back}
+use Rattle.job.specs.Input.{JobInput, WholeSizes, overrideBytes, overrideChunks, jobInput, jobIn, jobRefusal, overrideLayers}
+use Rattle.job.specs.Theorems.{input-iff, slices-back}
 use Rattle.job.specs.Uneven.{overrides-few}
 use Rattle.jobrecords.specs.Refusal.{oneSequence, mixed, refusalOf, jobOfFile}
-use Rattle.jobrecords.specs.Reader.{Buffers, buffers, jobAnswer, lentRead, readAnswer, jobReadRefusal, roomRefusal}
+use Rattle.jobrecords.specs.Reader.{Buffers, JobReadPromise, buffers, jobAnswer, lentRead, readAnswer, jobReadRefusal, roomRefusal}
 use Rattle.jobrecords.specs.Theorems.{file-accepted, no-overrides}
 use Rattle.jobfile.specs.Theorems.{never-long}
-use Rattle.jobfile.specs.Writer.{fileWritten, jobFile, longRefusal, writeAnswer}
-use Rattle.jobfile.specs.declared.Written.{Written}
-use Rattle.jobfile.specs.declared.Written.the-variants as jobWritten
+use Rattle.jobfile.specs.Writer.{JobWritePromise, fileWritten, jobFile, longRefusal, writeAnswer}
+use Rattle.records.specs.declared.Written.{Written}
 use Rattle.jobrecords.specs.declared.JobRead.{JobRead}
 use Rattle.jobrecords.specs.declared.JobRead.the-variants as jobRead
 use Rattle.whole_files.specs.Calls.{Wrote}
@@ -68,13 +68,12 @@ module _ (sequenced : Bool) (file : List ℕ) (lent : Buffers) where
 
   -- A job that was read, and the front of each buffer.
   pub taken :
-      (r : JobRead) (p : Programme) (l o s : ℕ) (zs cs ls bs fs zs' cs' ls' bs' fs' : List ℕ) → r ≡ readAnswer sequenced file lent → r ≡ jobRead.Job p l o s →
-      zs' ≡ lentRead sequenced file lent .sizes → cs' ≡ lentRead sequenced file lent .size-chunks → ls' ≡ lentRead sequenced file lent .size-layers →
-      bs' ≡ lentRead sequenced file lent .size-bytes → fs' ≡ lentRead sequenced file lent .forecast →
-      zs ≡ take l zs' → cs ≡ take o cs' → ls ≡ take o ls' → bs ≡ take o bs' → fs ≡ take s fs' → Taken sequenced file (jobInput p zs cs ls bs fs)
+      (r : JobRead) (after : Buffers) (p : Programme) (l o s : ℕ) (zs cs ls bs fs : List ℕ) → JobReadPromise sequenced file lent r after → r ≡ jobRead.Job p l o s →
+      zs ≡ take l (after .sizes) → cs ≡ take o (after .size-chunks) → ls ≡ take o (after .size-layers) → bs ≡ take o (after .size-bytes) →
+      fs ≡ take s (after .forecast) → Taken sequenced file (jobInput p zs cs ls bs fs)
   unfolding readAnswer lentRead
-  taken read p l o s zs cs ls bs fs zs' cs' ls' bs' fs' made given z' c' l' b' f' z c m b f =
-      let answer : readAnswer sequenced file lent ≡ jobRead.Job p l o s = sym made ∙ given in
+  taken read after p l o s zs cs ls bs fs made given z c m b f =
+      let answer : readAnswer sequenced file lent ≡ jobRead.Job p l o s = sym (made .answer) ∙ given in
       let r : ℕ = jobReadRefusal sequenced file lent in
       let j = jobOfFile sequenced file in
       let none : r ≡ 0 =
@@ -87,14 +86,14 @@ module _ (sequenced : Bool) (file : List ℕ) (lent : Buffers) where
       let es : s ≡ length (j .forecast) = cc in
       let own = orElse-iff (refusalOf sequenced file) (roomRefusal j lent) .0 none .0 in
       let a = file-accepted sequenced file own in
-      let ez : zs ≡ j .sizes = z ∙ front r (j .sizes) _ zs' l none el z' in
+      let ez : zs ≡ j .sizes = z ∙ front r (j .sizes) _ (after .sizes) l none el (ap (λ (x : Buffers). x .sizes) (made .after)) in
       let ec : cs ≡ overrideChunks (j .overrides) =
-      c ∙ front r (overrideChunks (j .overrides)) _ cs' o none (eo ∙ sym (length-map (j .overrides) (λ (x : Override). x .chunk))) c' in
+      c ∙ front r (overrideChunks (j .overrides)) _ (after .size-chunks) o none (eo ∙ sym (length-map (j .overrides) (λ (x : Override). x .chunk))) (ap (λ (x : Buffers). x .size-chunks) (made .after)) in
       let em : ls ≡ overrideLayers (j .overrides) =
-      m ∙ front r (overrideLayers (j .overrides)) _ ls' o none (eo ∙ sym (length-map (j .overrides) (λ (x : Override). x .layer))) l' in
+      m ∙ front r (overrideLayers (j .overrides)) _ (after .size-layers) o none (eo ∙ sym (length-map (j .overrides) (λ (x : Override). x .layer))) (ap (λ (x : Buffers). x .size-layers) (made .after)) in
       let eb : bs ≡ overrideBytes (j .overrides) =
-      b ∙ front r (overrideBytes (j .overrides)) _ bs' o none (eo ∙ sym (length-map (j .overrides) (λ (x : Override). x .bytes))) b' in
-      let ef : fs ≡ j .forecast = f ∙ front r (j .forecast) _ fs' s none es f' in
+      b ∙ front r (overrideBytes (j .overrides)) _ (after .size-bytes) o none (eo ∙ sym (length-map (j .overrides) (λ (x : Override). x .bytes))) (ap (λ (x : Buffers). x .size-bytes) (made .after)) in
+      let ef : fs ≡ j .forecast = f ∙ front r (j .forecast) _ (after .forecast) s none es (ap (λ (x : Buffers). x .forecast) (made .after)) in
       let same : jobInput p zs cs ls bs fs ≡ asHanded j = rw (ep, ez, ec, em, eb, ef) in
       record {
         none = own;
@@ -102,16 +101,15 @@ module _ (sequenced : Bool) (file : List ℕ) (lent : Buffers) where
         same = ap (λ (h : JobInput). jobIn h) same ∙ handed-back j;
       }
 
--- What is written for the job jobInput on is written for the file.
+-- What is written for the job handed on is written for the file.
 pub of-file :
-    {A : Type 0} (bytes refusal : ℕ → A) (sequenced : Bool) (file : List ℕ) (h : JobInput) (f : Job → List ℕ) (old : List ℕ) (r : A) (new : List ℕ) →
-    Taken sequenced file h → Wrote bytes refusal (jobRefusal h) (f (jobIn h)) old r new →
-    Wrote bytes refusal (refusalOf sequenced file) (f (jobOfFile sequenced file)) old r new
-of-file bytes refusal sequenced file h f old r new t w =
+    (sequenced : Bool) (file : List ℕ) (h : JobInput) (f : Job → List ℕ) (old : List ℕ) (r : Written) (new : List ℕ) →
+    Taken sequenced file h → Wrote (jobRefusal h) (f (jobIn h)) old r new → Wrote (refusalOf sequenced file) (f (jobOfFile sequenced file)) old r new
+of-file sequenced file h f old r new t w =
     subst
-    (λ (n : ℕ). Wrote bytes refusal n (f (jobOfFile sequenced file)) old r new)
+    (λ (n : ℕ). Wrote n (f (jobOfFile sequenced file)) old r new)
     (t .accepted ∙ sym (t .none))
-    (subst (λ (j : Job). Wrote bytes refusal (jobRefusal h) (f j) old r new) (t .same) w)
+    (subst (λ (j : Job). Wrote (jobRefusal h) (f j) old r new) (t .same) w)
 
 -- ---- the buffers that the calls read into hold any job
 
@@ -162,25 +160,17 @@ take-none zero = refl
 take-none (suc n) = refl
 
 pub taken-mixed :
-    (file : List ℕ) (r : JobRead) (p : Programme) (l o s : ℕ) (zs fs zs' fs' : List ℕ) → r ≡ readAnswer mixed file emptyMixed → r ≡ jobRead.Job p l o s →
-    zs' ≡ lentRead mixed file emptyMixed .sizes → fs' ≡ lentRead mixed file emptyMixed .forecast → zs ≡ take l zs' → fs ≡ take s fs' →
-    Taken mixed file (jobInput p zs [] [] [] fs)
-unfolding lentRead
-taken-mixed file r p l o s zs fs zs' fs' made given z' f' z f =
-    let none = no-overrides file in
-    let still : (t : List ℕ) → t ≡ [] → [] ≡ lentAfter (jobReadRefusal mixed file emptyMixed) t [] =
-    λ t e. rw e (by-cond (λ (x : List ℕ). [] ≡ x) (eqb (jobReadRefusal mixed file emptyMixed) 0) (λ u. refl) (λ u. refl)) in
-    taken mixed file emptyMixed r p l o s zs [] [] [] fs zs' [] [] [] fs' made given z'
-    (still (overrideChunks (jobOfFile mixed file .overrides)) (ap overrideChunks none))
-    (still (overrideLayers (jobOfFile mixed file .overrides)) (ap overrideLayers none))
-    (still (overrideBytes (jobOfFile mixed file .overrides)) (ap overrideBytes none))
-    f' z (sym (take-none o)) (sym (take-none o)) (sym (take-none o)) f
+    (file : List ℕ) (r : JobRead) (p : Programme) (l o s : ℕ) (zs fs zs' fs' : List ℕ) → JobReadPromise mixed file emptyMixed r (buffers zs' [] [] [] fs') →
+    r ≡ jobRead.Job p l o s → zs ≡ take l zs' → fs ≡ take s fs' → Taken mixed file (jobInput p zs [] [] [] fs)
+taken-mixed file r p l o s zs fs zs' fs' made given z f =
+    taken mixed file emptyMixed r (buffers zs' [] [] [] fs') p l o s zs [] [] [] fs made given
+    z (sym (take-none o)) (sym (take-none o)) (sym (take-none o)) f
 
 -- Of a job that was accepted the writer refuses nothing but a short buffer.
 pub rewritten :
-    (file : List ℕ) (h : JobInput) (old : List ℕ) (r : Written) (new : List ℕ) → Taken mixed file h → r ≡ writeAnswer h (length old) → new ≡ fileWritten h old →
-    Wrote jobWritten.Bytes jobWritten.Refused (jobRefusal h) (jobFile (jobIn h)) old r new
+    (file : List ℕ) (h : JobInput) (old : List ℕ) (r : Written) (new : List ℕ) → Taken mixed file h → JobWritePromise h old r new →
+    Wrote (jobRefusal h) (jobFile (jobIn h)) old r new
 unfolding writeAnswer fileWritten
-rewritten file h old r new t a b =
+rewritten file h old r new t w =
     let z : longRefusal (jobIn h) ≡ 0 = never-long (jobIn h) (input-iff h .0 (t .accepted) .1) in
-    record { answer = rw z at a; buffer = rw z at b }
+    record { answer = rw z at (w .answer); buffer = rw z at (w .after) }

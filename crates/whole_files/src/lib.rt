@@ -10,6 +10,7 @@ use job::SLOTS;
 use jobrecords::JobRead;
 use planfile::PlanRead;
 use planner::Answer;
+use records::Written;
 ghost use mathlib.Core.Path.{_≡_};
 ghost use Rattle.job.specs.Input.{jobInput};
 ghost use Rattle.whole_files.specs.Calls.{ConvertedFile, PlanOfFile, ReasonsOfFile, ReportOfFile, verdictAnswer};
@@ -25,7 +26,7 @@ fn plan_job(
     size_bytes: &[u32],
     forecast: &[u32],
     out: &mut [u8],
-) -> planfile::Written
+) -> Written
     ensures { λ r. ⌜ PlanOfJob
         (jobInput p (now (sizes .entry)) (now («size_chunks» .entry)) (now («size_layers» .entry))
         (now («size_bytes» .entry)) (now (forecast .entry)))
@@ -53,7 +54,7 @@ fn plan_job(
     );
     let answer = made.answer;
     match answer {
-        Answer::Refused(n) => planfile::Written::Refused(n),
+        Answer::Refused(n) => Written::Refused(n),
         Answer::Rows(n) => planfile::write_plan(
             p,
             sizes,
@@ -125,7 +126,7 @@ fn verdict_job(
 // The plan file of the job of a file, into a lent buffer. Refused: the job file's number, then 11
 // where the buffer is shorter than the plan file. On a refusal the buffer stays as it is. The local
 // slices hold any job; they are filled with no constant, as above.
-pub fn plan_file(job: &[u8], out: &mut [u8]) -> planfile::Written
+pub fn plan_file(job: &[u8], out: &mut [u8]) -> Written
     ensures { λ r. ⌜ PlanOfFile (now (job .entry)) (now (out .entry)) r (now (out .exit)) ⌝ }
 {
     let unset = (job.len() % 65536) as u16;
@@ -143,7 +144,7 @@ pub fn plan_file(job: &[u8], out: &mut [u8]) -> planfile::Written
         &mut size_bytes,
         &mut forecast,
     ) {
-        JobRead::Refused(n) => planfile::Written::Refused(n),
+        JobRead::Refused(n) => Written::Refused(n),
         JobRead::Job {
             programme,
             layers,
@@ -200,7 +201,7 @@ pub fn verdict_files(job: &[u8], plan: &[u8]) -> Checked
 }
 
 // The report of the job of a file, into a lent buffer. Refused as plan_file.
-pub fn report_file(job: &[u8], out: &mut [u8]) -> report::Written
+pub fn report_file(job: &[u8], out: &mut [u8]) -> Written
     ensures { λ r. ⌜ ReportOfFile (now (job .entry)) (now (out .entry)) r (now (out .exit)) ⌝ }
 {
     let unset = (job.len() % 65536) as u16;
@@ -218,7 +219,7 @@ pub fn report_file(job: &[u8], out: &mut [u8]) -> report::Written
         &mut size_bytes,
         &mut forecast,
     ) {
-        JobRead::Refused(n) => report::Written::Refused(n),
+        JobRead::Refused(n) => Written::Refused(n),
         JobRead::Job {
             programme,
             layers,
@@ -238,7 +239,7 @@ pub fn report_file(job: &[u8], out: &mut [u8]) -> report::Written
 
 // The reasons under the layers that the plan of the job of a file lacks, into a lent buffer.
 // Refused as plan_file.
-pub fn reasons_file(job: &[u8], out: &mut [u8]) -> reasons::Written
+pub fn reasons_file(job: &[u8], out: &mut [u8]) -> Written
     ensures { λ r. ⌜ ReasonsOfFile (now (job .entry)) (now (out .entry)) r (now (out .exit)) ⌝ }
 {
     let unset = (job.len() % 65536) as u16;
@@ -256,7 +257,7 @@ pub fn reasons_file(job: &[u8], out: &mut [u8]) -> reasons::Written
         &mut size_bytes,
         &mut forecast,
     ) {
-        JobRead::Refused(n) => reasons::Written::Refused(n),
+        JobRead::Refused(n) => Written::Refused(n),
         JobRead::Job {
             programme,
             layers,
@@ -276,13 +277,13 @@ pub fn reasons_file(job: &[u8], out: &mut [u8]) -> reasons::Written
 
 // The job of a mixed file in one sequence, into a lent buffer. Refused: the mixed file's number,
 // then 11. A mixed file has no SZ: to its reader an SZ is an unknown mark, 2.
-pub fn convert_file(job: &[u8], out: &mut [u8]) -> jobfile::Written
+pub fn convert_file(job: &[u8], out: &mut [u8]) -> Written
     ensures { λ r. ⌜ ConvertedFile (now (job .entry)) (now (out .entry)) r (now (out .exit)) ⌝ }
 {
     let mut sizes = [0u32; 4];
     let mut forecast = [0u32; SLOTS];
     match jobfile::read_mixed_job(job, &mut sizes, &mut forecast) {
-        JobRead::Refused(n) => jobfile::Written::Refused(n),
+        JobRead::Refused(n) => Written::Refused(n),
         JobRead::Job {
             programme,
             layers,

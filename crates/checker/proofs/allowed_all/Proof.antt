@@ -9,7 +9,7 @@ use native.Mathlib.Omega.{arith}
 use denote.Ref.{now}
 use Rattle.theory_basics.specs.Tests.{allBelow, allTo}
 use Rattle.theory_basics.specs.lemmas.Tests.{allTo-more}
-use Rattle.job.specs.Table.{tableAt}
+use Rattle.core_sizes.specs.Table.{tableAt}
 use Rattle.checker.specs.lemmas.Judged.{allowedBy, early}
 
 abbrev Inv-loop : tie.InvT-loop

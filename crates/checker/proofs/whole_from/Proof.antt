@@ -4,7 +4,7 @@ use Rattle.checker.proofs.whole_from.Statement.{statement}
 use Rattle.checker.proofs.whole_from.Tie as tie
 use mathlib.Core.Path.{_∙_}
 use denote.Ref.{now}
-use Rattle.job.specs.Table.{tableAt}
+use Rattle.core_sizes.specs.Table.{tableAt}
 use Rattle.checker.proofs.Judged.{late-is}
 
 returns : tie.Need-returns

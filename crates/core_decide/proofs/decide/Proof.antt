@@ -4,7 +4,7 @@ use Rattle.core_decide.proofs.decide.Statement.{statement}
 use Rattle.core_decide.proofs.decide.Tie as tie
 use lib.ListN.{length, length-replicate}
 use Prim.Native.Nat.{ℕ}
-use Rattle.job.specs.Table.{tableAt}
+use Rattle.core_sizes.specs.Table.{tableAt}
 use denote.Ref.{now}
 use Rattle.core_decide.proofs.Decided.{sums-small, kept-from, decides}
 

@@ -7,7 +7,7 @@ use lib.ListN.{length-set}
 use borrow.Author.Needs.{needs}
 use denote.Ref.{now}
 use Rattle.job.specs.Job.{dueSlot}
-use Rattle.job.specs.Table.{tableAt}
+use Rattle.core_sizes.specs.Table.{tableAt}
 use Rattle.theory_plan.specs.lemmas.Parts.{at}
 use Rattle.theory_plan.specs.lemmas.Words.{due-by}
 use Rattle.core_decide.proofs.Bases.{Basing, basing-start, basing-pass, basing-keep, basing-end, held-is, keep-not-all, keep-not-held, keep-both}

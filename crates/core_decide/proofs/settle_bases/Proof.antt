@@ -5,7 +5,7 @@ use mathlib.Core.List.{List}
 use Prim.Native.Nat.{ℕ}
 use denote.Ref.{now}
 use Rattle.job.specs.declared.Programme.{Programme}
-use Rattle.job.specs.Table.{tableAt}
+use Rattle.core_sizes.specs.Table.{tableAt}
 use Rattle.core_moore_hodgson.specs.lemmas.Tables.{KeptIn}
 use borrow.Author.Needs.{needs}
 use Rattle.core_decide.proofs.settle_bases.Statement.{statement}

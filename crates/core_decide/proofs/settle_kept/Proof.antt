@@ -2,7 +2,7 @@
 use borrow.Author.Needs.{needs}
 use Rattle.core_decide.proofs.settle_kept.Statement.{statement}
 use Rattle.core_decide.proofs.settle_kept.Tie as tie
-use Rattle.job.specs.Table.{tableAt}
+use Rattle.core_sizes.specs.Table.{tableAt}
 use denote.Ref.{now}
 use mathlib.Core.Path.{refl}
 use Rattle.core_decide.proofs.Decided.{decides-kept, layers-from}

@@ -3,7 +3,7 @@
 use Prim.Native.Nat.{_-_}
 use native.Mathlib.Omega.{arith}
 use denote.Ref.{now}
-use Rattle.job.specs.Table.{tableAt}
+use Rattle.core_sizes.specs.Table.{tableAt}
 use Rattle.core_decide.proofs.Settle.{Settling, settling-start, settling-end, layer-from, settling-more}
 use Rattle.core_decide.proofs.settle_layers.Statement.{statement}
 use Rattle.core_decide.proofs.settle_layers.Tie as tie

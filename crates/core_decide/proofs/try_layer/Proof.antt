@@ -6,7 +6,7 @@ use native.Mathlib.Omega.{arith}
 use lib.ListN.{getD}
 use borrow.Author.Needs.{needs}
 use denote.Ref.{now}
-use Rattle.job.specs.Table.{tableAt}
+use Rattle.core_sizes.specs.Table.{tableAt}
 use Rattle.theory_plan.specs.lemmas.Parts.{at}
 use Rattle.core_decide.proofs.Trials.{Backing, backing-start, backing-end, backing-pass, backing-take, bytes-small, chunk-in, due-slot, want-small}
 use Rattle.core_decide.proofs.try_layer.Statement.{statement}

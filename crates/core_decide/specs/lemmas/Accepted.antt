@@ -7,12 +7,17 @@ use native.Mathlib.Omega.{arith}
 use lib.ListN.{length, replicate}
 use Rattle.theory_basics.specs.Sums.{pre}
 use Rattle.job.specs.Job.{Accepted, Job, layers, size}
-use Rattle.job.specs.Table.{sizesTable, tableAt}
-use Rattle.job.specs.Uneven.{table-is}
+use Rattle.core_sizes.specs.Table.{sizesTable, tableAt}
+use Rattle.core_sizes.specs.Theorems.{table-is}
 use Rattle.job.specs.lemmas.Within.{all-most, size-least, size-most}
 use Rattle.theory_plan.specs.Plan.{after}
 use Rattle.theory_plan.specs.lemmas.Parts.{ForecastPart, at, leftAfter, padded}
+use Rattle.fetch.specs.Marks.{withLayer}
 use Rattle.core_decide.specs.lemmas.Decision.{DecidePre}
+
+base-set : withLayer 0 0 ≡ 1
+unfolding withLayer
+base-set = refl
 
 module _ (j : Job) (ok : Accepted j) where
   -- The table that a call fills says the job's sizes.
@@ -22,10 +27,11 @@ module _ (j : Job) (ok : Accepted j) where
   pub part-in : ForecastPart 1 (j .forecast)
   part-in = record { low = omega arith; high = omega (arith, ok .slots-in, ok .last-in); small = all-most 0 16777216 (j .forecast) (ok .forecast-in) }
 
+  -- The marks before the decision: each has its base set.
   pub decide-from :
       (own : ℕ → ℕ → ℕ) → own ≡ size j → (ids ready : List ℕ) → length ids ≡ 500 → length ready ≡ 500 →
-      DecidePre (j .programme) (layers j) own 1 (j .forecast) ids ready (replicate 500 1)
-  decide-from own says ids ready a b =
+      {base : ℕ} → base ≡ withLayer 0 0 → DecidePre (j .programme) (layers j) own 1 (j .forecast) ids ready (replicate 500 base)
+  decide-from own says ids ready a b e =
       record {
         few = ok .chunks-in .high;
         late = ok .delay-in .low;
@@ -37,7 +43,7 @@ module _ (j : Job) (ok : Accepted j) where
         part-in = part-in;
         slots = omega (arith, ok .slots-in);
         long = (a, b);
-        marks = refl;
+        marks = ap (replicate 500) (e ∙ base-set);
       }
 
   -- What is left after a slot is what is forecast after it.

@@ -11,10 +11,10 @@ use Rattle.theory_basics.specs.Tests.{All}
 use Rattle.job.specs.declared.Programme.{Programme}
 use Rattle.job.specs.Job.{Job, Override, Within, jobOf, sizeIn, due, dueSlot, heldMost, lastDue}
 use Rattle.core_moore_hodgson.specs.lemmas.Tables.{KeptIn, mooreHodgsonIn, appliesIn}
-use Rattle.theory_plan.specs.lemmas.Sufficiency.{releases}
 use Rattle.theory_plan.specs.Plan.{after, kept, plan}
 use Rattle.theory_plan.specs.lemmas.Trials.{bases, levelMark, Kept, back, decidedOn, keptAt, onLayers}
 use Rattle.theory_plan.specs.lemmas.Parts.{ForecastPart, at, leftAfter, padded}
+use Rattle.theory_plan.specs.lemmas.Queue.{releases}
 
 -- The sums of a forecast that can be: 3,600 slots of 16,777,216 bytes.
 abbrev pub Sums : List ℕ → Type 0

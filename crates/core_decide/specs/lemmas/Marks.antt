@@ -19,8 +19,8 @@ use Rattle.theory_basics.specs.lemmas.Lists.{length-upTo}
 use Rattle.theory_basics.specs.lemmas.Tables.{above-next, drop-next}
 use Rattle.theory_basics.specs.lemmas.Tests.{test}
 use Rattle.theory_plan.specs.Plan.{picked}
-use Rattle.theory_plan.specs.lemmas.Ascending.{Asc}
 use Rattle.theory_plan.specs.lemmas.Kept.{picked-asc}
+use Rattle.theory_plan.specs.Bases.{Asc}
 
 -- The mark that stands with chunk i, or w.
 abbrev pub markOr : ℕ → ℕ → List ℕ → List ℕ → ℕ

@@ -27,7 +27,7 @@ job-number-requires : tie.Need-job-number-requires
 job-number-requires c κs = search needs
 
 returns : tie.Need-returns
-returns c = refused-read oneSequence (c .before .before .before .before .before .before .before .before .before .before .before .before .before .args .file .now) _ _ (c .before .before .before .before .before .before .read-job .ensures .0) (c .job-number .ensures)
+returns c = refused-read oneSequence (c .before .before .before .before .before .before .before .before .before .before .before .before .before .args .file .now) _ _ (c .before .before .before .before .before .before .read-job .ensures .answer) (c .job-number .ensures)
 
 pub job-refused-spec : {M : Type 1} → statement M
 job-refused-spec =

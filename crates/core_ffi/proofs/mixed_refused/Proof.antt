@@ -18,7 +18,7 @@ job-number-requires : tie.Need-job-number-requires
 job-number-requires c κs = search needs
 
 returns : tie.Need-returns
-returns c = refused-read mixed (c .before .before .before .before .before .before .before .args .file .now) _ _ (c .before .before .before .read-mixed-job .ensures .0) (c .job-number .ensures)
+returns c = refused-read mixed (c .before .before .before .before .before .before .before .args .file .now) _ _ (c .before .before .before .read-mixed-job .ensures .answer) (c .job-number .ensures)
 
 pub mixed-refused-spec : {M : Type 1} → statement M
 mixed-refused-spec =

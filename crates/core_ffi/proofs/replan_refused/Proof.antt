@@ -26,7 +26,7 @@ plan-number-requires : tie.Need-plan-number-requires
 plan-number-requires c κs = search needs
 
 returns : tie.Need-returns
-returns c = replan-refused _ _ _ _ _ _ _ _ _ (c .before .before .before .before .before .before .replan .ensures .0) (c .plan-number .ensures)
+returns c = replan-refused _ _ _ _ _ _ _ _ _ (c .before .before .before .before .before .before .replan .ensures .output) (c .plan-number .ensures)
 
 pub replan-refused-spec : {M : Type 1} → statement M
 replan-refused-spec =

@@ -7,28 +7,20 @@ use mathlib.Core.List.{List, [], _∷_}
 use Rattle.theory_basics.specs.Lent.{over}
 use lib.Dec.{eqb}
 use Rattle.core_ffi.specs.Convention.{answered}
+use Rattle.records.specs.declared.Written.{Written}
+use Rattle.records.specs.declared.Written.the-variants as written
 use Rattle.jobrecords.specs.declared.JobRead.{JobRead}
 use Rattle.jobrecords.specs.declared.JobRead.the-variants as jobRead
-use Rattle.jobfile.specs.declared.Written.{Written as JobWritten}
-use Rattle.jobfile.specs.declared.Written.the-variants as jobFile
 use Rattle.planfile.specs.declared.PlanRead.{PlanRead}
 use Rattle.planfile.specs.declared.PlanRead.the-variants as planRead
-use Rattle.planfile.specs.declared.Written.{Written as PlanWritten}
-use Rattle.planfile.specs.declared.Written.the-variants as planFile
 use Rattle.checker.specs.declared.Checked.{Checked}
 use Rattle.checker.specs.declared.Checked.the-variants as checked
 use Rattle.planner.specs.declared.Answer.{Answer as PlanAnswer}
 use Rattle.planner.specs.declared.Answer.the-variants as planned
 use Rattle.booking.specs.declared.Answer.{Answer as Booked}
 use Rattle.booking.specs.declared.Answer.the-variants as booked
-use Rattle.report.specs.declared.Written.{Written as Reported}
-use Rattle.report.specs.declared.Written.the-variants as reported
-use Rattle.reasons.specs.declared.Written.{Written as Told}
-use Rattle.reasons.specs.declared.Written.the-variants as told
 use Rattle.trace.specs.declared.TraceRead.{TraceRead}
 use Rattle.trace.specs.declared.TraceRead.the-variants as traceRead
-use Rattle.trace.specs.declared.Written.{Written as TraceWritten}
-use Rattle.trace.specs.declared.Written.the-variants as traceFile
 use Rattle.wait.specs.declared.Answer.{Answer as Waited}
 use Rattle.wait.specs.declared.Answer.the-variants as waited
 use Rattle.meter.specs.declared.Answer.{Answer as Forecast}
@@ -52,17 +44,13 @@ abbrev pub lengthsRead : JobRead → List ℕ → List ℕ
 lengthsRead (jobRead.Job p layers overrides slots) old = over (layers ∷ overrides ∷ []) old
 lengthsRead (jobRead.Refused n) old = old
 
-abbrev pub jobWrittenNumber : JobWritten → ℕ
-jobWrittenNumber (jobFile.Bytes n) = n
-jobWrittenNumber (jobFile.Refused n) = refusedNumber n
+abbrev pub writtenNumber : Written → ℕ
+writtenNumber (written.Bytes n) = n
+writtenNumber (written.Refused n) = refusedNumber n
 
 abbrev pub planReadNumber : PlanRead → ℕ
 planReadNumber (planRead.Rows n) = n
 planReadNumber (planRead.Refused n) = refusedNumber n
-
-abbrev pub planWrittenNumber : PlanWritten → ℕ
-planWrittenNumber (planFile.Bytes n) = n
-planWrittenNumber (planFile.Refused n) = refusedNumber n
 
 abbrev pub checkedNumber : Checked → ℕ
 checkedNumber (checked.Verdict n) = n
@@ -86,21 +74,9 @@ abbrev pub bookedNumber : Booked → ℕ
 bookedNumber booked.Done = 0
 bookedNumber (booked.Refused n) = refusedNumber n
 
-abbrev pub reportNumber : Reported → ℕ
-reportNumber (reported.Bytes n) = n
-reportNumber (reported.Refused n) = refusedNumber n
-
-abbrev pub reasonNumber : Told → ℕ
-reasonNumber (told.Bytes n) = n
-reasonNumber (told.Refused n) = refusedNumber n
-
 abbrev pub traceReadNumber : TraceRead → ℕ
 traceReadNumber (traceRead.Slots n) = n
 traceReadNumber (traceRead.Refused n) = refusedNumber n
-
-abbrev pub traceWrittenNumber : TraceWritten → ℕ
-traceWrittenNumber (traceFile.Bytes n) = n
-traceWrittenNumber (traceFile.Refused n) = refusedNumber n
 
 abbrev pub waitNumber : Waited → ℕ
 waitNumber (waited.Delay n) = n

@@ -18,9 +18,11 @@ use Rattle.replan.specs.Answer.{ReplanInput, fetched, holdsOn, inputRefusal, jo
 use Rattle.theory_basics.specs.Lent.{lentAfter, over}
 use Rattle.theory_basics.specs.Refusals.{_orElse_, unless}
 use Rattle.fetch.specs.Rows.{Row, rowBytes, rowChunk, rowLayer, rowSlot}
-use Rattle.job.specs.Input.{JobInput, input-iff, jobIn, jobRefusal}
+use Rattle.job.specs.Input.{JobInput, jobIn, jobRefusal}
+use Rattle.job.specs.Theorems.{input-iff}
 use Rattle.job.specs.Job.{chunks}
-use Rattle.planner.specs.Answer.{PlanOutput, holds, lentOf, planRefusal, planRows}
+use Rattle.fetch.specs.Slices.{slicesOf}
+use Rattle.planner.specs.Answer.{PlanOutput, holds, planRefusal, planRows}
 use Rattle.planner.specs.declared.Answer.{Answer}
 use Rattle.planner.specs.declared.Answer.the-variants.{Refused, Rows}
 use Rattle.planner.specs.declared.Planned.{Planned as Plan}
@@ -71,24 +73,24 @@ whole-returned W refused marks rows counts zeros m s c l b k m' s' c' l' b' k' a
 
 pub plan-whole : (h : JobInput) (m s c l b k m' s' c' l' b' k' : List ℕ) (p : Plan) (r : ℕ)
     → 4 ≤ length k
-    → PlanOutput h m s c l b p m' s' c' l' b'
+    → PlanOutput h (slicesOf m s c l b) p (slicesOf m' s' c' l' b')
     → k' ≡ countsStored (p .answer) (p .counts) k
     → r ≡ planNumber (p .answer)
     → PlanReturned h (planSlices m s c l b k) r (planSlices m' s' c' l' b' k')
 plan-whole h m s c l b k m' s' c' l' b' k' p r room made ek er =
-    whole-returned (withCounts (planRefusal h (lentOf m s c l b)) k) (planRefusal h (lentOf m s c l b)) (marksOf (jobIn h) (plan (jobIn h))) (planRows (jobIn h)) (countsOf (jobIn h) (plan (jobIn h))) (0 ∷ 0 ∷ 0 ∷ 0 ∷ [])
-    m s c l b k m' s' c' l' b' k' (p .answer) (p .counts) r (room-for-counts (planRefusal h (lentOf m s c l b)) k room)
+    whole-returned (withCounts (planRefusal h (slicesOf m s c l b)) k) (planRefusal h (slicesOf m s c l b)) (marksOf (jobIn h) (plan (jobIn h))) (planRows (jobIn h)) (countsOf (jobIn h) (plan (jobIn h))) (0 ∷ 0 ∷ 0 ∷ 0 ∷ [])
+    m s c l b k m' s' c' l' b' k' (p .answer) (p .counts) r (room-for-counts (planRefusal h (slicesOf m s c l b)) k room)
     (made .answer) (made .counts) (made .marks-are) (made .slots-are) (made .chunks-are) (made .layers-are) (made .bytes-are) ek er
 
 pub replan-whole : (h : JobInput) (o : ReplanInput) (m s c l b k m' s' c' l' b' k' : List ℕ) (p : Plan) (r : ℕ)
     → 4 ≤ length k
-    → afresh.ReplanOutput h o m s c l b p m' s' c' l' b'
+    → afresh.ReplanOutput h o (slicesOf m s c l b) p (slicesOf m' s' c' l' b')
     → k' ≡ countsStored (p .answer) (p .counts) k
     → r ≡ planNumber (p .answer)
     → ReplanReturned h o (planSlices m s c l b k) r (planSlices m' s' c' l' b' k')
 replan-whole h o m s c l b k m' s' c' l' b' k' p r room made ek er =
-    whole-returned (withCounts (refusalOn h o (lentOf m s c l b)) k) (refusalOn h o (lentOf m s c l b)) (marksOf (jobOn h o) (planAfresh h o)) (rowsOn h o) (countsOf (jobOn h o) (planAfresh h o)) (0 ∷ 0 ∷ 0 ∷ 0 ∷ [])
-    m s c l b k m' s' c' l' b' k' (p .answer) (p .counts) r (room-for-counts (refusalOn h o (lentOf m s c l b)) k room)
+    whole-returned (withCounts (refusalOn h o (slicesOf m s c l b)) k) (refusalOn h o (slicesOf m s c l b)) (marksOf (jobOn h o) (planAfresh h o)) (rowsOn h o) (countsOf (jobOn h o) (planAfresh h o)) (0 ∷ 0 ∷ 0 ∷ 0 ∷ [])
+    m s c l b k m' s' c' l' b' k' (p .answer) (p .counts) r (room-for-counts (refusalOn h o (slicesOf m s c l b)) k room)
     (made .answer) (made .counts) (made .marks-are) (made .slots-are) (made .chunks-are) (made .layers-are) (made .bytes-are) ek er
 
 -- ---- without it
@@ -117,15 +119,15 @@ pub plan-short : (h : JobInput) (m s c l b k : List ℕ) (before r : ℕ)
     → r ≡ refusedNumber (before orElse 11)
     → PlanReturned h (planSlices m s c l b k) r (planSlices m s c l b k)
 plan-short h m s c l b k before r e short er =
-    short-returned (withCounts (planRefusal h (lentOf m s c l b)) k) (jobRefusal h) (marksOf (jobIn h) (plan (jobIn h))) (planRows (jobIn h)) (countsOf (jobIn h) (plan (jobIn h)))
-    m s c l b k r (no-room-for-counts (jobRefusal h) (holds (jobIn h) (lentOf m s c l b)) k short) (er ∙ ap (λ (n : ℕ). refusedNumber (n orElse 11)) e)
+    short-returned (withCounts (planRefusal h (slicesOf m s c l b)) k) (jobRefusal h) (marksOf (jobIn h) (plan (jobIn h))) (planRows (jobIn h)) (countsOf (jobIn h) (plan (jobIn h)))
+    m s c l b k r (no-room-for-counts (jobRefusal h) (holds (jobIn h) (slicesOf m s c l b)) k short) (er ∙ ap (λ (n : ℕ). refusedNumber (n orElse 11)) e)
 
 -- Planning afresh into no room for marks: 11 after all else.
-no-marks : (h : JobInput) (o : ReplanInput) (s c l b : List ℕ) → refusalOn h o (lentOf [] s c l b) ≡ inputRefusal h o orElse 11
+no-marks : (h : JobInput) (o : ReplanInput) (s c l b : List ℕ) → refusalOn h o (slicesOf [] s c l b) ≡ inputRefusal h o orElse 11
 no-marks h o s c l b =
     let asked : ℕ = inputRefusal h o in
     let n = length (rowsOn h o) in
-    let room : ℕ = unless 11 (holdsOn h o (lentOf [] s c l b)) in
+    let room : ℕ = unless 11 (holdsOn h o (slicesOf [] s c l b)) in
     ⊎-elim
     (λ t.
     let none = eqb→eq asked 0 t in
@@ -141,12 +143,12 @@ no-marks h o s c l b =
 
 -- What planning afresh without any room answers.
 pub replan-refused : (h : JobInput) (o : ReplanInput) (m' s' c' l' b' : List ℕ) (p : Plan) (r : ℕ)
-    → afresh.ReplanOutput h o [] [] [] [] [] p m' s' c' l' b'
+    → afresh.ReplanOutput h o (slicesOf [] [] [] [] []) p (slicesOf m' s' c' l' b')
     → r ≡ planNumber (p .answer)
     → r ≡ replanShort h o
 unfolding answered replanShort
 replan-refused h o m' s' c' l' b' p r made er =
-    let refused : ℕ = refusalOn h o (lentOf [] [] [] [] []) in
+    let refused : ℕ = refusalOn h o (slicesOf [] [] [] [] []) in
     let is = no-marks h o [] [] [] [] in
     let some : refused ≡ 0 → ⊥ = λ z. eleven-some (inputRefusal h o) (sym is ∙ z) in
     is-answered planNumber (Rows (length (rowsOn h o))) (Refused refused) (p .answer) r refused (length (rowsOn h o)) er (made .answer) refl refl
@@ -159,5 +161,5 @@ pub replan-short : (h : JobInput) (o : ReplanInput) (m s c l b k : List ℕ) (r 
     → ReplanReturned h o (planSlices m s c l b k) r (planSlices m s c l b k)
 unfolding replanShort
 replan-short h o m s c l b k r short er =
-    short-returned (withCounts (refusalOn h o (lentOf m s c l b)) k) (inputRefusal h o) (marksOf (jobOn h o) (planAfresh h o)) (rowsOn h o) (countsOf (jobOn h o) (planAfresh h o)) m s c l b k r
-    (no-room-for-counts (inputRefusal h o) (holdsOn h o (lentOf m s c l b)) k short) er
+    short-returned (withCounts (refusalOn h o (slicesOf m s c l b)) k) (inputRefusal h o) (marksOf (jobOn h o) (planAfresh h o)) (rowsOn h o) (countsOf (jobOn h o) (planAfresh h o)) m s c l b k r
+    (no-room-for-counts (inputRefusal h o) (holdsOn h o (slicesOf m s c l b)) k short) er

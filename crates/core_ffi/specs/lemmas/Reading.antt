@@ -1,9 +1,9 @@
 -- Lemmas. The job readers: with room for the programme and the lengths they hand over what the
 -- library's reader does, without it they answer 11 after all that comes before 11. Assumes nothing.
 use Prim.Native.Nat.{ℕ, _≤_, _<_}
-use mathlib.Core.Path.{_≡_, refl, sym, ap, _∙_}
+use mathlib.Core.Path.{_≡_, sym, ap, _∙_}
 use mathlib.Core.Bool.{Bool, true, false, cond, not, _&&_}
-use mathlib.Core.List.{List, [], map}
+use mathlib.Core.List.{List, []}
 use native.Mathlib.Omega.{arith}
 use mathlib.Core.Logic.{⊎-elim}
 use lib.Dec.{T-not, eqb, eqb→eq, leb}
@@ -14,30 +14,20 @@ use Rattle.theory_basics.specs.Refusals.{_orElse_, unless}
 use Rattle.theory_basics.specs.lemmas.Refusals.{orElse-none, orElse-some}
 use Rattle.theory_basics.specs.lemmas.Tests.{eqb-iff, test, tests, true-T}
 use Rattle.job.specs.Input.{overrideBytes, overrideChunks, overrideLayers}
-use Rattle.job.specs.Job.{Job, Override, layers}
-use Rattle.jobrecords.specs.Reader.{Buffers, buffers, jobAnswer, lentBy, readAnswer, jobReadRefusal, roomRefusal}
+use Rattle.job.specs.Job.{Job, layers}
+use Rattle.jobrecords.specs.Reader.{Buffers, JobReadPromise, buffers, jobAnswer, lentBy, lentRead, readAnswer, jobReadRefusal, roomRefusal}
+use Rattle.jobrecords.specs.lemmas.Lent.{same-buffers}
 use Rattle.jobrecords.specs.Refusal.{jobOfFile, mixed, refusalOf}
 use Rattle.jobrecords.specs.Theorems.{file-accepted}
 use Rattle.jobrecords.specs.declared.JobRead.{JobRead}
 use Rattle.jobrecords.specs.declared.JobRead.the-variants as jobRead
 use Rattle.core_ffi.specs.Convention.{answered}
-use Rattle.core_ffi.specs.Files.{JobReturned, jobReturnRefusal, lengthsOf, programmeOf}
+use Rattle.core_ffi.specs.Files.{JobReturned, JobRoom, jobReturnRefusal, lengthsOf, programmeOf}
 use Rattle.core_ffi.specs.lemmas.Numbers.{jobReadNumber, lengthsRead, programmeRead, refusedNumber, through}
 use Rattle.core_ffi.specs.lemmas.Slices.{eleven-first, eleven-once, eleven-some, no-more, refused-keeps, test-false, test-true}
 
 pub room-for-job : (a b : ℕ) (r : Bool) → r ≡ leb 4 a && leb 2 b → not r ≡ false → (4 ≤ a) × (2 ≤ b)
 room-for-job a b r e f = let u = simp tests at (true-T (leb 4 a && leb 2 b) (test-true r _ e f)) in (u .0, u .1)
-
-pub same-buffers : {a a' b b' c c' d d' e e' : List ℕ} → a ≡ a' → b ≡ b' → c ≡ c' → d ≡ d' → e ≡ e' → _≡_ {A = Buffers} (buffers a b c d e) (buffers a' b' c' d' e')
-same-buffers p q r s t = cc
-
--- A mixed file has no SZ, and nothing is lent for them.
-pub nothing : (f : Override → ℕ) (refused : ℕ) (os : List Override) → os ≡ [] → [] ≡ lentAfter refused (map f os) []
-nothing f refused os e = sym (ap (λ (l : List Override). lentAfter refused (map f l) []) e ∙ either (eqb refused 0))
-  where
-    either : (b : Bool) → _≡_ {A = List ℕ} (cond b [] []) []
-    either true = refl
-    either false = refl
 
 abbrev roomFor : Job → Buffers → Bool
 roomFor j lent =
@@ -66,23 +56,24 @@ module _ (sequenced : Bool) (file : List ℕ) where
       ∙ through (λ (x : JobRead). lengthsRead x old) (eqb (jobReadRefusal sequenced file lent) 0) (jobAnswer (jobOfFile sequenced file)) (jobRead.Refused (jobReadRefusal sequenced file lent))
 
   -- With room.
-  pub read-whole : (lent lent' : Buffers) (programme programme' lengths lengths' : List ℕ) (held : Bool) (read : JobRead) (r : ℕ)
-      → held ≡ leb 4 (length programme) && leb 2 (length lengths)
+  pub read-whole : (lent lent' : JobRoom) (held : Bool) (read : JobRead) (r : ℕ)
+      → held ≡ leb 4 (length (lent .programme)) && leb 2 (length (lent .lengths))
       → not held ≡ false
-      → read ≡ readAnswer sequenced file lent
-      → lent' ≡ lentBy (jobReadRefusal sequenced file lent) (jobOfFile sequenced file) lent
-      → programme' ≡ programmeRead read programme
-      → lengths' ≡ lengthsRead read lengths
+      → JobReadPromise sequenced file (lent .job) read (lent' .job)
+      → lent' .programme ≡ programmeRead read (lent .programme)
+      → lent' .lengths ≡ lengthsRead read (lent .lengths)
       → r ≡ jobReadNumber read
-      → JobReturned sequenced file lent programme lengths r lent' programme' lengths'
-  read-whole lent lent' programme programme' lengths lengths' held read r t f e el ep en er =
-      let w : jobReadRefusal sequenced file lent ≡ jobReturnRefusal sequenced file lent programme lengths =
-      sym (ap (λ (b : Bool). jobReadRefusal sequenced file lent orElse unless 11 b) (test-true held _ t f) ∙ no-more (jobReadRefusal sequenced file lent)) in
+      → JobReturned sequenced file lent r lent'
+  unfolding lentRead
+  read-whole lent lent' held read r t f p ep en er =
+      let j = jobOfFile sequenced file in
+      let refused : ℕ = jobReadRefusal sequenced file (lent .job) in
+      let w : refused ≡ jobReturnRefusal sequenced file lent = sym (ap (λ (b : Bool). refused orElse unless 11 b) (test-true held _ t f) ∙ no-more refused) in
       record {
-        number = number-read lent read r e er ∙ ap (λ (n : ℕ). answered n (length (jobOfFile sequenced file .forecast))) w;
-        buffers-are = el ∙ ap (λ (n : ℕ). lentBy n (jobOfFile sequenced file) lent) w;
-        programme-is = ep ∙ programme-read lent read programme e ∙ ap (λ (n : ℕ). lentAfter n (programmeOf (jobOfFile sequenced file)) programme) w;
-        lengths-are = en ∙ lengths-read lent read lengths e ∙ ap (λ (n : ℕ). lentAfter n (lengthsOf (jobOfFile sequenced file)) lengths) w;
+        number = number-read (lent .job) read r (p .answer) er ∙ ap (λ (n : ℕ). answered n (length (j .forecast))) w;
+        buffers-are = p .after ∙ ap (λ (n : ℕ). lentBy n j (lent .job)) w;
+        programme-is = ep ∙ programme-read (lent .job) read (lent .programme) (p .answer) ∙ ap (λ (n : ℕ). lentAfter n (programmeOf j) (lent .programme)) w;
+        lengths-are = en ∙ lengths-read (lent .job) read (lent .lengths) (p .answer) ∙ ap (λ (n : ℕ). lentAfter n (lengthsOf j) (lent .lengths)) w;
       }
 
   -- A reading into no room for sizes: 11 after all else.
@@ -115,24 +106,25 @@ module _ (sequenced : Bool) (file : List ℕ) where
       ∙ ap refusedNumber is
 
   -- Without room.
-  pub read-short : (lent : Buffers) (programme lengths : List ℕ) (held : Bool) (r : ℕ)
-      → held ≡ leb 4 (length programme) && leb 2 (length lengths)
+  pub read-short : (lent : JobRoom) (held : Bool) (r : ℕ)
+      → held ≡ leb 4 (length (lent .programme)) && leb 2 (length (lent .lengths))
       → not held ≡ true
       → r ≡ refusedNumber (refusalOf sequenced file orElse 11)
-      → JobReturned sequenced file lent programme lengths r lent programme lengths
+      → JobReturned sequenced file lent r lent
   unfolding answered
-  read-short lent programme lengths held r t g er =
+  read-short lent held r t g er =
       let j = jobOfFile sequenced file in
-      let R : ℕ = jobReturnRefusal sequenced file lent programme lengths in
+      let old = lent .job in
+      let R : ℕ = jobReturnRefusal sequenced file lent in
       let is : R ≡ refusalOf sequenced file orElse 11 =
-      ap (λ (b : Bool). jobReadRefusal sequenced file lent orElse unless 11 b) (test-false held _ t g) ∙ eleven-once (refusalOf sequenced file) (roomFor j lent) in
+      ap (λ (b : Bool). jobReadRefusal sequenced file old orElse unless 11 b) (test-false held _ t g) ∙ eleven-once (refusalOf sequenced file) (roomFor j old) in
       let some : R ≡ 0 → ⊥ = λ z. eleven-some (refusalOf sequenced file) (sym is ∙ z) in
-      let keeps : (result old : List ℕ) → old ≡ lentAfter R result old = λ result old. sym (refused-keeps R result old some) in
+      let keeps : (result before : List ℕ) → before ≡ lentAfter R result before = λ result before. sym (refused-keeps R result before some) in
       record {
         number = er ∙ sym (ap refusedNumber is) ∙ sym (ap (λ (b : Bool). cond b (length (j .forecast)) (refusedNumber R)) (ne-eqb R 0 some));
         buffers-are =
-            same-buffers (keeps (j .sizes) (lent .sizes)) (keeps (overrideChunks (j .overrides)) (lent .size-chunks)) (keeps (overrideLayers (j .overrides)) (lent .size-layers))
-            (keeps (overrideBytes (j .overrides)) (lent .size-bytes)) (keeps (j .forecast) (lent .forecast));
-        programme-is = keeps (programmeOf j) programme;
-        lengths-are = keeps (lengthsOf j) lengths;
+            same-buffers (keeps (j .sizes) (old .sizes)) (keeps (overrideChunks (j .overrides)) (old .size-chunks)) (keeps (overrideLayers (j .overrides)) (old .size-layers))
+            (keeps (overrideBytes (j .overrides)) (old .size-bytes)) (keeps (j .forecast) (old .forecast));
+        programme-is = keeps (programmeOf j) (lent .programme);
+        lengths-are = keeps (lengthsOf j) (lent .lengths);
       }

@@ -11,14 +11,14 @@ use Rattle.theory_basics.specs.Lent.{lentAfter, over}
 use Rattle.theory_basics.specs.Refusals.{_orElse_, unless}
 use Rattle.theory_basics.specs.lemmas.Tests.{tests, true-T}
 use Rattle.job.specs.Input.{JobInput, jobIn, jobRefusal}
-use Rattle.planner.specs.Answer.{lentOf}
+use Rattle.fetch.specs.Slices.{slicesOf}
 use Rattle.planner.specs.declared.Answer.{Answer}
 use Rattle.planner.specs.declared.Answer.the-variants.{Refused, Rows}
 use Rattle.theory_plan.specs.Statement.{countsOf, marksOf}
 use Rattle.theory_search.specs.Search.{found}
 use Rattle.search.specs.Answer.{SearchOutput, holdsFound, planFound, rowsFound, searchRefusal}
 use Rattle.search.specs.declared.Searched.{Searched}
-use Rattle.core_ffi.specs.Plans.{SearchReturned, walkOf, withWalk}
+use Rattle.core_ffi.specs.Plans.{SearchReturned, planSlices, walkOf, withWalk}
 use Rattle.core_ffi.specs.lemmas.Numbers.{countsStored, planNumber, refusedNumber, walkStored}
 use Rattle.core_ffi.specs.lemmas.Planning.{short-returned, whole-returned}
 use Rattle.core_ffi.specs.lemmas.Slices.{eleven-once, eleven-some, no-more, refused-keeps, test-false, test-true}
@@ -38,15 +38,15 @@ four-ways a a' s s' e e' f f' old p q r t =
 pub search-whole : (h : JobInput) (budget : ℕ) (m s c l b k w m' s' c' l' b' k' w' : List ℕ) (held : Bool) (p : Searched) (r : ℕ)
     → held ≡ leb 4 (length k) && leb 3 (length w)
     → not held ≡ false
-    → SearchOutput h budget m s c l b p m' s' c' l' b'
+    → SearchOutput h budget (slicesOf m s c l b) p (slicesOf m' s' c' l' b')
     → k' ≡ countsStored (p .answer) (p .counts) k
     → w' ≡ walkStored (p .answer) (p .steps) (p .ended) (p .shortfall) w
     → r ≡ planNumber (p .answer)
-    → SearchReturned h budget m s c l b k w r m' s' c' l' b' k' w'
+    → SearchReturned h budget (planSlices m s c l b k) w r (planSlices m' s' c' l' b' k') w'
 unfolding withWalk
 search-whole h budget m s c l b k w m' s' c' l' b' k' w' held p r t f made ek ew er =
     let j = jobIn h in
-    let refused : ℕ = searchRefusal h budget (lentOf m s c l b) in
+    let refused : ℕ = searchRefusal h budget (slicesOf m s c l b) in
     let W : ℕ = withWalk refused k w in
     let same : W ≡ refused = ap (λ (x : Bool). refused orElse unless 11 x) (test-true held _ t f) ∙ no-more refused in
     record {
@@ -66,13 +66,13 @@ pub search-short : (h : JobInput) (budget : ℕ) (m s c l b k w : List ℕ) (hel
     → not held ≡ true
     → before ≡ jobRefusal h
     → r ≡ refusedNumber (before orElse 11)
-    → SearchReturned h budget m s c l b k w r m s c l b k w
+    → SearchReturned h budget (planSlices m s c l b k) w r (planSlices m s c l b k) w
 unfolding withWalk
 search-short h budget m s c l b k w held before r t f e er =
     let j = jobIn h in
-    let refused : ℕ = searchRefusal h budget (lentOf m s c l b) in
+    let refused : ℕ = searchRefusal h budget (slicesOf m s c l b) in
     let W : ℕ = withWalk refused k w in
-    let is : W ≡ jobRefusal h orElse 11 = ap (λ (x : Bool). refused orElse unless 11 x) (test-false held _ t f) ∙ eleven-once (jobRefusal h) (holdsFound j budget (lentOf m s c l b)) in
+    let is : W ≡ jobRefusal h orElse 11 = ap (λ (x : Bool). refused orElse unless 11 x) (test-false held _ t f) ∙ eleven-once (jobRefusal h) (holdsFound j budget (slicesOf m s c l b)) in
     let some : W ≡ 0 → ⊥ = λ z. eleven-some (jobRefusal h) (sym is ∙ z) in
     record {
       plan =

@@ -4,7 +4,7 @@ use Prim.Native.Nat.{_-_}
 use native.Mathlib.Omega.{arith}
 use borrow.Author.Needs.{needs}
 use denote.Ref.{now}
-use Rattle.job.specs.Table.{tableAt}
+use Rattle.core_sizes.specs.Table.{tableAt}
 use Rattle.core_fill.specs.lemmas.Filling.{levelOf}
 use Rattle.core_fill.proofs.Chunks.{Layering, layering-start, layering-end, below-level, layer-room, layer-some, layer-fits, layering-more}
 use Rattle.core_fill.proofs.put_chunk.Statement.{statement}

@@ -151,6 +151,3 @@ pub record AllBy (P : ℕ → Type 0) (f : ℕ → ℕ → ℕ → List QueuedPi
   pub fed : Fed (leftAt start part) (queueBy f (drop first ids) (drop first ready) (drop first mark))
   pub fits : load (queueBy f (drop first ids) (drop first ready) (drop first mark)) ≤ a .left + leftAt start part (a .slot)
   pub long : (length ids ≡ 500) × (length ready ≡ 500) × (length mark ≡ 500)
-
-abbrev pub PutAllPre : ℕ → List ℕ → (ℕ → ℕ → ℕ) → (ids ready mark : List ℕ) → ℕ → Position → (ss cs ls bs : List ℕ) → Type 0
-PutAllPre start part size ids ready mark first a ss cs ls bs = AllBy Levels (layersOf size) start part ids ready mark first a ss cs ls bs

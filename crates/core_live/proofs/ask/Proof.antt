@@ -3,7 +3,7 @@ use Prim.Native.Nat.{ℕ, _≤_}
 use native.Mathlib.Omega.{arith}
 use denote.Ref.{now}
 use lib.ListN.{length-replicate}
-use Rattle.job.specs.Table.{tableAt}
+use Rattle.core_sizes.specs.Table.{tableAt}
 use Rattle.theory_live.specs.lemmas.Firsts.{found}
 use Rattle.core_live.specs.lemmas.ByTables.{lacksAt}
 use Rattle.core_live.proofs.Rule.{asks-stand}

@@ -4,7 +4,7 @@ use mathlib.Core.Path.{_≡_, sym, _∙_}
 use native.Mathlib.Omega.{arith}
 use denote.Ref.{now}
 use Rattle.theory_basics.specs.lemmas.Tests.{true-T}
-use Rattle.job.specs.Table.{tableAt}
+use Rattle.core_sizes.specs.Table.{tableAt}
 use Rattle.core_live.specs.lemmas.ByTables.{lacksAt}
 use Rattle.core_live.proofs.Laws.{Clear, clear-more, first-here, first-none}
 use Rattle.core_live.proofs.first_lacking.Statement.{statement}

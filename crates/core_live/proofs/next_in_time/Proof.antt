@@ -6,7 +6,7 @@ use native.Mathlib.Omega.{arith}
 use denote.Ref.{now}
 use Rattle.theory_basics.specs.lemmas.Ranges.{bit-le}
 use Rattle.theory_basics.specs.lemmas.Tests.{true-T}
-use Rattle.job.specs.Table.{tableAt}
+use Rattle.core_sizes.specs.Table.{tableAt}
 use Rattle.core_replan_decide.proofs.Bases.{due-in}
 use Rattle.core_live.specs.lemmas.ByTables.{couldComeAt}
 use Rattle.core_live.proofs.Laws.{first-here, first-none}

@@ -3,7 +3,7 @@ use Prim.Native.Nat.{ℕ, _≤_}
 use mathlib.Core.Path.{_≡_, sym, _∙_, subst}
 use native.Mathlib.Omega.{arith}
 use denote.Ref.{now}
-use Rattle.job.specs.Table.{tableAt}
+use Rattle.core_sizes.specs.Table.{tableAt}
 use Rattle.theory_live.specs.lemmas.Firsts.{found}
 use Rattle.core_replan_decide.proofs.Bases.{due-in}
 use Rattle.core_live.specs.lemmas.ByTables.{bringsAt, couldComeAt, PassedUntilPost}

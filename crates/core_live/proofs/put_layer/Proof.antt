@@ -5,7 +5,7 @@ use mathlib.Core.Path.{_≡_, sym, _∙_}
 use native.Mathlib.Omega.{arith}
 use denote.Ref.{now}
 use Rattle.theory_basics.specs.lemmas.Ranges.{bit-le}
-use Rattle.job.specs.Table.{tableAt}
+use Rattle.core_sizes.specs.Table.{tableAt}
 use Rattle.core_live.proofs.Putting.{Putting, putting-end, putting-more, putting-start}
 use Rattle.core_live.proofs.put_layer.Statement.{statement}
 use Rattle.core_live.proofs.put_layer.Tie as tie

@@ -4,7 +4,7 @@ use mathlib.Core.Path.{_≡_, refl, sym, _∙_}
 use native.Mathlib.Omega.{arith}
 use native.Mathlib.Numerals.{add-one}
 use denote.Ref.{now}
-use Rattle.job.specs.Table.{tableAt}
+use Rattle.core_sizes.specs.Table.{tableAt}
 use Rattle.core_live.specs.lemmas.ByTables.{piecesAt, PiecesStand}
 use Rattle.core_live.proofs.put_pieces.Statement.{statement}
 use Rattle.core_live.proofs.put_pieces.Tie as tie

@@ -5,7 +5,7 @@ use mathlib.Core.Path.{_≡_, sym, _∙_}
 use native.Mathlib.Omega.{arith}
 use denote.Ref.{now}
 use Rattle.theory_basics.specs.lemmas.Ranges.{bit-le}
-use Rattle.job.specs.Table.{tableAt}
+use Rattle.core_sizes.specs.Table.{tableAt}
 use Rattle.core_live.proofs.Asking.{Asking, asking-more, asking-start, held-few}
 use Rattle.core_live.proofs.set_asked.Statement.{statement}
 use Rattle.core_live.proofs.set_asked.Tie as tie

@@ -9,7 +9,7 @@ use borrow.Author.Tests.{eq-eqb, ne-eqb}
 use denote.Ref.{now}
 use lib.Dec.{eqb}
 use Rattle.theory_basics.specs.Tests.{allTo}
-use Rattle.job.specs.Table.{tableAt}
+use Rattle.core_sizes.specs.Table.{tableAt}
 use Rattle.core_moore_hodgson.specs.lemmas.Tables.{equalIn}
 use Rattle.core_moore_hodgson.proofs.equal_bases.Statement.{statement}
 use Rattle.core_moore_hodgson.proofs.equal_bases.Tie as tie

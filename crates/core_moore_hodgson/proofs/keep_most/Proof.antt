@@ -2,7 +2,7 @@
 -- the algorithm keeps.
 -- Assumes nothing.
 use denote.Ref.{now}
-use Rattle.job.specs.Table.{tableAt}
+use Rattle.core_sizes.specs.Table.{tableAt}
 use Rattle.core_moore_hodgson.proofs.Gathers.{keeps}
 use borrow.Author.Needs.{needs}
 use Rattle.core_moore_hodgson.proofs.keep_most.Statement.{statement}

@@ -4,7 +4,7 @@ use Prim.Native.Nat.{_+_, _-_}
 use native.Mathlib.Omega.{arith}
 use borrow.Author.Needs.{needs}
 use denote.Ref.{now}
-use Rattle.job.specs.Table.{tableAt}
+use Rattle.core_sizes.specs.Table.{tableAt}
 use Rattle.theory_plan.specs.lemmas.Words.{due-by}
 use Rattle.core_moore_hodgson.proofs.Keeping.{Keeping, drop-within, leaf-free, keeping-start, keeping-stays, keeping-passes, keeping-drops, keeping-end}
 use Rattle.core_moore_hodgson.proofs.keep_or_drop.Statement.{statement}

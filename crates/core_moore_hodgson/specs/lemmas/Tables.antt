@@ -11,9 +11,8 @@ use Rattle.theory_basics.specs.Lists.{has}
 use Rattle.theory_basics.specs.Tests.{allTo}
 use Rattle.job.specs.declared.Programme.{Programme}
 use Rattle.job.specs.Job.{Within, dueSlot, lastDue}
-use Rattle.theory_plan.specs.Bases.{keptAfter}
+use Rattle.theory_plan.specs.Bases.{keptAfter, Asc}
 use Rattle.theory_plan.specs.Plan.{picked}
-use Rattle.theory_plan.specs.lemmas.Ascending.{Asc}
 use Rattle.theory_plan.specs.lemmas.Parts.{at}
 
 -- ---- where request 9 settles the bases: `byMooreHodgson` of a job, over its programme and sizes

@@ -3,12 +3,11 @@ use borrow.Author.Needs.{needs}
 use Rattle.core_output.proofs.write_aside.Statement.{statement}
 use Rattle.core_output.proofs.write_aside.Tie as tie
 use mathlib.Core.Path.{refl}
-use native.Mathlib.Omega.{arith}
 use Prim.Native.Nat.{ℕ}
 use lib.ListN.{length-replicate}
 use denote.Ref.{now}
 use Rattle.core_slices.proofs.Laws.{bytes-aside, chunks-aside, layers-aside, slots-aside, four-hold}
-use Rattle.core_output.proofs.Writing.{few-aside, laid-copied, laid-short, marks-room}
+use Rattle.core_output.proofs.Writing.{aside-from, few-aside, laid-copied, laid-short, marks-room}
 
 slice-aggregate-fill : tie.Need-slice-aggregate-fill
 slice-aggregate-fill c = search needs
@@ -26,9 +25,7 @@ slice-aggregate-fill-5 : tie.Need-slice-aggregate-fill-5
 slice-aggregate-fill-5 c = search needs
 
 fill-requires : tie.Need-fill-requires
-fill-requires c κs =
-    let o = c .before .before .before .before .before .before .before .before .before .before .before .pre in
-    record { from = record { job = o .job; choice = o .choice; decided = o .decided; marks-fit = omega (arith, o .decided .counted, o .decided .accepted .chunks-in .high, length-replicate {A = ℕ} 500 0) }; slots-fit = omega (arith, length-replicate {A = ℕ} 5599 0); chunks-fit = omega (arith, length-replicate {A = ℕ} 5599 0); layers-fit = omega (arith, length-replicate {A = ℕ} 5599 0); bytes-fit = omega (arith, length-replicate {A = ℕ} 5599 0) }
+fill-requires c κs = aside-from (c .before .before .before .before .before .before .before .before .before .before .before .pre) (length-replicate {A = ℕ} 500 0) (length-replicate {A = ℕ} 5599 0) (length-replicate {A = ℕ} 5599 0) (length-replicate {A = ℕ} 5599 0) (length-replicate {A = ℕ} 5599 0)
 
 all-at-least-requires : tie.Need-all-at-least-requires
 all-at-least-requires c κs = search needs
@@ -39,39 +36,39 @@ slice-aggregate-copy8 c = search needs
 copy8-requires : tie.Need-copy8-requires
 copy8-requires c κs =
     let o = c .before .before .before .before .before .before .before .before .before .before .before .before .before .before .before .before .before .before .before .before .before .before .pre in
-    (marks-room (o .decided) (c .before .before .before .before .before .before .before .before .before .before .fill .ensures _ _ (o .decided)) (length-replicate {A = ℕ} 500 0), o .marks-fit)
+    (marks-room o (c .before .before .before .before .before .before .before .before .before .before .fill .ensures) (length-replicate {A = ℕ} 500 0), o .marks-fit)
 
 slice-aggregate-copy16 : tie.Need-slice-aggregate-copy16
 slice-aggregate-copy16 c = search needs
 
 copy16-requires : tie.Need-copy16-requires
 copy16-requires c κs =
-    let o = c .before .before .before .before .before .before .before .before .before .before .before .before .before .before .before .before .before .before .before .before .before .before .before .before .before .before .before .pre .decided in
-    (slots-aside (c .before .before .before .before .before .before .before .before .before .before .before .before .before .before .before .fill .ensures _ _ o) (few-aside o (c .before .before .before .before .before .before .before .before .before .before .before .before .before .before .before .fill .ensures _ _ o)) (length-replicate {A = ℕ} 5599 0), four-hold _ _ _ _ _ (c .before .before .before .before .before .before .before .before .all-at-least .ensures) (c .before .before .before .before .before .before .before .if1 .taken) .0)
+    let o = c .before .before .before .before .before .before .before .before .before .before .before .before .before .before .before .before .before .before .before .before .before .before .before .before .before .before .before .pre in
+    (slots-aside (c .before .before .before .before .before .before .before .before .before .before .before .before .before .before .before .fill .ensures) (few-aside o (c .before .before .before .before .before .before .before .before .before .before .before .before .before .before .before .fill .ensures)) (length-replicate {A = ℕ} 5599 0), four-hold _ _ _ _ _ (c .before .before .before .before .before .before .before .before .all-at-least .ensures) (c .before .before .before .before .before .before .before .if1 .taken) .0)
 
 slice-aggregate-copy16-2 : tie.Need-slice-aggregate-copy16-2
 slice-aggregate-copy16-2 c = search needs
 
 copy16-requires-2 : tie.Need-copy16-requires-2
 copy16-requires-2 c κs =
-    let o = c .before .before .before .before .before .before .before .before .before .before .before .before .before .before .before .before .before .before .before .before .before .before .before .before .before .before .before .before .before .before .before .before .pre .decided in
-    (chunks-aside (c .before .before .before .before .before .before .before .before .before .before .before .before .before .before .before .before .before .before .before .before .fill .ensures _ _ o) (few-aside o (c .before .before .before .before .before .before .before .before .before .before .before .before .before .before .before .before .before .before .before .before .fill .ensures _ _ o)) (length-replicate {A = ℕ} 5599 0), four-hold _ _ _ _ _ (c .before .before .before .before .before .before .before .before .before .before .before .before .before .all-at-least .ensures) (c .before .before .before .before .before .before .before .before .before .before .before .before .if1 .taken) .1)
+    let o = c .before .before .before .before .before .before .before .before .before .before .before .before .before .before .before .before .before .before .before .before .before .before .before .before .before .before .before .before .before .before .before .before .pre in
+    (chunks-aside (c .before .before .before .before .before .before .before .before .before .before .before .before .before .before .before .before .before .before .before .before .fill .ensures) (few-aside o (c .before .before .before .before .before .before .before .before .before .before .before .before .before .before .before .before .before .before .before .before .fill .ensures)) (length-replicate {A = ℕ} 5599 0), four-hold _ _ _ _ _ (c .before .before .before .before .before .before .before .before .before .before .before .before .before .all-at-least .ensures) (c .before .before .before .before .before .before .before .before .before .before .before .before .if1 .taken) .1)
 
 slice-aggregate-copy8-2 : tie.Need-slice-aggregate-copy8-2
 slice-aggregate-copy8-2 c = search needs
 
 copy8-requires-2 : tie.Need-copy8-requires-2
 copy8-requires-2 c κs =
-    let o = c .before .before .before .before .before .before .before .before .before .before .before .before .before .before .before .before .before .before .before .before .before .before .before .before .before .before .before .before .before .before .before .before .before .before .before .before .before .pre .decided in
-    (layers-aside (c .before .before .before .before .before .before .before .before .before .before .before .before .before .before .before .before .before .before .before .before .before .before .before .before .before .fill .ensures _ _ o) (few-aside o (c .before .before .before .before .before .before .before .before .before .before .before .before .before .before .before .before .before .before .before .before .before .before .before .before .before .fill .ensures _ _ o)) (length-replicate {A = ℕ} 5599 0), four-hold _ _ _ _ _ (c .before .before .before .before .before .before .before .before .before .before .before .before .before .before .before .before .before .before .all-at-least .ensures) (c .before .before .before .before .before .before .before .before .before .before .before .before .before .before .before .before .before .if1 .taken) .2)
+    let o = c .before .before .before .before .before .before .before .before .before .before .before .before .before .before .before .before .before .before .before .before .before .before .before .before .before .before .before .before .before .before .before .before .before .before .before .before .before .pre in
+    (layers-aside (c .before .before .before .before .before .before .before .before .before .before .before .before .before .before .before .before .before .before .before .before .before .before .before .before .before .fill .ensures) (few-aside o (c .before .before .before .before .before .before .before .before .before .before .before .before .before .before .before .before .before .before .before .before .before .before .before .before .before .fill .ensures)) (length-replicate {A = ℕ} 5599 0), four-hold _ _ _ _ _ (c .before .before .before .before .before .before .before .before .before .before .before .before .before .before .before .before .before .before .all-at-least .ensures) (c .before .before .before .before .before .before .before .before .before .before .before .before .before .before .before .before .before .if1 .taken) .2)
 
 slice-aggregate-copy32 : tie.Need-slice-aggregate-copy32
 slice-aggregate-copy32 c = search needs
 
 copy32-requires : tie.Need-copy32-requires
 copy32-requires c κs =
-    let o = c .before .before .before .before .before .before .before .before .before .before .before .before .before .before .before .before .before .before .before .before .before .before .before .before .before .before .before .before .before .before .before .before .before .before .before .before .before .before .before .before .before .before .pre .decided in
-    (bytes-aside (c .before .before .before .before .before .before .before .before .before .before .before .before .before .before .before .before .before .before .before .before .before .before .before .before .before .before .before .before .before .before .fill .ensures _ _ o) (few-aside o (c .before .before .before .before .before .before .before .before .before .before .before .before .before .before .before .before .before .before .before .before .before .before .before .before .before .before .before .before .before .before .fill .ensures _ _ o)) (length-replicate {A = ℕ} 5599 0), four-hold _ _ _ _ _ (c .before .before .before .before .before .before .before .before .before .before .before .before .before .before .before .before .before .before .before .before .before .before .before .all-at-least .ensures) (c .before .before .before .before .before .before .before .before .before .before .before .before .before .before .before .before .before .before .before .before .before .before .if1 .taken) .3)
+    let o = c .before .before .before .before .before .before .before .before .before .before .before .before .before .before .before .before .before .before .before .before .before .before .before .before .before .before .before .before .before .before .before .before .before .before .before .before .before .before .before .before .before .before .pre in
+    (bytes-aside (c .before .before .before .before .before .before .before .before .before .before .before .before .before .before .before .before .before .before .before .before .before .before .before .before .before .before .before .before .before .before .fill .ensures) (few-aside o (c .before .before .before .before .before .before .before .before .before .before .before .before .before .before .before .before .before .before .before .before .before .before .before .before .before .before .before .before .before .before .fill .ensures)) (length-replicate {A = ℕ} 5599 0), four-hold _ _ _ _ _ (c .before .before .before .before .before .before .before .before .before .before .before .before .before .before .before .before .before .before .before .before .before .before .before .all-at-least .ensures) (c .before .before .before .before .before .before .before .before .before .before .before .before .before .before .before .before .before .before .before .before .before .before .if1 .taken) .3)
 
 same-length : tie.Need-same-length
 same-length c = search needs
@@ -89,14 +86,14 @@ same-length-5 : tie.Need-same-length-5
 same-length-5 c = search needs
 
 returns : tie.Need-returns
-returns c = λ j x d.
+returns c =
     let a = c .before .before .before .before .before .before .before .before .before .before .before .before .before .before .before .before .before .before .before .before .before .before .before .before .before .before .before .before .before .before .before .before .before .before .before .before .before .before .before .before .before .before .before .before .before .args in
-    laid-copied d (c .before .before .before .before .before .before .before .before .before .before .before .before .before .before .before .before .before .before .before .before .before .before .before .before .before .before .before .before .before .before .before .before .before .fill .ensures j x d) (now (a .marks)) (now (a .slots)) (now (a .chunks)) (now (a .layers)) (now (a .bytes)) (c .before .before .before .before .before .before .before .before .before .before .before .before .before .before .before .before .before .before .before .before .before .before .before .before .before .before .all-at-least .ensures) _ refl refl (c .before .before .before .before .before .before .before .before .before .before .before .before .before .before .before .before .before .before .before .before .before .before .before .before .before .if1 .taken) refl (c .before .before .before .before .before .before .before .before .before .before .before .before .before .before .before .before .before .before .before .before .before .before .copy8 .ensures) (c .before .before .before .before .before .before .before .before .before .before .before .before .before .before .before .before .before .copy16 .ensures) (c .before .before .before .before .before .before .before .before .before .before .before .before .copy162 .ensures) (c .before .before .before .before .before .before .before .copy82 .ensures) (c .before .before .copy32 .ensures)
+    laid-copied (c .before .before .before .before .before .before .before .before .before .before .before .before .before .before .before .before .before .before .before .before .before .before .before .before .before .before .before .before .before .before .before .before .before .before .before .before .before .before .before .before .before .before .before .before .before .pre) (c .before .before .before .before .before .before .before .before .before .before .before .before .before .before .before .before .before .before .before .before .before .before .before .before .before .before .before .before .before .before .before .before .before .fill .ensures) (now (a .slots)) (now (a .chunks)) (now (a .layers)) (now (a .bytes)) (c .before .before .before .before .before .before .before .before .before .before .before .before .before .before .before .before .before .before .before .before .before .before .before .before .before .before .all-at-least .ensures) _ refl refl (c .before .before .before .before .before .before .before .before .before .before .before .before .before .before .before .before .before .before .before .before .before .before .before .before .before .if1 .taken) refl (c .before .before .before .before .before .before .before .before .before .before .before .before .before .before .before .before .before .before .before .before .before .before .copy8 .ensures) (c .before .before .before .before .before .before .before .before .before .before .before .before .before .before .before .before .before .copy16 .ensures) (c .before .before .before .before .before .before .before .before .before .before .before .before .copy162 .ensures) (c .before .before .before .before .before .before .before .copy82 .ensures) (c .before .before .copy32 .ensures)
 
 returns-2 : tie.Need-returns-2
-returns-2 c = λ j x d.
+returns-2 c =
     let a = c .before .before .before .before .before .before .before .before .before .before .before .before .before .before .before .before .before .before .before .before .args in
-    laid-short d (c .before .before .before .before .before .before .before .before .fill .ensures j x d) (now (a .marks)) (now (a .slots)) (now (a .chunks)) (now (a .layers)) (now (a .bytes)) (c .before .all-at-least .ensures) _ refl refl (c .if1 .left) refl
+    laid-short (c .before .before .before .before .before .before .before .before .before .before .before .before .before .before .before .before .before .before .before .before .pre) (c .before .before .before .before .before .before .before .before .fill .ensures) (now (a .slots)) (now (a .chunks)) (now (a .layers)) (now (a .bytes)) (c .before .all-at-least .ensures) _ refl refl (c .if1 .left) refl
 
 pub write-aside-spec : {M : Type 1} → statement M
 write-aside-spec =

@@ -9,7 +9,7 @@ all-at-least-requires : tie.Need-all-at-least-requires
 all-at-least-requires c κs = search needs
 
 fill-requires : tie.Need-fill-requires
-fill-requires c κs = ample (c .before .before .before .before .before .before .all-at-least .ensures) (c .before .before .before .before .before .if1 .taken) (c .before .before .before .before .before .before .before .before .before .before .before .before .before .pre)
+fill-requires c κs = ample (c .before .before .before .before .before .before .before .before .before .before .before .before .before .pre) (c .before .before .before .before .before .before .all-at-least .ensures) (c .before .before .before .before .before .if1 .taken)
 
 write-aside-requires : tie.Need-write-aside-requires
 write-aside-requires c κs = search needs
@@ -30,7 +30,7 @@ same-length-5 : tie.Need-same-length-5
 same-length-5 c = search needs
 
 returns : tie.Need-returns
-returns c = λ j x d. laid-ample (c .before .before .before .before .before .before .before .before .before .before .before .before .before .before .before .before .before .before .all-at-least .ensures) (c .before .before .before .before .before .before .before .before .before .before .before .before .before .before .before .before .before .if1 .taken) d (c .before .before .before .before .before .before .before .before .before .before .before .fill .ensures j x d) _ refl refl refl
+returns c = laid-ample (c .before .before .before .before .before .before .before .before .before .before .before .before .before .before .before .before .before .before .before .before .before .before .before .before .before .pre) (c .before .before .before .before .before .before .before .before .before .before .before .before .before .before .before .before .before .before .all-at-least .ensures) (c .before .before .before .before .before .before .before .before .before .before .before .before .before .before .before .before .before .if1 .taken) (c .before .before .before .before .before .before .before .before .before .before .before .fill .ensures) _ refl refl refl
 
 same-length-6 : tie.Need-same-length-6
 same-length-6 c = search needs

@@ -22,7 +22,7 @@ use Rattle.theory_reasons.specs.lemmas.Bridge.{begin-low, due-in, keptBytes, ke
 use Rattle.theory_reasons.specs.Lines.{stretchOf}
 use Rattle.theory_reasons.specs.lemmas.Named.{passed, passed-late, stretch-passed}
 use Rattle.theory_reasons.specs.lemmas.Search.{Agrees, forward, forward-agrees, forward-is, search-agrees}
-use Rattle.theory_reasons.specs.Statement.{canBegin, keptChunk, keptCount}
+use Rattle.theory_reasons.specs.lemmas.Kept.{canBegin, keptChunk, keptCount}
 use Rattle.core_reasons.specs.lemmas.Passes.{Holds, lateIn, place, searchIn, upToIn}
 
 nth-map : (f : ℕ → ℕ) (l : List ℕ) (q : ℕ) → q < length l → getD (map f l) q 0 ≡ f (getD l q 0)

@@ -4,7 +4,7 @@ use Rattle.core_replan_decide.proofs.Bases.{due-in}
 use Rattle.core_replan_decide.proofs.Begun.{first-in, it-in, Walking, begun-end, begun-more, begun-start, want-small}
 use Rattle.core_replan_decide.proofs.keep_begun.Tie as tie
 use native.Mathlib.Omega.{arith}
-use Rattle.job.specs.Table.{tableAt}
+use Rattle.core_sizes.specs.Table.{tableAt}
 use mathlib.Core.Path.{_≡_, _∙_, sym, refl}
 use Prim.Native.Nat.{_-_, _≤_}
 use borrow.Author.Needs.{needs}

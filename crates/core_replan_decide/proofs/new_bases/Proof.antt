@@ -4,7 +4,7 @@ use Rattle.core_replan_decide.proofs.new_bases.Statement.{statement}
 use Rattle.core_replan_decide.proofs.Bases.{Basing, basing-end, basing-keep, basing-pass, basing-start, due-in, needs-long, place}
 use Rattle.core_replan_decide.proofs.new_bases.Tie as tie
 use native.Mathlib.Omega.{arith}
-use Rattle.job.specs.Table.{tableAt}
+use Rattle.core_sizes.specs.Table.{tableAt}
 use mathlib.Core.Path.{_≡_, _∙_, sym, refl}
 use Prim.Native.Nat.{_-_, _≤_}
 use borrow.Author.Needs.{needs}

@@ -16,7 +16,8 @@ use Rattle.fetch.specs.Marks.{bit}
 use Rattle.fetch.specs.Rows.{bytesOfLayer, Row}
 use Rattle.fetch.specs.lemmas.Marks.{mark-bit}
 use Rattle.fetch.specs.lemmas.Rows.{bytes-none}
-use Rattle.theory_plan.specs.Plan.{needOf, picked}
+use Rattle.theory_plan.specs.Plan.{picked}
+use Rattle.theory_plan.specs.lemmas.Feasible.{needOf}
 use Rattle.theory_plan.specs.lemmas.Count.{some-row}
 use Rattle.theory_plan.specs.lemmas.Kept.{picked-cong, picked-each}
 use Rattle.theory_plan.specs.lemmas.Level.{level}
@@ -24,8 +25,8 @@ use Rattle.theory_plan.specs.lemmas.Linear.{map-map}
 use Rattle.theory_plan.specs.lemmas.Queue.{releases}
 use Rattle.theory_plan.specs.lemmas.Trials.{back, bytesKept, Kept, levelMark, onLayer, onLayers, rooms, Tried}
 use Rattle.theory_plan.specs.lemmas.Words.{accepted-sized, carries, layer-of, Sized}
-use Rattle.theory_replan.specs.Plan.{afterFrom, busy, bytesLeft}
-use Rattle.theory_replan.specs.Statement.{Acceptable, IsReplan, triedFrom}
+use Rattle.theory_replan.specs.Plan.{afterFrom, busy, bytesLeft, triedFrom}
+use Rattle.theory_replan.specs.Statement.{Acceptable, IsReplan}
 use Rattle.theory_replan.specs.lemmas.Base.{base-begun, whole-begun, whole-left}
 use Rattle.theory_replan.specs.lemmas.Criterion.{busyFrom}
 use Rattle.theory_replan.specs.lemmas.Fits.{FitsFrom}

@@ -10,7 +10,6 @@ use Rattle.job.specs.Job.{Accepted, chunks, due, heldMost, Job, jobOf, Layer, O
 use Rattle.job.specs.declared.Programme.{Programme}
 use Rattle.fetch.specs.Rows.{bytesOfLayer, Row}
 use Rattle.theory_plan.specs.lemmas.Parts.{ForecastPart}
-use Rattle.theory_plan.specs.lemmas.Ascending.{Asc}
 use Rattle.theory_plan.specs.lemmas.Level.{level}
 use Rattle.theory_plan.specs.lemmas.Queue.{releases}
 use Rattle.theory_plan.specs.lemmas.Trials.{levelMark}
@@ -18,6 +17,7 @@ use Rattle.theory_plan.specs.lemmas.Words.{carries}
 use Rattle.theory_replan.specs.Statement.{Acceptable, IsReplan}
 use Rattle.theory_replan.specs.lemmas.Criterion.{busyFrom}
 use Rattle.core_replan_decide.specs.lemmas.Tables.{Fine, of, Small}
+use Rattle.theory_plan.specs.Bases.{Asc}
 
 -- The tables are those of the fetched rows.
 pub record Tabled (j : Job) (fetched : List Row) (left : ℕ → ℕ → ℕ) (begun whole : List ℕ) : Type 0 where

@@ -12,11 +12,11 @@ use Rattle.theory_basics.specs.Tests.{All}
 use Rattle.job.specs.Job.{dueSlot, lastDue, Within}
 use Rattle.job.specs.declared.Programme.{Programme}
 use Rattle.theory_plan.specs.Plan.{picked}
-use Rattle.theory_plan.specs.lemmas.Ascending.{Asc}
 use Rattle.theory_plan.specs.lemmas.Parts.{at}
 use Rattle.theory_plan.specs.lemmas.Trials.{candidate, keeps, Stack}
 use Rattle.theory_replan.specs.lemmas.Passes.{basesNew}
 use Rattle.core_decide.specs.lemmas.Decision.{Sums}
+use Rattle.theory_plan.specs.Bases.{Asc}
 
 -- ---- tables
 

@@ -7,7 +7,7 @@ use mathlib.Core.Path.{_≡_, refl}
 use native.Mathlib.Omega.{arith}
 use native.Mathlib.Numerals.{add-one}
 use Rattle.theory_basics.specs.Tests.{allBelow}
-use Rattle.job.specs.Table.{tableAt}
+use Rattle.core_sizes.specs.Table.{tableAt}
 use Rattle.core_replan_input.specs.lemmas.Gather.{fewBy}
 
 abbrev Inv-loop : tie.InvT-loop

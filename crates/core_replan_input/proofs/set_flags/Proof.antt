@@ -5,7 +5,7 @@ use Rattle.core_replan_input.proofs.set_flags.Tie as tie
 use Prim.Native.Nat.{_-_, _≤_}
 use mathlib.Core.Path.{_≡_}
 use native.Mathlib.Omega.{arith}
-use Rattle.job.specs.Table.{tableAt}
+use Rattle.core_sizes.specs.Table.{tableAt}
 use Rattle.core_replan_input.proofs.Flags.{flagged-more, flagged-none}
 use Rattle.core_replan_input.specs.lemmas.Gather.{SetFlagsPost}
 

@@ -8,7 +8,7 @@ use lib.ListN.{length, getD}
 use lib.Dec.{leb, ltb, eqb}
 use Rattle.theory_basics.specs.Tests.{All, allBelow, allTo}
 use Rattle.job.specs.Job.{Override, lastDue}
-use Rattle.job.specs.Table.{tableAt}
+use Rattle.core_sizes.specs.Table.{tableAt}
 use Rattle.job.specs.declared.Programme.{Programme}
 use Rattle.fetch.specs.Rows.{Row, markByte}
 use Rattle.theory_replan.specs.Refusal.{fetchedKept}

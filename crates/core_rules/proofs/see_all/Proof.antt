@@ -6,7 +6,7 @@ use mathlib.Core.Path.{_≡_}
 use native.Mathlib.Omega.{arith}
 use denote.Ref.{now}
 use borrow.Author.Needs.{needs}
-use Rattle.job.specs.Table.{tableAt}
+use Rattle.core_sizes.specs.Table.{tableAt}
 use Rattle.core_rules.specs.lemmas.Tables.{SeeAllPost}
 use Rattle.core_rules.proofs.Seeing.{seen-none, seen-more}
 

@@ -7,7 +7,7 @@ use native.Mathlib.Omega.{arith}
 use borrow.Author.Needs.{needs}
 use lib.ListN.{getD}
 use denote.Ref.{now}
-use Rattle.job.specs.Table.{tableAt}
+use Rattle.core_sizes.specs.Table.{tableAt}
 use Rattle.core_rules.proofs.Seeing.{Seeing, seeing-start, seeing-carried, seeing-missing, seeing-end}
 
 abbrev Inv-loop : tie.InvT-loop

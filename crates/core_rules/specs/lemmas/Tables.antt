@@ -10,7 +10,7 @@ use Rattle.theory_basics.specs.Tests.{all, allTo, allBelow}
 use Rattle.theory_basics.specs.Sums.{count}
 use Rattle.job.specs.declared.Programme.{Programme}
 use Rattle.job.specs.Job.{Job, Accepted, dueSlot, layers, size}
-use Rattle.job.specs.Table.{tableAt}
+use Rattle.core_sizes.specs.Table.{tableAt}
 use Rattle.fetch.specs.Rows.{Row, bytesInSlot, bytesOfLayer, markByte}
 use Rattle.core_rules.specs.declared.Pass.{Pass}
 use Rattle.core_rules.specs.declared.Seen.{Seen}

@@ -5,7 +5,7 @@ use Rattle.core_search.proofs.set_bases.Tie as tie
 use Prim.Native.Nat.{_-_}
 use native.Mathlib.Omega.{arith}
 use denote.Ref.{now}
-use Rattle.job.specs.Table.{tableAt}
+use Rattle.core_sizes.specs.Table.{tableAt}
 use Rattle.theory_plan.specs.lemmas.Words.{due-by}
 use Rattle.core_search.proofs.Found.{Placing, chunk-at, placing-end, placing-more, placing-start}
 

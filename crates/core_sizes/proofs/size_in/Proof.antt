@@ -2,7 +2,7 @@
 use native.Mathlib.Omega.{arith}
 use borrow.Author.Needs.{needs}
 use borrow.Author.Tests.{lt-ltb}
-use Rattle.job.specs.Table.{spot}
+use Rattle.core_sizes.specs.Table.{spot}
 use Rattle.core_sizes.proofs.size_in.Statement.{statement}
 use Rattle.core_sizes.proofs.size_in.Tie as tie
 

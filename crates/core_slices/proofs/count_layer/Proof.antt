@@ -10,10 +10,10 @@ count-marks-requires : tie.Need-count-marks-requires
 count-marks-requires c κs = search needs
 
 cast-result : tie.Need-cast-result
-cast-result c = let a = c .before .before .args in omega (arith, c .count-marks .ensures .0, count-le (a .n) (now (a .marks)))
+cast-result c = let a = c .before .before .args in omega (arith, c .count-marks .ensures .counted, count-le (a .n) (now (a .marks)))
 
 returns : tie.Need-returns
-returns c = c .count-marks .ensures .0
+returns c = c .count-marks .ensures .counted
 
 pub count-layer-spec : {M : Type 1} → statement M
 count-layer-spec = tie.close (tie.spec count-marks-requires cast-result returns)

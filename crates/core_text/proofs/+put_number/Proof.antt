@@ -1,5 +1,5 @@
 -- `core_text::put_number` meets its contract. Assumes nothing.
-use Prim.Native.Nat.{ℕ, _<_}
+use Prim.Native.Nat.{ℕ, _<_, _+_, _/_, _%_, _≤_}
 use borrow.Fn.Kinds.{In}
 use borrow.Fn.PlainCycle.{Measures, is, falls, and}
 use Rattle.core_text.proofs.put_number.Reads as put-number
@@ -9,7 +9,6 @@ use Rattle.core_text.proofs.+put_number.{statement}
 use Rattle.core_text.proofs.+put_number.Tie.{close}
 use mathlib.Core.Path.{_≡_, _∙_, ap}
 use mathlib.Core.List.{[], _∷_, _++_}
-use Prim.Native.Nat.{_+_, _/_, _%_, _≤_}
 use native.Mathlib.Omega.{arith}
 use lib.ListN.{length, length-set}
 use borrow.Author.Needs.{needs}

@@ -28,7 +28,7 @@ returns c =
     let a = c .before .before .before .args in
     let whole = words-and-rest (a .n) (now (a .marks)) (all-each Byte (now (a .marks)) (λ i. c .before .before .shared-slice-known .given i .fits)) in
     let both = ap₂ _+_ (c .before .count-words .ensures) (c .count-rest .ensures) in
-    (both ∙ sym whole, both)
+    record { counted = both ∙ sym whole; summed = both }
 
 pub count-marks-spec : {M : Type 1} → statement M
 count-marks-spec = tie.close (tie.spec count-words-requires count-rest-requires add-result returns)

@@ -9,7 +9,8 @@ use lib.Dec.{leb}
 use Rattle.theory_basics.specs.Tests.{all}
 use Rattle.theory_basics.specs.lemmas.Tests.{leb-iff, same-test, T-and, and-T}
 use Rattle.job.specs.Job.{Within}
-use Rattle.job.specs.Refusal.{within, within-iff}
+use Rattle.job.specs.Refusal.{within}
+use Rattle.job.specs.Theorems.{within-iff}
 
 abbrev pub greatest : List ℕ → ℕ
 greatest [] = 0

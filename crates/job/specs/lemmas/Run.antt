@@ -15,7 +15,8 @@ use Rattle.theory_basics.specs.lemmas.Tests.{same-test, test}
 use Rattle.theory_basics.specs.lemmas.Refusals.{and-as}
 use Rattle.job.specs.declared.Programme.{Programme}
 use Rattle.job.specs.Job.{Override, Within, Named, Rising}
-use Rattle.job.specs.Refusal.{named, sized, comes, rising, named-iff, before-iff, within-iff, overrides-test}
+use Rattle.job.specs.Refusal.{named, sized, comes, rising}
+use Rattle.job.specs.Theorems.{named-iff, before-iff, within-iff, overrides-test}
 use Rattle.job.specs.Input.{overridesOf}
 
 -- Chunk and layer alone, of the SZ before.

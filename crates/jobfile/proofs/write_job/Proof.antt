@@ -15,8 +15,7 @@ returns : tie.Need-returns
 returns c =
     let a = c .before .before .before .before .before .before .before .before .args in
     let j = jobInput (a .p) (now (a .sizes)) (now (a .size-chunks)) (now (a .size-layers)) (now (a .size-bytes)) (now (a .forecast)) in
-    let h = output-refused j (now (a .out)) (c .before .refusal .result) (c .before .refusal .ensures) (c .if1 .taken) in
-    (h .answer, h .buffer)
+    output-refused j (now (a .out)) (c .before .refusal .result) (c .before .refusal .ensures) (c .if1 .taken)
 
 mul-layer-bytes : tie.Need-mul-layer-bytes
 mul-layer-bytes c = search needs
@@ -56,8 +55,7 @@ returns-2 c =
     let a = c .before .before .before .before .before .before .before .before .before .before .args in
     let j = jobInput (a .p) (now (a .sizes)) (now (a .size-chunks)) (now (a .size-layers)) (now (a .size-bytes)) (now (a .forecast)) in
     let z = (sym (c .before .before .before .refusal .ensures) ∙ c .before .before .if1 .left) in
-    let h = output-short j (now (a .out)) z (omega (arith, bytes-count j (now (a .out)) z, c .before .count-runs .ensures, c .if2 .taken)) in
-    (h .answer, h .buffer)
+    output-short j (now (a .out)) z (omega (arith, bytes-count j (now (a .out)) z, c .before .count-runs .ensures, c .if2 .taken))
 
 put-job-requires : tie.Need-put-job-requires
 put-job-requires c κs =
@@ -75,8 +73,7 @@ returns-3 c =
     let a = c .before .before .before .before .before .before .before .before .before .before .before .before .before .before .args in
     let j = jobInput (a .p) (now (a .sizes)) (now (a .size-chunks)) (now (a .size-layers)) (now (a .size-bytes)) (now (a .forecast)) in
     let z = (sym (c .before .before .before .before .before .before .before .refusal .ensures) ∙ c .before .before .before .before .before .before .if1 .left) in
-    let h = output-file j (now (a .out)) z (omega (arith, bytes-count j (now (a .out)) z, c .before .before .before .before .before .count-runs .ensures, c .before .before .before .before .if2 .left)) _ _ (c .before .before .put-job .ensures) in
-    (h .answer, h .buffer)
+    output-file j (now (a .out)) z (omega (arith, bytes-count j (now (a .out)) z, c .before .before .before .before .before .count-runs .ensures, c .before .before .before .before .if2 .left)) _ _ (c .before .before .put-job .ensures)
 
 pub write-job-spec : {M : Type 1} → statement M
 write-job-spec =

@@ -1,7 +1,7 @@
 -- Lemmas. The records of an accepted job read back, without a fault, as that job. Assumes nothing.
 use Prim.Native.Nat.{ℕ, suc, _+_, _%_, _≤_, _<_}
 use mathlib.Core.Path.{_≡_, refl, ap, _∙_}
-use mathlib.Core.Bool.{not}
+use mathlib.Core.Bool.{Bool, not}
 use mathlib.Core.List.{List, [], _∷_, _++_, map, append-nil}
 use native.Mathlib.Omega.{arith}
 use lib.ListN.{length, length-append, length-replicate, replicate}
@@ -14,7 +14,7 @@ use Rattle.records.specs.File.{Format, firstFault}
 use Rattle.records.specs.lemmas.Written.{h-back, w-back, ReadsBack, Plain}
 use Rattle.job.specs.declared.Programme.{Programme}
 use Rattle.job.specs.Job.{Job, Override, Within, Named, Accepted, layers, lastSlot}
-use Rattle.job.specs.Refusal.{within-iff, film-iff, delay-iff, last-due-iff, overrides-iff}
+use Rattle.job.specs.Theorems.{within-iff, film-iff, delay-iff, last-due-iff, overrides-iff}
 use Rattle.jobrecords.specs.declared.Record.{Record}
 use Rattle.jobrecords.specs.declared.Record.the-variants.{Pg, Ly, Sz, Bw, En}
 use Rattle.jobrecords.specs.Records.{encode, front}
@@ -29,7 +29,7 @@ use Rattle.jobfile.specs.lemmas.Runs.{runs-spread, longest-runs}
 abbrev form : Format Record
 form = format oneSequence
 
--- ---- a record
+-- ---- a record, in either form of file
 
 -- The fields of a programme fit their width.
 pub record Narrow (p : Programme) : Type 0 where
@@ -38,9 +38,9 @@ pub record Narrow (p : Programme) : Type 0 where
   pub delay-fit : p .delay < 65536
   pub limit-fit : p .limit < 65536
 
-programme-back : (p : Programme) → Narrow p → Plain form encode (Pg p)
+pub programme-back : (q : Bool) (p : Programme) → Narrow p → Plain (format q) encode (Pg p)
 unfolding front
-programme-back p n =
+programme-back q p n =
     record {
       back = record {
         front-is = λ rest.
@@ -57,9 +57,9 @@ programme-back p n =
       not-end = refl;
     }
 
-layer-back : (size : ℕ) → size < 4294967296 → Plain form encode (Ly size)
+pub layer-back : (q : Bool) (size : ℕ) → size < 4294967296 → Plain (format q) encode (Ly size)
 unfolding front
-layer-back size fit =
+layer-back q size fit =
     record {
       back = record {
         front-is = λ rest. rw (le-leb 2 (length (encode (Ly size) ++ rest)) (omega arith), le-leb 6 (length (encode (Ly size) ++ rest)) (omega arith), w-back size fit);
@@ -87,9 +87,9 @@ override-back chunk layer bytes fit one fits =
       not-end = refl;
     }
 
-run-back : (count bytes : ℕ) → count < 65536 → bytes < 4294967296 → Plain form encode (Bw count bytes)
+pub run-back : (q : Bool) (count bytes : ℕ) → count < 65536 → bytes < 4294967296 → Plain (format q) encode (Bw count bytes)
 unfolding front
-run-back count bytes fit fits =
+run-back q count bytes fit fits =
     record {
       back = record {
         front-is = λ rest.
@@ -104,9 +104,9 @@ run-back count bytes fit fits =
       not-end = refl;
     }
 
-pub end-back : ReadsBack form encode En
+pub end-back : (q : Bool) → ReadsBack (format q) encode En
 unfolding front
-end-back = record { front-is = λ rest. rw (le-leb 2 (length (encode En ++ rest)) (omega arith)); some = omega arith }
+end-back q = record { front-is = λ rest. rw (le-leb 2 (length (encode En ++ rest)) (omega arith)); some = omega arith }
 
 -- ---- the longest runs
 
@@ -132,7 +132,7 @@ runs-good (x ∷ l) a = front-good (length l) x (runs l) (a .0) (runs-good l (a 
 
 layers-back : (l : List ℕ) → All (Within 1 16777216) l → All (Plain form encode) (map layerRecord l)
 layers-back [] a = tt
-layers-back (x ∷ l) a = (layer-back x (omega (arith, a .0 .high)), layers-back l (a .1))
+layers-back (x ∷ l) a = (layer-back oneSequence x (omega (arith, a .0 .high)), layers-back l (a .1))
 
 overrides-back :
     (p : Programme) (sizes : List ℕ) (l : List Override) → p .chunks < 65536 → length sizes ≤ 4 → All (Named p sizes) l →
@@ -145,7 +145,7 @@ overrides-back p sizes (o ∷ l) h few n a = (
 
 runs-back : (n : ℕ) (l : List Run) → n ≤ 3600 → All (GoodRun n) l → All (Plain form encode) (map runRecord l)
 runs-back n [] h a = tt
-runs-back n (r ∷ l) h a = (run-back (r .count) (r .bytes) (omega (arith, a .0 .most)) (omega (arith, a .0 .bytes-in .high)), runs-back n l h (a .1))
+runs-back n (r ∷ l) h a = (run-back oneSequence (r .count) (r .bytes) (omega (arith, a .0 .most)) (omega (arith, a .0 .bytes-in .high)), runs-back n l h (a .1))
 
 module _ (j : Job) (a : Accepted j) where
   few-slots : length (j .forecast) ≤ 3600
@@ -160,7 +160,7 @@ module _ (j : Job) (a : Accepted j) where
         limit-fit = omega (arith, a .limit-in .high);
       } in
       let runRecords = map runRecord (runs (j .forecast)) in (
-        programme-back (j .programme) narrow,
+        programme-back oneSequence (j .programme) narrow,
         all-append (Plain form encode) (map layerRecord (j .sizes)) (map overrideRecord (j .overrides) ++ runRecords)
             (layers-back (j .sizes) (a .sizes-in))
             (all-append (Plain form encode) (map overrideRecord (j .overrides)) runRecords
@@ -176,10 +176,10 @@ good-next before r first turn range =
     no-fault oneSequence (hasProgramme before) (previous before) (length (sizesIn before)) (length (forecastIn before)) r
     (record { first = first; turn = unless-iff 17 (follows (previous before) r) (omega arith) .1 turn; in-range = range })
 
-layer-clean : (n size : ℕ) → n < 4 → Within 1 16777216 size → layerFault n size ≡ 0
+pub layer-clean : (n size : ℕ) → n < 4 → Within 1 16777216 size → layerFault n size ≡ 0
 layer-clean n size few i = rw (le-leb 1 size (i .low), le-leb size 16777216 (i .high), le-leb (n + 1) 4 (omega arith))
 
-run-clean : (n count bytes : ℕ) → n + count ≤ 3600 → 1 ≤ count → Within 0 16777216 bytes → runFault n count bytes ≡ 0
+pub run-clean : (n count bytes : ℕ) → n + count ≤ 3600 → 1 ≤ count → Within 0 16777216 bytes → runFault n count bytes ≡ 0
 run-clean n count bytes few some i = rw (le-leb 1 count some, le-leb (n + count) 3600 few, le-leb 0 bytes (i .low), le-leb bytes 16777216 (i .high))
 
 -- The last of some records stands at a place up to most in the sequence, and they give no slots.

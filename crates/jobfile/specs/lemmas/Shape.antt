@@ -14,7 +14,8 @@ use Rattle.theory_basics.specs.Refusals.{_orElse_}
 use Rattle.theory_basics.specs.lemmas.Refusals.{unless-iff, orElse-iff}
 use Rattle.records.specs.File.{firstFault}
 use Rattle.records.specs.lemmas.Exact.{NoEnd}
-use Rattle.job.specs.Refusal.{within-iff, overridesRefusal, slotsRefusal}
+use Rattle.job.specs.Refusal.{overridesRefusal, slotsRefusal}
+use Rattle.job.specs.Theorems.{within-iff}
 use Rattle.jobrecords.specs.declared.Record.{Record}
 use Rattle.jobrecords.specs.declared.Record.the-variants.{Pg, Ly, Sz, Bw, En}
 use Rattle.jobrecords.specs.Says.{hasProgramme, programmeIn, sizesIn, overridesIn, forecastIn, jobIn}

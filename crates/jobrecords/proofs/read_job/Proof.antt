@@ -13,8 +13,7 @@ use Rattle.jobrecords.proofs.Answers.{read-long, read-broken, overrides
 
 returns : tie.Need-returns
 returns c =
-    let h = read-long (c .before .before .before .before .before .before .before .args .sequenced) (now (c .before .before .before .before .before .before .before .args .file)) (buffers (now (c .before .before .before .before .before .before .before .args .sizes)) (now (c .before .before .before .before .before .before .before .args .size-chunks)) (now (c .before .before .before .before .before .before .before .args .size-layers)) (now (c .before .before .before .before .before .before .before .args .size-bytes)) (now (c .before .before .before .before .before .before .before .args .forecast))) (c .if1 .taken) in
-    (h .answer, (h .sizes, (h .size-chunks, (h .size-layers, (h .size-bytes, h .forecast)))))
+    read-long (c .before .before .before .before .before .before .before .args .sequenced) (now (c .before .before .before .before .before .before .before .args .file)) (buffers (now (c .before .before .before .before .before .before .before .args .sizes)) (now (c .before .before .before .before .before .before .before .args .size-chunks)) (now (c .before .before .before .before .before .before .before .args .size-layers)) (now (c .before .before .before .before .before .before .before .args .size-bytes)) (now (c .before .before .before .before .before .before .before .args .forecast))) (c .if1 .taken)
 
 slice-aggregate-read-all : tie.Need-slice-aggregate-read-all
 slice-aggregate-read-all c = search needs
@@ -38,8 +37,7 @@ returns-2 : tie.Need-returns-2
 returns-2 c =
     let told = c .before .enum-told .given .1 in
     let same = c .refusal-at .ensures ∙ ap endRefusalOf told in
-    let h = read-broken (c .before .before .before .before .before .before .before .before .before .before .before .before .before .before .before .args .sequenced) (now (c .before .before .before .before .before .before .before .before .before .before .before .before .before .before .before .args .file)) (buffers (now (c .before .before .before .before .before .before .before .before .before .before .before .before .before .before .before .args .sizes)) (now (c .before .before .before .before .before .before .before .before .before .before .before .before .before .before .before .args .size-chunks)) (now (c .before .before .before .before .before .before .before .before .before .before .before .before .before .before .before .args .size-layers)) (now (c .before .before .before .before .before .before .before .before .before .before .before .before .before .before .before .args .size-bytes)) (now (c .before .before .before .before .before .before .before .before .before .before .before .before .before .before .before .args .forecast))) (c .before .before .before .before .before .before .before .before .if1 .left) (c .before .before .before .before .before .read-all .result) _ _ (c .before .before .before .before .before .read-all .ensures) (c .refusal-at .result) (told ∙ ap (λ (n : ℕ). Broken n) (sym same)) in
-    (h .answer, (h .sizes, (h .size-chunks, (h .size-layers, (h .size-bytes, h .forecast)))))
+    read-broken (c .before .before .before .before .before .before .before .before .before .before .before .before .before .before .before .args .sequenced) (now (c .before .before .before .before .before .before .before .before .before .before .before .before .before .before .before .args .file)) (buffers (now (c .before .before .before .before .before .before .before .before .before .before .before .before .before .before .before .args .sizes)) (now (c .before .before .before .before .before .before .before .before .before .before .before .before .before .before .before .args .size-chunks)) (now (c .before .before .before .before .before .before .before .before .before .before .before .before .before .before .before .args .size-layers)) (now (c .before .before .before .before .before .before .before .before .before .before .before .before .before .before .before .args .size-bytes)) (now (c .before .before .before .before .before .before .before .before .before .before .before .before .before .before .before .args .forecast))) (c .before .before .before .before .before .before .before .before .if1 .left) (c .before .before .before .before .before .read-all .result) _ _ (c .before .before .before .before .before .read-all .ensures) (c .refusal-at .result) (told ∙ ap (λ (n : ℕ). Broken n) (sym same))
 
 mul-from : tie.Need-mul-from
 mul-from c = omega (arith, overrides-inside (c .before .before .before .before .before .before .before .before .before .before .before .before .before .before .before .args .sequenced) (now (c .before .before .before .before .before .before .before .before .before .before .before .before .before .before .before .args .file)) (buffers (now (c .before .before .before .before .before .before .before .before .before .before .before .before .before .before .before .args .sizes)) (now (c .before .before .before .before .before .before .before .before .before .before .before .before .before .before .before .args .size-chunks)) (now (c .before .before .before .before .before .before .before .before .before .before .before .before .before .before .before .args .size-layers)) (now (c .before .before .before .before .before .before .before .before .before .before .before .before .before .before .before .args .size-bytes)) (now (c .before .before .before .before .before .before .before .before .before .before .before .before .before .before .before .args .forecast))) (c .before .before .before .before .before .before .before .before .if1 .left) (c .before .before .before .before .before .read-all .result) _ _ (c .before .before .before .before .before .read-all .ensures) (c .before .end .given .0 .0) (c .before .end .given .1) .overrides-in)
@@ -52,8 +50,7 @@ room-refusal-requires c κs = search needs
 
 returns-3 : tie.Need-returns-3
 returns-3 c =
-    let h = read-short (c .before .before .before .before .before .before .before .before .before .before .before .before .before .before .before .before .before .before .args .sequenced) (now (c .before .before .before .before .before .before .before .before .before .before .before .before .before .before .before .before .before .before .args .file)) (buffers (now (c .before .before .before .before .before .before .before .before .before .before .before .before .before .before .before .before .before .before .args .sizes)) (now (c .before .before .before .before .before .before .before .before .before .before .before .before .before .before .before .before .before .before .args .size-chunks)) (now (c .before .before .before .before .before .before .before .before .before .before .before .before .before .before .before .before .before .before .args .size-layers)) (now (c .before .before .before .before .before .before .before .before .before .before .before .before .before .before .before .before .before .before .args .size-bytes)) (now (c .before .before .before .before .before .before .before .before .before .before .before .before .before .before .before .before .before .before .args .forecast))) (c .before .before .before .before .before .before .before .before .before .before .before .if1 .left) (c .before .before .before .before .before .before .before .before .read-all .result) _ _ (c .before .before .before .before .before .before .before .before .read-all .ensures) (c .before .before .before .before .end .given .0 .0) (c .before .before .before .before .end .given .1) (c .before .room-refusal .result) (c .before .room-refusal .ensures) (c .if2 .taken) in
-    (h .answer, (h .sizes, (h .size-chunks, (h .size-layers, (h .size-bytes, h .forecast)))))
+    read-short (c .before .before .before .before .before .before .before .before .before .before .before .before .before .before .before .before .before .before .args .sequenced) (now (c .before .before .before .before .before .before .before .before .before .before .before .before .before .before .before .before .before .before .args .file)) (buffers (now (c .before .before .before .before .before .before .before .before .before .before .before .before .before .before .before .before .before .before .args .sizes)) (now (c .before .before .before .before .before .before .before .before .before .before .before .before .before .before .before .before .before .before .args .size-chunks)) (now (c .before .before .before .before .before .before .before .before .before .before .before .before .before .before .before .before .before .before .args .size-layers)) (now (c .before .before .before .before .before .before .before .before .before .before .before .before .before .before .before .before .before .before .args .size-bytes)) (now (c .before .before .before .before .before .before .before .before .before .before .before .before .before .before .before .before .before .before .args .forecast))) (c .before .before .before .before .before .before .before .before .before .before .before .if1 .left) (c .before .before .before .before .before .before .before .before .read-all .result) _ _ (c .before .before .before .before .before .before .before .before .read-all .ensures) (c .before .before .before .before .end .given .0 .0) (c .before .before .before .before .end .given .1) (c .before .room-refusal .result) (c .before .room-refusal .ensures) (c .if2 .taken)
 
 slice-aggregate-copy : tie.Need-slice-aggregate-copy
 slice-aggregate-copy c = search needs
@@ -91,8 +88,7 @@ same-length-5 c = search needs
 returns-4 : tie.Need-returns-4
 returns-4 c =
     let g = c .before .before .before .before .before .before .before .before .before .before .before .before .gather .ensures in
-    let h = read-job (c .before .before .before .before .before .before .before .before .before .before .before .before .before .before .before .before .before .before .before .before .before .before .before .before .before .before .before .before .before .before .before .before .before .before .before .before .before .before .before .args .sequenced) (now (c .before .before .before .before .before .before .before .before .before .before .before .before .before .before .before .before .before .before .before .before .before .before .before .before .before .before .before .before .before .before .before .before .before .before .before .before .before .before .before .args .file)) (buffers (now (c .before .before .before .before .before .before .before .before .before .before .before .before .before .before .before .before .before .before .before .before .before .before .before .before .before .before .before .before .before .before .before .before .before .before .before .before .before .before .before .args .sizes)) (now (c .before .before .before .before .before .before .before .before .before .before .before .before .before .before .before .before .before .before .before .before .before .before .before .before .before .before .before .before .before .before .before .before .before .before .before .before .before .before .before .args .size-chunks)) (now (c .before .before .before .before .before .before .before .before .before .before .before .before .before .before .before .before .before .before .before .before .before .before .before .before .before .before .before .before .before .before .before .before .before .before .before .before .before .before .before .args .size-layers)) (now (c .before .before .before .before .before .before .before .before .before .before .before .before .before .before .before .before .before .before .before .before .before .before .before .before .before .before .before .before .before .before .before .before .before .before .before .before .before .before .before .args .size-bytes)) (now (c .before .before .before .before .before .before .before .before .before .before .before .before .before .before .before .before .before .before .before .before .before .before .before .before .before .before .before .before .before .before .before .before .before .before .before .before .before .before .before .args .forecast))) (c .before .before .before .before .before .before .before .before .before .before .before .before .before .before .before .before .before .before .before .before .before .before .before .before .before .before .before .before .before .before .before .before .if1 .left) (c .before .before .before .before .before .before .before .before .before .before .before .before .before .before .before .before .before .before .before .before .before .before .before .before .before .before .before .before .before .read-all .result) _ _ (c .before .before .before .before .before .before .before .before .before .before .before .before .before .before .before .before .before .before .before .before .before .before .before .before .before .before .before .before .before .read-all .ensures) (c .before .before .before .before .before .before .before .before .before .before .before .before .before .before .before .before .before .before .before .before .before .before .before .before .before .end .given .0 .0) (c .before .before .before .before .before .before .before .before .before .before .before .before .before .before .before .before .before .before .before .before .before .before .before .before .before .end .given .1) (c .before .before .before .before .before .before .before .before .before .before .before .before .before .before .before .before .before .before .before .before .before .before .room-refusal .result) (c .before .before .before .before .before .before .before .before .before .before .before .before .before .before .before .before .before .before .before .before .before .before .room-refusal .ensures) (c .before .before .before .before .before .before .before .before .before .before .before .before .before .before .before .before .before .before .before .before .before .if2 .left) _ _ _ _ _ (c .before .before .before .before .before .before .before .before .before .before .before .before .before .before .before .before .before .before .copy .ensures) (g .0) (g .1 .0) (g .1 .1) (c .before .before .before .copy2 .ensures) in
-    (h .answer, (h .sizes, (h .size-chunks, (h .size-layers, (h .size-bytes, h .forecast)))))
+    read-job (c .before .before .before .before .before .before .before .before .before .before .before .before .before .before .before .before .before .before .before .before .before .before .before .before .before .before .before .before .before .before .before .before .before .before .before .before .before .before .before .args .sequenced) (now (c .before .before .before .before .before .before .before .before .before .before .before .before .before .before .before .before .before .before .before .before .before .before .before .before .before .before .before .before .before .before .before .before .before .before .before .before .before .before .before .args .file)) (buffers (now (c .before .before .before .before .before .before .before .before .before .before .before .before .before .before .before .before .before .before .before .before .before .before .before .before .before .before .before .before .before .before .before .before .before .before .before .before .before .before .before .args .sizes)) (now (c .before .before .before .before .before .before .before .before .before .before .before .before .before .before .before .before .before .before .before .before .before .before .before .before .before .before .before .before .before .before .before .before .before .before .before .before .before .before .before .args .size-chunks)) (now (c .before .before .before .before .before .before .before .before .before .before .before .before .before .before .before .before .before .before .before .before .before .before .before .before .before .before .before .before .before .before .before .before .before .before .before .before .before .before .before .args .size-layers)) (now (c .before .before .before .before .before .before .before .before .before .before .before .before .before .before .before .before .before .before .before .before .before .before .before .before .before .before .before .before .before .before .before .before .before .before .before .before .before .before .before .args .size-bytes)) (now (c .before .before .before .before .before .before .before .before .before .before .before .before .before .before .before .before .before .before .before .before .before .before .before .before .before .before .before .before .before .before .before .before .before .before .before .before .before .before .before .args .forecast))) (c .before .before .before .before .before .before .before .before .before .before .before .before .before .before .before .before .before .before .before .before .before .before .before .before .before .before .before .before .before .before .before .before .if1 .left) (c .before .before .before .before .before .before .before .before .before .before .before .before .before .before .before .before .before .before .before .before .before .before .before .before .before .before .before .before .before .read-all .result) _ _ (c .before .before .before .before .before .before .before .before .before .before .before .before .before .before .before .before .before .before .before .before .before .before .before .before .before .before .before .before .before .read-all .ensures) (c .before .before .before .before .before .before .before .before .before .before .before .before .before .before .before .before .before .before .before .before .before .before .before .before .before .end .given .0 .0) (c .before .before .before .before .before .before .before .before .before .before .before .before .before .before .before .before .before .before .before .before .before .before .before .before .before .end .given .1) (c .before .before .before .before .before .before .before .before .before .before .before .before .before .before .before .before .before .before .before .before .before .before .room-refusal .result) (c .before .before .before .before .before .before .before .before .before .before .before .before .before .before .before .before .before .before .before .before .before .before .room-refusal .ensures) (c .before .before .before .before .before .before .before .before .before .before .before .before .before .before .before .before .before .before .before .before .before .if2 .left) _ _ _ _ _ (c .before .before .before .before .before .before .before .before .before .before .before .before .before .before .before .before .before .before .copy .ensures) (g .0) (g .1 .0) (g .1 .1) (c .before .before .before .copy2 .ensures)
 
 pub read-job-spec : {M : Type 1} → statement M
 read-job-spec =

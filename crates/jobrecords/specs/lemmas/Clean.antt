@@ -14,7 +14,8 @@ use Rattle.theory_basics.specs.lemmas.Refusals.{unless-iff, orElse-iff}
 use Rattle.records.specs.File.{Stop, ended, broken, split, firstFault, stopRefusal, recordsRefusal, fileRefusal}
 use Rattle.job.specs.declared.Programme.{Programme}
 use Rattle.job.specs.Job.{Within, Accepted}
-use Rattle.job.specs.Refusal.{within, within-iff, fieldsRefusal, lastDueRefusal, filmRefusal, delayRefusal, overridesRefusal, slotsRefusal, film-iff, delay-iff, last-due-iff, overrides-iff, slots-iff}
+use Rattle.job.specs.Refusal.{within, fieldsRefusal, lastDueRefusal, filmRefusal, delayRefusal, overridesRefusal, slotsRefusal}
+use Rattle.job.specs.Theorems.{within-iff, film-iff, delay-iff, last-due-iff, overrides-iff, slots-iff}
 use Rattle.jobrecords.specs.declared.Record.{Record}
 use Rattle.jobrecords.specs.declared.Record.the-variants.{Pg, Ly, Sz, Bw, En}
 use Rattle.jobrecords.specs.Says.{hasProgramme, programmeIn, sizesIn, overridesIn, forecastIn, jobIn}

@@ -11,7 +11,8 @@ use Rattle.theory_basics.specs.Tests.{all}
 use Rattle.theory_basics.specs.lemmas.Tests.{all-map, not-T-false}
 use Rattle.job.specs.declared.Programme.{Programme}
 use Rattle.job.specs.Job.{Override, Named}
-use Rattle.job.specs.Refusal.{named, rising, sized, overridesRefusal, overrides-test}
+use Rattle.job.specs.Refusal.{named, rising, sized, overridesRefusal}
+use Rattle.job.specs.Theorems.{overrides-test}
 use Rattle.job.specs.lemmas.Spots.{Spot, few}
 
 pub too-many : (p : Programme) (sizes : List ℕ) (os : List Override) → p .chunks ≤ 500 → length sizes ≤ 4 → 1996 < length os → overridesRefusal p sizes os ≡ 18

@@ -7,11 +7,12 @@ use lib.ListN.{length-replicate}
 use Rattle.job.specs.Input.{jobInput}
 use Rattle.planner.proofs.Outputs.{none}
 use Rattle.replan.proofs.Outputs.{earlier-long, gather-from, not-false, not-true, some-slot}
-use Rattle.live.specs.Answer.{liveInput, pieceSlices, rowSlices}
+use Rattle.live.specs.Answer.{liveInput, pieceSlices}
 use Rattle.live.specs.lemmas.Writing.{asReplan}
 use Rattle.live.proofs.Writing.{hand-from, promised-pieces, refused-asked, refused-kept}
 use Rattle.live.proofs.live.Statement.{statement}
 use Rattle.live.proofs.live.Tie as tie
+use Rattle.fetch.specs.Slices.{rowSlices}
 
 onward-requires : tie.Need-onward-requires
 onward-requires c κs = search needs

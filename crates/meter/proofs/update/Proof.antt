@@ -98,7 +98,7 @@ module _ {M : Type 1} (𝓤 : URA M) (H : Heap 𝓤) (A : Atoms 𝓤) (W : Given
   exits r e fs fn fc =
       qed W (‵ (fobs γ (T.the-row .coded .code (r .meter))) ∷ ‵ (fbor κ (Body (mem T.the-row) b o γ)) ∷ ‵ (flft κ q) ∷ []) ∵
       suffices ! _ (ends-at 𝓤 H A update.ended stayed (update.clauses 𝓤 H A at-mem run) W (((κ, tt), (q, tt), tt, x, at), tt) (vint w8 (r .code)) (r .code) (r .meter, (tt, (tt, tt))) (tt, (tt, (tt, tt)))) $
-      says ! (ap (λ (a : Taken). a .code) e, ap (λ (a : Taken). a .meter) e) $ nothing ! $ move ! (3 ∷ 0 ∷ []) $ join ! $
+      says ! (record { code = ap (λ (a : Taken). a .code) e; meter = ap (λ (a : Taken). a .meter) e }) $ nothing ! $ move ! (3 ∷ 0 ∷ []) $ join ! $
       frame ! $ feqI ! (List Val) (vptr b o ∷ []) (vptr b o ∷ []) refl $ fjoin3 ! $ nothing ! $
       owned ! u32 (Is u32) (uint-makes 𝓤 H A W w32) n _ (refl, fn) $ fjoin ! $
       owned ! u16 (Is u16) (uint-makes 𝓤 H A W w16) s _ (refl, fs) $ fjoin ! $ move ! (1 ∷ 0 ∷ []) $ fjoin ! $

@@ -11,10 +11,24 @@ use lib.ListN.{length}
 use lib.Dec.{T, T-not, leb, leb→le, nleb→lt, eqb→eq}
 use Rattle.theory_basics.specs.lemmas.Division.{divided-up-enough, divided-up-near}
 use Rattle.theory_basics.specs.Tests.{All, any, In, here, there}
-use Rattle.theory_basics.specs.lemmas.Tests.{test, T-or-iff, eqb-iff}
+use Rattle.theory_basics.specs.lemmas.Tests.{at-row, test, T-or-iff, eqb-iff}
 use Rattle.meter.specs.Forecast.{bytesOf, isZero, total, share, meanOf}
 use Rattle.meter.specs.Meter.{Sample, SampleInRange}
-use Rattle.meter.specs.Harmonic.{product, others, NotAbove, WholePart}
+use Rattle.meter.specs.Harmonic.{product, NotAbove, quotients, WholePart}
+
+-- ---- the mean without a quotient: P / b is the product of the others
+
+-- Σ (P / b), for each of them the product of the others.
+abbrev pub others : List ℕ → ℕ
+others [] = 0
+others (b ∷ bs) = product bs + b * others bs
+
+abbrev pub Under : ℕ → List ℕ → Type 0
+Under x bs = x * others bs ≤ length bs * product bs
+
+pub record Whole (bs : List ℕ) (h : ℕ) : Type 0 where
+  pub not-above : Under h bs
+  pub next-above : length bs * product bs < (h + 1) * others bs
 
 -- Bytes of which the mean is taken: in range and not 0.
 pub record Counts (b : ℕ) : Type 0 where
@@ -78,14 +92,14 @@ mean-of-counts (b ∷ bs) a =
     omega (arith, mul-le-mul-right (product bs) (a .0 .high), mul-le-mul-left b (mean-of-counts bs (a .1)))
 
 -- .. and has a whole part,
-pub whole-part : (bs : List ℕ) → 0 < others bs → WholePart bs (length bs * product bs / others bs)
+pub whole-part : (bs : List ℕ) → 0 < others bs → Whole bs (length bs * product bs / others bs)
 whole-part bs pos = record {
   not-above = div-mul-le-self (length bs * product bs) (others bs);
   next-above = omega (arith, lt-div-mul-add {a = length bs * product bs} pos);
 }
 
 -- the greatest whole number that is not above it.
-pub whole-part-greatest : (bs : List ℕ) (h x : ℕ) → WholePart bs h → NotAbove x bs → x ≤ h
+pub whole-part-greatest : (bs : List ℕ) (h x : ℕ) → Whole bs h → Under x bs → x ≤ h
 whole-part-greatest bs h x w n =
     let l : x < h + 1 = lt-of-mul-lt-mul-right (others bs) (omega (arith, n, w .next-above)) in
     omega arith
@@ -93,7 +107,7 @@ whole-part-greatest bs h x w n =
 -- A number that is not above the exact mean, while what is one less than such a number is not above
 -- it, is the whole part or one less.
 pub one-less-at-most :
-    (bs : List ℕ) (h f : ℕ) → WholePart bs h → NotAbove f bs → ((g : ℕ) → NotAbove (g + 1) bs → g ≤ f) → (f ≡ h) ⊎ (f + 1 ≡ h)
+    (bs : List ℕ) (h f : ℕ) → Whole bs h → Under f bs → ((g : ℕ) → Under (g + 1) bs → g ≤ f) → (f ≡ h) ⊎ (f + 1 ≡ h)
 one-less-at-most bs h f w n near =
     ⊎-elim (λ t. inl (omega (arith, leb→le h f t, whole-part-greatest bs h f w n)))
     (λ t.
@@ -125,13 +139,13 @@ module _ (bs : List ℕ) (some : 0 < length bs) (a : All Counts bs) where
   mean-some = le-div-iff-mul-le {k = total (map share bs)} total-pos .1 (omega (arith, shares-narrow bs a))
 
   -- "and never more".
-  pub mean-not-above : NotAbove (meanOf bs) bs
+  pub mean-not-above : Under (meanOf bs) bs
   mean-not-above =
       quotient-low (2 ^ 56) (length bs) (product bs) (others bs) (total (map share bs)) (meanOf bs) (omega arith) (shares-not-below bs a)
       (div-mul-le-self (length bs * 2 ^ 56) (total (map share bs)))
 
   -- "or one less": one less than what is not above the exact mean is not above the forecast.
-  pub mean-near : (g : ℕ) → NotAbove (g + 1) bs → g ≤ meanOf bs
+  pub mean-near : (g : ℕ) → Under (g + 1) bs → g ≤ meanOf bs
   mean-near g n =
       let q : ℕ = total (map share bs) in
       let wide = mean-of-counts bs a in
@@ -144,21 +158,39 @@ module _ (bs : List ℕ) (some : 0 < length bs) (a : All Counts bs) where
 -- ---- Σ (P / bytes)
 
 -- c × Σ (P / bytes), with the quotients as they stand.
-quotients : (c : ℕ) (bs : List ℕ) → All Counts bs → total (map (λ b. c * product bs / b) bs) ≡ c * others bs
-quotients c [] a = omega arith
-quotients c (b ∷ bs) a =
+scaled : (c : ℕ) (bs : List ℕ) → All Counts bs → total (map (λ b. c * product bs / b) bs) ≡ c * others bs
+scaled c [] a = omega arith
+scaled c (b ∷ bs) a =
     let e : c * (b * product bs) ≡ b * (c * product bs) = omega arith in
     let f : c * (b * product bs) ≡ c * b * product bs = omega arith in
     let d : c * (b * product bs) / b ≡ c * product bs = rw e (mul-div-right (c * product bs) (a .0 .low)) in
-    let r : total (map (λ x. c * (b * product bs) / x) bs) ≡ c * b * others bs = rw f (quotients (c * b) bs (a .1)) in
+    let r : total (map (λ x. c * (b * product bs) / x) bs) ≡ c * b * others bs = rw f (scaled (c * b) bs (a .1)) in
     omega (arith, d, r)
 
 -- The products of the others are the quotients P / bytes.
-pub others-quotients : (bs : List ℕ) → All Counts bs → total (map (λ b. product bs / b) bs) ≡ others bs
+pub others-quotients : (bs : List ℕ) → All Counts bs → quotients bs ≡ others bs
 others-quotients bs a =
     let e : 1 * product bs ≡ product bs = omega arith in
     let f : 1 * others bs ≡ others bs = omega arith in
-    rw (e, f) at (quotients 1 bs a)
+    rw (e, f) at (scaled 1 bs a)
+
+-- So the exact mean is the same by either.
+pub whole-of : (bs : List ℕ) (h : ℕ) → All Counts bs → Whole bs h → WholePart bs h
+whole-of bs h a w = let e = others-quotients bs a in record { not-above = rw e (w .not-above); next-above = rw e (w .next-above) }
+
+pub of-whole : (bs : List ℕ) (h : ℕ) → All Counts bs → WholePart bs h → Whole bs h
+of-whole bs h a w = let e = others-quotients bs a in record { not-above = rw e at (w .not-above); next-above = rw e at (w .next-above) }
+
+none-zero : (bs : List ℕ) → All Counts bs → In 0 bs → ⊥
+none-zero bs a i = omega (arith, at-row Counts i a .low)
+
+pub under-not-above : (bs : List ℕ) (x : ℕ) → All Counts bs → Under x bs → NotAbove x bs
+under-not-above bs x a u = record { zero-if = λ i. absurd (none-zero bs a i); at-most = rw (others-quotients bs a) u }
+
+-- What is less is not above the mean either.
+pub not-above-less : (bs : List ℕ) (x y : ℕ) → x ≤ y → NotAbove y bs → NotAbove x bs
+not-above-less bs x y h n =
+    record { zero-if = λ i. omega (arith, n .zero-if i); at-most = omega (arith, mul-le-mul-right (quotients bs) h, n .at-most) }
 
 -- ---- none of the samples is 0
 

@@ -11,8 +11,8 @@ use lib.Pow.{pow-add}
 use borrow.Author.Tests.{ne-eqb}
 use Rattle.theory_basics.specs.Tests.{All, any}
 use Rattle.meter.specs.Forecast.{isZero, total, share, meanOf, forecastOf}
-use Rattle.meter.specs.Harmonic.{product, others, WholePart}
-use Rattle.meter.specs.lemmas.Mean.{Counts, share-is, share-wide, others-pos, mean-not-above, mean-near, one-less-at-most}
+use Rattle.meter.specs.Harmonic.{product}
+use Rattle.meter.specs.lemmas.Mean.{Counts, others, Whole, share-is, share-wide, others-pos, mean-not-above, mean-near, one-less-at-most}
 
 -- ---- factors of powers of two
 
@@ -75,7 +75,7 @@ others-equal (suc k) b = more (replicate k b) (others-equal k b)
     more bs e = omega (arith, ap (λ (x : ℕ). b * x) e)
 
 -- What divides without a rest is the whole part.
-even-part : (bs : List ℕ) (h : ℕ) → 0 < others bs → h * others bs ≡ length bs * product bs → WholePart bs h
+even-part : (bs : List ℕ) (h : ℕ) → 0 < others bs → h * others bs ≡ length bs * product bs → Whole bs h
 even-part bs h pos e = record { not-above = omega (arith, e); next-above = omega (arith, e, pos) }
 
 module _ (k b : ℕ) (some : 1 ≤ k) (low : 1 ≤ b) (high : b ≤ 16777216) where

@@ -6,7 +6,7 @@ use mathlib.Core.Path.{_∙_}
 use native.Mathlib.Omega.{arith}
 use denote.Ref.{now}
 use Rattle.job.specs.Input.{jobInput}
-use Rattle.planfile.specs.Calls.{slicesOf}
+use Rattle.fetch.specs.Slices.{slicesOf}
 use Rattle.planfile.proofs.Reader.{job-refused, file-refused, may-copy, short, whole, same-slices}
 
 refusal-requires : tie.Need-refusal-requires

@@ -4,7 +4,7 @@ use Rattle.planfile.proofs.write_file.Statement.{statement}
 use Rattle.planfile.proofs.write_file.Tie as tie
 use native.Mathlib.Omega.{arith}
 use denote.Ref.{now}
-use Rattle.planfile.specs.Calls.{slicesOf}
+use Rattle.fetch.specs.Slices.{slicesOf}
 use Rattle.planfile.proofs.Writer.{not-whole, whole-rows, too-large, short, wrote}
 
 list-refusal-requires : tie.Need-list-refusal-requires

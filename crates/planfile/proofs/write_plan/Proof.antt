@@ -4,7 +4,7 @@ use Rattle.planfile.proofs.write_plan.Statement.{statement}
 use Rattle.planfile.proofs.write_plan.Tie as tie
 use denote.Ref.{now}
 use Rattle.job.specs.Input.{jobInput}
-use Rattle.planfile.specs.Calls.{slicesOf}
+use Rattle.fetch.specs.Slices.{slicesOf}
 use Rattle.planfile.proofs.Writer.{job-refused, job-accepted}
 
 refusal-requires : tie.Need-refusal-requires

@@ -22,9 +22,10 @@ use Rattle.job.specs.Job.{chunks}
 use Rattle.job.specs.Input.{JobInput, jobIn, jobRefusal}
 use Rattle.fetch.specs.Rows.{Row, rowAt}
 use Rattle.fetch.specs.Input.{Whole, listRefusal, whole-iff}
+use Rattle.fetch.specs.Slices.{ListSlices, room}
 use Rattle.planfile.specs.Records.{encode, front}
 use Rattle.planfile.specs.PlanFile.{marksIn, rowsIn, fault, lacking, format, Plan, RowInWidth, InWidth, planIn, kps, ftOf, recordsOf, fileOf}
-use Rattle.planfile.specs.Calls.{ListSlices, room, planReadRefusal, planOf, writeRest, writeRefusal}
+use Rattle.planfile.specs.Calls.{planReadRefusal, planOf, writeRest, writeRefusal}
 use Rattle.planfile.specs.lemmas.Scan.{marks-append, rows-append}
 use Rattle.planfile.specs.lemmas.Writing.{bytes-all, all-upTo, map-upTo, length-file}
 use Rattle.planfile.specs.declared.Record.{Record}

@@ -3,7 +3,7 @@
 use borrow.Author.Needs.{needs}
 use Rattle.planner.proofs.plan.Statement.{statement}
 use Rattle.planner.proofs.plan.Tie as tie
-use Rattle.planner.proofs.Outputs.{none, refused-input, short-marks, decided-by-lists, pictures-of-lists, best-of-lists, steady-bases}
+use Rattle.planner.proofs.Outputs.{none, refused-input, short-marks, promise-of}
 
 refusal-requires : tie.Need-refusal-requires
 refusal-requires c κs = search needs
@@ -12,7 +12,7 @@ refused-requires : tie.Need-refused-requires
 refused-requires c κs = search needs
 
 returns : tie.Need-returns
-returns c = (refused-input _ _ _ _ _ _ _ (c .before .before .refusal .ensures) (c .before .if1 .taken) _ (c .refused .ensures), (decided-by-lists _, (pictures-of-lists _, (best-of-lists _, steady-bases _))))
+returns c = promise-of (refused-input _ _ _ _ _ _ _ (c .before .before .refusal .ensures) (c .before .if1 .taken) _ (c .refused .ensures))
 
 cast-if2 : tie.Need-cast-if2
 cast-if2 c = search needs
@@ -21,7 +21,7 @@ refused-requires-2 : tie.Need-refused-requires-2
 refused-requires-2 c κs = search needs
 
 returns-2 : tie.Need-returns-2
-returns-2 c = (short-marks _ _ _ _ _ _ (none (c .before .before .before .before .refusal .ensures) (c .before .before .before .if1 .left)) (c .before .if2 .taken) _ (c .refused2 .ensures), (decided-by-lists _, (pictures-of-lists _, (best-of-lists _, steady-bases _))))
+returns-2 c = promise-of (short-marks _ _ _ _ _ _ (none (c .before .before .before .before .refusal .ensures) (c .before .before .before .if1 .left)) (c .before .if2 .taken) _ (c .refused2 .ensures))
 
 write-decided-requires : tie.Need-write-decided-requires
 write-decided-requires c κs = (none (c .before .before .before .before .before .before .before .before .refusal .ensures) (c .before .before .before .before .before .before .before .if1 .left), c .before .before .before .before .before .if2 .left)
@@ -42,7 +42,7 @@ same-length-5 : tie.Need-same-length-5
 same-length-5 c = search needs
 
 returns-3 : tie.Need-returns-3
-returns-3 c = (c .before .before .before .before .before .before .before .before .before .before .write-decided .ensures, (decided-by-lists _, (pictures-of-lists _, (best-of-lists _, steady-bases _))))
+returns-3 c = promise-of (c .before .before .before .before .before .before .before .before .before .before .write-decided .ensures)
 
 pub plan-spec : {M : Type 1} → statement M
 plan-spec =

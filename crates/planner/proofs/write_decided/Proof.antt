@@ -4,10 +4,11 @@ use Rattle.planner.proofs.write_decided.Statement.{statement}
 use Rattle.planner.proofs.write_decided.Tie as tie
 use mathlib.Core.Path.{refl}
 use Prim.Native.Nat.{ℕ}
-use lib.ListN.{length-replicate}
-use Rattle.job.specs.Input.{input-iff}
+use lib.ListN.{getD-replicate, length-replicate, replicate}
 use Rattle.core_decide.specs.lemmas.Accepted.{decide-from, filled}
+use Rattle.core_output.proofs.Rows.{writes-choice, written-choice}
 use Rattle.planner.proofs.Outputs.{decided, output-laid}
+use Rattle.job.specs.Theorems.{input-iff}
 
 cast-unset : tie.Need-cast-unset
 cast-unset c = search needs
@@ -15,20 +16,23 @@ cast-unset c = search needs
 fill-sizes-requires : tie.Need-fill-sizes-requires
 fill-sizes-requires c κs = search needs
 
+with-requires : tie.Need-with-requires
+with-requires c κs = search needs
+
 cast-count : tie.Need-cast-count
 cast-count c = search needs
 
 decide-requires : tie.Need-decide-requires
 decide-requires c κs =
-    let o = c .before .before .before .before .before .before .before .before .before .before .before .before .before .before .before .before .before .before .pre in
-    let says = filled _ (input-iff _ .0 (o .0) .1) _ (c .before .before .before .before .before .fill-sizes .ensures (length-replicate {A = ℕ} 2000 (c .before .before .before .before .before .before .before .before .before .before .before .before .before .before .before .before .before .before .args .p .chunks))) in
-    decide-from _ (input-iff _ .0 (o .0) .1) _ says _ _ (length-replicate {A = ℕ} 500 0) (length-replicate {A = ℕ} 500 0)
+    let o = c .before .before .before .before .before .before .before .before .before .before .before .before .before .before .before .before .before .before .before .pre in
+    let says = filled _ (input-iff _ .0 (o .0) .1) _ (c .before .before .before .before .before .before .fill-sizes .ensures (length-replicate {A = ℕ} 2000 (c .before .before .before .before .before .before .before .before .before .before .before .before .before .before .before .before .before .before .before .args .p .chunks))) in
+    decide-from _ (input-iff _ .0 (o .0) .1) _ says _ _ (length-replicate {A = ℕ} 500 0) (length-replicate {A = ℕ} 500 0) (c .before .before .before .before .before .with .ensures)
 
 write-plan-requires : tie.Need-write-plan-requires
 write-plan-requires c κs =
-    let o = c .before .before .before .before .before .before .before .before .before .before .before .before .before .before .before .before .before .before .before .before .before .before .before .before .before .before .before .before .pre in
-    let says = filled _ (input-iff _ .0 (o .0) .1) _ (c .before .before .before .before .before .before .before .before .before .before .before .before .before .before .before .fill-sizes .ensures (length-replicate {A = ℕ} 2000 (c .before .before .before .before .before .before .before .before .before .before .before .before .before .before .before .before .before .before .before .before .before .before .before .before .before .before .before .before .args .p .chunks))) in
-    record { job = _; choice = _; decided = decided _ (o .0) _ says (c .before .before .before .before .before .before .before .before .before .decide .ensures _ _ refl says); marks-fit = o .1 }
+    let o = c .before .before .before .before .before .before .before .before .before .before .before .before .before .before .before .before .before .before .before .before .before .before .before .before .before .before .before .before .before .before .pre in
+    let says = filled _ (input-iff _ .0 (o .0) .1) _ (c .before .before .before .before .before .before .before .before .before .before .before .before .before .before .before .before .before .fill-sizes .ensures (length-replicate {A = ℕ} 2000 (c .before .before .before .before .before .before .before .before .before .before .before .before .before .before .before .before .before .before .before .before .before .before .before .before .before .before .before .before .before .before .args .p .chunks))) in
+    writes-choice _ _ _ _ _ _ _ _ _ (decided _ (o .0) _ says (c .before .before .before .before .before .before .before .before .before .before .decide .ensures _ _ refl says)) _ (length-replicate {A = ℕ} 500 0) (o .1)
 
 answered-requires : tie.Need-answered-requires
 answered-requires c κs = search needs
@@ -50,9 +54,10 @@ same-length-5 c = search needs
 
 returns : tie.Need-returns
 returns c =
-    let o = c .before .before .before .before .before .before .before .before .before .before .before .before .before .before .before .before .before .before .before .before .before .before .before .before .before .before .before .before .before .before .before .before .before .before .before .before .before .before .before .before .pre in
-    let says = filled _ (input-iff _ .0 (o .0) .1) _ (c .before .before .before .before .before .before .before .before .before .before .before .before .before .before .before .before .before .before .before .before .before .before .before .before .before .before .before .fill-sizes .ensures (length-replicate {A = ℕ} 2000 (c .before .before .before .before .before .before .before .before .before .before .before .before .before .before .before .before .before .before .before .before .before .before .before .before .before .before .before .before .before .before .before .before .before .before .before .before .before .before .before .before .args .p .chunks))) in
-    output-laid _ _ _ _ _ _ (o .0) (o .1) (c .before .before .before .before .before .before .before .before .before .before .before .write-plan .ensures _ _ (decided _ (o .0) _ says (c .before .before .before .before .before .before .before .before .before .before .before .before .before .before .before .before .before .before .before .before .before .decide .ensures _ _ refl says))) _ (c .answered .ensures)
+    let o = c .before .before .before .before .before .before .before .before .before .before .before .before .before .before .before .before .before .before .before .before .before .before .before .before .before .before .before .before .before .before .before .before .before .before .before .before .before .before .before .before .before .before .pre in
+    let says = filled _ (input-iff _ .0 (o .0) .1) _ (c .before .before .before .before .before .before .before .before .before .before .before .before .before .before .before .before .before .before .before .before .before .before .before .before .before .before .before .before .before .fill-sizes .ensures (length-replicate {A = ℕ} 2000 (c .before .before .before .before .before .before .before .before .before .before .before .before .before .before .before .before .before .before .before .before .before .before .before .before .before .before .before .before .before .before .before .before .before .before .before .before .before .before .before .before .before .before .args .p .chunks))) in
+    output-laid _ _ _ _ _ _ (o .0) (o .1)
+    (written-choice _ _ _ _ _ _ _ _ _ (decided _ (o .0) _ says (c .before .before .before .before .before .before .before .before .before .before .before .before .before .before .before .before .before .before .before .before .before .before .decide .ensures _ _ refl says)) (replicate 500 0) (λ i l. getD-replicate 500 i 0 0 l) (c .before .before .before .before .before .before .before .before .before .before .before .write-plan .ensures)) _ (c .answered .ensures)
 
 pub write-decided-spec : {M : Type 1} → statement M
 write-decided-spec =
@@ -60,6 +65,7 @@ write-decided-spec =
     (tie.spec
     cast-unset
     fill-sizes-requires
+    with-requires
     cast-count
     decide-requires
     write-plan-requires

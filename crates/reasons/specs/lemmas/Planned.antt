@@ -10,7 +10,7 @@ use lib.ListN.{length, getD, drop}
 use lib.Dec.{eqb, ltb}
 use Rattle.theory_basics.specs.Tests.{All}
 use Rattle.job.specs.Job.{Accepted, Job, Within, chunks, heldMost, layers, size}
-use Rattle.job.specs.Table.{tableAt}
+use Rattle.core_sizes.specs.Table.{tableAt}
 use Rattle.core_moore_hodgson.specs.lemmas.Tables.{appliesIn}
 use Rattle.theory_plan.specs.Plan.{after, byMooreHodgson, kept, plan}
 use Rattle.theory_plan.specs.Theorems.{plan-exists}

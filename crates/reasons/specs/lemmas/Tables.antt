@@ -16,10 +16,9 @@ use Rattle.theory_basics.specs.Sums.{sum}
 use Rattle.theory_basics.specs.lemmas.Ranges.{sum-cong}
 use Rattle.theory_basics.specs.lemmas.Tests.{test}
 use Rattle.job.specs.Job.{Accepted, Job, chunks, layers, size}
-use Rattle.job.specs.Table.{sizesTable, spot, tableAt}
+use Rattle.core_sizes.specs.Table.{sizesTable, spot, tableAt}
 use Rattle.job.specs.lemmas.Within.{size-most}
 use Rattle.theory_plan.specs.Plan.{kept, plan}
-use Rattle.theory_plan.specs.lemmas.Ascending.{Asc}
 use Rattle.theory_plan.specs.lemmas.Choice.{kept-asc}
 use Rattle.theory_plan.specs.lemmas.Kept.{has-picked}
 use Rattle.theory_plan.specs.lemmas.Plan.{plan-choice}
@@ -27,6 +26,7 @@ use Rattle.theory_plan.specs.lemmas.Queue.{has-low}
 use Rattle.theory_plan.specs.lemmas.Trials.{levelMark}
 use Rattle.core_decide.specs.lemmas.Accepted.{filled}
 use Rattle.core_reasons.specs.lemmas.Tables.{bytesIn}
+use Rattle.theory_plan.specs.Bases.{Asc}
 
 -- ---- layers by marks
 

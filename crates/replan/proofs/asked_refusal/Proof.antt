@@ -1,8 +1,8 @@
 -- Refusals 5, 6, 18, 7, 8, 21 and 7 of the handed forecast, each asked only if none before it
 -- refuses.
 use mathlib.Core.Path.{sym, _∙_}
-use Rattle.fetch.specs.VerdictFrom.{slot-iff}
-use Rattle.job.specs.Input.{input-iff}
+use Rattle.fetch.specs.Theorems.{slot-iff}
+use Rattle.job.specs.Theorems.{input-iff}
 use Rattle.replan.proofs.Asked.{passes-on, refuses}
 use borrow.Author.Needs.{needs}
 use Rattle.replan.proofs.asked_refusal.Statement.{statement}

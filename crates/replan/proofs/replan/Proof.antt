@@ -23,7 +23,7 @@ returns c =
     let a = c .before .before .before .before .before .before .before .before .before .before .before .before .before .before .before .before .before .before .args in
     let h = jobInput (a .p) (now (a .sizes)) (now (a .size-chunks)) (now (a .size-layers)) (now (a .size-bytes)) (now (a .forecast)) in
     let o = replanInput (a .from) (now (a .fetched-slots)) (now (a .fetched-chunks)) (now (a .fetched-layers)) (now (a .fetched-bytes)) (now (a .onward)) in
-    (refused-asked h o _ _ _ _ _ _ (c .before .before .asked-refusal .ensures) (c .before .if1 .taken) _ (c .refused .ensures), (settled-afresh h o, standing-goes-on h o))
+    record { output = refused-asked h o _ _ _ _ _ _ (c .before .before .asked-refusal .ensures) (c .before .if1 .taken) _ (c .refused .ensures); settled = settled-afresh h o; standing = standing-goes-on h o }
 
 cast-unset : tie.Need-cast-unset
 cast-unset c = search needs
@@ -62,7 +62,7 @@ returns-2 c =
     let o = replanInput (a .from) (now (a .fetched-slots)) (now (a .fetched-chunks)) (now (a .fetched-layers)) (now (a .fetched-bytes)) (now (a .onward)) in
     let z = none (c .before .before .before .before .before .before .before .before .before .before .before .before .asked-refusal .ensures) (c .before .before .before .before .before .before .before .before .before .before .before .if1 .left) in
     let its = c .before .before .before .before .before .before .before .before .fill-sizes .ensures (length-replicate {A = ℕ} 2000 (a .p .chunks)) in
-    (not-kept h o z its (c .before .before .gather .ensures) (not-true _ (c .before .if2 .taken)) _ _ _ _ _ _ (c .refused2 .ensures), (settled-afresh h o, standing-goes-on h o))
+    record { output = not-kept h o z its (c .before .before .gather .ensures) (not-true _ (c .before .if2 .taken)) _ _ _ _ _ _ (c .refused2 .ensures); settled = settled-afresh h o; standing = standing-goes-on h o }
 
 cast-if3 : tie.Need-cast-if3
 cast-if3 c = search needs
@@ -78,10 +78,10 @@ returns-3 c =
     let z = none (c .before .before .before .before .before .before .before .before .before .before .before .before .before .before .asked-refusal .ensures) (c .before .before .before .before .before .before .before .before .before .before .before .before .before .if1 .left) in
     let its = c .before .before .before .before .before .before .before .before .before .before .fill-sizes .ensures (length-replicate {A = ℕ} 2000 (a .p .chunks)) in
     let n = none-left h o z its (c .before .before .before .before .gather .ensures) (not-false _ (c .before .before .before .if2 .left)) in
-    (short-marks h o _ _ _ _ _ n (c .before .if3 .taken) _ (c .refused3 .ensures), (settled-afresh h o, standing-goes-on h o))
+    record { output = short-marks h o _ _ _ _ _ n (c .before .if3 .taken) _ (c .refused3 .ensures); settled = settled-afresh h o; standing = standing-goes-on h o }
 
-write-plan-requires : tie.Need-write-plan-requires
-write-plan-requires c κs =
+write-afresh-requires : tie.Need-write-afresh-requires
+write-afresh-requires c κs =
     let a = c .before .before .before .before .before .before .before .before .before .before .before .before .before .before .before .before .before .before .before .before .before .before .before .before .before .before .before .before .before .before .before .before .before .before .before .before .before .args in
     let h = jobInput (a .p) (now (a .sizes)) (now (a .size-chunks)) (now (a .size-layers)) (now (a .size-bytes)) (now (a .forecast)) in
     let o = replanInput (a .from) (now (a .fetched-slots)) (now (a .fetched-chunks)) (now (a .fetched-layers)) (now (a .fetched-bytes)) (now (a .onward)) in
@@ -111,7 +111,7 @@ returns-4 c =
     let o = replanInput (a .from) (now (a .fetched-slots)) (now (a .fetched-chunks)) (now (a .fetched-layers)) (now (a .fetched-bytes)) (now (a .onward)) in
     let z = none (c .before .before .before .before .before .before .before .before .before .before .before .before .before .before .before .before .before .before .before .before .before .before .before .before .before .before .before .before .before .before .before .before .asked-refusal .ensures) (c .before .before .before .before .before .before .before .before .before .before .before .before .before .before .before .before .before .before .before .before .before .before .before .before .before .before .before .before .before .before .before .if1 .left) in
     let its = c .before .before .before .before .before .before .before .before .before .before .before .before .before .before .before .before .before .before .before .before .before .before .before .before .before .before .before .before .fill-sizes .ensures (length-replicate {A = ℕ} 2000 (a .p .chunks)) in
-    (output-laid h o z its (c .before .before .before .before .before .before .before .before .before .before .before .before .before .before .before .before .before .before .before .before .before .before .gather .ensures) (not-false _ (c .before .before .before .before .before .before .before .before .before .before .before .before .before .before .before .before .before .before .before .before .before .if2 .left)) (c .before .before .before .before .before .before .before .before .before .before .before .before .before .before .before .before .before .before .before .if3 .left) (c .before .before .before .before .before .before .before .before .before .before .write-plan .ensures), (settled-afresh h o, standing-goes-on h o))
+    record { output = output-laid h o z its (c .before .before .before .before .before .before .before .before .before .before .before .before .before .before .before .before .before .before .before .before .before .before .gather .ensures) (not-false _ (c .before .before .before .before .before .before .before .before .before .before .before .before .before .before .before .before .before .before .before .before .before .if2 .left)) (c .before .before .before .before .before .before .before .before .before .before .before .before .before .before .before .before .before .before .before .if3 .left) (c .before .before .before .before .before .before .before .before .before .before .write-afresh .ensures); settled = settled-afresh h o; standing = standing-goes-on h o }
 
 pub replan-spec : {M : Type 1} → statement M
 replan-spec =
@@ -130,7 +130,7 @@ replan-spec =
     cast-if3
     refused-requires-3
     returns-3
-    write-plan-requires
+    write-afresh-requires
     same-length
     same-length-2
     same-length-3

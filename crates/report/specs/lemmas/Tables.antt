@@ -11,7 +11,7 @@ use Rattle.theory_basics.specs.Lists.{upTo}
 use Rattle.job.specs.declared.Programme.{Programme}
 use Rattle.job.specs.Input.{JobInput, jobIn, jobRefusal}
 use Rattle.job.specs.Job.{lastDue}
-use Rattle.job.specs.Table.{tableAt}
+use Rattle.core_sizes.specs.Table.{tableAt}
 use Rattle.fetch.specs.Rows.{Row, bytesOfLayer}
 use Rattle.planner.specs.Answer.{planRows}
 use Rattle.theory_basics.specs.Text.{ascii, digits, line, text}

@@ -6,7 +6,7 @@ use mathlib.Core.Path.{refl}
 use Prim.Native.Nat.{ℕ}
 use lib.ListN.{length-replicate}
 use denote.Ref.{now}
-use Rattle.job.specs.Table.{tableAt}
+use Rattle.core_sizes.specs.Table.{tableAt}
 use Rattle.core_decide.proofs.Decided.{kept-from}
 use Rattle.search.proofs.Deciding.{find-from, found-each, short-from}
 

@@ -3,7 +3,7 @@
 use borrow.Author.Needs.{needs}
 use Rattle.search.proofs.search.Statement.{statement}
 use Rattle.search.proofs.search.Tie as tie
-use Rattle.search.proofs.Outputs.{found-by-walk, good-enough-found, more-steps, none, refused-input, short-marks}
+use Rattle.search.proofs.Outputs.{none, promise-of, refused-input, short-marks}
 
 refusal-requires : tie.Need-refusal-requires
 refusal-requires c κs = search needs
@@ -12,7 +12,7 @@ refused-requires : tie.Need-refused-requires
 refused-requires c κs = search needs
 
 returns : tie.Need-returns
-returns c = let b = c .before .before .before .before .before .before .before .before .before .before .before .before .before .args .budget in (refused-input _ b _ _ _ _ _ _ (c .before .before .refusal .ensures) (c .before .if1 .taken) _ (c .refused .ensures), (found-by-walk _ b, (good-enough-found _ b, more-steps _ b)))
+returns c = let b = c .before .before .before .before .before .before .before .before .before .before .before .before .before .args .budget in promise-of (refused-input _ b _ _ _ _ _ _ (c .before .before .refusal .ensures) (c .before .if1 .taken) _ (c .refused .ensures))
 
 cast-if2 : tie.Need-cast-if2
 cast-if2 c = search needs
@@ -21,7 +21,7 @@ refused-requires-2 : tie.Need-refused-requires-2
 refused-requires-2 c κs = search needs
 
 returns-2 : tie.Need-returns-2
-returns-2 c = let b = c .before .before .before .before .before .before .before .before .before .before .before .before .before .before .before .args .budget in (short-marks _ b _ _ _ _ _ (none (c .before .before .before .before .refusal .ensures) (c .before .before .before .if1 .left)) (c .before .if2 .taken) _ (c .refused2 .ensures), (found-by-walk _ b, (good-enough-found _ b, more-steps _ b)))
+returns-2 c = let b = c .before .before .before .before .before .before .before .before .before .before .before .before .before .before .before .args .budget in promise-of (short-marks _ b _ _ _ _ _ (none (c .before .before .before .before .refusal .ensures) (c .before .before .before .if1 .left)) (c .before .if2 .taken) _ (c .refused2 .ensures))
 
 write-found-requires : tie.Need-write-found-requires
 write-found-requires c κs = (none (c .before .before .before .before .before .before .before .before .refusal .ensures) (c .before .before .before .before .before .before .before .if1 .left), c .before .before .before .before .before .if2 .left)
@@ -42,7 +42,7 @@ same-length-5 : tie.Need-same-length-5
 same-length-5 c = search needs
 
 returns-3 : tie.Need-returns-3
-returns-3 c = let b = c .before .before .before .before .before .before .before .before .before .before .before .before .before .before .before .before .before .before .before .before .before .before .before .before .before .before .before .before .before .before .args .budget in (c .before .before .before .before .before .before .before .before .before .before .write-found .ensures, (found-by-walk _ b, (good-enough-found _ b, more-steps _ b)))
+returns-3 c = let b = c .before .before .before .before .before .before .before .before .before .before .before .before .before .before .before .before .before .before .before .before .before .before .before .before .before .before .before .before .before .before .args .budget in promise-of (c .before .before .before .before .before .before .before .before .before .before .write-found .ensures)
 
 pub search-spec : {M : Type 1} → statement M
 search-spec =

@@ -5,28 +5,32 @@ use Rattle.search.proofs.write_found.Tie as tie
 use mathlib.Core.Path.{refl}
 use Prim.Native.Nat.{ℕ}
 use native.Mathlib.Omega.{arith}
-use lib.ListN.{length-replicate}
+use lib.ListN.{getD-replicate, length-replicate, replicate}
 use Rattle.core_decide.specs.lemmas.Accepted.{decide-from, filled}
+use Rattle.core_output.proofs.Rows.{writes-choice, written-choice}
 use Rattle.search.proofs.Outputs.{accepted, decided, output-laid}
 
 fill-sizes-requires : tie.Need-fill-sizes-requires
 fill-sizes-requires c κs = search needs
+
+with-requires : tie.Need-with-requires
+with-requires c κs = search needs
 
 cast-count : tie.Need-cast-count
 cast-count c = search needs
 
 decide-requires : tie.Need-decide-requires
 decide-requires c κs =
-    let o = c .before .before .before .before .before .before .before .before .before .before .before .before .before .before .before .before .before .pre in
-    let says = filled _ (accepted _ (o .0)) _ (c .before .before .before .before .before .fill-sizes .ensures (length-replicate {A = ℕ} 2000 0)) in
-    decide-from _ (accepted _ (o .0)) _ says _ _ (length-replicate {A = ℕ} 500 0) (length-replicate {A = ℕ} 500 0)
+    let o = c .before .before .before .before .before .before .before .before .before .before .before .before .before .before .before .before .before .before .pre in
+    let says = filled _ (accepted _ (o .0)) _ (c .before .before .before .before .before .before .fill-sizes .ensures (length-replicate {A = ℕ} 2000 0)) in
+    decide-from _ (accepted _ (o .0)) _ says _ _ (length-replicate {A = ℕ} 500 0) (length-replicate {A = ℕ} 500 0) (c .before .before .before .before .before .with .ensures)
 
 write-plan-requires : tie.Need-write-plan-requires
 write-plan-requires c κs =
-    let a = c .before .before .before .before .before .before .before .before .before .before .before .before .before .before .before .before .before .before .before .before .before .before .before .before .before .before .before .args in
-    let o = c .before .before .before .before .before .before .before .before .before .before .before .before .before .before .before .before .before .before .before .before .before .before .before .before .before .before .before .pre in
-    let says = filled _ (accepted _ (o .0)) _ (c .before .before .before .before .before .before .before .before .before .before .before .before .before .before .before .fill-sizes .ensures (length-replicate {A = ℕ} 2000 0)) in
-    record { job = _; choice = _; decided = decided _ (a .budget) (o .0) _ says (c .before .before .before .before .before .before .before .before .before .decide .ensures _ _ refl says (accepted _ (o .0)) .tables); marks-fit = o .1 }
+    let a = c .before .before .before .before .before .before .before .before .before .before .before .before .before .before .before .before .before .before .before .before .before .before .before .before .before .before .before .before .before .args in
+    let o = c .before .before .before .before .before .before .before .before .before .before .before .before .before .before .before .before .before .before .before .before .before .before .before .before .before .before .before .before .before .pre in
+    let says = filled _ (accepted _ (o .0)) _ (c .before .before .before .before .before .before .before .before .before .before .before .before .before .before .before .before .before .fill-sizes .ensures (length-replicate {A = ℕ} 2000 0)) in
+    writes-choice _ _ _ _ _ _ _ _ _ (decided _ (a .budget) (o .0) _ says (c .before .before .before .before .before .before .before .before .before .before .decide .ensures _ _ refl says (accepted _ (o .0)) .tables)) _ (length-replicate {A = ℕ} 500 0) (o .1)
 
 answered-requires : tie.Need-answered-requires
 answered-requires c κs = search needs
@@ -48,17 +52,19 @@ same-length-5 c = search needs
 
 returns : tie.Need-returns
 returns c =
-    let a = c .before .before .before .before .before .before .before .before .before .before .before .before .before .before .before .before .before .before .before .before .before .before .before .before .before .before .before .before .before .before .before .before .before .before .before .before .before .before .before .args in
-    let o = c .before .before .before .before .before .before .before .before .before .before .before .before .before .before .before .before .before .before .before .before .before .before .before .before .before .before .before .before .before .before .before .before .before .before .before .before .before .before .before .pre in
-    let says = filled _ (accepted _ (o .0)) _ (c .before .before .before .before .before .before .before .before .before .before .before .before .before .before .before .before .before .before .before .before .before .before .before .before .before .before .before .fill-sizes .ensures (length-replicate {A = ℕ} 2000 0)) in
-    let d = c .before .before .before .before .before .before .before .before .before .before .before .before .before .before .before .before .before .before .before .before .before .decide .ensures _ _ refl says (accepted _ (o .0)) in
-    output-laid _ (a .budget) _ _ _ _ _ (o .0) (o .1) (c .before .before .before .before .before .before .before .before .before .before .before .write-plan .ensures _ _ (decided _ (a .budget) (o .0) _ says (d .tables))) (d .steps) (d .ended) (d .shortfall) _ (c .answered .ensures)
+    let a = c .before .before .before .before .before .before .before .before .before .before .before .before .before .before .before .before .before .before .before .before .before .before .before .before .before .before .before .before .before .before .before .before .before .before .before .before .before .before .before .before .before .args in
+    let o = c .before .before .before .before .before .before .before .before .before .before .before .before .before .before .before .before .before .before .before .before .before .before .before .before .before .before .before .before .before .before .before .before .before .before .before .before .before .before .before .before .before .pre in
+    let says = filled _ (accepted _ (o .0)) _ (c .before .before .before .before .before .before .before .before .before .before .before .before .before .before .before .before .before .before .before .before .before .before .before .before .before .before .before .before .before .fill-sizes .ensures (length-replicate {A = ℕ} 2000 0)) in
+    let d = c .before .before .before .before .before .before .before .before .before .before .before .before .before .before .before .before .before .before .before .before .before .before .decide .ensures _ _ refl says (accepted _ (o .0)) in
+    output-laid _ (a .budget) _ _ _ _ _ (o .0) (o .1)
+    (written-choice _ _ _ _ _ _ _ _ _ (decided _ (a .budget) (o .0) _ says (d .tables)) (replicate 500 0) (λ i l. getD-replicate 500 i 0 0 l) (c .before .before .before .before .before .before .before .before .before .before .before .write-plan .ensures)) (d .steps) (d .ended) (d .shortfall) _ (c .answered .ensures)
 
 pub write-found-spec : {M : Type 1} → statement M
 write-found-spec =
     tie.close
     (tie.spec
     fill-sizes-requires
+    with-requires
     cast-count
     decide-requires
     write-plan-requires

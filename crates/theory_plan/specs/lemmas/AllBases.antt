@@ -63,7 +63,7 @@ module _ (j : Job) (some : 0 < layers j) where
 
   pub can-carry-all-iff : Sized j → CanCarry j basesAlone ↔ AllFit j
   can-carry-all-iff sized = (
-    λ c. fits-all-fit basesAlone (λ i u v. omega arith) (can-carry-fits j basesAlone bases-choice c),
+    λ c. fits-all-fit basesAlone (λ i u v. omega arith) (can-carry-fits j sized basesAlone bases-choice c),
     λ f. fits-can-carry j sized basesAlone bases-choice (all-fit-fits f),
   )
 

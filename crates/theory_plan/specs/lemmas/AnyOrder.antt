@@ -16,12 +16,13 @@ use Rattle.theory_basics.specs.lemmas.Tests.{T-and, and-T, any-row, at-row, tes
 use Rattle.fetch.specs.Rows.{Row, begun, bytesIf, held}
 use Rattle.fetch.specs.Rules.{RowInRange, OnTime, Passes}
 use Rattle.job.specs.Job.{Job, chunks, due, heldMost, lastSlot}
-use Rattle.theory_plan.specs.lemmas.Ascending.{Asc}
 use Rattle.theory_plan.specs.lemmas.Count.{bytes-disjoint, bytes-mono, some-row}
 use Rattle.theory_plan.specs.lemmas.Necessity.{within-between}
 use Rattle.theory_plan.specs.lemmas.Need.{Feas, Tails}
-use Rattle.theory_plan.specs.Plan.{needOf, after}
+use Rattle.theory_plan.specs.Plan.{after}
+use Rattle.theory_plan.specs.lemmas.Feasible.{needOf}
 use Rattle.theory_plan.specs.lemmas.Words.{bytesOfChunk, due-mono}
+use Rattle.theory_plan.specs.Bases.{Asc}
 
 -- A row of a chunk before lo that is not begun by slot q.
 abbrev fresh : List Row → ℕ → ℕ → Row → Bool

@@ -15,15 +15,17 @@ use Rattle.fetch.specs.Rows.{Row}
 use Rattle.fetch.specs.Rules.{Passes}
 use Rattle.job.specs.Job.{Job, chunks, due, heldMost, size}
 use Rattle.theory_plan.specs.lemmas.AnyOrder.{any-order-fit}
-use Rattle.theory_plan.specs.lemmas.Ascending.{Asc, count-all}
+use Rattle.theory_plan.specs.lemmas.Ascending.{count-all}
 use Rattle.theory_plan.specs.lemmas.Choice.{Fits, chunk-bytes}
-use Rattle.theory_plan.specs.Plan.{bytes, kept, picked, needOf, after}
+use Rattle.theory_plan.specs.Plan.{bytes, kept, picked, after, tried}
+use Rattle.theory_plan.specs.lemmas.Feasible.{needOf}
 use Rattle.theory_plan.specs.lemmas.Kept.{feas-picked, length-picked, picked-asc, picked-cong, picked-each, picked-skip}
 use Rattle.theory_plan.specs.lemmas.Level.{level, level-choice, level-exactly}
 use Rattle.theory_plan.specs.lemmas.Need.{Feas, feas-mono, feas-tail}
 use Rattle.theory_plan.specs.lemmas.Plan.{kept-same-test}
-use Rattle.theory_plan.specs.Statement.{countOf, tried}
+use Rattle.theory_plan.specs.Statement.{countOf}
 use Rattle.theory_plan.specs.lemmas.Words.{after-anti, bytesOfChunk, due-mono}
+use Rattle.theory_plan.specs.Bases.{Asc}
 
 -- ---- lists of chunks compared
 

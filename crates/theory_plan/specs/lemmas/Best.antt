@@ -59,7 +59,7 @@ module _ (j : Job) (sized : Sized j) (p : ℕ → ℕ) (dec : SettledByTrials j 
       x = level j m
 
       x-fits : Fits j x
-      x-fits = can-carry-fits j x (level-choice j m) (record { rows = m; passes = ok; in-order = o; exactly = level-exactly j m ok })
+      x-fits = can-carry-fits j sized x (level-choice j m) (record { rows = m; passes = ok; in-order = o; exactly = level-exactly j m ok })
 
       layer-no-more :
           (n : ℕ) → n < layers j → ((i : ℕ) → 1 ≤ i → i ≤ chunks j → min (x i) n ≡ min (p i) n) → countOf j x n ≤ countOf j p n

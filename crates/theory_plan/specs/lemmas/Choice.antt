@@ -14,7 +14,6 @@ use Rattle.theory_basics.specs.lemmas.Tests.{all-map, test}
 use Rattle.fetch.specs.Rows.{Carried, Row, bytesOfLayer}
 use Rattle.fetch.specs.Rules.{RowInRange, Passes, PlayingOrder, WholeLayers}
 use Rattle.job.specs.Job.{Job, Layer, chunks, due, heldMost, layers, size}
-use Rattle.theory_plan.specs.lemmas.Ascending.{Asc}
 use Rattle.theory_plan.specs.lemmas.Count.{chunk-by-layers}
 use Rattle.theory_plan.specs.lemmas.Kept.{feas-picked, has-picked, picked-asc, picked-each}
 use Rattle.theory_plan.specs.Plan.{after, bytes, kept}
@@ -24,9 +23,11 @@ use Rattle.theory_plan.specs.lemmas.Need.{Feas}
 use Rattle.theory_plan.specs.lemmas.Order.{fetch-order}
 pub use Rattle.theory_plan.specs.Statement.{Choice}
 use Rattle.theory_plan.specs.Statement.{CanCarry, CarriesExactly}
-use Rattle.theory_plan.specs.lemmas.Sufficiency.{fetch, layer-is, sufficient, weight}
+use Rattle.theory_plan.specs.lemmas.Sufficiency.{fetch, layer-is, sufficient}
 use Rattle.theory_basics.specs.Lists.{has}
 use Rattle.theory_plan.specs.lemmas.Words.{Sized, bytesOfChunk, layer-of}
+use Rattle.theory_plan.specs.Bases.{Asc}
+use Rattle.theory_plan.specs.lemmas.Queue.{weight}
 
 -- The kept chunks fit, each with the bytes of its layers in the choice.
 abbrev pub Fits : Job → (ℕ → ℕ) → Type 0
@@ -74,8 +75,8 @@ chunk-bytes j l lv ok c a i g h =
 
 -- ---- a choice that can be carried fits
 
-pub can-carry-fits : (j : Job) (lv : ℕ → ℕ) → Choice j lv → CanCarry j lv → Fits j lv
-can-carry-fits j lv c s =
+pub can-carry-fits : (j : Job) → Sized j → (lv : ℕ → ℕ) → Choice j lv → CanCarry j lv → Fits j lv
+can-carry-fits j sized lv c s =
     let l = s .rows in
     let keeps : ℕ → Bool = λ i. leb 1 (lv i) in
     feas-picked
@@ -88,7 +89,7 @@ can-carry-fits j lv c s =
     0
     (chunks j)
     (λ i u v t. omega (arith, chunk-bytes j l lv (s .passes) c (s .exactly) i u (omega arith)))
-    (carried-fit j l (s .passes) (s .in-order) (kept j lv) (kept-asc j lv)
+    (carried-fit j l (s .passes) sized (s .in-order) (kept j lv) (kept-asc j lv)
     (picked-each keeps (λ e. Carried j l e 0) 0 (chunks j) (λ i u v t.
     let b = leb→le 1 (lv i) t in
     s .exactly i 0 (layer-of j i 0 u (omega arith) (omega (arith, c i u (omega arith)))) .1 b)))
@@ -133,4 +134,4 @@ module _ (j : Job) (sized : Sized j) (lv : ℕ → ℕ) (choice : Choice j lv) (
   fits-can-carry = record { rows = own j lv; passes = own-passes; in-order = own-in-order; exactly = own-exactly }
 
 pub can-carry-iff-fits : (j : Job) → Sized j → (lv : ℕ → ℕ) → Choice j lv → CanCarry j lv ↔ Fits j lv
-can-carry-iff-fits j sized lv choice = (can-carry-fits j lv choice, fits-can-carry j sized lv choice)
+can-carry-iff-fits j sized lv choice = (can-carry-fits j sized lv choice, fits-can-carry j sized lv choice)

@@ -8,9 +8,9 @@ use mathlib.Core.Logic.{_⊎_, inl, inr, ⊎-elim, _↔_}
 use native.Mathlib.Omega.{arith}
 use lib.Dec.{T, T-not, leb, ltb, eqb, leb→le, nleb→lt, ltb→lt, nltb→le, eqb→eq}
 use Rattle.theory_basics.specs.lemmas.Tests.{T-or-iff, T-true, by-cond, eqb-iff, not-T-false, test}
-use Rattle.theory_plan.specs.lemmas.Ascending.{Asc, asc-lower}
+use Rattle.theory_plan.specs.lemmas.Ascending.{asc-lower}
 use Rattle.theory_basics.specs.Lists.{has}
-use Rattle.theory_plan.specs.Bases.{keptBytes, dropLargest, keptAfter, largest, allBut}
+use Rattle.theory_plan.specs.Bases.{keptBytes, dropLargest, keptAfter, largest, allBut, Asc}
 
 -- ---- lists of chunks
 

@@ -11,13 +11,15 @@ use lib.Dec.{T, leb, leb→le, nleb→lt}
 use Rattle.theory_basics.specs.Sums.{count}
 use Rattle.theory_basics.specs.Tests.{All}
 use Rattle.theory_basics.specs.lemmas.Tests.{by-cond, test}
-use Rattle.theory_plan.specs.lemmas.Ascending.{Asc, asc-lower}
+use Rattle.theory_plan.specs.lemmas.Ascending.{asc-lower}
 use Rattle.theory_basics.specs.lemmas.Ranges.{bit}
 use Rattle.theory_plan.specs.lemmas.Need.{Feas}
-use Rattle.theory_plan.specs.Plan.{needOf, picked}
+use Rattle.theory_plan.specs.Plan.{picked}
+use Rattle.theory_plan.specs.lemmas.Feasible.{needOf}
 pub use Rattle.theory_plan.specs.lemmas.Need.{feas-mono, need-mono}
 use Rattle.theory_basics.specs.Lists.{has}
-use Rattle.theory_plan.specs.lemmas.Sufficiency.{has-low}
+use Rattle.theory_plan.specs.Bases.{Asc}
+use Rattle.theory_plan.specs.lemmas.Queue.{has-low}
 
 -- ---- what is picked
 

@@ -22,16 +22,17 @@ use Rattle.fetch.specs.lemmas.Marks.{mark-bit, mark-cong, mark-high, with-next}
 use Rattle.theory_plan.specs.lemmas.Base.{base-picks}
 use Rattle.theory_plan.specs.lemmas.Choice.{Fits}
 use Rattle.theory_plan.specs.Bases.{Asc, baseSize, forecastBy, mooreHodgson}
-use Rattle.theory_plan.specs.Plan.{byMooreHodgson, bytes, kept, picked, needOf, plan, planByTrials}
-use Rattle.theory_plan.specs.lemmas.Kept.{feas-mono, need-mono, picked-cong, picked-each, picked-has}
-use Rattle.theory_plan.specs.lemmas.Necessity.{Each, after}
-use Rattle.theory_plan.specs.lemmas.Need.{Feas, Tails}
+use Rattle.theory_plan.specs.Plan.{byMooreHodgson, bytes, kept, picked, plan, planByTrials, tried, after}
+use Rattle.theory_plan.specs.lemmas.Feasible.{needOf}
+use Rattle.theory_plan.specs.lemmas.Kept.{picked-cong, picked-each, picked-has}
+use Rattle.theory_plan.specs.lemmas.Necessity.{Each}
+use Rattle.theory_plan.specs.lemmas.Need.{Feas, Tails, feas-mono, need-mono}
 use Rattle.theory_plan.specs.lemmas.Plan.{TakesFitting, by-moore-hodgson-iff, either-way, plan-bases, plan-choice, plan-fits, plan-takes, plan-elsewhere, tried-kept, trials-choice, trials-fit, trials-take}
-use Rattle.theory_plan.specs.Statement.{BasesMooreHodgson, Choice, tried}
-use Rattle.theory_plan.specs.lemmas.Sufficiency.{RelOk, each, feas-relok, ones, releases}
+use Rattle.theory_plan.specs.Statement.{BasesMooreHodgson, Choice}
 use Rattle.theory_plan.specs.lemmas.Trials.{Stack, candidate, keeps, push, bases, levelMark, Kept, rooms, Tried, tryOne, back, bytesKept, keptAt, onLayer, onLayers, based, stacked, keptBases, decidedOn, decided}
 use Rattle.theory_plan.specs.lemmas.KeepOrDrop.{kept-asc}
 use Rattle.theory_plan.specs.lemmas.Words.{layer-of}
+use Rattle.theory_plan.specs.lemmas.Queue.{RelOk, each, feas-relok, ones, releases}
 
 -- ---- the base
 

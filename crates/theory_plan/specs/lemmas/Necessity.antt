@@ -16,13 +16,15 @@ use Rattle.theory_basics.specs.Tests.{All, In}
 use Rattle.theory_basics.specs.lemmas.Tests.{T-and, any-row, at-row, each-row, test, tests}
 use Rattle.fetch.specs.Rows.{Carried, Row, begun, bytesIf, bytesInSlot, held}
 use Rattle.fetch.specs.Rules.{FewHeld, RowInRange, OnTime, Passes, PlayingOrder}
+use Rattle.fetch.specs.lemmas.Order.{order-begun}
 use Rattle.job.specs.Job.{Job, chunks, due, forecast, heldMost, lastSlot}
-use Rattle.theory_plan.specs.lemmas.Ascending.{Asc, asc-drop, asc-lower, asc-nth, count-to-nth}
+use Rattle.theory_plan.specs.lemmas.Ascending.{asc-drop, asc-lower, asc-nth, count-to-nth}
 use Rattle.theory_plan.specs.lemmas.Count.{bytes-between, bytes-disjoint}
 use Rattle.theory_plan.specs.lemmas.Need.{Feas, Tails}
-use Rattle.theory_plan.specs.Plan.{needOf}
+use Rattle.theory_plan.specs.lemmas.Feasible.{needOf}
 pub use Rattle.theory_plan.specs.Plan.{after}
-use Rattle.theory_plan.specs.lemmas.Words.{bytesOfChunk, due-mono}
+use Rattle.theory_plan.specs.lemmas.Words.{Sized, bytesOfChunk, due-mono}
+use Rattle.theory_plan.specs.Bases.{Asc}
 
 -- P holds of each chunk.
 abbrev pub Each : (ℕ → Type 0) → List ℕ → Type 0
@@ -156,11 +158,10 @@ module _ (j : Job) (l : List Row) (ok : Passes j l) where
 
   -- In playing order a carried chunk is begun by the slot of each row of its own and of later
   -- chunks.
-  begun-by : PlayingOrder j l → (x : Row) → In x l → (e : ℕ) → 1 ≤ e → e ≤ x .chunk → Carried j l e 0 → T (begun l (x .slot) e)
-  unfolding PlayingOrder
-  begun-by o x i e g h t =
+  begun-by : Sized j → PlayingOrder j l → (x : Row) → In x l → (e : ℕ) → 1 ≤ e → e ≤ x .chunk → Carried j l e 0 → T (begun l (x .slot) e)
+  begun-by sized o x i e g h t =
       ⊎-elim
-      (λ u. o x i e g (ltb→lt e (x .chunk) u) t)
+      (λ u. order-begun j sized l (ok .in-range) o x i e g (ltb→lt e (x .chunk) u) t)
       (λ (u : T (not (ltb e (x .chunk)))).
       let q : x .chunk ≡ e = omega (arith, nltb→le e (x .chunk) u) in
       any-row (λ y. eqb (y .chunk) e && leb (y .slot) (x .slot)) i (simp tests (omega arith)))
@@ -168,6 +169,6 @@ module _ (j : Job) (l : List Row) (ok : Passes j l) where
 
   -- Carried chunks of a passing list in playing order fit, each with its bytes in the list.
   pub carried-fit :
-      PlayingOrder j l → (ks : List ℕ) → Asc 1 (chunks j) ks → All (λ e. Carried j l e 0) ks →
+      Sized j → PlayingOrder j l → (ks : List ℕ) → Asc 1 (chunks j) ks → All (λ e. Carried j l e 0) ks →
       Feas (bytesOfChunk l) (due j) (after j) (heldMost j) ks
-  carried-fit o ks s m = begun-fit j (after j) l l within-between (ok .in-range) (ok .on-time) (ok .few-held) (λ e. Carried j l e 0) (begun-by o) ks s m
+  carried-fit sized o ks s m = begun-fit j (after j) l l within-between (ok .in-range) (ok .on-time) (ok .few-held) (λ e. Carried j l e 0) (begun-by sized o) ks s m

@@ -10,7 +10,7 @@ use lib.Dec.{T}
 use Rattle.theory_basics.specs.Tests.{All}
 use Rattle.theory_basics.specs.lemmas.Tests.{tests}
 use Rattle.theory_basics.specs.lemmas.Tables.{all-drop}
-use Rattle.theory_plan.specs.Plan.{feas, needOf, tails}
+use Rattle.theory_plan.specs.lemmas.Feasible.{feas, needOf, tails}
 
 -- For each chunk, those from h places behind it on fit into the slots from its due slot on.
 abbrev pub Tails : (w d A : ℕ → ℕ) (h : ℕ) → List ℕ → Type 0

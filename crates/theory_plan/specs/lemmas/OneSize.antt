@@ -13,8 +13,9 @@ use Rattle.theory_basics.specs.lemmas.Ranges.{bit-no, bit-yes, count-cong, risi
 use Rattle.theory_basics.specs.lemmas.Tests.{by-cond, last, test}
 use Rattle.job.specs.Job.{EqualBases, HoldsAll, Job, chunks, due, heldMost, layers}
 use Rattle.theory_plan.specs.Bases.{baseSize, forecastBy, isKept, keptAfter}
-use Rattle.theory_plan.specs.Plan.{after, basesMooreHodgson, needOf, picked}
-use Rattle.theory_plan.specs.Statement.{BasesMooreHodgson, Choice, SettledByTrials, tried}
+use Rattle.theory_plan.specs.Plan.{after, basesMooreHodgson, picked, tried}
+use Rattle.theory_plan.specs.lemmas.Feasible.{needOf}
+use Rattle.theory_plan.specs.Statement.{BasesMooreHodgson, Choice, SettledByTrials}
 use Rattle.theory_plan.specs.lemmas.Base.{base-most, base-picks}
 use Rattle.theory_plan.specs.lemmas.Best.{by-trials-fits}
 use Rattle.theory_plan.specs.lemmas.Choice.{Fits, fits-can-carry}

@@ -9,10 +9,10 @@ use native.Mathlib.Omega.{arith}
 use lib.Dec.{leb, eqb}
 use Rattle.theory_basics.specs.Tests.{All, In, here, there}
 use Rattle.theory_basics.specs.lemmas.Tests.{all-append, all-map, and-T, any-row, at-row, in-append, tests}
+use Rattle.fetch.specs.lemmas.Order.{begun-order}
 use Rattle.job.specs.Job.{Job, chunks, due, forecast, heldMost, lastSlot, layers, size}
 use Rattle.fetch.specs.Rows.{Row}
 use Rattle.fetch.specs.Rules.{RowInRange, PlayingOrder}
-use Rattle.theory_plan.specs.lemmas.Ascending.{Asc}
 use Rattle.theory_plan.specs.lemmas.Count.{some-row, sum-any}
 use Rattle.theory_plan.specs.lemmas.Fill.{Out, QueuedPiece, by-slot, fill, fill-in-slots, slot-in-slot, take-slot}
 use Rattle.theory_plan.specs.lemmas.Need.{Feas}
@@ -20,6 +20,7 @@ use Rattle.theory_plan.specs.lemmas.Queue.{pieces, queue, releases, weig
 use Rattle.theory_plan.specs.lemmas.Sufficiency.{fetch, sufficient}
 use Rattle.theory_plan.specs.lemmas.Words.{Sized}
 use Rattle.theory_plan.specs.Plan.{after}
+use Rattle.theory_plan.specs.Bases.{Asc}
 
 -- The pieces' chunks never fall, from chunk lo on.
 abbrev Sorted : ℕ → List QueuedPiece → Type 0
@@ -108,12 +109,13 @@ sorted-queue size lv (k ∷ ks) (r ∷ rs) lo c a =
 pub fetch-order :
     (j : Job) (sized : Sized j) (lv : ℕ → ℕ) (lim : (k : ℕ) → 1 ≤ k → k ≤ chunks j → lv k ≤ layers j) (ks : List ℕ) (asc : Asc 1 (chunks j) ks) (ok : Feas (λ k. weight (size j) k 0 (lv k)) (due j) (after j) (heldMost j) ks) →
     PlayingOrder j (fetch j lv ks)
-unfolding fetch PlayingOrder
-fetch-order j sized lv lim ks asc ok x i e g h t =
+unfolding fetch
+fetch-order j sized lv lim ks asc ok =
+    begun-order j (fetch j lv ks) (λ x i e g h t.
     let rs = releases (due j) (heldMost j) ks in
     let range = at-row (RowInRange j) i (sufficient j sized lv lim ks asc ok .in-range) in
     let some : 1 ≤ size j e 0 = sized e 0 (record { chunk-low = g; chunk-high = omega (arith, range .chunk-high); layer-in = omega (arith, range .layer-in) }) in
     let y = some-row (λ z. eqb (z .chunk) e) (fetch j lv ks) (sum-any (λ z. eqb (z .chunk) e && eqb (z .layer) 0) (λ z. eqb (z .chunk) e) (λ z u. and-T (eqb (z .chunk) e) (eqb (z .layer) 0) u .0) (fetch j lv ks) (omega arith)) in
     let c : y .0 .chunk ≡ e = simp tests at (y .2) in
     let o = fill-order (forecast j) (lastSlot j) 0 1 (queue (size j) lv ks rs) (sorted-queue (size j) lv ks rs 1 (chunks j) asc) x (y .0) i (y .1) (omega arith) in
-    any-row (λ z. eqb (z .chunk) e && leb (z .slot) (x .slot)) (y .1) (simp tests (c, o))
+    any-row (λ z. eqb (z .chunk) e && leb (z .slot) (x .slot)) (y .1) (simp tests (c, o)))

@@ -19,7 +19,8 @@ use Rattle.theory_plan.specs.Statement.{BasesMooreHodgson, ByMooreHodgso
 use Rattle.theory_plan.specs.Plan.{after, basesTried, basesMooreHodgson, byMooreHodgson, bytes, equalBases, fits, kept, picked, plan, planByTrials, planOn, planTo, raise, sweep, takes, try}
 use Rattle.theory_plan.specs.lemmas.Kept.{feas-picked, picked-cong}
 use Rattle.theory_plan.specs.lemmas.Need.{Feas, feas-iff}
-pub use Rattle.theory_plan.specs.Statement.{settled, tried}
+pub use Rattle.theory_plan.specs.Plan.{settled, tried}
+use Rattle.theory_plan.specs.lemmas.Tried.{settles-tried-iff}
 use Rattle.theory_plan.specs.lemmas.MooreHodgson.{moore-hodgson-fits}
 use Rattle.theory_plan.specs.lemmas.Words.{Sized, layer-of}
 
@@ -253,8 +254,8 @@ tried-choice j p i n c l k g h = by-cond (λ x. x ≤ layers j) (eqb k i) (λ t.
 pub settles-iff : (j : Job) → Sized j → (p : ℕ → ℕ) → Choice j p → (n : ℕ) → Settles j p n ↔ TakesFitting j p n
 settles-iff j sized p c n =
     let d : (i : ℕ) → Layer j i n → CanCarry j (tried p n i) ↔ Fits j (tried p n i) = λ i r. can-carry-iff-fits j sized (tried p n i) (tried-choice j p i n c (r .layer-in)) in (
-      λ s i r. let a = s i r in (λ l. let u = a .0 l in (u .0, d i r .0 (u .1)), λ u. a .1 (u .0, d i r .1 (u .1))),
-      λ f i r. let a = f i r in (λ l. let u = a .0 l in (u .0, d i r .1 (u .1)), λ u. a .1 (u .0, d i r .0 (u .1))),
+      λ s i r. let a = settles-tried-iff j p n .0 s i r in (λ l. let u = a .0 l in (u .0, d i r .0 (u .1)), λ u. a .1 (u .0, d i r .1 (u .1))),
+      λ f. settles-tried-iff j p n .1 (λ i r. let a = f i r in (λ l. let u = a .0 l in (u .0, d i r .1 (u .1)), λ u. a .1 (u .0, d i r .0 (u .1)))),
     )
 
 -- The base, below which there is none.

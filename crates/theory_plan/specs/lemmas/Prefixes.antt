@@ -11,7 +11,8 @@ use Rattle.fetch.specs.Rows.{Row, bytesIf}
 use Rattle.fetch.specs.Rules.{RowInRange, OnTime, Passes}
 use Rattle.job.specs.Job.{HoldsAll, Job, chunks, due, heldMost}
 use Rattle.theory_plan.specs.lemmas.Choice.{Fits, chunk-bytes}
-use Rattle.theory_plan.specs.Plan.{bytes, kept, picked, needOf, after}
+use Rattle.theory_plan.specs.Plan.{bytes, kept, picked, after}
+use Rattle.theory_plan.specs.lemmas.Feasible.{needOf}
 use Rattle.theory_plan.specs.lemmas.Count.{bytes-disjoint}
 use Rattle.theory_plan.specs.lemmas.Kept.{length-picked-le}
 use Rattle.theory_plan.specs.lemmas.Necessity.{within-between}

@@ -15,11 +15,11 @@ use Rattle.theory_basics.specs.lemmas.Ranges.{pre-add, count-none, point, point
 use Rattle.theory_basics.specs.Tests.{All}
 use Rattle.theory_basics.specs.lemmas.Tests.{test}
 use Rattle.job.specs.Job.{Job, chunks, due, heldMost, size}
-use Rattle.theory_plan.specs.lemmas.Ascending.{Asc}
 use Rattle.theory_plan.specs.lemmas.Fill.{QueuedPiece}
 use Rattle.theory_plan.specs.lemmas.Queue.{each, ones, pieces, queue, releases}
 use Rattle.theory_basics.specs.Lists.{has}
 use Rattle.theory_plan.specs.lemmas.Words.{due-mono}
+use Rattle.theory_plan.specs.Bases.{Asc}
 
 -- Descending, below hi.
 abbrev Desc : ℕ → List ℕ → Type 0

@@ -14,7 +14,6 @@ use Rattle.fetch.specs.Rows.{Row}
 use Rattle.job.specs.Job.{Accepted, Job, chunks, due, forecast, heldMost, lastSlot, layers, size}
 use Rattle.theory_plan.specs.Statement.{Choice}
 use Rattle.theory_plan.specs.Own.{Ascending, RowBefore, ownList}
-use Rattle.theory_plan.specs.lemmas.Ascending.{Asc}
 use Rattle.theory_plan.specs.lemmas.Kept.{length-picked-le}
 use Rattle.theory_plan.specs.Plan.{kept}
 use Rattle.theory_plan.specs.lemmas.Choice.{kept-asc}
@@ -22,6 +21,7 @@ use Rattle.theory_plan.specs.lemmas.Fill.{Out, QueuedPiece, by-slot, fil
 use Rattle.theory_plan.specs.lemmas.Queue.{pieces, queue, releases}
 use Rattle.theory_plan.specs.lemmas.Sufficiency.{fetch}
 use Rattle.theory_plan.specs.lemmas.OwnFill.{own-list-is}
+use Rattle.theory_plan.specs.Bases.{Asc}
 
 -- ---- from a place on
 

@@ -13,7 +13,7 @@ use lib.Seq.{drop-drop, getD-drop}
 use lib.Dec.{ltb, ltb→lt, nltb→le}
 use Rattle.theory_basics.specs.lemmas.Tests.{by-cond, test}
 use Rattle.theory_plan.specs.lemmas.Need.{Feas, Tails, need-drop}
-use Rattle.theory_plan.specs.Plan.{needOf}
+use Rattle.theory_plan.specs.lemmas.Feasible.{needOf}
 
 -- The bytes of the chunks together.
 abbrev pub total : (ℕ → ℕ) → List ℕ → ℕ

@@ -16,7 +16,7 @@ use Rattle.theory_basics.specs.lemmas.Tests.{T-and, T-or-iff, all-append, and-T
 use Rattle.job.specs.Job.{Job, chunks, due, forecast, heldMost, lastSlot, layers, size}
 use Rattle.fetch.specs.Rows.{Row, begun, bytesOfLayer, held}
 use Rattle.fetch.specs.Rules.{RowInRange, Passes}
-use Rattle.theory_plan.specs.lemmas.Ascending.{Asc, asc-lower}
+use Rattle.theory_plan.specs.lemmas.Ascending.{asc-lower}
 use Rattle.theory_plan.specs.lemmas.Count.{some-row}
 use Rattle.theory_plan.specs.lemmas.Fill.{Ready, Sent, Still, fill, fill-done, fill-in-slots, fill-loses-nothing, fill-on-time, fill-sent, fill-within, needs}
 use Rattle.theory_plan.specs.lemmas.Need.{Feas}
@@ -25,6 +25,7 @@ use Rattle.theory_plan.specs.Plan.{after}
 pub use Rattle.theory_plan.specs.lemmas.Queue.{RelOk, each, feas-relok, has-low, ones, pieces, queue, releases, weight}
 pub use Rattle.theory_basics.specs.Lists.{has}
 use Rattle.theory_plan.specs.lemmas.Queue.{SomeBytes, at-layer, left-of-queue, ready-queue}
+use Rattle.theory_plan.specs.Bases.{Asc}
 
 -- ---- rule 6: who may have begun by slot t
 

@@ -10,11 +10,10 @@ use borrow.Author.Tests.{eq-eqb, ne-eqb}
 use lib.Dec.{T, T-not, eqb, eqb→eq}
 use Rattle.theory_basics.specs.Sums.{pre}
 use Rattle.theory_basics.specs.lemmas.Tests.{eqb-iff, test}
-use Rattle.theory_plan.specs.lemmas.Ascending.{Asc}
 use Rattle.theory_basics.specs.lemmas.Ranges.{point, point-in, pre-add, pre-cong, pre-zero}
 use Rattle.theory_basics.specs.Lists.{has}
 use Rattle.theory_plan.specs.lemmas.Queue.{has-low}
-use Rattle.theory_plan.specs.Bases.{keptBytes}
+use Rattle.theory_plan.specs.Bases.{keptBytes, Asc}
 
 -- f over those of 1 .. n that pass. With f 1 everywhere it is `count`.
 abbrev pub total : (ℕ → ℕ) → (ℕ → Bool) → ℕ → ℕ

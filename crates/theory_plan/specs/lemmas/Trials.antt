@@ -11,9 +11,8 @@ use Rattle.theory_basics.specs.Sums.{sum}
 use Rattle.fetch.specs.Rows.{markByte}
 use Rattle.fetch.specs.Marks.{bit, withLayer}
 use Rattle.theory_plan.specs.Bases.{mooreHodgson}
-use Rattle.theory_plan.specs.Plan.{byMooreHodgson}
-use Rattle.theory_plan.specs.lemmas.Necessity.{after}
-use Rattle.theory_plan.specs.lemmas.Sufficiency.{releases}
+use Rattle.theory_plan.specs.Plan.{byMooreHodgson, after}
+use Rattle.theory_plan.specs.lemmas.Queue.{releases}
 
 -- ---- the base: chunks from the last down, and the needs of the kept ones, the one kept last in
 -- front

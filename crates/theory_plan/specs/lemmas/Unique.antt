@@ -12,9 +12,11 @@ use lib.Dec.{T, T-not, ltb, eqb, ltb→lt, nltb→le, eqb→eq, eqb-refl}
 use Rattle.theory_basics.specs.lemmas.Tests.{test}
 use Rattle.job.specs.Job.{Job, chunks, lastSlot, layers}
 use Rattle.theory_plan.specs.Bases.{isKept}
-use Rattle.theory_plan.specs.Statement.{BasesMooreHodgson, CanCarry, Choice, IsPlan, Same, SettledByTrials, Settles, tried}
+use Rattle.theory_plan.specs.Statement.{BasesMooreHodgson, CanCarry, Choice, IsPlan, Same, SettledByTrials, Settles}
+use Rattle.theory_plan.specs.Plan.{tried}
 use Rattle.theory_plan.specs.Own.{Fetched, carriedTo, fetchedBy, ownList}
 use Rattle.theory_plan.specs.lemmas.Plan.{either-way}
+use Rattle.theory_plan.specs.lemmas.Tried.{settles-tried-iff}
 use Rattle.theory_plan.specs.lemmas.Words.{layer-of}
 
 -- ---- what depends on the layers of the job's chunks alone
@@ -76,8 +78,8 @@ module _ (j : Job) (n : ℕ) (h : n < layers j) where
       ((k : ℕ) → i < k → k ≤ chunks j → below p (suc n) k ≡ below q (suc n) k) → n < p i → n < q i
   same-trial p q i dp dq s u v f l =
       let r = layer-of j i n u v h in
-      let a = dp i r .0 l in
-      dq i r .1 (
+      let a = settles-tried-iff j p n .0 dp i r .0 l in
+      settles-tried-iff j q n .0 dq i r .1 (
         omega (arith, a .0, s i u v),
         can-carry-cong j (tried p n i) (tried q n i) (λ k x y.
             ⊎-elim

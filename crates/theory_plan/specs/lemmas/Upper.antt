@@ -15,11 +15,12 @@ use Rattle.theory_basics.specs.lemmas.Ranges.{sum-mono, bit}
 use Rattle.theory_basics.specs.lemmas.Tests.{by-cond, test}
 use Rattle.job.specs.Job.{Job, chunks, due, heldMost, size}
 use Rattle.theory_plan.specs.lemmas.Choice.{Fits}
-use Rattle.theory_plan.specs.Plan.{bytes, kept, picked, needOf, after}
+use Rattle.theory_plan.specs.Plan.{bytes, kept, picked, after, tried}
+use Rattle.theory_plan.specs.lemmas.Feasible.{needOf}
 use Rattle.theory_plan.specs.lemmas.Kept.{need-picked, picked-drop}
 use Rattle.theory_plan.specs.lemmas.Need.{feas-max}
 use Rattle.theory_plan.specs.lemmas.Plan.{same-kept, tried-kept}
-use Rattle.theory_plan.specs.Statement.{countOf, tried}
+use Rattle.theory_plan.specs.Statement.{countOf}
 
 -- ---- one chunk of the scan
 

@@ -16,10 +16,11 @@ use Rattle.fetch.specs.Rows.{Row}
 use Rattle.fetch.specs.Rules.{Passes}
 use Rattle.job.specs.Job.{HoldsAll, Job, Layer, chunks, layers, size}
 use Rattle.theory_plan.specs.lemmas.Choice.{fits-can-carry}
-use Rattle.theory_plan.specs.Plan.{bytes}
+use Rattle.theory_plan.specs.Plan.{bytes, tried}
 use Rattle.theory_plan.specs.lemmas.Plan.{tried-choice}
 use Rattle.theory_plan.specs.lemmas.Prefixes.{Prefixes, list-prefixes, prefixes-fit}
-use Rattle.theory_plan.specs.Statement.{CarriesExactly, Choice, SettledByTrials, countOf, tried}
+use Rattle.theory_plan.specs.lemmas.Tried.{settles-tried-iff}
+use Rattle.theory_plan.specs.Statement.{CarriesExactly, Choice, SettledByTrials, countOf}
 use Rattle.theory_plan.specs.lemmas.Words.{Sized, layer-of}
 
 -- ---- the bytes of a choice, by layers of one size each
@@ -106,10 +107,10 @@ module _ (j : Job) (sized : Sized j) (z : ℕ → ℕ) (equal : (i n : ℕ) → 
 
       no-gap-behind : ⊥
       no-gap-behind =
-          let s = dec .decided n y (layer-of j y n ry (omega arith) ln) .0 has-y .1 in
+          let s = settles-tried-iff j p n .0 (dec .decided n) y (layer-of j y n ry (omega arith) ln) .0 has-y .1 in
           let c = tried-choice j p x n (dec .choice) ln in
           let f = prefixes-fit j (tried p n x) wide (later-trial-fits (list-prefixes j (s .rows) (tried p n y) (s .passes) (tried-choice j p y n (dec .choice) ln) (s .exactly))) in
-          omega (arith, dec .decided n x (layer-of j x n (omega arith) rx ln) .1 (omega arith, fits-can-carry j sized (tried p n x) c f))
+          omega (arith, settles-tried-iff j p n .0 (dec .decided n) x (layer-of j x n (omega arith) rx ln) .1 (omega arith, fits-can-carry j sized (tried p n x) c f))
 
     -- A later chunk carries no fewer layers.
     layers-rise : (n y x : ℕ) → 1 ≤ y → y ≤ x → x ≤ chunks j → n ≤ p y → n ≤ p x
@@ -256,7 +257,7 @@ module _ (j : Job) (sized : Sized j) (z : ℕ → ℕ) (equal : (i n : ℕ) → 
         would-be-carried =
             let f = prefixes-fit j (tried p n i) wide tried-fits-by-prefixes in
             let s = fits-can-carry j sized (tried p n i) (tried-choice j p i n (dec .choice) ln) f in
-            omega (arith, dec .decided n i (layer-of j i n ri hi ln) .1 (below-carried n (omega arith), s))
+            omega (arith, settles-tried-iff j p n .0 (dec .decided n) i (layer-of j i n ri hi ln) .1 (below-carried n (omega arith), s))
 
       -- The list has no more of layer n than the plan.
       pub whole-most : countOf j x n ≤ countOf j p n

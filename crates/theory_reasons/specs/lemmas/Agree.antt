@@ -16,6 +16,7 @@ use Rattle.theory_plan.specs.lemmas.Choice.{kept-asc}
 use Rattle.theory_plan.specs.lemmas.Kept.{picked-cong}
 use Rattle.theory_basics.specs.lemmas.Ranges.{sum-cong}
 use Rattle.theory_reasons.specs.lemmas.Named.{missing-to-each}
+use Rattle.theory_reasons.specs.lemmas.Kept.{need-sum}
 use Rattle.theory_reasons.specs.Statement.{Line, Named, Place, Reason, Reasons, Short, Under, against, allBasesKept, lower, missing, missingOf, missingTo, need, settledBefore, short}
 
 pub same-sym : (j : Job) (p q : ℕ → ℕ) → Same j p q → Same j q p
@@ -38,14 +39,15 @@ needOver j a b choice ks =
     (length ks)
 
 pub need-agree : (j : Job) (p q : ℕ → ℕ) → Same j p q → (a b : ℕ) → need j p a b ≡ need j q a b
-unfolding need
 need-agree j p q e a b =
-    ap (needOver j a b p) (kept-agree j p q e)
+    need-sum j p a b
+    ∙ ap (needOver j a b p) (kept-agree j p q e)
     ∙ sum-cong _ _ (length (kept j q)) (λ m h.
     let r = asc-nth 1 (chunks j) (kept j q) m h (kept-asc j q) in
     ap
     (λ (x : ℕ). cond (leb a (cond (ltb m (heldMost j)) 1 (due j (getD (kept j q) (m - heldMost j) 0))) && leb (due j (getD (kept j q) m 0)) b) x 0)
     (ap (sum (size j (getD (kept j q) m 0))) (e (getD (kept j q) m 0) (r .0) (r .1))))
+    ∙ sym (need-sum j q a b)
 
 -- ---- the stretch
 

@@ -11,17 +11,18 @@ use lib.Dec.{T, leb, ltb, ltb→lt, nltb→le}
 use lib.ListN.{length, getD, take, drop, length-drop}
 use lib.Seq.{getD-drop}
 use Rattle.theory_basics.specs.Sums.{pre, sum}
-use Rattle.theory_basics.specs.lemmas.Ranges.{pre-mono}
+use Rattle.theory_basics.specs.lemmas.Ranges.{pre-mono, sum-cong}
 use Rattle.theory_basics.specs.lemmas.Tests.{by-cond, last, test}
 use Rattle.job.specs.Job.{Accepted, Job, chunks, due, forecast, heldMost, lastSlot}
-use Rattle.theory_plan.specs.lemmas.Ascending.{Asc, asc-nth}
+use Rattle.theory_plan.specs.lemmas.Ascending.{asc-nth}
 use Rattle.theory_plan.specs.Plan.{after, bytes, kept}
 use Rattle.theory_plan.specs.lemmas.Choice.{Fits, kept-asc}
-use Rattle.theory_basics.specs.lemmas.Ranges.{sum-cong}
 use Rattle.theory_plan.specs.lemmas.Stretches.{Stretches, stretches-iff, total}
 use Rattle.theory_plan.specs.lemmas.Words.{after-anti, due-mono, due-rises}
+use Rattle.theory_reasons.specs.lemmas.Kept.{need-sum, sum-front, canBegin, keptChunk, keptCount}
 use Rattle.theory_reasons.specs.lemmas.First.{Exceeds, Found, Rising, breaks-says, exceeds-breaks, found-exceeds, found-first, found-last, late, used, used-covers}
-use Rattle.theory_reasons.specs.Statement.{Named, Short, canBegin, carry, keptChunk, keptCount, need}
+use Rattle.theory_reasons.specs.Statement.{Named, Short, carry, need}
+use Rattle.theory_plan.specs.Bases.{Asc}
 
 -- ---- the kept chunks as places
 
@@ -112,21 +113,15 @@ carry-from j a b g h = pre-from (forecast j) a b g (omega arith)
 pub short-exceeds :
     (j : Job) (choice : ℕ → ℕ) (a b : ℕ) → Short j choice a b →
     Exceeds (keptBytes j choice) (keptDue j choice) (canBegin j choice) (upToSlot j) (keptCount j choice) a b
-unfolding need
-short-exceeds j choice a b s = omega (arith, carry-from j a b (s .first-slot) (s .in-order), s .exceeds)
+short-exceeds j choice a b s = omega (arith, need-sum j choice a b, carry-from j a b (s .first-slot) (s .in-order), s .exceeds)
 
 pub exceeds-short :
     (j : Job) (choice : ℕ → ℕ) (a b : ℕ) → 1 ≤ a → a ≤ b → b ≤ lastSlot j →
     Exceeds (keptBytes j choice) (keptDue j choice) (canBegin j choice) (upToSlot j) (keptCount j choice) a b → Short j choice a b
-unfolding need
 exceeds-short j choice a b g h l x =
-    record { first-slot = g; in-order = h; last-slot = l; exceeds = omega (arith, carry-from j a b g h) }
+    record { first-slot = g; in-order = h; last-slot = l; exceeds = omega (arith, need-sum j choice a b, carry-from j a b g h) }
 
 -- ---- runs of a list, as sums
-
-sum-front : (f : ℕ → ℕ) (n : ℕ) → sum f (suc n) ≡ f 0 + sum (λ q. f (suc q)) n
-sum-front f zero = omega arith
-sum-front f (suc n) = omega (arith, sum-front f n)
 
 total-take : (w : ℕ → ℕ) (l : List ℕ) (n : ℕ) → n ≤ length l → total w (take n l) ≡ sum (λ q. w (getD l q 0)) n
 total-take w l zero h = refl

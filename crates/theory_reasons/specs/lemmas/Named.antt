@@ -13,7 +13,8 @@ use Rattle.job.specs.Job.{Accepted, Job, Layer, chunks, lastSlot, layers}
 use Rattle.theory_plan.specs.lemmas.Choice.{Fits}
 use Rattle.theory_plan.specs.lemmas.Words.{layer-of}
 use Rattle.theory_reasons.specs.Lines.{Stretch, exceeds, firstNamed, greatest, lastNamed, lineAt, linesOf, smallest, stretchOf}
-use Rattle.theory_reasons.specs.Statement.{Line, Named, Place, Reason, Reasons, Short, Under, canBegin, carry, keptCount, lower, missing, missingOf, missingTo, need, short}
+use Rattle.theory_reasons.specs.lemmas.Kept.{need-sum, canBegin, keptCount}
+use Rattle.theory_reasons.specs.Statement.{Line, Named, Place, Reason, Reasons, Short, Under, carry, lower, missing, missingOf, missingTo, need, short}
 use Rattle.theory_reasons.specs.lemmas.Bridge.{carry-from, found-named, keptBytes, keptDue, none-late-fits, rising, upToSlot}
 use Rattle.theory_reasons.specs.lemmas.First.{found-need, late}
 use Rattle.theory_reasons.specs.lemmas.Runs.{greatest-is, greatest-some, smallest-is}
@@ -36,7 +37,6 @@ module _ (j : Job) (a : Accepted j) (choice : ℕ → ℕ) where
   lateChunk = late (keptBytes j choice) (keptDue j choice) (canBegin j choice) (upToSlot j)
 
   searched-named : (s : Stretch) → Searched (keptBytes j choice) (keptDue j choice) (canBegin j choice) (upToSlot j) (keptCount j choice) s → IsNamed j choice s
-  unfolding need
   searched-named s x =
       let n = found-named j a choice (x .to) (x .from) (x .found) in
       let here : Named j choice (s .first) (s .last) = rw (x .first-is, x .last-is) n in
@@ -44,7 +44,7 @@ module _ (j : Job) (a : Accepted j) (choice : ℕ → ℕ) where
       record {
         named = here;
         carry-is = rw (x .first-is, x .last-is) (omega (arith, x .carry-is, carry-from j (canBegin j choice (x .from)) (keptDue j choice (x .to)) (n .short .first-slot) (n .short .in-order)));
-        need-is = rw (x .first-is, x .last-is) (omega (arith, e, x .need-is));
+        need-is = rw (x .first-is, x .last-is) (omega (arith, e, x .need-is, need-sum j choice (canBegin j choice (x .from)) (keptDue j choice (x .to))));
       }
 
   -- Where the choice does not fit, a kept chunk is late, and the two passes give the stretch named.

@@ -18,6 +18,7 @@ use Rattle.theory_plan.specs.Statement.{CanCarry, Choice, IsPlan, Settles, coun
 use Rattle.theory_plan.specs.lemmas.Choice.{fits-can-carry}
 use Rattle.theory_plan.specs.lemmas.Level.{count-carried}
 use Rattle.theory_plan.specs.lemmas.Plan.{by-moore-hodgson-iff, tried-choice}
+use Rattle.theory_plan.specs.lemmas.Tried.{settles-tried-iff}
 use Rattle.theory_plan.specs.lemmas.Words.{accepted-sized}
 use Rattle.theory_reasons.specs.Lines.{linesOf, stretchOf}
 use Rattle.theory_reasons.specs.Statement.{Line, Reason, Reasons, against, allBases, allBasesKept, missing, settledBefore}
@@ -42,7 +43,7 @@ lines-unique j plan held ls ms = under-unique (Reason j plan held) (reason-uniqu
 -- ---- settled by trials, against what was settled before
 
 one-refused : (j : Job) (p : ℕ → ℕ) → Choice j p → (n : ℕ) → Settles j p n → (i : ℕ) → Layer j i n → p i ≡ n → Choice j (settledBefore p i n) × (CanCarry j (settledBefore p i n) → ⊥)
-one-refused j p c n s i l e = (tried-choice j p i n c (l .layer-in), λ can. let u = s i l .1 (omega arith, can) in omega arith)
+one-refused j p c n s i l e = (tried-choice j p i n c (l .layer-in), λ can. let u = settles-tried-iff j p n .0 s i l .1 (omega arith, can) in omega arith)
 
 -- ---- bases settled by request 9, against all bases kept: with one more there would be more than
 -- any passing list carries

@@ -21,7 +21,8 @@ use Rattle.theory_plan.specs.Statement.{Choice}
 use Rattle.theory_plan.specs.lemmas.Words.{layer-of}
 use Rattle.theory_reasons.specs.Lines.{lineAt, linesOf, stretchOf}
 use Rattle.theory_basics.specs.lemmas.Digits.{digits-few}
-use Rattle.theory_reasons.specs.Statement.{Line, Place, Reasons, between, keptChunk, keptCount, lower, missingOf, missingTo, need, reasonsText, sentence, short, words}
+use Rattle.theory_reasons.specs.lemmas.Kept.{need-sum, between, keptChunk, keptCount}
+use Rattle.theory_reasons.specs.Statement.{Line, Place, Reasons, lower, missingOf, missingTo, need, reasonsText, sentence, short, words}
 use Rattle.theory_basics.specs.Text.{ascii, digits, ended}
 use Rattle.theory_reasons.specs.lemmas.Refused.{Refuses, lines-hold, lines-unique, refused-stretch}
 
@@ -41,11 +42,11 @@ bytes-most j a choice c k u v =
 
 -- 500 chunks of 4 layers of 16,777,216 bytes.
 pub need-most : (j : Job) → Accepted j → (choice : ℕ → ℕ) → Choice j choice → (x y : ℕ) → need j choice x y ≤ 33554432000
-unfolding need
 need-most j a choice c x y =
     let f : ℕ → ℕ = λ m. cond (between j choice x y m) (bytes j choice (keptChunk j choice m)) 0 in
     omega (
       arith,
+      need-sum j choice x y,
       sum-under f 67108864 (keptCount j choice) (λ m h.
           let r = asc-nth 1 (chunks j) (kept j choice) m h (kept-asc j choice) in
           by-cond (λ (z : ℕ). z ≤ 67108864) (between j choice x y m) (λ t. bytes-most j a choice c (keptChunk j choice m) (r .0) (r .1)) (λ t. omega arith)),

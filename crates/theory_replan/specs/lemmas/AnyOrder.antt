@@ -15,9 +15,10 @@ use Rattle.theory_basics.specs.lemmas.Ranges.{bit, sum-cong}
 use Rattle.theory_basics.specs.lemmas.Tests.{at-row, each-row}
 use Rattle.job.specs.Job.{Accepted, chunks, due, forecast, heldMost, Job, lastSlot, Layer, layers, size}
 use Rattle.fetch.specs.Rows.{begun, bytesIf, bytesOfLayer, Carried, carried, heldCount, keep, marksGiven, next, none, Permuted, Row, swap}
-use Rattle.fetch.specs.Rules.{RowInRange, OnTime, PlayingOrder}
+use Rattle.fetch.specs.Rules.{BegunIn, RowInRange, OnTime, PlayingOrder}
 use Rattle.fetch.specs.RulesFrom.{KeepsFrom, PassesFrom}
-use Rattle.fetch.specs.VerdictFrom.{order-free-from, verdict-from-iff, verdictFrom}
+use Rattle.fetch.specs.VerdictFrom.{verdictFrom}
+use Rattle.fetch.specs.Theorems.{order-free-from, verdict-from-iff}
 use Rattle.fetch.specs.Verdict.{lowerCarried}
 use Rattle.fetch.specs.lemmas.Rows.{all-permuted, any-permuted, bytes-permuted, lower-permuted}
 use Rattle.theory_plan.specs.Own.{allowed, carriedTo, Fetched, ownList, Piece, rowOf, slotTakes, without}
@@ -25,7 +26,8 @@ use Rattle.theory_plan.specs.Statement.{SettledByTrials, Same}
 use Rattle.theory_plan.specs.lemmas.Level.{level}
 use Rattle.theory_replan.specs.Own.{fetchedFrom, ownRest, unfetched}
 use Rattle.theory_replan.specs.Refusal.{replanRefusal}
-use Rattle.theory_replan.specs.Statement.{Acceptable, CanCarryFrom, GoesOn, IsReplan, joined, rowsBefore, rowsFrom, triedFrom}
+use Rattle.theory_replan.specs.Statement.{Acceptable, CanCarryOnlyFrom, IsReplan, joined, rowsBefore, rowsFrom, TrialFrom}
+use Rattle.theory_replan.specs.lemmas.Tried.{can-carry-from-same}
 use Rattle.theory_replan.specs.lemmas.Decision.{drop-first}
 use Rattle.theory_replan.specs.lemmas.Standing.{standing-plan}
 
@@ -85,8 +87,16 @@ module _ (j : Job) {a b : List Row} (h : Permuted a b) where
 
   order-permuted : PlayingOrder j a → PlayingOrder j b
   unfolding PlayingOrder
-  order-permuted o x i e g l c =
-      subst T (begun-permuted (x .slot) e) (o x (in-permuted (permuted-back h) i) e g l (layer-permuted e 0 ∙ c))
+  order-permuted o i k s t g l c x y = o i k s t g l (layer-permuted i 0 ∙ c) (begun-in x) (begun-in y) where
+    begun-in : {i t : ℕ} → BegunIn b i t → BegunIn a i t
+    begun-in x =
+        record {
+          row = x .row;
+          listed = in-permuted (permuted-back h) (x .listed);
+          chunk-is = x .chunk-is;
+          slot-is = x .slot-is;
+          first = λ y m. x .first y (in-permuted h m);
+        }
 
   marks-permuted : marksGiven j a ≡ marksGiven j b
   marks-permuted = let sums : (q : Row → Bool) → bytesIf q a ≡ bytesIf q b = λ q. bytes-permuted q h in simp sums
@@ -111,8 +121,9 @@ module _ (j : Job) {a b : List Row} (h : Permuted a b) where
         in-turn = λ x y i k l. subst T (begun-permuted (x .slot) (y .chunk)) (ok .in-turn x y (in-permuted (permuted-back h) i) (in-permuted (permuted-back h) k) l);
       }
 
-carry-permuted : (j : Job) {a b : List Row} (p : ℕ) (lv : ℕ → ℕ) → Permuted a b → CanCarryFrom j p a lv → CanCarryFrom j p b lv
-carry-permuted j p lv h s =
+carry-permuted :
+    (j : Job) {a b : List Row} (p : ℕ) (these : ℕ → ℕ → Type 0) → Permuted a b → CanCarryOnlyFrom j p a these → CanCarryOnlyFrom j p b these
+carry-permuted j p these h s =
     let k = permuted-append (s .more) h in
     record {
       more = s .more;
@@ -122,9 +133,15 @@ carry-permuted j p lv h s =
       exactly = λ i n r. (λ c. s .exactly i n r .0 (layer-permuted j k i n ∙ c), λ u. sym (layer-permuted j k i n) ∙ s .exactly i n r .1 u);
     }
 
-tried-permuted : (j : Job) {a b : List Row} → Permuted a b → (plan : ℕ → ℕ) (n i : ℕ) → triedFrom j a plan n i ≡ triedFrom j b plan n i
-tried-permuted j {a = a} {b = b} h plan n i =
-    ap (λ (l : ℕ → ℕ). λ k. cond (eqb k i) (suc n) (max (l k) (min (plan k) (cond (ltb i k) (suc n) n)))) (fun-ext (λ k. level-permuted j h k))
+-- What a trial asks about.
+trial-permuted :
+    (j : Job) {a b : List Row} → Permuted a b → (p : ℕ) (plan : ℕ → ℕ) (n i : ℕ) →
+    CanCarryOnlyFrom j p a (TrialFrom j a plan n i) → CanCarryOnlyFrom j p b (TrialFrom j b plan n i)
+trial-permuted j {a = a} {b = b} h p plan n i s =
+    can-carry-from-same j p b (TrialFrom j a plan n i) (TrialFrom j b plan n i) (λ k m r. (
+      ⊎-elim (λ c. inl (sym (layer-permuted j h k m) ∙ c)) (λ u. inr u),
+      ⊎-elim (λ c. inl (layer-permuted j h k m ∙ c)) (λ u. inr u),
+    )) (carry-permuted j p (TrialFrom j a plan n i) h s)
 
 pub replan-order-free :
     (j : Job) (p : ℕ) {a b : List Row} → Permuted a b → (plan : ℕ → ℕ) → IsReplan j p a plan → IsReplan j p b plan
@@ -132,18 +149,17 @@ replan-order-free j p {a = a} {b = b} h plan d =
     record {
       choice = d .choice;
       decided = λ i n r.
-          let e = d .decided i n r in
-          let t = tried-permuted j h plan n i in (
+          let e = d .decided i n r in (
             λ l.
                 ⊎-elim
                 (λ c. inl (sym (layer-permuted j h i n) ∙ c))
-                (λ u. inr (u .0, u .1, subst (CanCarryFrom j p b) t (carry-permuted j p (triedFrom j a plan n i) h (u .2))))
+                (λ u. inr (u .0, u .1, trial-permuted j h p plan n i (u .2)))
                 (e .0 l),
             λ s.
                 e .1
                 (⊎-elim
                 (λ c. inl (layer-permuted j h i n ∙ c))
-                (λ u. inr (u .0, u .1, subst (CanCarryFrom j p a) (sym t) (carry-permuted j p (triedFrom j b plan n i) (permuted-back h) (u .2))))
+                (λ u. inr (u .0, u .1, trial-permuted j (permuted-back h) p plan n i (u .2)))
                 s),
           );
     }

@@ -22,20 +22,21 @@ use Rattle.theory_basics.specs.lemmas.Tests.{and-T, any-row, at-row, by-cond, e
 use Rattle.job.specs.Job.{chunks, due, heldMost, Job, Layer, layers, size}
 use Rattle.fetch.specs.Rows.{bytesOfLayer, Carried, Row}
 use Rattle.fetch.specs.lemmas.Rows.{any-some, bytes-none, some-row}
-use Rattle.theory_plan.specs.Plan.{needOf, picked}
+use Rattle.theory_plan.specs.Plan.{picked}
+use Rattle.theory_plan.specs.lemmas.Feasible.{needOf}
 use Rattle.theory_plan.specs.Statement.{Choice}
-use Rattle.theory_plan.specs.lemmas.Ascending.{Asc}
 use Rattle.theory_plan.specs.lemmas.Kept.{has-picked, picked-asc, picked-cong, picked-each}
 use Rattle.theory_plan.specs.lemmas.Level.{level, level-choice, level-iff}
 use Rattle.theory_plan.specs.lemmas.Linear.{needs-of}
 use Rattle.theory_plan.specs.lemmas.Need.{Feas, need-mono, Tails}
 use Rattle.theory_plan.specs.lemmas.Words.{carries, due-mono, layer-of, Sized}
-use Rattle.theory_replan.specs.Plan.{afterFrom, busy, busyChunks, bytesLeft}
-use Rattle.theory_replan.specs.Statement.{Acceptable, triedFrom}
+use Rattle.theory_replan.specs.Plan.{afterFrom, busy, busyChunks, bytesLeft, triedFrom}
+use Rattle.theory_replan.specs.Statement.{Acceptable}
 use Rattle.theory_replan.specs.lemmas.Criterion.{all-has, begun-few, busyFrom, feas-from-due, front-feas, front-need, FrontOk}
 use Rattle.theory_replan.specs.lemmas.Fits.{FitsFrom}
 use Rattle.theory_replan.specs.lemmas.Held.{carries-row}
 use Rattle.theory_replan.specs.lemmas.Rest.{from-anti}
+use Rattle.theory_plan.specs.Bases.{Asc}
 
 -- ---- in general
 

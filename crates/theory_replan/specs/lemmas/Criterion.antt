@@ -10,7 +10,7 @@ use mathlib.Core.Logic.{_⊎_, inl, inr, ⊎-elim, _↔_}
 use native.Mathlib.Omega.{arith}
 use borrow.Author.Tests.{lt-leb, le-leb}
 use lib.ListN.{drop, getD, length}
-use lib.Dec.{T, T-not, leb, ltb, eqb, leb→le, nleb→lt, le→leb, lt→ltb}
+use lib.Dec.{T, T-not, leb, ltb, eqb, leb→le, nleb→lt, le→leb, lt→ltb, eqb→eq}
 use Rattle.theory_basics.specs.Sums.{count}
 use Rattle.theory_basics.specs.Lists.{has}
 use Rattle.theory_basics.specs.Tests.{All}
@@ -19,8 +19,9 @@ use Rattle.theory_basics.specs.lemmas.Tests.{and-T, at-row, by-cond, not-T-fals
 use Rattle.job.specs.Job.{chunks, due, heldMost, Job, lastSlot}
 use Rattle.fetch.specs.Rows.{begun, held, Row}
 use Rattle.fetch.specs.Rules.{RowInRange}
-use Rattle.theory_plan.specs.Plan.{after, needOf, picked}
-use Rattle.theory_plan.specs.lemmas.Ascending.{Asc, count-all}
+use Rattle.theory_plan.specs.Plan.{after, picked}
+use Rattle.theory_plan.specs.lemmas.Feasible.{needOf}
+use Rattle.theory_plan.specs.lemmas.Ascending.{count-all}
 use Rattle.theory_plan.specs.lemmas.Count.{some-row}
 use Rattle.theory_plan.specs.lemmas.Kept.{picked-asc, picked-cong, picked-each}
 use Rattle.theory_plan.specs.lemmas.Linear.{needs-at, needs-of}
@@ -30,7 +31,7 @@ use Rattle.theory_replan.specs.Plan.{afterFrom, busy, busyChunks, bytesL
 use Rattle.theory_replan.specs.Statement.{Acceptable}
 use Rattle.theory_replan.specs.lemmas.Held.{begun-row}
 use Rattle.theory_replan.specs.lemmas.Rest.{from-anti}
-use lib.Dec.{eqb→eq}
+use Rattle.theory_plan.specs.Bases.{Asc}
 
 -- What holds of every number of a list holds of one that stands in it.
 pub all-has : (P : ℕ → Type 0) (ks : List ℕ) (i : ℕ) → All P ks → T (has ks i) → P i

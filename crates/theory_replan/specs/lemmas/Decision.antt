@@ -15,6 +15,7 @@ use Rattle.job.specs.Job.{chunks, Job, lastSlot, Layer, layers, size}
 use Rattle.fetch.specs.Rows.{bytesOfLayer, Carried, marksGiven, Row}
 use Rattle.fetch.specs.Rules.{RowInRange, PlayingOrder}
 use Rattle.fetch.specs.RulesFrom.{KeepsFrom, PassesFrom, ShortBefore, WholeFrom}
+use Rattle.fetch.specs.lemmas.Order.{begun-order}
 use Rattle.fetch.specs.lemmas.Rows.{bytes-append, row-counts}
 use Rattle.theory_plan.specs.Statement.{CarriesExactly, Choice, marksOf}
 use Rattle.theory_plan.specs.lemmas.Level.{level, level-iff, marks-carried}
@@ -111,10 +112,10 @@ module _ (j : Job) (sized : Sized j) (p : ℕ) (fetched : List Row) (ok : Accept
       }
 
   in-order : PlayingOrder j rows
-  unfolding PlayingOrder
-  in-order x m i g h c =
+  in-order =
+      begun-order j rows (λ x m i g h c.
       let z = at-row (RowInRange j) m (out .holds .range) in
-      out .holds .order x m i g h (exact i 0 (layer-of j i 0 g (omega (arith, z .chunk-high)) (omega (arith, z .layer-in))) .0 c)
+      out .holds .order x m i g h (exact i 0 (layer-of j i 0 g (omega (arith, z .chunk-high)) (omega (arith, z .layer-in))) .0 c))
 
   -- ---- the fetched rows with the own rows from p on
 

@@ -20,7 +20,6 @@ use Rattle.fetch.specs.Rows.{begun, held, heldCount, Row}
 use Rattle.theory_plan.specs.Own.{allowed, carriedTo, Fetched, Piece, rowOf, slotTakes, without}
 use Rattle.theory_plan.specs.Plan.{picked}
 use Rattle.theory_plan.specs.Statement.{Choice}
-use Rattle.theory_plan.specs.lemmas.Ascending.{Asc}
 use Rattle.theory_plan.specs.lemmas.Count.{some-row}
 use Rattle.theory_plan.specs.lemmas.Fill.{after-row, fill, less, Out, QueuedPiece, rest-after, row, take-slot}
 use Rattle.theory_plan.specs.lemmas.Kept.{has-picked, picked-asc, picked-each}
@@ -36,6 +35,7 @@ use Rattle.theory_replan.specs.lemmas.Fits.{FitsFrom}
 use Rattle.theory_replan.specs.lemmas.Held.{begun-by, begun-row, carries-more, carries-row, held-same, in-last}
 use Rattle.theory_replan.specs.lemmas.Rest.{before-first, due-later, Inv, run, start, step}
 use Rattle.theory_replan.specs.lemmas.Take.{all-of, part-of}
+use Rattle.theory_plan.specs.Bases.{Asc}
 
 -- ---- releases by chunk
 

@@ -16,10 +16,10 @@ use Rattle.job.specs.Job.{chunks, due, forecast, heldMost, Job, lastSlot, Layer
 use Rattle.fetch.specs.Rows.{begun, bytesIf, bytesInSlot, bytesOfLayer, Carried, Row}
 use Rattle.fetch.specs.Rules.{RowInRange, OnTime, PlayingOrder}
 use Rattle.fetch.specs.RulesFrom.{PassesFrom}
+use Rattle.fetch.specs.lemmas.Order.{order-begun}
 use Rattle.fetch.specs.lemmas.Rows.{bytes-append, bytes-none}
 use Rattle.theory_plan.specs.Plan.{after, picked}
 use Rattle.theory_plan.specs.Statement.{Choice}
-use Rattle.theory_plan.specs.lemmas.Ascending.{Asc}
 use Rattle.theory_plan.specs.lemmas.Count.{bytes-between, chunk-by-layers, some-row}
 use Rattle.theory_plan.specs.lemmas.Kept.{feas-picked, picked-asc, picked-each}
 use Rattle.theory_plan.specs.lemmas.Level.{level, level-iff}
@@ -28,6 +28,7 @@ use Rattle.theory_plan.specs.lemmas.Need.{Feas}
 use Rattle.theory_plan.specs.lemmas.Words.{bytesOfChunk, carries, layer-of, Sized}
 use Rattle.theory_replan.specs.Plan.{afterFrom, busy, busyChunks, bytesLeft}
 use Rattle.theory_replan.specs.Statement.{Acceptable, CanCarryFrom}
+use Rattle.theory_plan.specs.Bases.{Asc}
 
 -- ---- the criterion
 
@@ -85,7 +86,6 @@ module _ (j : Job) (sized : Sized j) (p : ℕ) (fetched : List Row) (ok : Accept
   Busy e = T (carries fetched e) ⊎ Carried j l e 0
 
   busy-starts : (x : Row) → In x more → (e : ℕ) → 1 ≤ e → e ≤ x .chunk → Busy e → T (begun l (x .slot) e)
-  unfolding PlayingOrder
   busy-starts x i e g h (inl t) =
       let y = some-row (λ y. eqb (y .chunk) e) fetched t in
       let a = at-row (λ y. y .slot < p) (y .1) (ok .before) in
@@ -93,7 +93,7 @@ module _ (j : Job) (sized : Sized j) (p : ℕ) (fetched : List Row) (ok : Accept
       any-row (λ y. eqb (y .chunk) e && leb (y .slot) (x .slot)) (in-left fetched more (y .1)) (T-and (eqb (y .0 .chunk) e) (leb (y .0 .slot) (x .slot)) (y .2) (le→leb (y .0 .slot) (x .slot) (omega arith)))
   busy-starts x i e g h (inr t) =
       ⊎-elim
-      (λ u. in-order x (in-right fetched more i) e g (ltb→lt e (x .chunk) u) t)
+      (λ u. order-begun j sized l (passes .in-range) in-order x (in-right fetched more i) e g (ltb→lt e (x .chunk) u) t)
       (λ (u : T (not (ltb e (x .chunk)))).
       let q : x .chunk ≡ e = omega (arith, nltb→le e (x .chunk) u) in
       any-row (λ y. eqb (y .chunk) e && leb (y .slot) (x .slot)) (in-right fetched more i) (simp tests (omega arith)))
@@ -105,7 +105,6 @@ module _ (j : Job) (sized : Sized j) (p : ℕ) (fetched : List Row) (ok : Accept
 
   -- A chunk carried in the end has begun, or plays after all that have.
   pub carried-in-front : (i : ℕ) → 1 ≤ i → Carried j l i 0 → T (carries fetched i) ⊎ All (λ x. x .chunk < i) fetched
-  unfolding PlayingOrder
   carried-in-front i g c =
       ⊎-elim
       (λ t. inl t)
@@ -116,7 +115,7 @@ module _ (j : Job) (sized : Sized j) (p : ℕ) (fetched : List Row) (ok : Accept
       let h : i ≤ x .chunk = nltb→le (x .chunk) i u in
       absurd (⊎-elim
       (λ v.
-      let b = in-order x (in-left fetched more xi) i g (ltb→lt i (x .chunk) v) c in
+      let b = order-begun j sized l (passes .in-range) in-order x (in-left fetched more xi) i g (ltb→lt i (x .chunk) v) c in
       let y = some-row (λ y. eqb (y .chunk) i && leb (y .slot) (x .slot)) l b in
       let z = simp tests at (y .2) in
       ⊎-elim

@@ -11,7 +11,8 @@ use lib.Dec.{T, leb, ltb}
 use Rattle.theory_basics.specs.Tests.{All}
 use Rattle.job.specs.Job.{Accepted, chunks, due, heldMost, Job, layers, size}
 use Rattle.fetch.specs.Rows.{bytesOfLayer, Row}
-use Rattle.theory_plan.specs.Plan.{needOf, picked}
+use Rattle.theory_plan.specs.Plan.{picked}
+use Rattle.theory_plan.specs.lemmas.Feasible.{needOf}
 use Rattle.theory_plan.specs.lemmas.Level.{level}
 use Rattle.theory_plan.specs.lemmas.Linear.{needs-of}
 use Rattle.theory_plan.specs.lemmas.Queue.{releases}

@@ -16,9 +16,10 @@ use Rattle.theory_basics.specs.Tests.{All}
 use Rattle.theory_basics.specs.lemmas.Ranges.{bit, bit-le, bit-mono}
 use Rattle.theory_basics.specs.lemmas.Tests.{all-map, and-T, by-cond, T-or-iff, test}
 use Rattle.theory_plan.specs.Own.{Piece}
-use Rattle.theory_plan.specs.Plan.{needOf, picked}
-use Rattle.theory_plan.specs.lemmas.Ascending.{Asc}
+use Rattle.theory_plan.specs.Plan.{picked}
+use Rattle.theory_plan.specs.lemmas.Feasible.{needOf}
 use Rattle.theory_plan.specs.lemmas.Need.{Tails}
+use Rattle.theory_plan.specs.Bases.{Asc}
 
 -- ---- lists of parts
 

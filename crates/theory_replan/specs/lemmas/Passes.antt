@@ -15,15 +15,16 @@ use Rattle.theory_basics.specs.Tests.{All}
 use Rattle.theory_basics.specs.lemmas.Tests.{all-map, and-T, at-row, by-cond, not-T-false, same-test, T-and, T-or-iff, T-true, test}
 use Rattle.job.specs.Job.{chunks, due, heldMost, Job, layers, size}
 use Rattle.fetch.specs.Rows.{bytesOfLayer, Row}
-use Rattle.theory_plan.specs.Plan.{needOf, picked}
+use Rattle.theory_plan.specs.Plan.{picked}
+use Rattle.theory_plan.specs.lemmas.Feasible.{needOf}
 use Rattle.theory_plan.specs.lemmas.Count.{some-row}
 use Rattle.theory_plan.specs.lemmas.Kept.{picked-cong, picked-each}
 use Rattle.theory_plan.specs.lemmas.Level.{level}
 use Rattle.theory_plan.specs.lemmas.Linear.{needs-at, needs-of}
 use Rattle.theory_plan.specs.lemmas.Trials.{candidate, keeps, Stack}
 use Rattle.theory_plan.specs.lemmas.Words.{carries, Sized}
-use Rattle.theory_replan.specs.Plan.{afterFrom, busy}
-use Rattle.theory_replan.specs.Statement.{Acceptable, triedFrom}
+use Rattle.theory_replan.specs.Plan.{afterFrom, busy, triedFrom}
+use Rattle.theory_replan.specs.Statement.{Acceptable}
 use Rattle.theory_replan.specs.lemmas.Base.{afterBases, base-begun, base-new, need-cong, no-base, no-bytes, picked-split, whole-left}
 use Rattle.theory_replan.specs.lemmas.Criterion.{FrontOk}
 use Rattle.theory_replan.specs.lemmas.Fits.{FitsFrom}

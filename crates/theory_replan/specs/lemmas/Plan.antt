@@ -15,17 +15,19 @@ use Rattle.job.specs.Job.{chunks, due, heldMost, Job, Layer, layers, size}
 use Rattle.fetch.specs.Rows.{begun, bytesOfLayer, Carried, Row}
 use Rattle.fetch.specs.Rules.{RowInRange, PlayingOrder}
 use Rattle.fetch.specs.RulesFrom.{PassesFrom}
+use Rattle.fetch.specs.lemmas.Order.{begun-order}
 use Rattle.fetch.specs.lemmas.Rows.{some-row}
-use Rattle.theory_plan.specs.Plan.{feas}
+use Rattle.theory_plan.specs.lemmas.Feasible.{feas}
 use Rattle.theory_plan.specs.Statement.{Choice, Same}
 use Rattle.theory_plan.specs.lemmas.Kept.{feas-picked, picked-cong}
 use Rattle.theory_plan.specs.lemmas.Level.{level, level-choice, level-iff}
 use Rattle.theory_plan.specs.lemmas.Need.{Feas, feas-iff}
 use Rattle.theory_plan.specs.lemmas.Words.{carries, layer-of, Sized}
-use Rattle.theory_replan.specs.Plan.{afterFrom, busy, busyChunks, bytesLeft, fitsFrom, openTo, planTo, replan}
-use Rattle.theory_replan.specs.Statement.{Acceptable, CanCarryFrom, IsReplan, settledFrom, triedFrom}
+use Rattle.theory_replan.specs.Plan.{afterFrom, busy, busyChunks, bytesLeft, fitsFrom, openTo, planTo, replan, settledFrom, triedFrom}
+use Rattle.theory_replan.specs.Statement.{Acceptable, CanCarryFrom, IsReplan}
 use Rattle.theory_replan.specs.lemmas.Decision.{can-carry-from-iff, fits-can-carry-from}
 use Rattle.theory_replan.specs.lemmas.Fits.{can-carry-fits-from, FitsFrom, InFront}
+use Rattle.theory_replan.specs.lemmas.Tried.{settles-tried-from-iff}
 use Rattle.theory_replan.specs.lemmas.Settle.{plan-holds, Settles, settles-computed, settles-once}
 
 -- ---- the test
@@ -89,13 +91,13 @@ module _ (j : Job) (sized : Sized j) (p : ℕ) (fetched : List Row) (ok : Accept
       }
 
   fetched-in-order : PlayingOrder j fetched
-  unfolding PlayingOrder
-  fetched-in-order x m i g h c =
+  fetched-in-order =
+      begun-order j fetched (λ x m i g h c.
       let z = at-row (RowInRange j) m (ok .in-range) in
       let some = sized i 0 (layer-of j i 0 g (omega (arith, z .chunk-high)) (omega (arith, z .layer-in))) in
       let y = some-row (λ y. eqb (y .chunk) i && eqb (y .layer) 0) fetched (omega (arith, c)) in
       let e : y .row .chunk ≡ i = eqb→eq _ _ (and-T (eqb (y .row .chunk) i) (eqb (y .row .layer) 0) (y .passes) .0) in
-      rw e at (ok .in-turn x (y .row) m (y .listed) (omega arith))
+      rw e at (ok .in-turn x (y .row) m (y .listed) (omega arith)))
 
   pub fetched-can-carry : CanCarryFrom j p fetched (level j fetched)
   fetched-can-carry =
@@ -141,7 +143,7 @@ module _ (j : Job) (p : ℕ) (fetched : List Row) (ok : Acceptable j p fetched) 
         decided = λ i n u v h.
             let r = layer-of j i n u v h in
             let w = level-iff j fetched (ok .lower) i n r in
-            let e = d .decided i n r in (
+            let e = settles-tried-from-iff j p fetched (ok .lower) plan .0 (d .decided) i n r in (
               λ l. ⊎-elim (λ x. inl (w .0 x)) (λ x. inr (x .1, (x .0, x .2))) (e .0 l),
               λ s. e .1 (⊎-elim (λ x. inl (w .1 x)) (λ x. inr (x .1 .0, x .0, x .1 .1)) s),
             );
@@ -161,13 +163,13 @@ module _ (j : Job) (p : ℕ) (fetched : List Row) (ok : Acceptable j p fetched) 
     replan-is-replan =
         record {
           choice = computed .most;
-          decided = λ i n r.
+          decided = settles-tried-from-iff j p fetched (ok .lower) (replan j p fetched) .1 (λ i n r.
               let w = level-iff j fetched (ok .lower) i n r in
               let e = computed .decided i n (r .chunk-low) (r .chunk-high) (r .layer-in) in
               let c = can-carry-from-iff j sized p fetched ok (triedFrom j fetched (replan j p fetched) n i) (tried-from-choice j fetched (replan j p fetched) i n (computed .most) (r .layer-in)) in (
                 λ l. ⊎-elim (λ x. inl (w .1 x)) (λ x. inr (x .1 .0, x .0, c .1 (x .1 .1))) (e .0 l),
                 λ s. e .1 (⊎-elim (λ x. inl (w .0 x)) (λ x. inr (x .1, (x .0, c .0 (x .2)))) s),
-              );
+              ));
         }
 
     replan-fits : FitsFrom j p fetched (replan j p fetched)
@@ -186,7 +188,7 @@ module _ (j : Job) (p : ℕ) (fetched : List Row) (ok : Acceptable j p fetched) 
         (n < plan i) ↔ ((n < level j fetched i) ⊎ ((p ≤ due j i) × (n ≤ plan i) × FitsFrom j p fetched (triedFrom j fetched plan n i)))
     is-replan-accepts plan d i n r =
         let w = level-iff j fetched (ok .lower) i n r in
-        let e = d .decided i n r in
+        let e = settles-tried-from-iff j p fetched (ok .lower) plan .0 (d .decided) i n r in
         let c = can-carry-from-iff j sized p fetched ok (triedFrom j fetched plan n i) (tried-from-choice j fetched plan i n (d .choice) (r .layer-in)) in (
           λ l. ⊎-elim (λ x. inl (w .0 x)) (λ x. inr (x .0, x .1, c .0 (x .2))) (e .0 l),
           λ s. e .1 (⊎-elim (λ x. inl (w .1 x)) (λ x. inr (x .0, x .1, c .1 (x .2))) s),

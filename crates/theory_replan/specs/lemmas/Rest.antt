@@ -21,7 +21,6 @@ use Rattle.fetch.specs.lemmas.Rows.{bytes-append, bytes-none}
 use Rattle.theory_plan.specs.Own.{allowed, carriedTo, Fetched, Piece, rowOf, slotTakes}
 use Rattle.theory_plan.specs.Plan.{after}
 use Rattle.theory_plan.specs.Statement.{Choice}
-use Rattle.theory_plan.specs.lemmas.Ascending.{Asc}
 use Rattle.theory_plan.specs.lemmas.Count.{some-row, sum-any}
 use Rattle.theory_plan.specs.lemmas.Kept.{has-picked, picked-asc}
 use Rattle.theory_plan.specs.lemmas.Queue.{at-layer}
@@ -34,6 +33,7 @@ use Rattle.theory_replan.specs.lemmas.Held.{begun-by, begun-more, begun-
 use Rattle.theory_replan.specs.lemmas.Parts.{blocked-need, count-picked, has-since, left-none, leftIf, needs-le, needsOf, ofChunk, Rising, rising-chunks, since, since-asc}
 use Rattle.theory_replan.specs.lemmas.Take.{Ends, slot-ends, Stop, Taken, taken-all, taken-keys, taken-left, taken-needs, taken-paid, taken-rising, taken-some}
 use Rattle.theory_replan.specs.lemmas.Unfetched.{carried-all, carried-rises, Chosen, left-of-chunk, left-of-layer, unfetched-all, unfetched-rising}
+use Rattle.theory_plan.specs.Bases.{Asc}
 
 append-none : {A : Type 0} (l : List A) → l ++ [] ≡ l
 append-none [] = refl

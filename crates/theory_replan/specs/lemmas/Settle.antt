@@ -10,9 +10,8 @@ use native.Mathlib.Omega.{arith}
 use borrow.Author.Tests.{eq-eqb, ne-eqb, lt-ltb, le-ltb}
 use lib.Dec.{T, T-not, ltb, eqb, ltb→lt, nltb→le, eqb→eq, eqb-refl}
 use Rattle.theory_basics.specs.lemmas.Tests.{and-T, by-cond, not-T-false, T-and, T-true, test}
-use Rattle.theory_plan.specs.Plan.{raise}
+use Rattle.theory_plan.specs.Plan.{raise, settled}
 use Rattle.theory_replan.specs.Plan.{planTo, sweep, takes, try}
-use Rattle.theory_plan.specs.Statement.{settled}
 use Rattle.theory_plan.specs.lemmas.Unique.{below, same-down}
 
 -- Two choices agree at the chunks 1 to c.

@@ -19,12 +19,13 @@ use Rattle.job.specs.Job.{Accepted, chunks, due, forecast, heldMost, Job, lastS
 use Rattle.fetch.specs.Rows.{begun, bytesOfLayer, Carried, carried, held, marksGiven, Row}
 use Rattle.fetch.specs.Rules.{RowInRange, Keeps, OnTime, PlayingOrder}
 use Rattle.fetch.specs.RulesFrom.{PassesFrom}
+use Rattle.fetch.specs.lemmas.Order.{order-begun}
 use Rattle.fetch.specs.lemmas.Rows.{bytes-append, row-counts, some-row}
 use Rattle.theory_plan.specs.Own.{carriedTo, Fetched, fetchedBy, ownList, Piece, slotTakes}
-use Rattle.theory_plan.specs.Plan.{after, bytes, kept}
-use Rattle.theory_plan.specs.Statement.{CanCarry, CarriesExactly, Choice, SettledByTrials, marksOf, Same, tried}
+use Rattle.theory_plan.specs.Plan.{after, bytes, kept, tried}
+use Rattle.theory_plan.specs.lemmas.Tried.{settles-tried-iff}
+use Rattle.theory_plan.specs.Statement.{CanCarry, CarriesExactly, Choice, SettledByTrials, marksOf, Same}
 use Rattle.theory_plan.specs.Theorems.{trials-carried}
-use Rattle.theory_plan.specs.lemmas.Ascending.{Asc}
 use Rattle.theory_plan.specs.lemmas.Choice.{Fits, fits-can-carry, kept-asc}
 use Rattle.theory_plan.specs.lemmas.Count.{chunk-by-layers}
 use Rattle.theory_plan.specs.lemmas.Kept.{feas-picked, picked-each}
@@ -34,9 +35,10 @@ use Rattle.theory_plan.specs.lemmas.Need.{Feas}
 use Rattle.theory_plan.specs.lemmas.Plan.{tried-choice}
 use Rattle.theory_plan.specs.lemmas.Queue.{at-layer}
 use Rattle.theory_plan.specs.lemmas.Words.{accepted-sized, bytesOfChunk, carries, layer-of, Sized}
-use Rattle.theory_replan.specs.Plan.{afterFrom}
+use Rattle.theory_replan.specs.Plan.{afterFrom, triedFrom}
 use Rattle.theory_replan.specs.Own.{fetchedFrom, ownRest, unfetched}
-use Rattle.theory_replan.specs.Statement.{Acceptable, CanCarryFrom, IsReplan, rowsBefore, rowsFrom, triedFrom, GoesOn}
+use Rattle.theory_replan.specs.lemmas.Tried.{settles-tried-from-iff}
+use Rattle.theory_replan.specs.Statement.{Acceptable, CanCarryFrom, IsReplan, rowsBefore, rowsFrom}
 use Rattle.theory_replan.specs.lemmas.Decision.{drop-first, fits-can-carry-from}
 use Rattle.theory_replan.specs.lemmas.Fits.{between-from, can-carry-fits-below, can-carry-fits-from, FitsFrom}
 use Rattle.theory_replan.specs.lemmas.Held.{begun-by, begun-more, begun-row}
@@ -44,6 +46,7 @@ use Rattle.theory_replan.specs.lemmas.OwnState.{Grown, grown, Sofar, sof
 use Rattle.theory_replan.specs.lemmas.Parts.{leftIf}
 use Rattle.theory_replan.specs.lemmas.Plan.{replans-agree, tried-from-choice}
 use Rattle.theory_replan.specs.lemmas.Unfetched.{left-of-layer}
+use Rattle.theory_plan.specs.Bases.{Asc}
 
 -- ---- rows before and from a slot
 
@@ -75,10 +78,9 @@ module _ (j : Job) (sized : Sized j) (p : ℕ) (fetched : List Row) (lv low : �
   l = fetched ++ s .more
 
   all-begun : (x : Row) → In x l → (e : ℕ) → 1 ≤ e → e ≤ x .chunk → Carried j l e 0 → T (begun l (x .slot) e)
-  unfolding PlayingOrder
   all-begun x i e g h t =
       ⊎-elim
-      (λ u. s .in-order x i e g (ltb→lt e (x .chunk) u) t)
+      (λ u. order-begun j sized l (s .passes .in-range) (s .in-order) x i e g (ltb→lt e (x .chunk) u) t)
       (λ (u : T (not (ltb e (x .chunk)))).
       let q : x .chunk ≡ e = omega (arith, nltb→le e (x .chunk) u) in
       begun-row l (x .slot) e x i q (omega arith))
@@ -189,14 +191,13 @@ module _ (j : Job) (sized : Sized j) (q : ℕ → ℕ) (plan : SettledByTrials j
   old-range = each-row (RowInRange j) old (λ x i. at-row (RowInRange j) (in-left old more i) (own .0 .in-range))
 
   old-in-turn : (x y : Row) → In x old → In y old → y .chunk < x .chunk → T (begun old (x .slot) (y .chunk))
-  unfolding PlayingOrder
   old-in-turn x y i k h =
       let z = at-row (RowInRange j) k old-range in
       let r = layer-of j (y .chunk) (y .layer) (z .chunk-low) (z .chunk-high) (z .layer-in) in
       let some = row-counts (λ w. eqb (w .chunk) (y .chunk) && eqb (w .layer) (y .layer)) k (T-and (eqb (y .chunk) (y .chunk)) (eqb (y .layer) (y .layer)) (eqb-refl (y .chunk)) (eqb-refl (y .layer))) in
       let has = old-of-plan (y .chunk) (y .layer) r (omega (arith, some, z .some-bytes)) in
       let base = own .2 (y .chunk) 0 (layer-of j (y .chunk) 0 (z .chunk-low) (z .chunk-high) (omega (arith, z .layer-in))) .1 (omega arith) in
-      let b = begun-by (old ++ more) (x .slot) (y .chunk) (own .1 x (in-left old more i) (y .chunk) (z .chunk-low) h base) in
+      let b = begun-by (old ++ more) (x .slot) (y .chunk) (order-begun j sized (old ++ more) (own .0 .in-range) (own .1) x (in-left old more i) (y .chunk) (z .chunk-low) h base) in
       ⊎-elim
       (λ (m : In (b .row) old). begun-row old (x .slot) (y .chunk) (b .row) m (b .chunk-is) (b .slot-by))
       (λ (m : In (b .row) more). absurd (omega (arith, b .slot-by, at-row (λ x. p ≤ x .slot) m later, at-row (λ x. x .slot < p) i before)))
@@ -274,18 +275,18 @@ module _ (j : Job) (sized : Sized j) (q : ℕ → ℕ) (plan : SettledByTrials j
   standing-is-replan =
       record {
         choice = plan .choice;
-        decided = λ i n r. (
+        decided = settles-tried-from-iff j p old old-lower q .1 (λ i n r. (
           λ h. ⊎-elim (λ u. inl (eqb→eq _ _ u)) (λ u. inr (kept-again i n r h (λ c. T-not (carried j old i n) u (eqb-iff _ _ .1 c)))) (test (carried j old i n)),
           ⊎-elim
               (λ c. old-of-plan i n r (omega (arith, c, sized i n r)))
               (λ u.
               let z = triedFrom j old q n i in
-              plan .decided n i r .1 (
+              settles-tried-iff j q n .0 (plan .decided n) i r .1 (
                 u .1,
                 fits-can-carry j sized (tried q n i) (tried-choice j q i n (plan .choice) (r .layer-in))
                     (fits-from-start j sized p old z (tried q n i) (tried-from-choice j old q i n (plan .choice) (r .layer-in)) (u .2) (λ k a b. tried-under j old q n i k)),
               )),
-        );
+        ));
       }
 
   -- ---- its own rows from p on are the rest of its list
@@ -319,6 +320,16 @@ fetched-cong j p fetched a b e (suc m) = rw (fetched-cong j p fetched a b e m)
 pub own-rest-cong : (j : Job) (p : ℕ) (fetched : List Row) (a b : ℕ → ℕ) → Same j a b → ownRest j p fetched a ≡ ownRest j p fetched b
 unfolding ownRest
 own-rest-cong j p fetched a b e = ap (λ (g : Fetched). drop (length fetched) (g .rows)) (fetched-cong j p fetched a b e (suc (lastSlot j) - p))
+
+-- Of a plan q settled by trials for the whole job and its own rows before p (Desk, `Continues`):
+pub record GoesOn (j : Job) (q : ℕ → ℕ) (p : ℕ) : Type 0 where
+  -- its rows before p are not refused,
+  pub acceptable : Acceptable j p (rowsBefore p (ownList j q))
+  -- it is the plan made afresh, and the only one,
+  pub again : IsReplan j p (rowsBefore p (ownList j q)) q
+  pub only : (plan : ℕ → ℕ) → IsReplan j p (rowsBefore p (ownList j q)) plan → Same j plan q
+  -- and its own rows are the rest.
+  pub rest : (plan : ℕ → ℕ) → IsReplan j p (rowsBefore p (ownList j q)) plan → ownRest j p (rowsBefore p (ownList j q)) plan ≡ rowsFrom p (ownList j q)
 
 pub standing-plan : (j : Job) → Accepted j → (q : ℕ → ℕ) → SettledByTrials j q → (p : ℕ) → 1 ≤ p → p ≤ lastSlot j → GoesOn j q p
 standing-plan j a q plan p lo hi =

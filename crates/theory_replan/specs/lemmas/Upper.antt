@@ -20,7 +20,8 @@ use Rattle.job.specs.Job.{chunks, due, heldMost, Job, Layer, layers, size}
 use Rattle.fetch.specs.Marks.{bit, withLayer}
 use Rattle.fetch.specs.Rows.{bytesOfLayer, Row}
 use Rattle.fetch.specs.lemmas.Marks.{mark-bit, mark-high, mark-lt, same-bits, with-bit, with-lt}
-use Rattle.theory_plan.specs.Plan.{needOf, picked}
+use Rattle.theory_plan.specs.Plan.{picked}
+use Rattle.theory_plan.specs.lemmas.Feasible.{needOf}
 use Rattle.theory_plan.specs.Statement.{Choice}
 use Rattle.theory_plan.specs.lemmas.Kept.{feas-picked, has-picked, picked-cong, picked-each}
 use Rattle.theory_plan.specs.lemmas.Level.{level, level-iff}
@@ -29,8 +30,8 @@ use Rattle.theory_plan.specs.lemmas.Need.{Feas, need-mono}
 use Rattle.theory_plan.specs.lemmas.Queue.{releases, RelOk}
 use Rattle.theory_plan.specs.lemmas.Trials.{back, Kept, levelMark, rooms, Tried, tryOne}
 use Rattle.theory_plan.specs.lemmas.Words.{carries, layer-of}
-use Rattle.theory_replan.specs.Plan.{afterFrom, busy, busyChunks, bytesLeft}
-use Rattle.theory_replan.specs.Statement.{Acceptable, triedFrom}
+use Rattle.theory_replan.specs.Plan.{afterFrom, busy, busyChunks, bytesLeft, triedFrom}
+use Rattle.theory_replan.specs.Statement.{Acceptable}
 use Rattle.theory_replan.specs.lemmas.Criterion.{all-has, busyFrom, feas-from-due}
 use Rattle.theory_replan.specs.lemmas.Fits.{FitsFrom}
 

@@ -102,10 +102,10 @@ told-good j ok allowed tells ks a =
 
 -- ---- the bases that a passing list in playing order carries
 
-pub list-bases-good : (j : Job) (rows : List Row) → Passes j rows → PlayingOrder j rows → Good j (basesIn j rows)
-list-bases-good j rows ok o =
+pub list-bases-good : (j : Job) → Sized j → (rows : List Row) → Passes j rows → PlayingOrder j rows → Good j (basesIn j rows)
+list-bases-good j sized rows ok o =
     let x = level j rows in
-    let f = can-carry-fits j x (level-choice j rows) (record { rows = rows; passes = ok; in-order = o; exactly = level-exactly j rows ok }) in
+    let f = can-carry-fits j sized x (level-choice j rows) (record { rows = rows; passes = ok; in-order = o; exactly = level-exactly j rows ok }) in
     let g : Feas (bytes j x) (due j) (after j) (heldMost j) (basesIn j rows) = subst (Feas (bytes j x) (due j) (after j) (heldMost j)) (picked-cong (λ i. leb 1 (x i)) (λ i. ltb 0 (x i)) 0 (chunks j) (λ i u v. sym (same-tests (x i)))) f in
     feas-picked (baseSize j) (bytes j x) (due j) (after j) (heldMost j) (λ i. ltb 0 (x i)) 0 (chunks j)
     (λ i u v t. omega (arith, sum-mono (size j i) 1 (x i) (ltb→lt 0 (x i) t))) g

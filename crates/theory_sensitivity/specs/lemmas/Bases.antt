@@ -15,15 +15,17 @@ use Rattle.job.specs.Job.{Job, chunks, due, heldMost, layers, size, withForecas
 use Rattle.fetch.specs.Rows.{Row, carried, layerCount}
 use Rattle.fetch.specs.Rules.{Passes}
 use Rattle.theory_plan.specs.Plan.{after}
-use Rattle.theory_plan.specs.lemmas.Ascending.{Asc, asc-each, count-all}
+use Rattle.theory_plan.specs.lemmas.Ascending.{asc-each, count-all}
 use Rattle.theory_plan.specs.lemmas.Base.{bases-asc, bases-counted, bases-fit, basesIn}
 use Rattle.theory_plan.specs.lemmas.Level.{count-carried, level, level-exactly}
 use Rattle.theory_plan.specs.lemmas.Need.{Feas, feas-mono}
-use Rattle.theory_plan.specs.lemmas.Sufficiency.{fetch, layer-is, sufficient, weight}
+use Rattle.theory_plan.specs.lemmas.Sufficiency.{fetch, layer-is, sufficient}
 use Rattle.theory_plan.specs.lemmas.Words.{Sized, due-rises}
 use Rattle.theory_sensitivity.specs.Statement.{OneSlotMore}
 use Rattle.theory_sensitivity.specs.lemmas.Grown.{after-early, after-late}
 use Rattle.theory_sensitivity.specs.lemmas.Thin.{thin, thin-asc, thin-feas, thin-length}
+use Rattle.theory_plan.specs.Bases.{Asc}
+use Rattle.theory_plan.specs.lemmas.Queue.{weight}
 
 each-has : (ks : List ℕ) → All (λ i. T (has ks i)) ks
 each-has [] = tt

@@ -13,9 +13,10 @@ use lib.Seq.{drop-drop}
 use Rattle.theory_basics.specs.Tests.{All}
 use Rattle.theory_basics.specs.lemmas.Tables.{all-drop}
 use Rattle.theory_basics.specs.lemmas.Tests.{all-map, by-cond, test}
-use Rattle.theory_plan.specs.Plan.{needOf}
-use Rattle.theory_plan.specs.lemmas.Ascending.{Asc, asc-without}
+use Rattle.theory_plan.specs.lemmas.Feasible.{needOf}
+use Rattle.theory_plan.specs.lemmas.Ascending.{asc-without}
 use Rattle.theory_plan.specs.lemmas.Need.{Feas, Tails, need-without, tails-drop}
+use Rattle.theory_plan.specs.Bases.{Asc}
 
 -- Without the first n of those due in slot t or later.
 abbrev pub thin : (d : ℕ → ℕ) (t n : ℕ) → List ℕ → List ℕ

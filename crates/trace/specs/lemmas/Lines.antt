@@ -13,7 +13,8 @@ use Rattle.theory_basics.specs.lemmas.Refusals.{unless-as, and-as}
 use Rattle.theory_basics.specs.Tests.{All, all}
 use Rattle.theory_basics.specs.lemmas.Tests.{all-iff, all-map, by-cond, leb-iff}
 use Rattle.job.specs.Job.{Within}
-use Rattle.job.specs.Refusal.{within, within-iff}
+use Rattle.job.specs.Refusal.{within}
+use Rattle.job.specs.Theorems.{within-iff}
 use Rattle.trace.specs.Trace.{Found, Line, Means, NotBelow, linesRefusal, found, front, line, notBelow, linesBytes, time}
 
 -- ---- what is found

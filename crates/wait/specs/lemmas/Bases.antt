@@ -9,7 +9,7 @@ use native.Mathlib.Omega.{arith}
 use Rattle.theory_basics.specs.lemmas.Ranges.{sum-mono}
 use Rattle.job.specs.Job.{Job, EqualChunks, chunks, due, heldMost, layers, size}
 use Rattle.theory_plan.specs.Plan.{after}
-use Rattle.theory_plan.specs.Statement.{CanCarry, IsPlan}
+use Rattle.theory_plan.specs.Statement.{CanCarry, IsPlan, NoSkip}
 pub use Rattle.theory_plan.specs.lemmas.AllBases.{AllFit, basesAlone, from, no-skip-iff}
 use Rattle.theory_plan.specs.lemmas.AllBases.{can-carry-all-iff, fits-all-fit}
 use Rattle.theory_plan.specs.lemmas.AnyOrder.{any-order-fit}
@@ -17,17 +17,17 @@ use Rattle.theory_plan.specs.lemmas.Choice.{can-carry-fits, chunk-bytes}
 use Rattle.theory_plan.specs.lemmas.Kept.{feas-picked, picked-asc, picked-each}
 use Rattle.theory_plan.specs.lemmas.Level.{level, level-choice, level-exactly}
 use Rattle.theory_plan.specs.lemmas.Words.{Sized, bytesOfChunk, layer-of}
-use Rattle.wait.specs.Wait.{NoSkip, SomeList, SomeOrdered}
+use Rattle.wait.specs.Wait.{SomeList, SomeOrdered}
 
 module _ (j : Job) (some : 0 < layers j) where
   -- ---- some list
 
-  ordered-all-fit : SomeOrdered j → AllFit j
-  ordered-all-fit o =
+  ordered-all-fit : Sized j → SomeOrdered j → AllFit j
+  ordered-all-fit sized o =
       let l = o .rows in
       fits-all-fit j some (level j l)
       (λ i u v. level-exactly j l (o .passes) i 0 (layer-of j i 0 u v some) .0 (o .every i u v))
-      (can-carry-fits j (level j l) (level-choice j l) (record { rows = l; passes = o .passes; in-order = o .in-order; exactly = level-exactly j l (o .passes) }))
+      (can-carry-fits j sized (level j l) (level-choice j l) (record { rows = l; passes = o .passes; in-order = o .in-order; exactly = level-exactly j l (o .passes) }))
 
   can-carry-ordered : CanCarry j basesAlone → SomeOrdered j
   can-carry-ordered c = record { rows = c .rows; passes = c .passes; in-order = c .in-order; every = λ i u v. c .exactly i 0 (layer-of j i 0 u v some) .1 (omega arith) }
@@ -50,7 +50,7 @@ module _ (j : Job) (some : 0 < layers j) where
       (any-order-fit j l (o .passes) z (from 0 (chunks j)) asc each)
 
   ordered-iff : Sized j → SomeOrdered j ↔ AllFit j
-  ordered-iff sized = (ordered-all-fit, λ f. can-carry-ordered (can-carry-all-iff j some sized .1 f))
+  ordered-iff sized = (ordered-all-fit sized, λ f. can-carry-ordered (can-carry-all-iff j some sized .1 f))
 
   any-iff : Sized j → EqualChunks j → SomeList j ↔ AllFit j
   any-iff sized equal = (

@@ -14,12 +14,14 @@ use Rattle.theory_basics.specs.Sums.{pre}
 use Rattle.theory_basics.specs.lemmas.Ranges.{pre-cong, pre-mono}
 use Rattle.theory_basics.specs.lemmas.Tests.{T-and, and-T, test, tests}
 use Rattle.job.specs.Job.{due, dueSlot, forecast, heldMost, lastDue, sizeIn}
-use Rattle.theory_plan.specs.Plan.{after, needOf}
+use Rattle.theory_plan.specs.Plan.{after}
+use Rattle.theory_plan.specs.lemmas.Feasible.{needOf}
 use Rattle.theory_plan.specs.lemmas.Linear.{needs-at, needs-of}
 use Rattle.theory_plan.specs.lemmas.Need.{Feas}
 use Rattle.theory_plan.specs.lemmas.Trials.{candidate, keeps}
 use Rattle.wait.specs.Wait.{Film, jobAt, programmeAt}
-use Rattle.wait.specs.lemmas.Bases.{AllFit, from}
+use Rattle.wait.specs.lemmas.Bases.{from}
+use Rattle.theory_plan.specs.lemmas.AllBases.{AllFit}
 
 -- ---- one pass
 

@@ -2,7 +2,6 @@
 use borrow.Author.Needs.{needs}
 use Rattle.jobrecords.specs.Refusal.{mixed}
 use Rattle.jobfile.specs.Writer.{jobFile}
-use Rattle.jobfile.specs.declared.Written.the-variants.{Bytes, Refused}
 use Rattle.whole_files.proofs.Reading.{of-file, refused-mixed, rewritten, taken-mixed}
 use Rattle.whole_files.proofs.Writing.{wrote-refused}
 use Rattle.whole_files.proofs.convert_file.Statement.{statement}
@@ -49,8 +48,8 @@ write-job-requires c κs = search needs
 
 returns : tie.Need-returns
 returns c =
-    let known = refused-mixed (c .before .before .before .before .before .before .before .before .before .before .args .job .now) _ _ (c .before .before .before .before .before .read-mixed-job .ensures .0) (c .before .n .given .1) in
-    wrote-refused Bytes Refused _ _ _ _ (known .0) (known .1)
+    let known = refused-mixed (c .before .before .before .before .before .before .before .before .before .before .args .job .now) _ _ (c .before .before .before .before .before .read-mixed-job .ensures .answer) (c .before .n .given .1) in
+    wrote-refused _ _ _ _ (known .0) (known .1)
 
 same-length : tie.Need-same-length
 same-length c = search needs
@@ -58,8 +57,8 @@ same-length c = search needs
 returns-2 : tie.Need-returns-2
 returns-2 c =
     let read = c .before .before .before .before .before .before .before .before .before .before .before .before .before .before .before .before .read-mixed-job .ensures in
-    let t = taken-mixed (c .before .before .before .before .before .before .before .before .before .before .before .before .before .before .before .before .before .before .before .before .before .args .job .now) _ _ _ _ _ _ _ _ _ (read .0) (c .before .before .before .before .before .before .before .before .before .before .before .before .programme .given .1) (read .1 .0) (read .1 .1) (c .before .before .before .before .before .before .before .before .before .words .ensures) (c .before .before .before .before .words2 .ensures) in
-    of-file Bytes Refused mixed _ _ jobFile _ _ _ t (rewritten _ _ _ _ _ t (c .before .before .write-job .ensures .0) (c .before .before .write-job .ensures .1))
+    let t = taken-mixed (c .before .before .before .before .before .before .before .before .before .before .before .before .before .before .before .before .before .before .before .before .before .args .job .now) _ _ _ _ _ _ _ _ _ read (c .before .before .before .before .before .before .before .before .before .before .before .before .programme .given .1) (c .before .before .before .before .before .before .before .before .before .words .ensures) (c .before .before .before .before .words2 .ensures) in
+    of-file mixed _ _ jobFile _ _ _ t (rewritten _ _ _ _ _ t (c .before .before .write-job .ensures))
 
 pub convert-file-spec : {M : Type 1} → statement M
 convert-file-spec =

@@ -2,7 +2,6 @@
 use borrow.Author.Needs.{needs}
 use mathlib.Core.Path.{sym, _∙_}
 use Rattle.jobrecords.specs.Refusal.{oneSequence}
-use Rattle.planfile.specs.declared.Written.the-variants.{Bytes, Refused}
 use Rattle.planfile.specs.PlanFile.{fileOf}
 use Rattle.whole_files.specs.Files.{planOfJob}
 use Rattle.whole_files.proofs.Reading.{of-file, refused-one, taken}
@@ -75,8 +74,8 @@ plan-job-requires c κs = search needs
 
 returns : tie.Need-returns
 returns c =
-    let known = refused-one _ _ (c .before .before .before .before .before .before .before .before .before .before .before .before .before .before .before .before .args .job .now) _ _ (c .before .before .before .before .before .before .before .before .read-job .ensures .0) (c .before .n .given .1) in
-    wrote-refused Bytes Refused _ _ _ _ (known .0) (known .1)
+    let known = refused-one _ _ (c .before .before .before .before .before .before .before .before .before .before .before .before .before .before .before .before .args .job .now) _ _ (c .before .before .before .before .before .before .before .before .read-job .ensures .answer) (c .before .n .given .1) in
+    wrote-refused _ _ _ _ (known .0) (known .1)
 
 same-length : tie.Need-same-length
 same-length c = search needs
@@ -85,10 +84,10 @@ returns-2 : tie.Need-returns-2
 returns-2 c =
     let read = c .before .before .before .before .before .before .before .before .before .before .before .before .before .before .before .before .before .before .before .before .before .before .read-job .ensures in
     let t =
-    taken oneSequence (c .before .before .before .before .before .before .before .before .before .before .before .before .before .before .before .before .before .before .before .before .before .before .before .before .before .before .before .before .before .before .args .job .now) _ _ _ _ _ _ _ _ _ _ _ _ _ _ _ _
-    (read .0) (c .before .before .before .before .before .before .before .before .before .before .before .before .before .before .before .programme .given .1) (read .1 .0) (read .1 .1 .0) (read .1 .1 .1 .0) (read .1 .1 .1 .1 .0) (read .1 .1 .1 .1 .1)
+    taken oneSequence (c .before .before .before .before .before .before .before .before .before .before .before .before .before .before .before .before .before .before .before .before .before .before .before .before .before .before .before .before .before .before .args .job .now) _ _ _ _ _ _ _ _ _ _ _ _
+    read (c .before .before .before .before .before .before .before .before .before .before .before .before .before .before .before .programme .given .1)
     (c .before .before .before .before .before .before .before .before .before .before .before .before .words .ensures) (c .before .before .before .before .before .before .before .before .before .before .halves .ensures) (c .before .before .before .before .before .before .before .before .bytes .ensures) (c .before .before .before .before .before .before .words2 .ensures) (c .before .before .before .before .words3 .ensures) in
-    of-file Bytes Refused oneSequence _ _ (λ j. fileOf (planOfJob j)) _ _ _ t (c .before .before .plan-job .ensures)
+    of-file oneSequence _ _ (λ j. fileOf (planOfJob j)) _ _ _ t (c .before .before .plan-job .ensures)
 
 pub plan-file-spec : {M : Type 1} → statement M
 plan-file-spec =

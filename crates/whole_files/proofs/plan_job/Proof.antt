@@ -68,7 +68,7 @@ write-plan-requires : tie.Need-write-plan-requires
 write-plan-requires c κs = search needs
 
 returns : tie.Need-returns
-returns c = plan-refused _ (c .before .before .before .before .before .before .before .before .before .before .before .before .before .before .before .before .before .before .before .before .args .p .chunks) (c .before .before .before .before .before .before .before .before .before .before .before .before .before .before .before .before .before .before .before .before .args .p .chunks) _ _ _ (c .before .before .before .before .before .before .before .before .plan .ensures .0 .answer) (c .before .answer .given .1)
+returns c = plan-refused _ (c .before .before .before .before .before .before .before .before .before .before .before .before .before .before .before .before .before .before .before .before .args .p .chunks) (c .before .before .before .before .before .before .before .before .before .before .before .before .before .before .before .before .before .before .before .before .args .p .chunks) _ _ _ (c .before .before .before .before .before .before .before .before .plan .ensures .output .answer) (c .before .answer .given .1)
 
 same-length : tie.Need-same-length
 same-length c = search needs
@@ -76,8 +76,8 @@ same-length c = search needs
 returns-2 : tie.Need-returns-2
 returns-2 c =
     let written = c .before .before .write-plan .ensures in
-    plan-written _ (c .before .before .before .before .before .before .before .before .before .before .before .before .before .before .before .before .before .before .before .before .before .before .before .before .before .before .before .before .before .before .before .before .before .before .before .args .p .chunks) (c .before .before .before .before .before .before .before .before .before .before .before .before .before .before .before .before .before .before .before .before .before .before .before .before .before .before .before .before .before .before .before .before .before .before .before .args .p .chunks) _ _ _ _ _ _ _ _ _ _ _ (c .before .before .before .before .before .before .before .before .before .before .before .before .before .before .before .before .before .before .before .before .before .before .before .plan .ensures .0) (c .before .before .before .before .before .before .before .before .before .before .before .before .before .before .before .before .answer2 .given .1)
-    (c .before .before .before .before .before .before .before .before .before .before .before .before .bytes3 .ensures) (c .before .before .before .before .before .before .before .before .before .before .halves .ensures) (c .before .before .before .before .before .before .before .before .halves2 .ensures) (c .before .before .before .before .before .before .bytes4 .ensures) (c .before .before .before .before .words .ensures) (written .0) (written .1)
+    plan-written _ (c .before .before .before .before .before .before .before .before .before .before .before .before .before .before .before .before .before .before .before .before .before .before .before .before .before .before .before .before .before .before .before .before .before .before .before .args .p .chunks) (c .before .before .before .before .before .before .before .before .before .before .before .before .before .before .before .before .before .before .before .before .before .before .before .before .before .before .before .before .before .before .before .before .before .before .before .args .p .chunks) _ _ _ _ _ _ _ _ _ _ _ (c .before .before .before .before .before .before .before .before .before .before .before .before .before .before .before .before .before .before .before .before .before .before .before .plan .ensures .output) (c .before .before .before .before .before .before .before .before .before .before .before .before .before .before .before .before .answer2 .given .1)
+    (c .before .before .before .before .before .before .before .before .before .before .before .before .bytes3 .ensures) (c .before .before .before .before .before .before .before .before .before .before .halves .ensures) (c .before .before .before .before .before .before .before .before .halves2 .ensures) (c .before .before .before .before .before .before .bytes4 .ensures) (c .before .before .before .before .words .ensures) (written .answer) (written .after)
 
 pub plan-job-spec : {M : Type 1} → statement M
 plan-job-spec =

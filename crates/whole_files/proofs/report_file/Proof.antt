@@ -2,7 +2,6 @@
 use borrow.Author.Needs.{needs}
 use mathlib.Core.Path.{sym, _∙_}
 use Rattle.jobrecords.specs.Refusal.{oneSequence}
-use Rattle.report.specs.declared.Written.the-variants.{Bytes, Refused}
 use Rattle.report.specs.Answer.{planReport}
 use Rattle.whole_files.proofs.Reading.{of-file, refused-one, taken}
 use Rattle.whole_files.proofs.Writing.{wrote-refused}
@@ -74,8 +73,8 @@ report-requires c κs = search needs
 
 returns : tie.Need-returns
 returns c =
-    let known = refused-one _ _ (c .before .before .before .before .before .before .before .before .before .before .before .before .before .before .before .before .args .job .now) _ _ (c .before .before .before .before .before .before .before .before .read-job .ensures .0) (c .before .n .given .1) in
-    wrote-refused Bytes Refused _ _ _ _ (known .0) (known .1)
+    let known = refused-one _ _ (c .before .before .before .before .before .before .before .before .before .before .before .before .before .before .before .before .args .job .now) _ _ (c .before .before .before .before .before .before .before .before .read-job .ensures .answer) (c .before .n .given .1) in
+    wrote-refused _ _ _ _ (known .0) (known .1)
 
 same-length : tie.Need-same-length
 same-length c = search needs
@@ -84,10 +83,10 @@ returns-2 : tie.Need-returns-2
 returns-2 c =
     let read = c .before .before .before .before .before .before .before .before .before .before .before .before .before .before .before .before .before .before .before .before .before .before .read-job .ensures in
     let t =
-    taken oneSequence (c .before .before .before .before .before .before .before .before .before .before .before .before .before .before .before .before .before .before .before .before .before .before .before .before .before .before .before .before .before .before .args .job .now) _ _ _ _ _ _ _ _ _ _ _ _ _ _ _ _
-    (read .0) (c .before .before .before .before .before .before .before .before .before .before .before .before .before .before .before .programme .given .1) (read .1 .0) (read .1 .1 .0) (read .1 .1 .1 .0) (read .1 .1 .1 .1 .0) (read .1 .1 .1 .1 .1)
+    taken oneSequence (c .before .before .before .before .before .before .before .before .before .before .before .before .before .before .before .before .before .before .before .before .before .before .before .before .before .before .before .before .before .before .args .job .now) _ _ _ _ _ _ _ _ _ _ _ _
+    read (c .before .before .before .before .before .before .before .before .before .before .before .before .before .before .before .programme .given .1)
     (c .before .before .before .before .before .before .before .before .before .before .before .before .words .ensures) (c .before .before .before .before .before .before .before .before .before .before .halves .ensures) (c .before .before .before .before .before .before .before .before .bytes .ensures) (c .before .before .before .before .before .before .words2 .ensures) (c .before .before .before .before .words3 .ensures) in
-    of-file Bytes Refused oneSequence _ _ planReport _ _ _ t (record { answer = c .before .before .report .ensures .result; buffer = c .before .before .report .ensures .buffer })
+    of-file oneSequence _ _ planReport _ _ _ t (record { answer = c .before .before .report .ensures .result; buffer = c .before .before .report .ensures .buffer })
 
 pub report-file-spec : {M : Type 1} → statement M
 report-file-spec =

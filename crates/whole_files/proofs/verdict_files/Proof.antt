@@ -71,14 +71,14 @@ verdict-job-requires c κs = search needs
 
 returns : tie.Need-returns
 returns c =
-    files-refused _ (c .before .before .before .before .before .before .before .before .before .before .before .before .before .before .before .before .args .plan .now) _ (refused-one _ _ (c .before .before .before .before .before .before .before .before .before .before .before .before .before .before .before .before .args .job .now) _ _ (c .before .before .before .before .before .before .before .before .read-job .ensures .0) (c .before .n .given .1))
+    files-refused _ (c .before .before .before .before .before .before .before .before .before .before .before .before .before .before .before .before .args .plan .now) _ (refused-one _ _ (c .before .before .before .before .before .before .before .before .before .before .before .before .before .before .before .before .args .job .now) _ _ (c .before .before .before .before .before .before .before .before .read-job .ensures .answer) (c .before .n .given .1))
 
 returns-2 : tie.Need-returns-2
 returns-2 c =
     let read = c .before .before .before .before .before .before .before .before .before .before .before .before .before .before .before .before .before .before .before .read-job .ensures in
     let t =
-    taken oneSequence (c .before .before .before .before .before .before .before .before .before .before .before .before .before .before .before .before .before .before .before .before .before .before .before .before .before .before .before .args .job .now) _ _ _ _ _ _ _ _ _ _ _ _ _ _ _ _
-    (read .0) (c .before .before .before .before .before .before .before .before .before .before .before .before .programme .given .1) (read .1 .0) (read .1 .1 .0) (read .1 .1 .1 .0) (read .1 .1 .1 .1 .0) (read .1 .1 .1 .1 .1)
+    taken oneSequence (c .before .before .before .before .before .before .before .before .before .before .before .before .before .before .before .before .before .before .before .before .before .before .before .before .before .before .before .args .job .now) _ _ _ _ _ _ _ _ _ _ _ _
+    read (c .before .before .before .before .before .before .before .before .before .before .before .before .programme .given .1)
     (c .before .before .before .before .before .before .before .before .before .words .ensures) (c .before .before .before .before .before .before .before .halves .ensures) (c .before .before .before .before .before .bytes .ensures) (c .before .before .before .words2 .ensures) (c .before .words3 .ensures) in
     files-judged _ _ _ _ t (c .verdict-job .ensures)
 

@@ -65,12 +65,12 @@ check-requires : tie.Need-check-requires
 check-requires c κs = search needs
 
 returns : tie.Need-returns
-returns c = file-refused _ (c .before .before .before .before .before .before .before .before .before .before .before .before .before .before .before .before .before .before .before .before .args .plan .now) _ _ (c .before .before .before .before .before .before .before .before .read-plan .ensures .0) (c .before .n .given .1)
+returns c = file-refused _ (c .before .before .before .before .before .before .before .before .before .before .before .before .before .before .before .before .before .before .before .before .args .plan .now) _ _ (c .before .before .before .before .before .before .before .before .read-plan .ensures .answer) (c .before .n .given .1)
 
 returns-2 : tie.Need-returns-2
 returns-2 c =
     let read = c .before .before .before .before .before .before .before .before .before .before .before .before .before .before .before .before .before .before .before .before .read-plan .ensures in
-    file-judged _ (c .before .before .before .before .before .before .before .before .before .before .before .before .before .before .before .before .before .before .before .before .before .before .before .before .before .before .before .before .before .before .before .before .args .plan .now) _ _ _ _ _ _ _ _ _ (read .0) (read .1) (c .before .before .before .before .before .before .before .before .before .before .before .before .before .rows .given .1)
+    file-judged _ (c .before .before .before .before .before .before .before .before .before .before .before .before .before .before .before .before .before .before .before .before .before .before .before .before .before .before .before .before .before .before .before .before .args .plan .now) _ _ _ _ _ _ _ _ _ (read .answer) (read .after) (c .before .before .before .before .before .before .before .before .before .before .before .before .before .rows .given .1)
     (c .before .before .before .before .before .before .before .before .before .bytes3 .ensures) (c .before .before .before .before .before .before .before .halves .ensures) (c .before .before .before .before .before .halves2 .ensures) (c .before .before .before .bytes4 .ensures) (c .before .words .ensures) (c .check .ensures)
 
 pub verdict-job-spec : {M : Type 1} → statement M

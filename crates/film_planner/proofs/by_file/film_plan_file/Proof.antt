@@ -1,23 +1,20 @@
 -- `film_planner::by_file::film_plan_file` meets its contract. Assumes nothing.
-use mathlib.Core.Path.{refl}
 use borrow.Author.Needs.{needs}
 use Rattle.film_planner.proofs.by_file.film_plan_file.Statement.{statement}
 use Rattle.film_planner.proofs.by_file.film_plan_file.Tie as tie
-use Rattle.planfile.specs.declared.Written.the-variants.{Bytes, Refused}
-use Rattle.core_ffi.specs.lemmas.Numbers.{planWrittenNumber}
 use Rattle.core_ffi.specs.lemmas.Programs.{text-handed}
 
 plan-file-requires : tie.Need-plan-file-requires
 plan-file-requires c κs = search needs
 
-plan-written-number-requires : tie.Need-plan-written-number-requires
-plan-written-number-requires c κs = search needs
+written-number-requires : tie.Need-written-number-requires
+written-number-requires c κs = search needs
 
 same-length : tie.Need-same-length
 same-length c = search needs
 
 returns : tie.Need-returns
-returns c = text-handed planWrittenNumber Bytes Refused _ _ _ _ _ _ (λ n. refl) (λ n. refl) (c .plan-written-number .ensures) (c .before .before .before .plan-file .ensures)
+returns c = text-handed _ _ _ _ _ _ (c .written-number .ensures) (c .before .before .before .plan-file .ensures)
 
 pub film-plan-file-spec : {M : Type 1} → statement M
-film-plan-file-spec = tie.close (tie.spec plan-file-requires plan-written-number-requires same-length returns)
+film-plan-file-spec = tie.close (tie.spec plan-file-requires written-number-requires same-length returns)

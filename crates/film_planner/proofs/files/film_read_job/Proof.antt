@@ -2,9 +2,8 @@
 use borrow.Author.Needs.{needs}
 use Rattle.film_planner.proofs.files.film_read_job.Statement.{statement}
 use Rattle.film_planner.proofs.files.film_read_job.Tie as tie
-use Rattle.jobrecords.specs.Reader.{lentRead}
 use Rattle.jobrecords.specs.Refusal.{oneSequence}
-use Rattle.core_ffi.specs.lemmas.Reading.{read-short, read-whole, room-for-job, same-buffers}
+use Rattle.core_ffi.specs.lemmas.Reading.{read-short, read-whole, room-for-job}
 
 holds-job-requires : tie.Need-holds-job-requires
 holds-job-requires c κs = search needs
@@ -13,7 +12,7 @@ job-refused-requires : tie.Need-job-refused-requires
 job-refused-requires c κs = search needs
 
 returns : tie.Need-returns
-returns c = read-short oneSequence (c .before .before .before .before .before .before .before .before .before .before .before .args .file .now) _ _ _ _ _ (c .before .before .holds-job .ensures) (c .before .if1 .taken) (c .job-refused .ensures)
+returns c = read-short oneSequence (c .before .before .before .before .before .before .before .before .before .before .before .args .file .now) _ _ _ (c .before .before .holds-job .ensures) (c .before .if1 .taken) (c .job-refused .ensures)
 
 read-job-requires : tie.Need-read-job-requires
 read-job-requires c κs = search needs
@@ -46,8 +45,7 @@ same-length-7 : tie.Need-same-length-7
 same-length-7 c = search needs
 
 returns-2 : tie.Need-returns-2
-unfolding lentRead
-returns-2 c = read-whole oneSequence (c .before .before .before .before .before .before .before .before .before .before .before .before .before .before .before .before .before .before .before .before .before .before .before .before .before .before .before .before .before .before .before .before .before .before .args .file .now) _ _ _ _ _ _ _ _ _ (c .before .before .before .before .before .before .before .before .before .before .before .before .before .before .before .before .before .before .before .before .before .before .before .before .before .holds-job .ensures) (c .before .before .before .before .before .before .before .before .before .before .before .before .before .before .before .before .before .before .before .before .before .before .before .before .if1 .left) (c .before .before .before .before .before .before .before .before .before .before .before .before .before .before .before .before .before .before .read-job .ensures .0) (same-buffers (c .before .before .before .before .before .before .before .before .before .before .before .before .before .before .before .before .before .before .read-job .ensures .1 .0) (c .before .before .before .before .before .before .before .before .before .before .before .before .before .before .before .before .before .before .read-job .ensures .1 .1 .0) (c .before .before .before .before .before .before .before .before .before .before .before .before .before .before .before .before .before .before .read-job .ensures .1 .1 .1 .0) (c .before .before .before .before .before .before .before .before .before .before .before .before .before .before .before .before .before .before .read-job .ensures .1 .1 .1 .1 .0) (c .before .before .before .before .before .before .before .before .before .before .before .before .before .before .before .before .before .before .read-job .ensures .1 .1 .1 .1 .1)) (c .before .before .before .before .before .store-job .ensures .0) (c .before .before .before .before .before .store-job .ensures .1) (c .job-number .ensures)
+returns-2 c = read-whole oneSequence (c .before .before .before .before .before .before .before .before .before .before .before .before .before .before .before .before .before .before .before .before .before .before .before .before .before .before .before .before .before .before .before .before .before .before .args .file .now) _ _ _ _ _ (c .before .before .before .before .before .before .before .before .before .before .before .before .before .before .before .before .before .before .before .before .before .before .before .before .before .holds-job .ensures) (c .before .before .before .before .before .before .before .before .before .before .before .before .before .before .before .before .before .before .before .before .before .before .before .before .if1 .left) (c .before .before .before .before .before .before .before .before .before .before .before .before .before .before .before .before .before .before .read-job .ensures) (c .before .before .before .before .before .store-job .ensures .0) (c .before .before .before .before .before .store-job .ensures .1) (c .job-number .ensures)
 
 pub film-read-job-spec : {M : Type 1} → statement M
 film-read-job-spec =

@@ -2,12 +2,8 @@
 use borrow.Author.Needs.{needs}
 use Rattle.film_planner.proofs.files.film_read_mixed_job.Statement.{statement}
 use Rattle.film_planner.proofs.files.film_read_mixed_job.Tie as tie
-use mathlib.Core.List.{[]}
-use Rattle.job.specs.Job.{Override}
-use Rattle.jobrecords.specs.Reader.{buffers, lentRead, jobReadRefusal}
 use Rattle.jobrecords.specs.Refusal.{mixed}
-use Rattle.jobrecords.specs.Theorems.{no-overrides}
-use Rattle.core_ffi.specs.lemmas.Reading.{nothing, read-short, read-whole, room-for-job, same-buffers}
+use Rattle.core_ffi.specs.lemmas.Reading.{read-short, read-whole, room-for-job}
 
 holds-job-requires : tie.Need-holds-job-requires
 holds-job-requires c κs = search needs
@@ -16,7 +12,7 @@ mixed-refused-requires : tie.Need-mixed-refused-requires
 mixed-refused-requires c κs = search needs
 
 returns : tie.Need-returns
-returns c = read-short mixed (c .before .before .before .before .before .before .before .before .args .file .now) _ _ _ _ _ (c .before .before .holds-job .ensures) (c .before .if1 .taken) (c .mixed-refused .ensures)
+returns c = read-short mixed (c .before .before .before .before .before .before .before .before .args .file .now) _ _ _ (c .before .before .holds-job .ensures) (c .before .if1 .taken) (c .mixed-refused .ensures)
 
 read-mixed-job-requires : tie.Need-read-mixed-job-requires
 read-mixed-job-requires c κs = search needs
@@ -40,8 +36,7 @@ same-length-4 : tie.Need-same-length-4
 same-length-4 c = search needs
 
 returns-2 : tie.Need-returns-2
-unfolding lentRead
-returns-2 c = read-whole mixed (c .before .before .before .before .before .before .before .before .before .before .before .before .before .before .before .before .before .before .before .before .before .before .args .file .now) _ _ _ _ _ _ _ _ _ (c .before .before .before .before .before .before .before .before .before .before .before .before .before .before .before .before .holds-job .ensures) (c .before .before .before .before .before .before .before .before .before .before .before .before .before .before .before .if1 .left) (c .before .before .before .before .before .before .before .before .before .before .before .before .read-mixed-job .ensures .0) (same-buffers (c .before .before .before .before .before .before .before .before .before .before .before .before .read-mixed-job .ensures .1 .0) (nothing (λ (o : Override). o .chunk) (jobReadRefusal mixed (c .before .before .before .before .before .before .before .before .before .before .before .before .before .before .before .before .before .before .before .before .before .before .args .file .now) (buffers (c .before .before .before .before .before .before .before .before .before .before .before .before .before .before .before .before .before .before .before .before .before .before .args .sizes .now) [] [] [] (c .before .before .before .before .before .before .before .before .before .before .before .before .before .before .before .before .before .before .before .before .before .before .args .forecast .now))) _ (no-overrides (c .before .before .before .before .before .before .before .before .before .before .before .before .before .before .before .before .before .before .before .before .before .before .args .file .now))) (nothing (λ (o : Override). o .layer) (jobReadRefusal mixed (c .before .before .before .before .before .before .before .before .before .before .before .before .before .before .before .before .before .before .before .before .before .before .args .file .now) (buffers (c .before .before .before .before .before .before .before .before .before .before .before .before .before .before .before .before .before .before .before .before .before .before .args .sizes .now) [] [] [] (c .before .before .before .before .before .before .before .before .before .before .before .before .before .before .before .before .before .before .before .before .before .before .args .forecast .now))) _ (no-overrides (c .before .before .before .before .before .before .before .before .before .before .before .before .before .before .before .before .before .before .before .before .before .before .args .file .now))) (nothing (λ (o : Override). o .bytes) (jobReadRefusal mixed (c .before .before .before .before .before .before .before .before .before .before .before .before .before .before .before .before .before .before .before .before .before .before .args .file .now) (buffers (c .before .before .before .before .before .before .before .before .before .before .before .before .before .before .before .before .before .before .before .before .before .before .args .sizes .now) [] [] [] (c .before .before .before .before .before .before .before .before .before .before .before .before .before .before .before .before .before .before .before .before .before .before .args .forecast .now))) _ (no-overrides (c .before .before .before .before .before .before .before .before .before .before .before .before .before .before .before .before .before .before .before .before .before .before .args .file .now))) (c .before .before .before .before .before .before .before .before .before .before .before .before .read-mixed-job .ensures .1 .1)) (c .before .before .before .before .before .store-job .ensures .0) (c .before .before .before .before .before .store-job .ensures .1) (c .job-number .ensures)
+returns-2 c = read-whole mixed (c .before .before .before .before .before .before .before .before .before .before .before .before .before .before .before .before .before .before .before .before .before .before .args .file .now) _ _ _ _ _ (c .before .before .before .before .before .before .before .before .before .before .before .before .before .before .before .before .holds-job .ensures) (c .before .before .before .before .before .before .before .before .before .before .before .before .before .before .before .if1 .left) (c .before .before .before .before .before .before .before .before .before .before .before .before .read-mixed-job .ensures) (c .before .before .before .before .before .store-job .ensures .0) (c .before .before .before .before .before .store-job .ensures .1) (c .job-number .ensures)
 
 pub film-read-mixed-job-spec : {M : Type 1} → statement M
 film-read-mixed-job-spec =

@@ -27,7 +27,9 @@ same-length-5 : tie.Need-same-length-5
 same-length-5 c = search needs
 
 returns : tie.Need-returns
-returns c = (is-answered planReadNumber _ _ _ _ _ _ (c .plan-read-number .ensures) (c .before .before .before .before .before .before .before .before .before .before .before .read-plan .ensures .0) refl refl, c .before .before .before .before .before .before .before .before .before .before .before .read-plan .ensures .1)
+returns c =
+    let w = c .before .before .before .before .before .before .before .before .before .before .before .read-plan .ensures in
+    record { number = is-answered planReadNumber _ _ _ _ _ _ (c .plan-read-number .ensures) (w .answer) refl refl; after = w .after }
 
 pub film-read-plan-spec : {M : Type 1} → statement M
 film-read-plan-spec =

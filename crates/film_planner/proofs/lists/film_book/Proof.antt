@@ -15,7 +15,9 @@ same-length : tie.Need-same-length
 same-length c = search needs
 
 returns : tie.Need-returns
-returns c = (is-answered bookedNumber _ _ _ _ _ _ (c .booking-number .ensures) (c .before .before .before .book .ensures .answered) refl refl, c .before .before .before .book .ensures .left)
+returns c =
+    let w = c .before .before .before .book .ensures in
+    record { number = is-answered bookedNumber _ _ _ _ _ _ (c .booking-number .ensures) (w .answered) refl refl; left = w .left }
 
 pub film-book-spec : {M : Type 1} → statement M
 film-book-spec = tie.close (tie.spec book-requires booking-number-requires same-length returns)

@@ -12,7 +12,9 @@ refused-requires c κs = search needs
 
 returns : tie.Need-returns
 unfolding answered
-returns c = rw (lt-leb _ _ (c .before .if1 .taken)) (c .refused .ensures, refl)
+returns c =
+    let short = lt-leb _ _ (c .before .if1 .taken) in
+    record { number = rw short (c .refused .ensures); after = rw short refl }
 
 count-marks-requires : tie.Need-count-marks-requires
 count-marks-requires c κs = search needs
@@ -25,7 +27,9 @@ same-length c = search needs
 
 returns-2 : tie.Need-returns-2
 unfolding answered
-returns-2 c = rw (le-leb _ _ (c .before .if1 .left)) (refl, one-over (c .before .before .before .before .args .count .now) _ _ (c .before .if1 .left) (c .count-marks .ensures .0))
+returns-2 c =
+    let room = le-leb _ _ (c .before .if1 .left) in
+    record { number = rw room refl; after = rw room (one-over (c .before .before .before .before .args .count .now) _ _ (c .before .if1 .left) (c .count-marks .ensures .counted)) }
 
 pub film-count-marks-spec : {M : Type 1} → statement M
 film-count-marks-spec =

@@ -15,7 +15,9 @@ same-length : tie.Need-same-length
 same-length c = search needs
 
 returns : tie.Need-returns
-returns c = (is-answered bookedNumber _ _ _ _ _ _ (c .booking-number .ensures) (c .before .before .before .release .ensures .answered) refl refl, c .before .before .before .release .ensures .left)
+returns c =
+    let w = c .before .before .before .release .ensures in
+    record { number = is-answered bookedNumber _ _ _ _ _ _ (c .booking-number .ensures) (w .answered) refl refl; left = w .left }
 
 pub film-release-spec : {M : Type 1} → statement M
 film-release-spec = tie.close (tie.spec release-requires booking-number-requires same-length returns)

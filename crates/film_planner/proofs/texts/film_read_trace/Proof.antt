@@ -15,7 +15,9 @@ same-length : tie.Need-same-length
 same-length c = search needs
 
 returns : tie.Need-returns
-returns c = (is-answered traceReadNumber _ _ _ _ _ _ (c .trace-read-number .ensures) (c .before .before .before .read-trace .ensures .answer) refl refl, c .before .before .before .read-trace .ensures .buffer)
+returns c =
+    let w = c .before .before .before .read-trace .ensures in
+    record { number = is-answered traceReadNumber _ _ _ _ _ _ (c .trace-read-number .ensures) (w .answer) refl refl; after = w .buffer }
 
 pub film-read-trace-spec : {M : Type 1} → statement M
 film-read-trace-spec =

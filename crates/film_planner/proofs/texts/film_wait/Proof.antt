@@ -12,7 +12,7 @@ wait-number-requires : tie.Need-wait-number-requires
 wait-number-requires c κs = search needs
 
 returns : tie.Need-returns
-returns c = is-answered waitNumber _ _ _ _ _ _ (c .wait-number .ensures) (c .before .wait .ensures .0) refl refl
+returns c = is-answered waitNumber _ _ _ _ _ _ (c .wait-number .ensures) (c .before .wait .ensures .answer) refl refl
 
 pub film-wait-spec : {M : Type 1} → statement M
 film-wait-spec = tie.close (tie.spec wait-requires wait-number-requires returns)

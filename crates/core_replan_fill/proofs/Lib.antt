@@ -1,3 +1,0 @@
-pub mod Chunks
-pub mod Rest
-pub mod Laid
