@@ -29,8 +29,9 @@ size_t search_rattle(const struct film *w, uint32_t budget)
             size_chunks[n] = i;
             size_bytes[n++] = base[i];
         }
-    film_search(C, SPAN, DELAY, w->held * SPAN, &own, 1, size_chunks, n, size_layers, n, size_bytes, n, forecast, SLOTS, budget, marks, C,
+    uint64_t answer = film_search(C, SPAN, DELAY, w->held * SPAN, &own, 1, size_chunks, n, size_layers, n, size_bytes, n, forecast, SLOTS, budget, marks, C,
                 row_slots, FILM_ROWS, row_chunks, FILM_ROWS, row_layers, FILM_ROWS, row_bytes, FILM_ROWS, counts, FILM_COUNTS, numbers, FILM_WALK);
+    if (film_refused(answer)) exit(1);
     size_t kept = 0;
     for (int i = 0; i < C; i++) kept += marks[i] & 1;
     return kept;

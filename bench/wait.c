@@ -4,6 +4,7 @@
 #include "film_planner.h"
 #include "plan.h"
 #include <stdio.h>
+#include <stdlib.h>
 
 struct film {
     uint16_t span, limit;
@@ -33,8 +34,9 @@ size_t search(const struct film *w)
 size_t plans(const struct film *w)
 {
     for (size_t s = 1, last = 499 * w->span + 1; last <= 3600; s++, last++) {
-        film_plan(500, w->span, s, w->limit, &w->base, 1, no_chunks, 0, no_layers, 0, no_bytes, 0, forecast, last, out.marks, 500,
+        uint64_t rows = film_plan(500, w->span, s, w->limit, &w->base, 1, no_chunks, 0, no_layers, 0, no_bytes, 0, forecast, last, out.marks, 500,
                  out.slots, FILM_ROWS, out.chunks, FILM_ROWS, out.layers, FILM_ROWS, out.bytes, FILM_ROWS, out.counts, FILM_COUNTS);
+        if (film_refused(rows)) exit(1);
         uint8_t all = 1;
         for (int i = 0; i < 500; i++) all &= out.marks[i];
         if (all) return s;

@@ -7,6 +7,8 @@ Run it at the root of the repository, with the Rattle toolchain and gcc:
     python3 tools/compare.py --calls 1000000 --seed 7
     python3 tools/compare.py --only film_check,film_plan
     python3 tools/compare.py --replay CASE       a case as printed, or a file that holds it
+    python3 tools/compare.py --null              slices of length 0 as null, which the header asks
+                                                 nobody to hand: what the archive does then
 """
 import argparse
 import ctypes
@@ -20,6 +22,7 @@ import time
 from array import array
 from collections import Counter
 
+import header
 from reference import *
 
 REFUSED = 1 << 32
@@ -65,13 +68,13 @@ CALLS = {
 
 def declared():
     """The arguments of each call as include/film_planner.h declares them, in the letters of CALLS;
-    storage is lent room there."""
-    with open("include/film_planner.h") as f:
-        found = re.findall(r"^uint64_t (film_\w+)\((.*?)\);", f.read(), re.M | re.S)
+    storage is lent room there. Without the calls that take nothing, the archive's version."""
     letters = {"uint8_t": "b", "uint16_t": "h", "uint32_t": "w", "uint64_t": "q", "size_t": "z"}
     slices = {"uint8_t": "B", "uint16_t": "H", "uint32_t": "I", "uint64_t": "Q"}
     calls = {}
-    for name, args in found:
+    for name, args in header.calls().items():
+        if args == "void":
+            continue
         kinds = []
         for arg in args.split(","):
             const, kind, star, _ = re.fullmatch(r"\s*(const )?(\w+) (\*?)(\w+)\s*", arg).groups()
@@ -98,10 +101,12 @@ class Library:
     change."""
     ROOM = 1 << 20
 
-    def __init__(self, path):
+    def __init__(self, path, null=False):
+        self.null = null
         assert declared() == {name: kinds.replace("?", "!") for name, kinds in CALLS.items()}, "the header declares other calls"
         self.calls = {}
         library = ctypes.CDLL(os.path.abspath(path))
+        assert library.film_version() == header.VERSION, "the header is of another version"
         for name, kinds in CALLS.items():
             call = getattr(library, name)
             call.restype = ctypes.c_uint64
@@ -120,7 +125,7 @@ class Library:
                 continue
             data = array(kind[0], value)
             places.append((at, data))
-            flat += [self.base + at, len(value)]
+            flat += [None if self.null and not value else self.base + at, len(value)]
             at += -(-len(data) * data.itemsize // 8) * 8 + 24
         before = bytearray(self.noise[:at])
         for place, data in places:
@@ -1008,8 +1013,9 @@ def main():
     parser.add_argument("--only", default="")
     parser.add_argument("--replay")
     parser.add_argument("--library", help="a shared object built before")
+    parser.add_argument("--null", action="store_true")
     args = parser.parse_args()
-    library = Library(args.library or build())
+    library = Library(args.library or build(), args.null)
     sys.exit(bool(replay(library, args.replay) if args.replay else run(library, args.calls, args.seed, [n for n in args.only.split(",") if n])))
 
 

@@ -1,25 +1,14 @@
-"""What the tools for people share: the sentence of each refusal, as documents 01 and 02 have it,
-and one way to read input and to end: bad input gives a message and status 1."""
+"""What the tools for people share: the sentence of each refusal, and one way to read input and to
+end: bad input gives a message and status 1."""
 import argparse
 import os
 import sys
+import header
 from reference import Refused
 
-SENTENCES = {
-    1: "A file ends before a mark, within a record or without `EN`.",
-    2: "Unknown mark for this kind of file.",
-    3: "Bytes after `EN`.",
-    4: "A second `PG`, or none by `EN`.",
-    5: "A programme field out of range, or d(C) above 3,600.",
-    6: "A layer size out of range, a fifth layer, or no layer by `EN`.",
-    7: "A run of 0 slots, runs beyond 3,600 slots, bytes out of range, or a slot total other than d(C).",
-    8: "`KP` records not for 1 to C in turn, before every `FT`, and complete by `EN`.",
-    9: "A file above 65,536 bytes, read or to be written.",
-    14: "A line that isn't 1 to 7 digits, lacks its line feed, or has a time below the line before.",
-    15: "A slot above 16,777,216 bytes.",
-    17: "A record out of sequence or a run of the same bytes as the one before.",
-    18: "An `SZ` naming chunk 1, or a chunk or layer that isn't in the job, not rising, or of size out of range or equal to the layer's own.",
-}
+# The header's, of document 01 or 02, without what they say of direct calls alone: the tools have
+# files.
+SENTENCES = {number: said.split("; in a direct call")[0].rstrip(".") + "." for number, said in header.refusals().items()}
 FILE = 65536
 
 

@@ -42,7 +42,12 @@ pub struct Act {
 }
 
 impl Act {
-    /// An act in slot 1, nothing fetched: 5, 6, 18, 7 for the job.
+    /// An act in slot 1, nothing fetched.
+    ///
+    /// # Errors
+    ///
+    /// In this order: [`Refusal::ProgrammeField`], [`Refusal::LayerSize`], [`Refusal::Sz`],
+    /// [`Refusal::Forecast`].
     pub fn new(job: Job) -> Result<Act, Refusal> {
         job.live(1, &FetchList::new(), SLOT_MOST)?;
         let mut act = Act { job, slot: 1, fetched: FetchList::new(), meter: Meter::new(), asks: Vec::new() };
@@ -71,6 +76,7 @@ impl Act {
         &self.fetched
     }
 
+    /// The meter, by whose forecast the act asks.
     pub fn meter(&self) -> &Meter {
         &self.meter
     }
@@ -225,8 +231,11 @@ impl Act {
         }
     }
 
-    /// A plan afresh from this slot on, over the rows fetched and the forecast from this slot on:
-    /// 7 for the forecast handed, 21 when the act is over.
+    /// A plan afresh from this slot on, over the rows fetched and the forecast from this slot on.
+    ///
+    /// # Errors
+    ///
+    /// [`Refusal::Slot`] when the act is over, else [`Refusal::Forecast`] for the forecast handed.
     pub fn replan(&self, onward: &[u32]) -> Result<Plan, Refusal> {
         self.job.replan(self.slot, &self.fetched, onward)
     }

@@ -1,8 +1,17 @@
-//! The calls of include/film_planner.h, declared and wrapped: the only file with `unsafe`. A slice
+//! The calls of `include/film_planner.h`, declared and wrapped: the only file with `unsafe`. A slice
 //! crosses as its pointer and its length, so each wrapper hands on exactly what Rust lent it, and
 //! no two of its `&mut` slices overlap.
 #![allow(unsafe_code)]
+// The calls have up to 21 numbers and slices.
 #![allow(clippy::too_many_arguments)]
+
+extern "C" {
+    fn film_archive_of_version_1() -> u64;
+}
+
+/// The archive's version by name, as the header has it: a wrapper of another version does not link.
+#[used]
+static ARCHIVE: unsafe extern "C" fn() -> u64 = film_archive_of_version_1;
 
 /// Declares the calls and wraps each: a number crosses as it is, a slice as pointer and length.
 macro_rules! calls {
@@ -48,6 +57,7 @@ macro_rules! calls {
 }
 
 calls! {
+    fn version = film_version();
     fn read_job = film_read_job(
         file: handed u8, programme: lent u16, lengths: lent u64, sizes: lent u32, size_chunks: lent u16, size_layers: lent u8,
         size_bytes: lent u32, forecast: lent u32,

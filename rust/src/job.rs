@@ -1,3 +1,4 @@
+//! Jobs: what is fetched, by when, over which link; and every call that takes one.
 use crate::{
     ffi, FetchList, Found, Piece, Plan, Refusal, Verdict, COUNTS, FILE, FILE_ROWS, JOB_FILE, LAYERS, LENGTHS, MARKS, PIECES, PROGRAMME,
     REASONS, REPORT, ROWS, SLOTS, SZS, WALK,
@@ -6,8 +7,11 @@ use crate::{
 /// A size of one layer of one chunk that differs from the layer's own (`SZ`).
 #[derive(Clone, Copy, Debug, PartialEq, Eq, PartialOrd, Ord, Hash)]
 pub struct Override {
+    /// From 2 to C: the layer's own size is chunk 1's.
     pub chunk: u16,
+    /// From 0, the base, to 3.
     pub layer: u8,
+    /// From 1 to 16,777,216, and not the layer's own.
     pub bytes: u32,
 }
 
@@ -16,12 +20,19 @@ pub struct Override {
 /// may stand in it; each call refuses what is out of range.
 #[derive(Clone, Debug, Default, PartialEq, Eq)]
 pub struct Job {
+    /// C, from 1 to 500.
     pub chunks: u16,
+    /// L, from 1 to 60 slots.
     pub span: u16,
+    /// s, from 1 to 3,600 slots.
     pub delay: u16,
+    /// Slots of film that the buffer holds; H is limit / L.
     pub limit: u16,
+    /// Bytes of each layer of a chunk, the base first: one to four, each from 1 to 16,777,216.
     pub sizes: Vec<u32>,
+    /// Sizes that differ, rising by chunk and then layer; none for film of equal chunks.
     pub overrides: Vec<Override>,
+    /// Bytes that each slot can carry, from 0 to 16,777,216: d(C) = (C - 1) * L + s of them.
     pub forecast: Vec<u32>,
 }
 
@@ -47,7 +58,16 @@ macro_rules! with_job {
 }
 
 impl Job {
-    /// Reads a job file in one sequence: 9, record by record, at `EN` 3, 4, 6, 18, 7.
+    /// Reads a job file in one sequence.
+    ///
+    /// # Errors
+    ///
+    /// [`Refusal::LongFile`]; then record by record [`Refusal::UnknownMark`] or
+    /// [`Refusal::EndsEarly`] for its mark, [`Refusal::EndsEarly`] for its body,
+    /// [`Refusal::Programmes`] for a second `PG`, [`Refusal::Sequence`],
+    /// [`Refusal::ProgrammeField`], [`Refusal::LayerSize`], [`Refusal::Forecast`]; at `EN`
+    /// [`Refusal::BytesAfter`], [`Refusal::Programmes`], [`Refusal::LayerSize`], [`Refusal::Sz`],
+    /// [`Refusal::Forecast`].
     pub fn read(file: &[u8]) -> Result<Job, Refusal> {
         let (mut programme, mut lengths, mut sizes, mut forecast) = ([0; PROGRAMME], [0; LENGTHS], vec![0; LAYERS], vec![0; SLOTS]);
         let (mut chunks, mut layers, mut bytes) = (vec![0; SZS], vec![0; SZS], vec![0; SZS]);
@@ -57,7 +77,11 @@ impl Job {
         Ok(Job::read_as(programme, lengths, sizes, overrides, forecast, slots))
     }
 
-    /// Reads a mixed job file, as document 01 has it: 9, record by record, at `EN` 3, 4, 6, 7.
+    /// Reads a mixed job file, as document 01 has it: `PG` anywhere, `LY` and `BW` mixed, no `SZ`.
+    ///
+    /// # Errors
+    ///
+    /// Those of [`Job::read`], without [`Refusal::Sequence`] and [`Refusal::Sz`].
     pub fn read_mixed(file: &[u8]) -> Result<Job, Refusal> {
         let (mut programme, mut lengths, mut sizes, mut forecast) = ([0; PROGRAMME], [0; LENGTHS], vec![0; LAYERS], vec![0; SLOTS]);
         let slots = Refusal::settle(ffi::read_mixed_job(file, &mut programme, &mut lengths, &mut sizes, &mut forecast))?;
@@ -77,7 +101,12 @@ impl Job {
         Job { chunks: p[0], span: p[1], delay: p[2], limit: p[3], sizes, overrides, forecast }
     }
 
-    /// The job's file, the only one it has in one sequence: 5, 6, 18, 7.
+    /// The job's file, the only one it has in one sequence.
+    ///
+    /// # Errors
+    ///
+    /// In this order: [`Refusal::ProgrammeField`], [`Refusal::LayerSize`], [`Refusal::Sz`],
+    /// [`Refusal::Forecast`].
     pub fn write(&self) -> Result<Vec<u8>, Refusal> {
         let mut out = vec![0; JOB_FILE];
         let n = with_job!(write_job, self, &self.forecast, &mut out)?;
@@ -85,8 +114,14 @@ impl Job {
         Ok(out)
     }
 
-    /// Reads a plan file for the job, its marks and rows: 5, 6, 18, 7, 9, record by record, at `EN`
-    /// 3, 8. Counts are those of the marks.
+    /// Reads a plan file for the job, its marks and rows. Counts are those of the marks.
+    ///
+    /// # Errors
+    ///
+    /// The job's: [`Refusal::ProgrammeField`], [`Refusal::LayerSize`], [`Refusal::Sz`],
+    /// [`Refusal::Forecast`]. Then the file's: [`Refusal::LongFile`]; record by record
+    /// [`Refusal::UnknownMark`], [`Refusal::EndsEarly`], [`Refusal::NotWhole`]; at `EN`
+    /// [`Refusal::BytesAfter`], [`Refusal::NotWhole`].
     pub fn read_plan(&self, file: &[u8]) -> Result<Plan, Refusal> {
         let (mut marks, mut list) = (vec![0; MARKS], FetchList::room(FILE_ROWS));
         let rows = with_job!(
@@ -105,7 +140,12 @@ impl Job {
         Ok(Plan { marks, list: list.cut(rows), counts })
     }
 
-    /// The file of some marks and rows, the rows as handed: 5, 6, 18, 7, 8, 9.
+    /// The file of some marks and rows, the rows as handed.
+    ///
+    /// # Errors
+    ///
+    /// In this order: [`Refusal::ProgrammeField`], [`Refusal::LayerSize`], [`Refusal::Sz`],
+    /// [`Refusal::Forecast`], [`Refusal::NotWhole`], [`Refusal::LongFile`].
     pub fn write_plan(&self, marks: &[u8], list: &FetchList) -> Result<Vec<u8>, Refusal> {
         let mut out = vec![0; FILE];
         let n = with_job!(write_plan, self, &self.forecast, marks, &list.slots, &list.chunks, &list.layers, &list.bytes, &mut out)?;
@@ -113,7 +153,12 @@ impl Job {
         Ok(out)
     }
 
-    /// Plans the job: 5, 6, 18, 7.
+    /// Plans the job. What is planned passes [`Job::check`].
+    ///
+    /// # Errors
+    ///
+    /// In this order: [`Refusal::ProgrammeField`], [`Refusal::LayerSize`], [`Refusal::Sz`],
+    /// [`Refusal::Forecast`].
     pub fn plan(&self) -> Result<Plan, Refusal> {
         let (mut marks, mut list, mut counts) = (vec![0; MARKS], FetchList::room(ROWS), [0; COUNTS]);
         let rows = with_job!(
@@ -132,7 +177,13 @@ impl Job {
     }
 
     /// Plans afresh at slot p: the rows fetched before it, and the forecast from it on. The plan's
-    /// list has the rows from p on. 5, 6, 18, 7, 8, 21, 7, 22.
+    /// list has the rows from p on; behind those fetched they pass [`Job::check_from`].
+    ///
+    /// # Errors
+    ///
+    /// In this order: [`Refusal::ProgrammeField`], [`Refusal::LayerSize`], [`Refusal::Sz`],
+    /// [`Refusal::Forecast`], [`Refusal::Slot`], [`Refusal::Forecast`], [`Refusal::Fetched`]. The
+    /// second [`Refusal::Forecast`] is that of the forecast from p on.
     pub fn replan(&self, p: u16, fetched: &FetchList, onward: &[u32]) -> Result<Plan, Refusal> {
         let (mut marks, mut list, mut counts) = (vec![0; MARKS], FetchList::room(ROWS), [0; COUNTS]);
         let rows = with_job!(
@@ -158,8 +209,13 @@ impl Job {
 
     /// What to ask the link for in slot p, from the rows fetched before it and a rate in bytes a
     /// slot, any number: the pieces, one after the other, as far as the slot goes. The forecast of
-    /// the slots before p says what they brought, from p on it is not used. `Act` runs this slot by
-    /// slot. 5, 6, 18, 7, 8, 21, 22.
+    /// the slots before p says what they brought, from p on it is not used. [`Act`](crate::Act) runs
+    /// this slot by slot.
+    ///
+    /// # Errors
+    ///
+    /// In this order: [`Refusal::ProgrammeField`], [`Refusal::LayerSize`], [`Refusal::Sz`],
+    /// [`Refusal::Forecast`], [`Refusal::Slot`], [`Refusal::Fetched`].
     pub fn live(&self, p: u16, fetched: &FetchList, rate: u32) -> Result<Vec<Piece>, Refusal> {
         let (mut chunks, mut layers, mut bytes) = (vec![0; PIECES], vec![0; PIECES], vec![0; PIECES]);
         let n = with_job!(
@@ -179,7 +235,13 @@ impl Job {
         Ok((0..n).map(|k| Piece { chunk: chunks[k], layer: layers[k], bytes: bytes[k] }).collect())
     }
 
-    /// Searches the best set of bases within a budget of steps, and plans over it: 5, 6, 18, 7.
+    /// Searches the best set of bases within a budget of steps, and plans over it. A step takes about
+    /// 3 nanoseconds, the largest budget about 15 seconds, and nothing stops it on the way.
+    ///
+    /// # Errors
+    ///
+    /// In this order: [`Refusal::ProgrammeField`], [`Refusal::LayerSize`], [`Refusal::Sz`],
+    /// [`Refusal::Forecast`].
     pub fn search(&self, budget: u32) -> Result<Found, Refusal> {
         let (mut marks, mut list, mut counts, mut walk) = (vec![0; MARKS], FetchList::room(ROWS), [0; COUNTS], [0; WALK]);
         let rows = with_job!(
@@ -199,20 +261,35 @@ impl Job {
         Ok(Found { plan: Plan { marks, list: list.cut(rows), counts }, steps: walk[0], ended: walk[1] == 1, shortfall: walk[2] as u16 })
     }
 
-    /// Judges a fetch list with its marks: 5, 6, 18, 7, 8.
+    /// Judges a fetch list with its marks, one a chunk.
+    ///
+    /// # Errors
+    ///
+    /// In this order: [`Refusal::ProgrammeField`], [`Refusal::LayerSize`], [`Refusal::Sz`],
+    /// [`Refusal::Forecast`], [`Refusal::NotWhole`].
     pub fn check(&self, marks: &[u8], list: &FetchList) -> Result<Verdict, Refusal> {
         let n = with_job!(check, self, &self.forecast, marks, &list.slots, &list.chunks, &list.layers, &list.bytes)?;
         Ok(Verdict::of(n))
     }
 
-    /// The second call, for lists made afresh at slot p, on the joined forecast: 5, 6, 18, 7, 8,
-    /// 21.
+    /// The second call, for lists made afresh at slot p, on the joined forecast: a sum whose rows are
+    /// all before p may be short.
+    ///
+    /// # Errors
+    ///
+    /// In this order: [`Refusal::ProgrammeField`], [`Refusal::LayerSize`], [`Refusal::Sz`],
+    /// [`Refusal::Forecast`], [`Refusal::NotWhole`], [`Refusal::Slot`].
     pub fn check_from(&self, p: u16, marks: &[u8], list: &FetchList) -> Result<Verdict, Refusal> {
         let n = with_job!(check_from, self, &self.forecast, p, marks, &list.slots, &list.chunks, &list.layers, &list.bytes)?;
         Ok(Verdict::of(n))
     }
 
-    /// The report of the job's plan: 5, 6, 18, 7.
+    /// The report of the job's plan.
+    ///
+    /// # Errors
+    ///
+    /// In this order: [`Refusal::ProgrammeField`], [`Refusal::LayerSize`], [`Refusal::Sz`],
+    /// [`Refusal::Forecast`].
     pub fn report(&self) -> Result<String, Refusal> {
         let mut out = vec![0; REPORT];
         let n = with_job!(report, self, &self.forecast, &mut out)?;
@@ -220,7 +297,12 @@ impl Job {
         Ok(String::from_utf8(out).expect("a report is words, digits and line feeds"))
     }
 
-    /// The reason under each layer that the job's plan doesn't carry: 5, 6, 18, 7.
+    /// The reason under each layer that the job's plan doesn't carry.
+    ///
+    /// # Errors
+    ///
+    /// In this order: [`Refusal::ProgrammeField`], [`Refusal::LayerSize`], [`Refusal::Sz`],
+    /// [`Refusal::Forecast`].
     pub fn reasons(&self) -> Result<String, Refusal> {
         let mut out = vec![0; REASONS];
         let n = with_job!(reasons, self, &self.forecast, &mut out)?;
@@ -228,18 +310,33 @@ impl Job {
         Ok(String::from_utf8(out).expect("reasons are words, digits and line feeds"))
     }
 
-    /// Takes a passing list's bytes off the forecast: 5, 6, 18, 7, 8, 19.
+    /// Takes a passing list's bytes off the forecast.
+    ///
+    /// # Errors
+    ///
+    /// In this order: [`Refusal::ProgrammeField`], [`Refusal::LayerSize`], [`Refusal::Sz`],
+    /// [`Refusal::Forecast`], [`Refusal::NotWhole`], [`Refusal::NotPassing`].
     pub fn book(&mut self, marks: &[u8], list: &FetchList) -> Result<(), Refusal> {
         with_job!(book, self, &mut self.forecast, marks, &list.slots, &list.chunks, &list.layers, &list.bytes).map(|_| ())
     }
 
-    /// Adds a list's bytes back to the forecast: 5, 6, 18, 7, 8, 20.
+    /// Adds a list's bytes back to the forecast, whatever their chunks and layers are.
+    ///
+    /// # Errors
+    ///
+    /// In this order: [`Refusal::ProgrammeField`], [`Refusal::LayerSize`], [`Refusal::Sz`],
+    /// [`Refusal::Forecast`], [`Refusal::Release`].
     pub fn release(&mut self, list: &FetchList) -> Result<(), Refusal> {
         with_job!(release, self, &mut self.forecast, &list.slots, &list.chunks, &list.layers, &list.bytes).map(|_| ())
     }
 
-    /// The smallest start delay for which the plan skips no base, whatever the job's own is: 5 (C,
-    /// L and the limit alone), 6, 18, 7, 16. The forecast may have from 1 to 3,600 slots.
+    /// The smallest start delay for which the plan skips no base, whatever the job's own is. The
+    /// forecast may have from 1 to 3,600 slots.
+    ///
+    /// # Errors
+    ///
+    /// In this order: [`Refusal::ProgrammeField`], [`Refusal::LayerSize`], [`Refusal::Sz`],
+    /// [`Refusal::Forecast`], [`Refusal::NoWait`]. The first is that of C, L and the limit alone.
     pub fn wait(&self) -> Result<u16, Refusal> {
         let Columns(chunks, layers, bytes) = columns(&self.overrides);
         let answer = ffi::wait(self.chunks, self.span, self.limit, &self.sizes, &chunks, &layers, &bytes, &self.forecast);

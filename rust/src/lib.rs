@@ -1,8 +1,9 @@
 //! The layered film planner of the winch desk, proved in Rattle, for callers in Rust. A call
-//! answers a value or a `Refusal`, which carries document 01's or 02's number and sentence; nothing
+//! answers a value or a [`Refusal`], which carries document 01's or 02's number and sentence; nothing
 //! is changed by a call that refuses. `include/film_planner.h` says what every call needs and
-//! answers; here buffers are of the largest size a result can have, so that refusal 11 never
-//! arises.
+//! answers; here buffers are of the largest size a result can have, so that
+//! [`Refusal::ShortBuffer`] never arises. No call panics: what is expected of the archive in this
+//! crate is proved of it.
 //!
 //! ```
 //! use film_planner::{Job, Refusal, Verdict};
@@ -24,7 +25,14 @@
 //! # Ok::<(), Refusal>(())
 //! ```
 #![deny(unsafe_code)]
+#![warn(missing_docs)]
+// Every number that the archive answers is bounded, by theorem, below what it is cut to here.
+#![allow(clippy::cast_possible_truncation)]
+// An `expect` here says what is proved of the archive, so there is no panic to tell of.
+#![allow(clippy::missing_panics_doc)]
 
+// Nothing is lost where the answer of a getter is dropped; both arms of a test read as one table.
+#[allow(clippy::must_use_candidate, clippy::match_bool)]
 mod act;
 mod ffi;
 mod files;
@@ -44,12 +52,15 @@ pub use meter::Meter;
 pub use refusal::Refusal;
 pub use trace::{read_trace, write_trace};
 
+/// The version of the header that this crate was written for: the archive's, or it does not link.
+pub const VERSION: u32 = 1;
+
 /// The largest results, each with its name and its place in the header (`FILM_ROWS` and so on).
 macro_rules! largest {
     ($($(#[$doc:meta])* $name:ident = $value:literal;)*) => {
         $($(#[$doc])* pub const $name: usize = $value;)*
 
-        /// All of them, by name.
+        /// The largest results by name, as the header has them behind `FILM_`.
         pub const LARGEST: &[(&str, usize)] = &[$((stringify!($name), $name),)*];
     };
 }
@@ -95,8 +106,11 @@ largest! {
 /// chunks carry each layer.
 #[derive(Clone, Debug, PartialEq, Eq)]
 pub struct Plan {
+    /// One a chunk.
     pub marks: Vec<u8>,
+    /// The plan's own list, by slot, chunk, layer.
     pub list: FetchList,
+    /// 0 for layers that the job has not.
     pub counts: [u16; COUNTS],
 }
 
@@ -105,16 +119,22 @@ pub struct Plan {
 /// better.
 #[derive(Clone, Debug, PartialEq, Eq)]
 pub struct Found {
+    /// The plan over the best set.
     pub plan: Plan,
+    /// The steps taken, at most the budget.
     pub steps: u32,
+    /// No set is better: the shortfall is 0.
     pub ended: bool,
+    /// How many bases more a passing list in playing order can carry at the most.
     pub shortfall: u16,
 }
 
 /// What the checker says of a list: it passes, or the lowest rule it breaks.
 #[derive(Clone, Copy, Debug, PartialEq, Eq, Hash)]
 pub enum Verdict {
+    /// All rules hold.
     Passes,
+    /// The lowest rule that does not hold.
     Breaks(Rule),
 }
 
@@ -137,16 +157,22 @@ pub enum Rule {
     MarksSay,
 }
 
+impl Rule {
+    /// All of them, by number.
+    pub const ALL: [Rule; 7] =
+        [Rule::InRange, Rule::WholeLayers, Rule::LowerCarried, Rule::WithinForecast, Rule::OnTime, Rule::FewHeld, Rule::MarksSay];
+}
+
 impl Verdict {
     fn of(n: usize) -> Verdict {
-        use Rule::*;
         match n {
             0 => Verdict::Passes,
-            _ => Verdict::Breaks([InRange, WholeLayers, LowerCarried, WithinForecast, OnTime, FewHeld, MarksSay][n - 1]),
+            _ => Verdict::Breaks(Rule::ALL[n - 1]),
         }
     }
 
     /// Document 01's number.
+    #[must_use]
     pub fn number(self) -> u8 {
         match self {
             Verdict::Passes => 0,
@@ -156,6 +182,7 @@ impl Verdict {
 }
 
 /// Two plans' counts, entry by entry from the base.
+#[must_use]
 pub fn compare(a: [u16; COUNTS], b: [u16; COUNTS]) -> Ordering {
     match ffi::compare(&a, &b) {
         0 => Ordering::Equal,
@@ -165,13 +192,21 @@ pub fn compare(a: [u16; COUNTS], b: [u16; COUNTS]) -> Ordering {
 }
 
 /// How many marks have bit n; 0 for n above 7.
+#[must_use]
 pub fn count_marks(marks: &[u8], n: u8) -> u64 {
     let mut count = [0];
     Refusal::settle(ffi::count_marks(marks, n, &mut count)).expect("one number has room for a count");
     count[0]
 }
 
+/// The archive's version, [`VERSION`].
+#[must_use]
+pub fn version() -> u32 {
+    ffi::version() as u32
+}
+
 /// How many of a word's eight bytes have bit n; 0 for n above 7.
+#[must_use]
 pub fn count_word(word: u64, n: u8) -> u8 {
     ffi::count_word(word, n) as u8
 }

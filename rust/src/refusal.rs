@@ -1,3 +1,4 @@
+//! The refusals by name, with the documents' numbers and sentences.
 use std::fmt;
 
 macro_rules! refusals {
@@ -14,6 +15,7 @@ macro_rules! refusals {
             pub const ALL: &'static [Refusal] = &[$(Refusal::$name,)*];
 
             /// The document's sentence.
+            #[must_use]
             pub fn sentence(self) -> &'static str {
                 match self {
                     $(Refusal::$name => $sentence,)*
@@ -50,11 +52,13 @@ refusals! {
 
 impl Refusal {
     /// Its number in the documents.
+    #[must_use]
     pub fn number(self) -> u8 {
         self as u8
     }
 
     /// The refusal of a number.
+    #[must_use]
     pub fn of(number: u64) -> Option<Refusal> {
         Refusal::ALL.iter().copied().find(|r| u64::from(r.number()) == number)
     }

@@ -1,6 +1,6 @@
-//! The wrapper against include/film_planner.h: every call is declared with the header's own types,
+//! The wrapper against `include/film_planner.h`: every call is declared with the header's own types,
 //! every constant and every refusal's name and sentence are the header's.
-use film_planner::Refusal;
+use film_planner::{Refusal, VERSION};
 
 const HEADER: &str = include_str!("../../include/film_planner.h");
 const FFI: &str = include_str!("../src/ffi.rs");
@@ -28,7 +28,12 @@ fn c_type(rust: &str) -> &str {
 
 #[test]
 fn every_call_is_declared_as_in_the_header() {
-    let in_header: Vec<String> = between(HEADER, "\nuint64_t film_", ");").map(|call| folded(&call.replace('(', "( "))).collect();
+    let in_header: Vec<String> = ["\nFILM_CALL film_", "\nFILM_ANSWER film_"]
+        .iter()
+        .flat_map(|open| between(HEADER, open, ");"))
+        .filter(|call| !call.starts_with("archive_of_version"))
+        .map(|call| folded(&call.replace('(', "( ").replace("( void", "( ")))
+        .collect();
     let block = FFI.rsplit_once("\ncalls! {").expect("the calls stand in one block").1;
     let in_ffi: Vec<String> = between(block, " = film_", ");")
         .map(|call| {
@@ -47,15 +52,23 @@ fn every_call_is_declared_as_in_the_header() {
                     }
                 })
                 .collect();
-            format!("{name}( {}", args.join(", "))
+            folded(&format!("{name}( {}", args.join(", ")))
         })
         .collect();
     let sorted = |mut calls: Vec<String>| {
         calls.sort();
         calls
     };
-    assert_eq!(in_header.len(), 29);
+    assert_eq!(in_header.len(), 30);
     assert_eq!(sorted(in_ffi), sorted(in_header));
+}
+
+#[test]
+fn the_version_is_the_headers_and_the_archives() {
+    let archive = format!("film_archive_of_version_{VERSION}");
+    assert!(HEADER.contains(&format!("\n#define FILM_VERSION {VERSION}\n")) && FFI.contains(&archive));
+    assert_eq!(film_planner::version(), VERSION);
+    assert_eq!(env!("CARGO_PKG_VERSION_MAJOR"), VERSION.to_string());
 }
 
 #[test]
@@ -87,7 +100,7 @@ fn refusals_are_the_headers() {
     assert_eq!(in_rust, in_header);
 }
 
-/// A name in the header's letters: EndsEarly is ENDS_EARLY.
+/// A name in the header's letters: `EndsEarly` is `ENDS_EARLY`.
 fn shouted(name: &str) -> String {
     let mut out = String::new();
     for c in name.chars() {
