@@ -1,0 +1,95 @@
+//! `film`: one command for people over the proved film planner.
+#![forbid(unsafe_code)]
+
+mod args;
+mod desk;
+mod draw;
+mod failure;
+mod files;
+mod links;
+mod make;
+mod out;
+mod page;
+mod plan;
+mod programme;
+mod questions;
+mod rehearse;
+mod replan;
+mod rows;
+mod search;
+mod second;
+mod text;
+mod words;
+
+use args::{Args, Command};
+use failure::Failure;
+use std::ffi::OsString;
+use std::io::Write;
+use std::process::ExitCode;
+
+/// The subcommands by what they are for, in the order of `film --help`.
+const GROUPS: &[(&str, &[Command])] = &[
+    ("A job, as text and as a file", &[make::MAKE, make::SHOW]),
+    ("Its plan", &[plan::PLAN, plan::CHECK, plan::REPORT, plan::REASONS, draw::COMMAND, desk::COMMAND]),
+    ("Questions", &[questions::WAIT, questions::LIMIT, questions::MARGIN, questions::WHAT_IF, second::COMMAND, search::COMMAND]),
+    ("The act", &[rehearse::COMMAND, replan::COMMAND]),
+];
+
+fn commands() -> impl Iterator<Item = &'static Command> {
+    GROUPS.iter().flat_map(|(_, commands)| commands.iter())
+}
+
+fn help() -> String {
+    let line = |c: &Command| format!("  {:<9} {}\n", c.name, c.summary);
+    let group = |(title, commands): &(&str, &[Command])| format!("{title}\n{}\n", commands.iter().map(line).collect::<String>());
+    format!(
+        "film SUBCOMMAND JOB ..
+
+Plans which layers of which chunks of a film to fetch in which second (slot) over a link, so that
+every chunk is there when it is due. A chunk whose base (layer 0) cannot come in time is skipped.
+
+{}JOB is a job's text or a job file, told apart by their first bytes; `-` or no word at all is
+standard input. `film SUBCOMMAND --help` says more, with an example to run in the repository's
+folder, as in
+
+  film limit samples/flight.txt
+
+Status 0: answered. 1: bad input or a refusal; the message says where, which sentence of the
+documents, and what to do. 2: a wrong command line.
+
+{}
+",
+        GROUPS.iter().map(group).collect::<String>(),
+        text::HELP
+    )
+}
+
+fn run(mut given: impl Iterator<Item = OsString>) -> Result<(), Failure> {
+    let Some(first) = given.next() else {
+        return Err(Failure::usage(help().trim_end()));
+    };
+    let name = first.to_string_lossy();
+    if name == "--help" || name == "-h" || name == "help" {
+        return out::text(&help());
+    }
+    let Some(command) = commands().find(|c| c.name == name) else {
+        let names: Vec<&str> = commands().map(|c| c.name).collect();
+        return Err(Failure::usage(format!("{}: there is no such subcommand; there are {}", words::printable(&name), names.join(", "))));
+    };
+    match Args::parse(command, given)? {
+        None => out::text(&format!("{}\n", command.help.trim_end())),
+        Some(args) => (command.run)(args),
+    }
+}
+
+fn main() -> ExitCode {
+    match run(std::env::args_os().skip(1)) {
+        Ok(()) => ExitCode::SUCCESS,
+        Err(Failure { text, status }) => {
+            if !text.is_empty() {
+                let _ = writeln!(std::io::stderr(), "film: {text}");
+            }
+            ExitCode::from(status)
+        }
+    }
+}
