@@ -1,7 +1,7 @@
 //! The words after a subcommand: `--name value`, `--name=value`, flags and positional words. After
 //! `--` every word is positional.
 use crate::failure::Failure;
-use crate::words::{printable, thousands};
+use crate::words::{near, printable, thousands};
 use std::ffi::{OsStr, OsString};
 use std::ops::RangeInclusive;
 use std::path::Path;
@@ -61,7 +61,9 @@ impl Args {
             };
             let known = command.options.iter().find(|(own, _)| *own == name && text.starts_with("--"));
             let Some((own, count)) = known else {
-                return Err(wrong(format!("{shown}: there is no such option")));
+                let meant = near(name, command.options.iter().map(|(own, _)| *own));
+                let meant = meant.map_or(String::new(), |own| format!("; is --{own} meant?"));
+                return Err(wrong(format!("{shown}: there is no such option{meant}")));
             };
             let mut values: Vec<OsString> = joined.into_iter().collect();
             if values.len() > *count {

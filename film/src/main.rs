@@ -72,9 +72,14 @@ fn run(mut given: impl Iterator<Item = OsString>) -> Result<(), Failure> {
     if name == "--help" || name == "-h" || name == "help" {
         return out::text(&help());
     }
+    if name == "--version" {
+        return out::text(concat!("film ", env!("CARGO_PKG_VERSION"), "\n"));
+    }
     let Some(command) = commands().find(|c| c.name == name) else {
         let names: Vec<&str> = commands().map(|c| c.name).collect();
-        return Err(Failure::usage(format!("{}: there is no such subcommand; there are {}", words::printable(&name), names.join(", "))));
+        let meant = words::near(&name, names.iter().copied()).map_or(String::new(), |own| format!("; is {own} meant?"));
+        let shown = words::printable(&name);
+        return Err(Failure::usage(format!("{shown}: there is no such subcommand{meant}\nThere are {}.", names.join(", "))));
     };
     match Args::parse(command, given)? {
         None => out::text(&format!("{}\n", command.help.trim_end())),

@@ -74,6 +74,9 @@ fn refused(called: &str) -> impl Fn(Refusal) -> Failure + '_ {
 fn plan(args: Args) -> Result<(), Failure> {
     let loaded = files::job(args.path(0))?;
     let plan = loaded.job.plan().map_err(refused(&loaded.called))?;
+    if plan.list.is_empty() {
+        out::note("the plan is empty: nothing can be fetched in time; `film reasons` says why");
+    }
     if args.flag("text") {
         return out::result(&args, programme::by_slot(&plan.list).as_bytes(), "");
     }

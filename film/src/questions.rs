@@ -141,22 +141,23 @@ fn wait(args: Args) -> Result<(), Failure> {
         job.forecast = link.iter().copied().take(last(&job) as usize).collect();
         job
     };
-    let assumed = |slots: u32| {
-        match slots as usize > known {
+    let assumed = |slots: u32| match slots as usize > known {
         true => format!(
-            "on the forecast alone no wait works; it has room for waits up to {}\nassumed: {} after its end, slot {}, of {} each (--then BYTES says otherwise)\n",
-            counted((known as u64).saturating_sub(u64::from(film)), "slot"),
+            "assumed: {} after the forecast's end, slot {}, of {} each (--then BYTES says otherwise)\n",
             counted(u64::from(slots) - known as u64, "slot"),
             thousands(known as u64),
             counted(u64::from(then), "byte")
         ),
         false => String::new(),
-    }
     };
     match answer {
         Ok(delay) => {
             let job = at(delay);
             let mut text = format!("shortest wait: {} (delay {delay})\n", counted(u64::from(delay), "slot"));
+            if last(&job) as usize > known {
+                let room = counted((known as u64).saturating_sub(u64::from(film)), "slot");
+                text += &format!("on the forecast alone none works; it has room for waits up to {room}\n");
+            }
             text += &assumed(last(&job));
             if own.delay != delay && last(own) as usize <= link.len() {
                 text += &format!("the job's own delay is {}: {}\n", own.delay, skips(&plan_of(&at(own.delay))?));
@@ -170,21 +171,21 @@ fn wait(args: Args) -> Result<(), Failure> {
             };
             out::text(&text)
         }
-        Err(Refusal::NoWait) if longest == 0 => out::text(&format!(
-            "no wait works: {} of {} need {} slots even with a wait of 1, and the link that is known has {}\n",
-            counted(u64::from(own.chunks), "chunk"),
-            counted(u64::from(own.span), "slot"),
-            thousands(u64::from(film) + 1),
-            thousands(known as u64)
-        )),
         Err(Refusal::NoWait) => {
+            let none = Failure::refused(format!("{}: no wait works", loaded.called), Refusal::NoWait);
+            if longest == 0 {
+                let film = counted(u64::from(own.chunks), "chunk");
+                let need = counted(u64::from(last(&at(1))), "slot");
+                return Err(
+                    none.hint(&format!("{film} need {need} with a wait of 1, and the link is known for {}", thousands(known as u64)))
+                );
+            }
             let job = at(longest as u16);
-            let plan = plan_of(&job)?;
             let mut text = format!("no wait works: from 1 to {} slots, each skips a picture\n", thousands(u64::from(longest)));
             text += &assumed(last(&job));
-            text += &format!("with a wait of {}: {}\n{}", thousands(u64::from(longest)), skips(&plan), base_reasons(&job, TOLD)?);
-            text += "`film limit` asks whether a larger buffer does\n";
-            out::text(&text)
+            text += &format!("with a wait of {}: {}\n{}", thousands(u64::from(longest)), skips(&plan_of(&job)?), base_reasons(&job, TOLD)?);
+            out::text(&text)?;
+            Err(none.hint("`film limit` asks whether a larger buffer does"))
         }
         Err(refusal) => Err(Failure::refused(loaded.called, refusal)),
     }
@@ -262,17 +263,21 @@ fn margin(args: Args) -> Result<(), Failure> {
     let less = fallen(job, permille);
     let before = skipped(&now);
     let lost: Vec<u16> = skipped(&plan).into_iter().filter(|i| !before.contains(i)).collect();
-    let mut text = format!(
-        "the link may fall by {} ({permille_ok} permille) in every slot: {shown} of {of} are still shown\n",
-        percent(permille - 1),
-        permille_ok = permille - 1
-    );
+    let mut text = match permille {
+        1 => format!("the link may not fall at all, not by a permille: {shown} of {of} are shown now\n"),
+        _ => format!(
+            "the link may fall by {} ({} permille) in every slot: {shown} of {of} are still shown\n",
+            percent(permille - 1),
+            permille - 1
+        ),
+    };
     text += &format!("at {} a picture is lost: {} shown, {}\n", percent(permille), plan.counts[0], skips(&plan));
     let why = less.reasons().map_err(|refusal| Failure::refused("the reasons", refusal))?;
     for line in why.lines().filter(|line| lost.iter().any(|i| line.starts_with(&format!("chunk {i} layer 0: ")))).take(TOLD) {
         text += &format!("  {line}\n");
     }
     text += match (has_even_bases(job), before.is_empty() || held(job) >= job.chunks) {
+        _ if permille == 1 => "",
         (true, _) => "all bases have one size, so every smaller fall loses nothing either (request 10)\n",
         (false, true) => "every smaller fall loses nothing either\n",
         (false, false) => "bases are uneven and the limit binds: each whole permille was tried, what lies between them was not\n",

@@ -5,8 +5,9 @@ use crate::words::{printable, thousands};
 use film_planner::{FetchList, Row};
 use std::path::Path;
 
-/// So many faults are told.
-const TOLD: usize = 20;
+/// So many faults are told: of a file that is no list of rows every line is one.
+const TOLD: usize = 5;
+const WANTED: &str = "A row is `slot 77: chunk 12 layer 0, 6,000 bytes` or four numbers, slot chunk layer bytes.";
 
 /// The numbers of a line, in either form.
 fn numbers(line: &str) -> Option<Vec<&str>> {
@@ -21,15 +22,14 @@ fn numbers(line: &str) -> Option<Vec<&str>> {
 }
 
 fn row(line: &str) -> Result<Row, String> {
-    let wanted = "a row is `slot 77: chunk 12 layer 0, 6,000 bytes` or four numbers, slot chunk layer bytes";
-    let words = numbers(line).ok_or(wanted)?;
+    let words = numbers(line).ok_or("this is no row")?;
     let number = |word: &str, what: &str, most: u64| {
         let digits = word.replace(',', "");
         let plain = !digits.is_empty() && digits.bytes().all(|b| b.is_ascii_digit());
         match digits.parse::<u64>() {
             Ok(n) if plain && n <= most => Ok(n),
             _ if plain => Err(format!("{what} {}: it is at most {}", printable(word), thousands(most))),
-            _ => Err(format!("`{}` is no number; {wanted}", printable(word))),
+            _ => Err(format!("`{}` is no number", printable(word))),
         }
     };
     Ok(Row::new(
@@ -67,6 +67,6 @@ pub fn read(data: &[u8], path: &Path) -> Result<FetchList, Failure> {
     }
     match faults.is_empty() {
         true => Ok(list),
-        false => Err(Failure::bad(faults.join("\n"))),
+        false => Err(Failure::bad(faults.join("\n")).hint(WANTED)),
     }
 }

@@ -330,8 +330,8 @@ impl Text<'_> {
             self.absent("layer", Some(Refusal::LayerSize));
         }
         self.check_sizes(chunks);
+        self.open_trace(last);
         if let Some(last) = last {
-            self.open_trace(last);
             self.check_slots(last);
         } else if self.parts.is_empty() && !self.forecast_bad {
             self.absent("forecast", Some(Refusal::Forecast));
@@ -394,7 +394,7 @@ impl Text<'_> {
     }
 
     /// A trace without a number takes what the other statements leave.
-    fn open_trace(&mut self, last: usize) {
+    fn open_trace(&mut self, last: Option<usize>) {
         let open: Vec<usize> = (0..self.parts.len()).filter(|k| matches!(self.parts[*k].1, Part::Open(_))).collect();
         if let [first, second, ..] = open[..] {
             let message = format!(
@@ -404,7 +404,17 @@ impl Text<'_> {
             self.fault_at(Some(self.parts[second].0), message, None);
             self.forecast_bad = true;
         }
-        let ([k], false) = (&open[..], self.forecast_bad) else { return };
+        let ([k], Some(last), false) = (&open[..], last, self.forecast_bad) else {
+            // How many slots it is to take is not known; what is wrong with its lines is.
+            for k in open {
+                if let (line, Part::Open(path)) = &self.parts[k] {
+                    let path = path.clone();
+                    self.line = *line;
+                    self.forecast_bad |= self.traced(&path, 1).is_err();
+                }
+            }
+            return;
+        };
         let Some((line, Part::Open(path))) = self.parts.get(*k).map(|(line, part)| (*line, part)) else { return };
         let (path, given) = (path.clone(), self.slots());
         self.line = line;

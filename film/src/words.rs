@@ -26,3 +26,21 @@ pub fn printable(text: &str) -> String {
         _ => clean.chars().take(157).chain("...".chars()).collect(),
     }
 }
+
+/// The name that is meant by a word: one that differs in two letters at most.
+pub fn near<'a>(word: &str, names: impl Iterator<Item = &'a str>) -> Option<&'a str> {
+    let letters: Vec<char> = word.chars().take(40).collect();
+    let away = |name: &str| {
+        let mut row: Vec<usize> = (0..=letters.len()).collect();
+        for (k, a) in name.chars().enumerate() {
+            let mut before = std::mem::replace(&mut row[0], k + 1);
+            for (i, b) in letters.iter().enumerate() {
+                let kept = before + usize::from(a != *b);
+                before = row[i + 1];
+                row[i + 1] = kept.min(before + 1).min(row[i] + 1);
+            }
+        }
+        row[letters.len()]
+    };
+    names.map(|name| (away(name), name)).min().filter(|(far, name)| *far <= 2 && *far < name.len()).map(|(_, name)| name)
+}

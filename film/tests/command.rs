@@ -44,13 +44,13 @@ fn wrong_command_lines_end_with_status_2() {
     folder.put("job", job_a().write().unwrap());
     let cases: [(&[&str], &str); 20] = [
         (&[], "film SUBCOMMAND"),
-        (&["made"], "made: there is no such subcommand; there are make, show"),
+        (&["made"], "made: there is no such subcommand; is make meant?\nThere are make, show"),
         (&["--paint"], "there is no such subcommand"),
         (&["make", "a", "b"], "b: one word too many"),
         (&["check"], "a word is missing"),
         (&["check", "job"], "a word is missing"),
         (&["check", "job", "plan", "plan"], "plan: one word too many"),
-        (&["plan", "job", "--texts"], "--texts: there is no such option"),
+        (&["plan", "job", "--texts"], "--texts: there is no such option; is --text meant?"),
         (&["plan", "job", "-text"], "-text: there is no such option"),
         (&["plan", "job", "--out"], "--out: its value is missing"),
         (&["plan", "job", "--text=yes"], "--text takes no value"),

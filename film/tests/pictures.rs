@@ -65,7 +65,7 @@ fn pictured(random: &mut Random, k: usize) -> Job {
     match k {
         0 => job_a(),
         1..=4 => largest_job([2100, 0, 28, 65535][k - 1]),
-        _ if k % 3 == 0 => random.tight_job(),
+        _ if k.is_multiple_of(3) => random.tight_job(),
         _ => {
             let most = *random.one(&[3, 8, 8, 500]);
             random.job(most)
@@ -117,7 +117,8 @@ fn only_a_passing_plan_is_drawn() {
     assert_eq!(folder.film(&["draw", "job", "plan"]).good("A with its plan").out, own);
     assert_eq!(folder.film(&["draw", "job", "--out", "a.svg"]).good("to a file").out, b"");
     assert_eq!(folder.get("a.svg"), own);
-    let broken: [(u8, [u8; 3], &[[u32; 4]]); 7] = [
+    type Broken<'a> = (u8, [u8; 3], &'a [[u32; 4]]);
+    let broken: [Broken; 7] = [
         (1, [0, 3, 0], &[[1, 2, 0, 2], [1, 2, 1, 1], [7, 3, 0, 2]]),
         (2, [0, 3, 0], &[[1, 2, 0, 2], [1, 2, 1, 1], [5, 3, 0, 1]]),
         (3, [0, 2, 1], &[[1, 2, 1, 1], [5, 3, 0, 2]]),

@@ -348,11 +348,11 @@ fn all_faults_of_a_text_come_in_one_go() {
     let folder = Folder::new();
     folder.put("bad.txt", "chunks 501\nspan 2\ndelay two\nlayer 0\nlayer 1\nsize 1 0 5\nsize 9 1 4\nforecast 4,000\ntrace nothing\nfilm\n");
     let answer = folder.film(&["make", "bad.txt"]).bad(1, &["bad.txt: there is no limit"], "all faults");
-    for line in [1, 3, 4, 6, 8, 10] {
+    for line in [1, 3, 4, 6, 8, 9, 10] {
         assert!(answer.err.contains(&format!("bad.txt line {line}: ")), "line {line}: {}", answer.err);
     }
     let at: Vec<usize> = answer.err.match_indices("bad.txt line ").map(|(k, _)| k).collect();
-    assert!(at.len() >= 6 && at.windows(2).all(|w| w[0] < w[1]));
+    assert!(at.len() >= 7 && at.windows(2).all(|w| w[0] < w[1]));
     let many = "film\n".repeat(500);
     let answer = folder.film_on(&["make"], many.as_bytes()).bad(1, &["faults more"], "500 faults");
     assert!(answer.err.lines().count() < 50, "{}", answer.err);
