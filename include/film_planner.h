@@ -15,7 +15,8 @@
  *   - a `struct film_job` that is zero but for what the job has is right, without SZs for film of
  *     equal chunks: a slice of length 0 may be null;
  *   - what a call hands over goes to structs with room for the largest result, so that refusal 11
- *     never arises, and the number of rows is set by the call that writes them;
+ *     arises for text and files alone, which go to buffers of the caller's, and the number of rows
+ *     is set by the call that writes them;
  *   - marks are handed as many as the job has chunks, which film_check wants exactly.
  *
  * WHAT THE CALLER OWES a call is what C owes any function: a pointer with at least so many elements
@@ -66,18 +67,19 @@
 #endif
 
 /* A struct and a call have the name film_plan: C++ then wants the word struct, and g++ says so at
- * the call's declaration. */
+ * the call's declaration. Casts are C's. */
 #if defined(__cplusplus) && defined(__GNUC__)
 #pragma GCC diagnostic push
 #pragma GCC diagnostic ignored "-Wshadow"
+#pragma GCC diagnostic ignored "-Wold-style-cast"
 #endif
 
 #ifdef __cplusplus
 extern "C" {
 #endif
 
-/* ---- the version of this header and of the archive that it belongs to: raised whenever a call, an
- * argument, a constant or an answer changes. It is the shared object's number too. */
+/* ---- the version of this header and of the archive that it belongs to: raised whenever the
+ * header's code changes, or what a call answers. It is the shared object's number too. */
 
 #define FILM_VERSION 1
 
@@ -85,7 +87,8 @@ extern "C" {
 #define FILM_ANSWER __attribute__((warn_unused_result)) uint64_t
 #define FILM_CALL __attribute__((nonnull)) FILM_ANSWER
 
-/* Answers the archive's version. Never refuses. */
+/* Answers the archive's version, for a program that loads the shared object by hand to hold against
+ * FILM_VERSION. Never refuses. */
 FILM_ANSWER film_version(void);
 
 /* The same by a name that carries the version. Every file that includes this header names it, so a
@@ -580,8 +583,9 @@ struct film_store {
     uint8_t size_layers[FILM_SZS];
 };
 
-/* A fetch list with room for that of any plan, plan file or act, 54 kB; a longer one goes by the
- * calls themselves. Zero its `rows` and film_push into it. */
+/* A fetch list with room for that of any plan or plan file, and of an act that fetches what
+ * film_live says in its order: 54 kB. A longer one goes by the calls themselves. Zero its `rows`
+ * and film_push into it. */
 struct film_list {
     uint16_t slots[FILM_FILE_ROWS], chunks[FILM_FILE_ROWS];
     uint8_t layers[FILM_FILE_ROWS];

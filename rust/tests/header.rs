@@ -4,6 +4,7 @@ use film_planner::{Refusal, VERSION};
 
 const HEADER: &str = include_str!("../../include/film_planner.h");
 const FFI: &str = include_str!("../src/ffi.rs");
+const JOB: &str = include_str!("../src/job.rs");
 
 /// What stands between two texts, for each time the first one stands there.
 fn between<'a>(text: &'a str, open: &'a str, close: &'a str) -> impl Iterator<Item = &'a str> + 'a {
@@ -98,6 +99,47 @@ fn refusals_are_the_headers() {
     let in_rust: Vec<(u8, String, String)> =
         Refusal::ALL.iter().map(|r| (r.number(), shouted(&format!("{r:?}")), r.sentence().to_string())).collect();
     assert_eq!(in_rust, in_header);
+}
+
+/// The numbers that the header gives behind "Refuses:" over a call.
+fn refused_in_header(call: &str) -> Vec<u8> {
+    let before = HEADER.split_once(&format!("\nFILM_CALL film_{call}(")).expect("the header declares it").0;
+    let said = before.rsplit_once("Refuses: ").expect("the header says what it refuses").1;
+    said.split(|c: char| !c.is_ascii_digit()).filter_map(|number| number.parse().ok()).collect()
+}
+
+/// The numbers of the refusals that a method of `Job` names, in the first sentence of its errors.
+fn refused_in_docs(method: &str) -> Vec<u8> {
+    let before = JOB.split_once(&format!("\n    pub fn {method}(")).expect("a method").0;
+    let said = before.rsplit_once("# Errors").expect("its errors").1.split_once("In this order: ").expect("a list").1;
+    let listed = said.split_once("].").expect("a sentence").0;
+    let number = |name: &str| Refusal::ALL.iter().find(|r| format!("{r:?}") == name).expect("a refusal").number();
+    between(&format!("{listed}]"), "[`Refusal::", "`]").map(number).collect()
+}
+
+#[test]
+fn methods_name_the_refusals_of_the_header() {
+    for (method, call) in [
+        ("write", "write_job"),
+        ("write_plan", "write_plan"),
+        ("plan", "plan"),
+        ("replan", "replan"),
+        ("live", "live"),
+        ("search", "search"),
+        ("check", "check"),
+        ("check_from", "check_from"),
+        ("report", "report"),
+        ("reasons", "reasons"),
+        ("book", "book"),
+        ("release", "release"),
+        ("wait", "wait"),
+    ] {
+        // Buffers have room for all, and a `FetchList` is handed whole.
+        let rows_alone = ["replan", "live", "release"].contains(&method);
+        let never = |number: &u8| *number == 11 || rows_alone && *number == 8;
+        let wanted: Vec<u8> = refused_in_header(call).into_iter().filter(|number| !never(number)).collect();
+        assert_eq!(refused_in_docs(method), wanted, "{method}");
+    }
 }
 
 /// A name in the header's letters: `EndsEarly` is `ENDS_EARLY`.

@@ -1,5 +1,5 @@
-// The version of the archive, as the header and the shared object count it: raised whenever a call,
-// an argument, a constant or an answer of include/film_planner.h changes.
+// The version of the archive, as the header and the shared object count it: raised whenever the
+// code of include/film_planner.h changes, or what a call answers.
 ghost use mathlib.Core.Path.{_≡_};
 
 pub const VERSION: u64 = 1;
