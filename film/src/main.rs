@@ -46,7 +46,8 @@ fn help() -> String {
         "film SUBCOMMAND JOB ..
 
 Plans which layers of which chunks of a film to fetch in which second (slot) over a link, so that
-every chunk is there when it is due. A chunk whose base (layer 0) cannot come in time is skipped.
+every chunk is there when it is due. Layer 0 of a chunk is its base, the picture itself; the others
+refine it. A chunk whose base cannot come in time is skipped: the screen stands.
 
 {}JOB is a job's text or a job file, told apart by their first bytes; `-` or no word at all is
 standard input. `film SUBCOMMAND --help` says more, with an example to run in the repository's

@@ -10,7 +10,8 @@ pub const MAKE: Command = Command {
     help: "film make [TEXT] [--out FILE]
 
 Writes the job file of a job's text to FILE, or to standard output. Without TEXT, standard input is
-read. A job file is also read: a mixed one, as document 01 has it, comes out in one sequence.
+read. `film --help` says how a text is written. A job file is also read: a mixed one, as document 01
+has it, comes out in one sequence.
 
   film make samples/flight.txt --out flight.job",
     options: &[("out", 1)],

@@ -31,7 +31,7 @@ the trace goes.
 A longer wait can be worse where the buffer is small, so every one is tried, from 1 up.
 
   film wait samples/flight.txt
-  film wait samples/flight.txt --then 0",
+  film wait samples/flight.txt --then 100000",
     options: &[("then", 1), ("trace", 1)],
     words: 0..=1,
     run: wait,

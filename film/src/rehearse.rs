@@ -13,7 +13,7 @@ use std::ffi::OsString;
 use std::io::IsTerminal;
 use std::path::{Path, PathBuf};
 #[cfg(test)]
-mod tests;
+pub mod tests;
 
 use watch::{Skip, Watch};
 use ways::{Fetched, Figures};
@@ -27,8 +27,8 @@ Fetches the film of a job second by second over links that it does not know, as 
 the act, and says what was shown: beside the plan that knew the link, and beside planning afresh
 with the meter in every slot. On one link each skipped chunk is told with its reason.
 
-  JOB               the job, as a text or as a job file; of its forecast nothing is used but a
-                    first guess in the last of the three
+  JOB               the job, as a text or as a job file. Its forecast is not used but for the first
+                    guess of planning afresh, and a text may go without.
   --trace FILE ..   the link of a file: a trace of the test van (a line is the time in milliseconds
                     at which 1,500 bytes came), a text with lines `forecast BYTES BYTES ..` and
                     `forecast SLOTS x BYTES`, or a job, whose forecast is taken. Several may
@@ -150,7 +150,7 @@ impl<'a> Rehearsal<'a> {
 
     /// The same with an act that is watched.
     pub fn watched(job: &'a Job, link: &'a Link) -> Result<(Rehearsal<'a>, Watch<'a>), Refusal> {
-        let mut watch = Watch::new(job, &link.bytes);
+        let mut watch = Watch::new(job, &link.bytes)?;
         let rehearsal = Rehearsal::with(job, link, |act| watch.see(act))?;
         Ok((rehearsal, watch))
     }
@@ -168,7 +168,7 @@ impl<'a> Rehearsal<'a> {
 }
 
 pub fn run(args: Args) -> Result<(), Failure> {
-    let loaded = files::job(args.path(0))?;
+    let loaded = load(args.path(0))?;
     let job = &loaded.job;
     let sources = Sources::of(&args, job)?;
     let many = sources.number();
@@ -191,6 +191,10 @@ pub fn run(args: Args) -> Result<(), Failure> {
         };
         let figures = rehearsal.figures();
         sums.iter_mut().zip(&figures).for_each(|(sum, one)| sum.add(one));
+        if many > 1 && std::io::stderr().is_terminal() {
+            // The line of progress makes room for the table.
+            out::progress("");
+        }
         let head = if k == 0 { header(job) } else { String::new() };
         out::text(&(head + &block(job, &link.name, &figures, 1, &rehearsal.refused)))?;
         if let Some(watch) = watch {
@@ -212,6 +216,37 @@ pub fn run(args: Args) -> Result<(), Failure> {
         out::text(&format!("page: {}, to be opened in a browser\n", files::called(path)))?;
     }
     Ok(())
+}
+
+/// The job of a text that has no forecast is read as well: links take its place.
+fn load(path: &Path) -> Result<files::Loaded, Failure> {
+    let mut data = files::read(path, files::TEXT)?;
+    if let Some(slots) = slots_without_forecast(&data) {
+        data.extend(format!("\nforecast {slots} x 0\n").bytes());
+    }
+    files::job_of(path, &data)
+}
+
+/// d(C) of a text in which no forecast stands; none for any other, which is then told its faults.
+fn slots_without_forecast(data: &[u8]) -> Option<u64> {
+    if files::is_records(data) {
+        return None;
+    }
+    let text = String::from_utf8_lossy(data);
+    let mut fields = [None; 3];
+    for line in text.trim_start_matches('\u{feff}').lines() {
+        let mut words = line.split('#').next().unwrap_or("").split_whitespace();
+        let field = match words.next() {
+            Some("chunks") => 0,
+            Some("span") => 1,
+            Some("delay") => 2,
+            Some("forecast" | "trace") => return None,
+            _ => continue,
+        };
+        fields[field] = words.next().and_then(|word| word.parse::<u64>().ok()).filter(|n| (1..=3600).contains(n));
+    }
+    let [Some(chunks), Some(span), Some(delay)] = fields else { return None };
+    Some((chunks - 1) * span + delay).filter(|slots| *slots <= 3600)
 }
 
 /// One and the same file, by whatever names.

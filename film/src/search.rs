@@ -79,8 +79,9 @@ fn run(args: Args) -> Result<(), Failure> {
         (true, _) => format!("all sets were tried, in {}: no list in playing order shows more\n", counted(u64::from(found.steps), "step")),
         (false, 0) => "no list in playing order shows more: not even one without a limit of the buffer\n".to_string(),
         (false, n) => format!(
-            "not all sets were tried, in {} and {} s: another list in playing order shows at most {n} more\n",
+            "not all sets were tried, in {}{} and {} s: another list in playing order shows at most {n} more\n",
             counted(u64::from(found.steps), "step"),
+            if budget == u32::MAX { ", the most there are" } else { "" },
             thousands(start.elapsed().as_secs())
         ),
     };

@@ -10,6 +10,8 @@ use std::path::{Path, PathBuf};
 const MOST: i64 = 1 << 24;
 /// So many faults are told; one wrong line at the top may make hundreds.
 const TOLD: usize = 20;
+/// So many are kept; a text of ten million bytes may have a million.
+const KEPT: usize = 1000;
 /// Slots that stand on a line of `show`, and how many alike make a run.
 const ROW: usize = 10;
 const RUN: usize = 3;
@@ -41,7 +43,8 @@ The text of a job has one statement a line. From # to the end of a line is a com
                         layer, from chunk 2
   forecast 3000 0 1500  bytes that the link carries, slot after slot
   forecast 34 x 6000    34 slots of 6,000 bytes each
-  trace van.txt 186     the first 186 slots of a trace of the link, looked for from the text's folder
+  trace van.txt 186     the first 186 slots of a trace of the link; its place is seen from the
+                        text's folder
   trace van.txt         as many slots of it as the job needs beside the other statements
   trace \"van #3.txt\"    a name with a # in it stands in quotes, \" or '
 
@@ -78,10 +81,13 @@ struct Text<'a> {
     layers_bad: bool,
     sizes: Vec<(usize, [i64; 3])>,
     parts: Vec<(usize, Part)>,
+    /// The slots that the parts give so far.
+    slots: usize,
     forecast_bad: bool,
     /// The forecast is lent, and the text's own is read and left aside.
     lent: bool,
     faults: Vec<Fault>,
+    faults_more: usize,
     warnings: Vec<String>,
 }
 
@@ -133,7 +139,10 @@ impl Text<'_> {
     }
 
     fn fault_at(&mut self, line: Option<usize>, message: impl Into<String>, refusal: Option<Refusal>) -> Faulty {
-        self.faults.push(Fault { line, message: message.into(), refusal });
+        match self.faults.len() < KEPT {
+            true => self.faults.push(Fault { line, message: message.into(), refusal }),
+            false => self.faults_more += 1,
+        }
         Faulty
     }
 
@@ -276,8 +285,14 @@ impl Text<'_> {
             return self.add(Part::Open(path));
         }
         let slots = self.ranged("a trace's number of slots", slots, 1, SLOTS as i64, Refusal::Forecast)?;
-        let traced = self.traced(&path, slots as usize)?;
-        self.add(Part::Slots(traced))
+        // Past the most slots that there can be no file is read.
+        match self.slots > SLOTS {
+            true => Err(Faulty),
+            false => {
+                let traced = self.traced(&path, slots as usize)?;
+                self.add(Part::Slots(traced))
+            }
+        }
     }
 
     fn traced(&mut self, path: &Path, slots: usize) -> Result<Vec<u32>, Faulty> {
@@ -294,18 +309,18 @@ impl Text<'_> {
         if self.lent {
             return Ok(());
         }
-        let before = self.slots();
-        self.parts.push((self.line, part));
-        let slots = self.slots();
-        match slots > SLOTS && before <= SLOTS {
-            true => Err(self.fault(format!("the forecast has {} slots by this line", thousands(slots as u64)), Some(Refusal::Forecast))),
+        let before = self.slots;
+        self.slots += if let Part::Slots(slots) = &part { slots.len() } else { 0 };
+        // Past the most that there can be, one fault is enough, and nothing more is kept.
+        if before <= SLOTS {
+            self.parts.push((self.line, part));
+        }
+        match self.slots > SLOTS && before <= SLOTS {
+            true => {
+                Err(self.fault(format!("the forecast has {} slots by this line", thousands(self.slots as u64)), Some(Refusal::Forecast)))
+            }
             false => Ok(()),
         }
-    }
-
-    /// The slots that the statements so far give.
-    fn slots(&self) -> usize {
-        self.parts.iter().map(|(_, part)| if let Part::Slots(slots) = part { slots.len() } else { 0 }).sum()
     }
 
     fn absent(&mut self, kind: &str, refusal: Option<Refusal>) {
@@ -314,7 +329,7 @@ impl Text<'_> {
     }
 
     /// What is to be seen once all statements are read; the job, if there is no fault.
-    fn job(mut self) -> Result<(Job, Vec<String>), Vec<Fault>> {
+    fn job(mut self) -> Result<(Job, Vec<String>), (Vec<Fault>, usize)> {
         for (k, (kind, ..)) in FIELDS.iter().enumerate() {
             if self.fields[k].is_none() {
                 self.absent(kind, None);
@@ -338,7 +353,7 @@ impl Text<'_> {
         }
         let (Some(chunks), Some(span), Some(delay), Some(limit), true) = (chunks, span, delay, limit, self.faults.is_empty()) else {
             self.faults.sort_by_key(|fault| fault.line.unwrap_or(usize::MAX));
-            return Err(self.faults);
+            return Err((self.faults, self.faults_more));
         };
         let forecast = self.parts.iter().flat_map(|(_, part)| if let Part::Slots(slots) = part { slots.clone() } else { Vec::new() });
         let overrides = self.sizes.iter().map(|(_, [i, n, z])| Override { chunk: *i as u16, layer: *n as u8, bytes: *z as u32 });
@@ -406,7 +421,7 @@ impl Text<'_> {
         }
         let ([k], Some(last), false) = (&open[..], last, self.forecast_bad) else {
             // How many slots it is to take is not known; what is wrong with its lines is.
-            for k in open {
+            for k in open.into_iter().take(2) {
                 if let (line, Part::Open(path)) = &self.parts[k] {
                     let path = path.clone();
                     self.line = *line;
@@ -416,7 +431,7 @@ impl Text<'_> {
             return;
         };
         let Some((line, Part::Open(path))) = self.parts.get(*k).map(|(line, part)| (*line, part)) else { return };
-        let (path, given) = (path.clone(), self.slots());
+        let (path, given) = (path.clone(), self.slots);
         self.line = line;
         if given >= last {
             let message = format!(
@@ -427,6 +442,7 @@ impl Text<'_> {
             self.fault(message, Some(Refusal::Forecast));
             self.forecast_bad = true;
         } else if let Ok(slots) = self.traced(&path, last - given) {
+            self.slots += slots.len();
             self.parts[*k].1 = Part::Slots(slots);
         } else {
             self.forecast_bad = true;
@@ -437,7 +453,7 @@ impl Text<'_> {
         if self.forecast_bad {
             return;
         }
-        let slots = self.slots();
+        let slots = self.slots;
         match self.parts.last() {
             None => self.absent("forecast", Some(Refusal::Forecast)),
             Some(_) if slots != last && self.lent => {
@@ -484,13 +500,16 @@ pub fn read(data: &[u8], path: &Path, link: Option<&[u32]>) -> Result<(Job, Vec<
         layers_bad: false,
         sizes: Vec::new(),
         parts: Vec::new(),
+        slots: 0,
         forecast_bad: false,
         lent: false,
         faults: Vec::new(),
+        faults_more: 0,
         warnings: Vec::new(),
     };
     if let Some(link) = link {
         text.lent = true;
+        text.slots = link.len();
         text.parts.push((0, Part::Slots(link.to_vec())));
     }
     let mut lines = Vec::new();
@@ -506,7 +525,7 @@ pub fn read(data: &[u8], path: &Path, link: Option<&[u32]>) -> Result<(Job, Vec<
                 lines.push("");
                 text.fault("this is no text; a job file begins with PG, a text is UTF-8", None);
                 // Of what is no text the first line is enough.
-                return Err(told(&called, &lines, text.faults));
+                return Err(told(&called, &lines, (text.faults, text.faults_more)));
             }
         }
     }
@@ -514,8 +533,8 @@ pub fn read(data: &[u8], path: &Path, link: Option<&[u32]>) -> Result<(Job, Vec<
 }
 
 /// The faults as one message, each with its line and its sentence.
-fn told(called: &str, lines: &[&str], faults: Vec<Fault>) -> Failure {
-    let more = faults.len().saturating_sub(TOLD);
+fn told(called: &str, lines: &[&str], (faults, more): (Vec<Fault>, usize)) -> Failure {
+    let more = more + faults.len().saturating_sub(TOLD);
     let mut blocks = Vec::new();
     for fault in faults.iter().take(TOLD) {
         let place = fault.line.map_or(String::new(), |line| {

@@ -159,11 +159,7 @@ fn the_shortest_wait_is_that_of_the_call() {
     let answer = folder.film(&["wait", "job", "--trace", "van"]);
     assert!(answer.status == 1 && answer.text().starts_with("no wait works: from 1 to 4 slots"), "{}", answer.text());
     folder.put("van", "0\n1000\n2000\n");
-    assert!(folder
-        .film(&["wait", "job", "--trace", "van"])
-        .good("a trace")
-        .text()
-        .starts_with("no wait works: 3 chunks of 2 slots need 5"));
+    folder.film(&["wait", "job", "--trace", "van"]).bad(1, &["no wait works", "refusal 16: ", "3 chunks need 5 slots"], "a short trace");
 }
 
 #[test]
@@ -415,5 +411,5 @@ fn the_search_ends_where_the_call_ends() {
     let flight = root().join("samples/flight.txt");
     let answer = folder.film(&["search", flight.to_str().unwrap(), "--seconds", "1"]);
     assert!(answer.status == 0 && answer.text().contains("shows at most 2 more"), "{}", answer.text());
-    assert!(start.elapsed().as_secs() < 8);
+    assert!(start.elapsed().as_secs() < 60);
 }

@@ -125,7 +125,7 @@ fn expected_slot(act: &Act, carries: u64) -> (String, String, u32) {
         if carries > brought { format!("{} unused: nothing more was asked", bytes(carries - brought)) } else { "nothing unused".into() };
     let rate = match act.meter().kept {
         0 => "rate unknown: no slot has told yet".to_string(),
-        _ => format!("rate {} a slot, by which it asked", bytes(act.rate().into())),
+        _ => format!("rate {} a slot, as measured", bytes(act.rate().into())),
     };
     let mut asks = match act.asks().len() {
         0 => "nothing".to_string(),
@@ -156,8 +156,12 @@ fn expected_held(job: &Job, act: &Act, slot: u64) -> String {
         _ => format!("the limit allows {}", thousands(places)),
     };
     let mut held = format!("{} chunk{}, {limit}", begun.len(), if begun.len() == 1 { "" } else { "s" });
-    for i in begun {
+    let more = begun.len().saturating_sub(12);
+    for i in begun.into_iter().take(12) {
         held += &format!("chunk {i}, due in slot {}", thousands(due(job, i)));
+    }
+    if more > 0 {
+        held += &format!("and {more} more");
     }
     held
 }
@@ -179,16 +183,15 @@ fn expected_screen(job: &Job, marks: &[u8], slot: u64) -> String {
     }
 }
 
-#[test]
-fn the_slider_says_what_the_act_did_in_every_slot() {
-    let Some(browser) = browser() else { return };
-    let folder = Folder::new("slider");
+/// The page of the job on its own forecast as the link, in every slot. Says how many chunks were
+/// skipped, and in how many slots somebody was passed over.
+fn every_slot(browser: &OsString, folder: &Folder, job: &Job) -> (usize, usize) {
+    let file = folder.put("job", job.write().unwrap());
     let page = folder.0.join("rehearsal.html");
-    let at = page.to_str().unwrap();
-    let job = Job::read(&done(&["make", "samples/flight.txt"])).unwrap();
-    done(&["rehearse", "samples/flight.txt", "--trace", "samples/flight.txt", "--page", at]);
-    let tried = with_script(&folder, &page, "every.html", EVERY_SLOT);
-    let said = inside(&dom(&browser, &folder, &tried, "", 1000), "pre", "trial");
+    let (file, at) = (file.to_str().unwrap(), page.to_str().unwrap());
+    done(&["rehearse", file, "--trace", file, "--page", at]);
+    let tried = with_script(folder, &page, "every.html", EVERY_SLOT);
+    let said = inside(&dom(browser, folder, &tried, "", 1000), "pre", "trial");
     let said: Vec<&str> = said.lines().collect();
     assert_eq!(said.len(), job.forecast.len());
     let mut act = Act::new(job.clone()).unwrap();
@@ -197,19 +200,38 @@ fn the_slider_says_what_the_act_did_in_every_slot() {
         let slot = k as u64 + 1;
         let (brought, asks, came) = expected_slot(&act, (*carries).into());
         act.brought(came);
-        wanted.push((format!("slot {slot} of {}", said.len()), brought, asks, expected_held(&job, &act, slot)));
+        let now = format!("slot {} of {}", thousands(slot), thousands(said.len() as u64));
+        wanted.push((now, brought, asks, expected_held(job, &act, slot)));
     }
     let marks = act.shown().marks;
-    assert!(marks.contains(&0), "the sample skips something");
     let mut passed = 0;
     for (k, ((now, brought, asks, held), said)) in wanted.iter().zip(&said).enumerate() {
         let said: Vec<&str> = said.split('|').collect();
         let (told, over) = said[3].split_once("passed over").map_or((said[3], false), |(told, _)| (told, true));
-        passed += u32::from(over);
+        passed += usize::from(over);
         assert_eq!((said[0], said[2], told, said[4]), (now.as_str(), brought.as_str(), asks.as_str(), held.as_str()));
-        assert_eq!(said[1], expected_screen(&job, &marks, k as u64 + 1));
+        assert_eq!(said[1], expected_screen(job, &marks, k as u64 + 1));
     }
-    assert!(passed > 0, "somebody is passed over in the sample");
+    (marks.iter().filter(|mark| **mark & 1 == 0).count(), passed)
+}
+
+#[test]
+fn the_slider_says_what_the_act_did_in_every_slot() {
+    let Some(browser) = browser() else { return };
+    let folder = Folder::new("slider");
+    let flight = Job::read(&done(&["make", "samples/flight.txt"])).unwrap();
+    let (skipped, passed) = every_slot(&browser, &folder, &flight);
+    assert!(skipped == 4 && passed > 0, "{skipped} {passed}");
+    let mut r = Random(5);
+    let forecast = (0..640).map(|_| if r.below(6) == 0 { 0 } else { r.below(62_000) }).collect();
+    let many = Job { chunks: 200, span: 3, delay: 43, limit: 50, sizes: vec![90_000, 40_000, 30_000, 9], overrides: vec![], forecast };
+    let (skipped, passed) = every_slot(&browser, &folder, &many);
+    assert!(skipped > 5 && passed > 5, "{skipped} {passed}");
+    // All held, nothing held, and nothing ever shown.
+    every_slot(&browser, &folder, &Job { limit: 65535, ..many.clone() });
+    every_slot(&browser, &folder, &Job { limit: 0, ..flight.clone() });
+    let dead = Job { forecast: vec![0; flight.forecast.len()], ..flight };
+    assert_eq!(every_slot(&browser, &folder, &dead), (30, 0));
 }
 
 #[test]
@@ -258,7 +280,10 @@ Array.prototype.forEach.call(document.querySelectorAll('svg'), function (svg) {
       if (wide > 1 && high > 0.32 * Math.min(a[1].height, b[1].height)) { found.push(name + ' covered: ' + a[0] + ' / ' + b[0]); }
     });
   });
-  var untitled = Array.prototype.filter.call(svg.querySelectorAll('rect.hi'), function (r) { return !r.querySelector('title'); });
+  var bars = svg.querySelectorAll('rect.hi, rect.l0, rect.l1, rect.l2, rect.l3, rect[fill], rect.in, path.si[stroke-linecap]');
+  var untitled = Array.prototype.filter.call(bars, function (r) {
+    return !r.querySelector('title') && !(r.getAttribute('width') === '16' && r.getAttribute('height') === '13');
+  });
   if (untitled.length) { found.push(name + ' without a title: ' + untitled.length); }
 });
 document.getElementById('trial').textContent = found.join('\\n');";

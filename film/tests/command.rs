@@ -146,7 +146,11 @@ fn the_desk_makes_six_files() {
     assert_eq!(folder.get("desk/flight/verdict"), b"verdict 0\n");
     assert_eq!(folder.get("desk/flight/report"), job.report().unwrap().as_bytes());
     assert_eq!(folder.get("desk/flight/reasons"), job.reasons().unwrap().as_bytes());
-    assert!(folder.get("desk/flight/plan.svg").starts_with(b"<svg "));
+    assert_eq!(
+        folder.get("desk/flight/plan.svg"),
+        std::fs::read(root().join("docs/flight.svg")).unwrap(),
+        "docs/flight.svg is another picture"
+    );
     assert_eq!(folder.get("desk/flight/job"), folder.film(&["make", "samples/flight.txt"]).out);
     // The README shows the lines that it prints, and the sample as it is.
     let readme = std::fs::read_to_string(root().join("README.md")).unwrap();

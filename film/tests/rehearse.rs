@@ -199,3 +199,20 @@ fn damaged_links_never_panic() {
     }
     assert!(read > 10 && told > 50, "{read} {told}");
 }
+
+#[test]
+fn a_text_may_go_without_a_forecast() {
+    let folder = with_samples();
+    let flight = String::from_utf8(folder.get(FLIGHT)).unwrap();
+    let bare: String = flight.lines().filter(|line| !line.starts_with("forecast")).map(|line| format!("{line}\n")).collect();
+    folder.put("bare.txt", &bare);
+    let lines = |job: &str| {
+        let table = folder.film(&["rehearse", job, "--link", "walk", "150%"]).good(job).text();
+        table.lines().filter(|line| !line.contains("planning afresh")).map(String::from).collect::<Vec<_>>()
+    };
+    assert_eq!(lines("bare.txt"), lines(FLIGHT));
+    folder.put("bare.txt", bare.replace("span 6", "span 0"));
+    folder.film(&["rehearse", "bare.txt", "--link", "walk", "150%"]).bad(1, &["bare.txt line 3: span 0"], "a text with a fault");
+    folder.put("bare.txt", bare.replace("delay 12", ""));
+    folder.film(&["rehearse", "bare.txt", "--link", "walk", "150%"]).bad(1, &["there is no delay"], "a text without a delay");
+}

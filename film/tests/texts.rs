@@ -213,7 +213,8 @@ fn names_of_traces_and_slots_that_the_job_needs() {
         folder.put("text", format!("{lines}\n{head}"));
         assert_eq!(Job::read(&folder.film(&["make", "text"]).good(lines).out).unwrap().forecast, forecast, "{lines}");
     }
-    // The trace is looked for from the text's folder.
+    // The trace is looked for from the text's folder; of a text on standard input, from here.
+    folder.film_on(&["make"], format!("{head}trace van.txt\n").as_bytes()).good("a text on standard input");
     std::fs::create_dir(folder.0.join("deep")).unwrap();
     folder.put("deep/text", format!("{head}trace ../van.txt\n"));
     folder.film(&["make", "deep/text"]).good("a text in another folder");
@@ -386,6 +387,13 @@ fn damaged_texts_and_files_never_panic() {
             _ => drop(answer.bad(1, &["standard input"], &String::from_utf8_lossy(&data))),
         }
     }
+    let start = std::time::Instant::now();
+    for line in ["forecast 1\n", "size 2 0 5\n", "layer 7\n", "chunks 3\n", "film\n", "trace nothing\n", "\n", "\"\n", "trace \"\n"] {
+        let text = format!("{A_TEXT}{}", line.repeat((10_000_000 - A_TEXT.len()) / line.len()));
+        let answer = folder.film_on(&["make"], text.as_bytes());
+        assert!(line == "\n" && answer.status == 0 || answer.status == 1 && answer.err.len() < 10_000, "{line}: {}", answer.err.len());
+    }
+    assert!(start.elapsed().as_secs() < 300, "long texts take too long");
     println!("3,000 damaged texts and files: {kept} still jobs, the others refused");
     let junk: Vec<u8> = (0..5000).map(|_| random.next() as u8).collect();
     let long_number = [b"chunks ".to_vec(), vec![b'1'; 100_000]].concat();

@@ -13,15 +13,18 @@ pub const SMALL: f64 = 13.0;
 /// Colours by what they stand for. Layers go from dark to light, so that they are told apart in
 /// grey as well, and lie between the paper and the ink of either mode.
 pub const STYLE: &str = "\
-.fp{background:#fff}.pa{fill:#fff}.in{fill:#1b1d20}.gr{fill:#565c64}.l0{fill:#17568f}.l1{fill:#3585c9}.l2{fill:#ee9b3a}.l3{fill:#f1d552}\
-.mi{fill:#fff}.ha{stroke:#9298a0}.li{fill:#eceef1}.he{fill:#a3aab3}.fu{fill:#6d747d}.wa{fill:#b4bac2}.hi{fill:transparent}\
+.fp{background:#fff}.pa{fill:#fff}.in{fill:#1b1d20}.gr{fill:#565c64}.l0{fill:#0e4578}.l1{fill:#2d76c1}.l2{fill:#f19125}.l3{fill:#f7de75}\
+.mi{fill:#fff}.ha{stroke:#9298a0}.li{fill:#f6f7f8}.he{fill:#a3aab3}.fu{fill:#6d747d}.wa{fill:url(#waste)}.hi{fill:transparent}\
 .si{stroke:#1b1d20}.sg{stroke:#565c64}.sp{stroke:#dcdfe3}.sa{stroke:#fff}\
 @media (prefers-color-scheme:dark){.fp{background:#15181c}.pa{fill:#15181c}.in{fill:#eef0f2}.gr{fill:#aab1ba}.mi{fill:#15181c}.ha{stroke:#69707a}\
-.li{fill:#272b31}.he{fill:#6b727c}.fu{fill:#a3aab3}.wa{fill:#545b65}.si{stroke:#eef0f2}.sg{stroke:#aab1ba}.sp{stroke:#32373e}.sa{stroke:#15181c}}";
+.li{fill:#1f2329}.he{fill:#6b727c}.fu{fill:#a3aab3}.si{stroke:#eef0f2}.sg{stroke:#aab1ba}.sp{stroke:#32373e}.sa{stroke:#15181c}}";
 
-/// Missing layers are hatched: one pattern over the plane, so that narrow neighbours make one field.
-pub const HATCH: &str = "<defs><pattern id=\"hatch\" width=\"4\" height=\"4\" patternUnits=\"userSpaceOnUse\" \
-patternTransform=\"rotate(45)\"><rect class=\"mi\" width=\"4\" height=\"4\"/><path class=\"ha\" d=\"M0 0v4\" stroke-width=\"1.4\"/></pattern></defs>";
+/// What is missing is hatched, what was fetched for nothing has lines: told from the layers without
+/// any colour. One pattern each over the plane, so that narrow neighbours make one field.
+const PATTERNS: &str = "<defs><pattern id=\"hatch\" width=\"4\" height=\"4\" patternUnits=\"userSpaceOnUse\" \
+patternTransform=\"rotate(45)\"><rect class=\"mi\" width=\"4\" height=\"4\"/><path class=\"ha\" d=\"M0 0v4\" stroke-width=\"1.4\"/></pattern>\
+<pattern id=\"waste\" width=\"4\" height=\"3\" patternUnits=\"userSpaceOnUse\"><rect class=\"mi\" width=\"4\" height=\"3\"/>\
+<path class=\"sg\" d=\"M0 1.5h4\" stroke-width=\"1\"/></pattern></defs>";
 
 pub struct Canvas {
     parts: String,
@@ -189,7 +192,7 @@ impl Canvas {
             px(VIEW),
             px(height)
         );
-        let _ = writeln!(out, "<title>{}</title>\n<style>{STYLE}</style>\n{HATCH}", escape(title));
+        let _ = writeln!(out, "<title>{}</title>\n<style>{STYLE}</style>\n{PATTERNS}", escape(title));
         let _ = writeln!(out, "<rect class=\"pa\" width=\"{}\" height=\"{}\"/>", px(VIEW), px(height));
         out.push_str(&self.parts);
         out.push_str("</svg>\n");

@@ -58,6 +58,7 @@ pub fn read(film: &Film, lines: &str) -> Whys {
 fn understood(line: &str) -> Option<(usize, usize, Option<Stretch>)> {
     let words: Vec<&str> = line.split_whitespace().collect();
     let number = |k: usize| words.get(k).and_then(|word| word.trim_end_matches([',', ':']).parse::<u64>().ok());
+    let (Some(&"chunk"), Some(&"layer")) = (words.first(), words.get(2)) else { return None };
     let (chunk, layer) = (number(1)? as usize, number(3)? as usize);
     let stretch = match (words.get(4).copied(), number(5), number(7), number(9), number(11)) {
         (Some("slots"), Some(first), Some(last), Some(carry), Some(need)) => {
@@ -113,4 +114,74 @@ fn carried_without_limit(film: &Film, chunk: usize, layer: usize) -> bool {
         need += lower + if own { film.size(i, layer) } else { 0 };
         need <= carried
     })
+}
+
+#[cfg(test)]
+mod tests {
+    use super::*;
+    use crate::rehearse::tests::{random_job, Random};
+    use film_planner::{FetchList, Job, Row, Verdict};
+
+    /// The layers settled before a missing one and that one, fetched as early as the link allows in a
+    /// buffer that holds all, pass the checker exactly where the limit is called the cause.
+    #[test]
+    fn the_limit_is_the_cause_where_the_checker_says_so() {
+        let mut r = Random(11);
+        let (mut causes, mut parts) = (0, 0);
+        for _ in 0..1500 {
+            let job = random_job(&mut r);
+            let plan = job.plan().unwrap();
+            let film = Film::new(&job, &plan.marks, &plan.list);
+            for ((chunk, layer), why) in read(&film, &job.reasons().unwrap()) {
+                let Some(stretch) = why.stretch else { continue };
+                assert!(film.level(chunk) == layer, "the next one up is missing");
+                let Some(limit) = why.limit else {
+                    assert_eq!(stretch.first, 1);
+                    continue;
+                };
+                let level = |i: usize| match i {
+                    i if i == chunk => layer + 1,
+                    i if i > chunk => film.level(i).min(layer + 1),
+                    i => film.level(i).min(layer),
+                };
+                let passes = carried(&job, &film, level);
+                assert_eq!(limit.starts_with("The limit is the cause"), passes, "{job:?} {chunk} {layer}");
+                causes += u32::from(passes);
+                parts += u32::from(!passes);
+            }
+        }
+        assert!(causes > 200 && parts > 200, "{causes} {parts}");
+    }
+
+    fn carried(job: &Job, film: &Film, level: impl Fn(usize) -> usize) -> bool {
+        let mut left = job.forecast.clone();
+        let mut list = FetchList::new();
+        for i in 1..=film.chunks() {
+            for n in 0..level(i) {
+                let mut bytes = film.size(i, n) as u32;
+                for (k, left) in left.iter_mut().enumerate() {
+                    let part = bytes.min(*left);
+                    if part > 0 {
+                        list.push(Row::new(k as u16 + 1, i as u16, n as u8, part));
+                    }
+                    *left -= part;
+                    bytes -= part;
+                }
+            }
+        }
+        let marks: Vec<u8> = (1..=film.chunks()).map(|i| (1u8 << level(i)) - 1).collect();
+        Job { limit: 65535, ..job.clone() }.check(&marks, &list).unwrap() == Verdict::Passes
+    }
+
+    #[test]
+    fn lines_are_read_as_they_are_written() {
+        let line = "chunk 12 layer 0: slots 78 to 108 carry 186000, need 240000";
+        let stretch = Stretch { first: 78, last: 108, carry: 186_000, need: 240_000 };
+        assert_eq!(understood(line), Some((12, 0, Some(stretch))));
+        assert_eq!(with_separators(line), "chunk 12 layer 0: slots 78 to 108 carry 186,000, need 240,000");
+        assert_eq!(understood("chunk 3 layer 2: layer 1 is missing"), Some((3, 2, None)));
+        for line in ["", "chunk", "chunk x layer 1", "layer 1: chunk 2", "a b c d e f g h i j k l m"] {
+            assert_eq!(understood(line), None);
+        }
+    }
 }

@@ -120,6 +120,7 @@ fn the_rule_is_read_as_the_call_has_it() {
         })
         .unwrap();
     }
+    println!("the rule asks for the same bases in {slots} slots; {passed} times a chunk was passed over");
     assert!(slots > 5000 && passed > 300, "{slots} {passed}");
 }
 
@@ -133,15 +134,18 @@ fn every_skip_has_its_reason() {
         let (rehearsal, watch) = Rehearsal::watched(&job, &link).unwrap();
         let film = Film::new(&job, &rehearsal.act.marks, &rehearsal.act.list);
         let skips = watch.skips(&rehearsal.act);
+        let roomy = Rehearsal::new(&Job { limit: 65535, ..job.clone() }, &link).unwrap().act.marks.clone();
         assert_eq!(skips.iter().map(|skip| skip.chunk).collect::<Vec<_>>(), film.skipped());
         assert_eq!(watch.slots.len(), link.bytes.len());
         for skip in &skips {
             assert_eq!(skip.due, film.due(skip.chunk));
+            // The limit is named exactly where it is a cause.
+            assert_eq!(skip.limit.is_some(), roomy[skip.chunk - 1] & 1 == 1);
             let late = film.size(skip.chunk, 0) - film.sum(skip.chunk, 0);
             assert!(late > 0);
             match skip.cause {
                 Cause::Late => assert!(skip.why.starts_with(&format!("late by {late} byte"))),
-                Cause::Limit => assert!(skip.limit.is_some() || skip.why.ends_with("never asked"), "{skip:?}"),
+                Cause::Limit => assert!(skip.limit.is_some() && skip.why.starts_with("late by"), "{skip:?}"),
                 // Somebody later is there, and this one was not begun.
                 Cause::Overtaken => assert!(film.first(skip.chunk).is_none() && skip.why.contains("was begun")),
                 Cause::PassedOver => assert!(watch.slots[skip.due - 1].passed.contains(&skip.chunk)),
@@ -149,6 +153,7 @@ fn every_skip_has_its_reason() {
             causes[skip.cause as usize] += 1;
         }
     }
+    println!("passed over, overtaken, late, no place: {causes:?}");
     assert!(causes.iter().all(|n| *n > 20), "{causes:?}");
 }
 
@@ -238,7 +243,7 @@ fn the_page_stands_alone() {
 fn of_many_pieces_the_first_are_kept() {
     let job = Job { chunks: 500, span: 1, delay: 100, limit: 65535, sizes: vec![9; 4], overrides: vec![], forecast: vec![0; 599] };
     let link = links::synthetic("3g", 30, 1, 599).unwrap();
-    let mut watch = Watch::new(&job, &link.bytes);
+    let mut watch = Watch::new(&job, &link.bytes).unwrap();
     ways::act(&job, &link.bytes, |act| watch.see(act)).unwrap();
     assert_eq!((watch.slots[0].pieces, watch.slots[0].asked, watch.slots[0].first.len()), (2000, 18000, 12));
 }

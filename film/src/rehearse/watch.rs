@@ -1,9 +1,9 @@
 //! An act, watched: what it asked in each slot, whom it passed over, and in the end why each skipped
 //! chunk was skipped.
-use super::ways::Fetched;
+use super::ways::{self, Fetched};
 use crate::draw::film::Film;
 use crate::words::{counted, thousands};
-use film_planner::{Act, Job, Piece};
+use film_planner::{Act, Job, Piece, Refusal};
 
 /// The most pieces of a slot that are kept; of the others their number is.
 const PIECES: usize = 12;
@@ -11,7 +11,7 @@ const PIECES: usize = 12;
 /// A slot of the act, before the link brought anything.
 #[derive(Clone, Debug, Default, PartialEq, Eq)]
 pub struct Slot {
-    /// The rate by which it asked; before the meter's first sample there is none.
+    /// The rate that it measured; before the meter's first sample there is none.
     pub rate: Option<u32>,
     pub asked: u64,
     pub pieces: usize,
@@ -37,19 +37,18 @@ struct Story {
     overtaken: Option<(usize, usize)>,
     /// The first slot that asked for it.
     asked: Option<usize>,
-    /// The first and the last slot in which it had no place in the buffer.
-    waited: Option<(usize, usize)>,
+    /// The last slot in which it had no place in the buffer.
+    waited: Option<usize>,
     /// In its due slot.
     passed_last: bool,
 }
 
 pub struct Watch<'a> {
     job: &'a Job,
-    link: &'a [u32],
     pub slots: Vec<Slot>,
     stories: Vec<Story>,
-    /// By slot, what the link carried beyond all that was asked.
-    unused: Vec<u64>,
+    /// The marks of an act on the same link with room for the whole programme.
+    roomy: Vec<u8>,
 }
 
 /// The rule of docs/LIVE.md in a slot: who is open, who lacks bytes, who is passed over.
@@ -79,8 +78,11 @@ pub fn rule(film: &Film, slot: usize, rate: u64) -> Rule {
 }
 
 impl<'a> Watch<'a> {
-    pub fn new(job: &'a Job, link: &'a [u32]) -> Watch<'a> {
-        Watch { job, link, slots: Vec::new(), stories: vec![Story::default(); usize::from(job.chunks)], unused: Vec::new() }
+    /// The limit is named as a cause where an act with room for the whole programme shows the chunk;
+    /// so one is run here.
+    pub fn new(job: &'a Job, link: &[u32]) -> Result<Watch<'a>, Refusal> {
+        let roomy = ways::act(&Job { limit: u16::MAX, ..job.clone() }, link, |_| {})?.marks;
+        Ok(Watch { job, slots: Vec::new(), stories: vec![Story::default(); usize::from(job.chunks)], roomy })
     }
 
     /// To be called in each slot, before the link brings anything.
@@ -90,7 +92,6 @@ impl<'a> Watch<'a> {
         let rule = rule(&film, slot, act.rate().into());
         let asks = act.asks();
         let asked: u64 = asks.iter().map(|piece| u64::from(piece.bytes)).sum();
-        self.unused.push(self.link.get(slot - 1).map_or(0, |carries| u64::from(*carries).saturating_sub(asked)));
         let is_asked = |i: usize| asks.iter().any(|piece| piece.layer == 0 && usize::from(piece.chunk) == i);
         // Where the rate asked for no base the act asks for all of them, and nobody is passed over.
         let (given_up, instead) = rule.passed.unwrap_or_default();
@@ -106,7 +107,7 @@ impl<'a> Watch<'a> {
             } else if story.passed_last {
                 story.passed = Some(Passed { slot, rate: act.rate().into(), missing: rule.missing[i - 1], instead });
             } else {
-                story.waited = Some((story.waited.map_or(slot, |(first, _)| first), slot));
+                story.waited = Some(slot);
             }
         }
         let rate = (act.meter().kept > 0).then(|| act.rate());
@@ -114,20 +115,17 @@ impl<'a> Watch<'a> {
         self.slots.push(Slot { rate, asked, pieces: asks.len(), first, passed: given_up });
     }
 
-    /// Why each skipped chunk was skipped, once the act is over. The limit is named where the bytes
-    /// that the link left unused while the chunk had no place would have brought it, beside the
-    /// skipped chunks before it.
+    /// Why each skipped chunk was skipped, once the act is over.
     pub fn skips(&self, fetched: &Fetched) -> Vec<Skip> {
         let film = Film::new(self.job, &fetched.marks, &fetched.list);
-        let mut unused = self.unused.clone();
-        film.skipped().into_iter().map(|chunk| self.skip(&film, chunk, &mut unused)).collect()
+        film.skipped().into_iter().map(|chunk| self.skip(&film, chunk)).collect()
     }
 
-    fn skip(&self, film: &Film, chunk: usize, unused: &mut [u64]) -> Skip {
+    fn skip(&self, film: &Film, chunk: usize) -> Skip {
         let (story, due) = (self.stories[chunk - 1], film.due(chunk));
         let came = film.sum(chunk, 0);
         let late = film.size(chunk, 0).saturating_sub(came);
-        let limit = story.waited.filter(|waited| taken(unused, *waited, late)).map(|(_, until)| self.limit_told(film, until, late));
+        let limit = self.roomy.get(chunk - 1).is_some_and(|mark| mark & 1 == 1).then(|| self.limit_told(film, story.waited));
         let (cause, why) = match (story.overtaken, story.passed) {
             (Some((by, before)), passed) => {
                 let begun = thousands(film.first(by).unwrap_or(before.saturating_sub(1)) as u64);
@@ -141,38 +139,25 @@ impl<'a> Watch<'a> {
                     None => "never asked".to_string(),
                 };
                 let of = format!("{} of {} came, {from}", thousands(came), counted(film.size(chunk, 0), "byte"));
-                let cause = if limit.is_some() || story.asked.is_none() { Cause::Limit } else { Cause::Late };
+                let cause = if limit.is_some() && story.waited.is_some() { Cause::Limit } else { Cause::Late };
                 (cause, format!("late by {}: {of}", counted(late, "byte")))
             }
         };
         Skip { chunk, due, cause, why, limit }
     }
 
-    fn limit_told(&self, film: &Film, until: usize, late: u64) -> String {
-        let limit = counted(self.job.limit.into(), "slot");
+    fn limit_told(&self, film: &Film, waited: Option<usize>) -> String {
         let places = match film.places {
             0 => "no chunk".to_string(),
             places => counted(places as u64, "chunk"),
         };
-        let until = thousands(until as u64);
-        let had = format!("Up to slot {until} it had no place: the limit of {limit} holds {places}.");
-        format!("{had} The {} that it lacked went unused on the link by then: more room could have brought it.", counted(late, "byte"))
+        let limit = format!("the limit of {} holds {places}", counted(self.job.limit.into(), "slot"));
+        let had = match waited {
+            Some(slot) => format!("up to slot {} it had no place, since {limit}", thousands(slot as u64)),
+            None => limit,
+        };
+        format!("The limit is a cause: {had}; with room for the whole programme the act shows it.")
     }
-}
-
-/// Takes so many bytes out of what is unused in these slots, the last first; nothing, if there are
-/// not as many.
-fn taken(unused: &mut [u64], (first, last): (usize, usize), mut bytes: u64) -> bool {
-    let slots = first.max(1) - 1..last.min(unused.len());
-    if slots.is_empty() || bytes == 0 || unused[slots.clone()].iter().sum::<u64>() < bytes {
-        return false;
-    }
-    for left in unused[slots].iter_mut().rev() {
-        let part = bytes.min(*left);
-        *left -= part;
-        bytes -= part;
-    }
-    true
 }
 
 fn told(passed: &Passed, due: usize) -> String {
