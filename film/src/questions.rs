@@ -118,6 +118,9 @@ fn whole_trace(path: &Path) -> Result<Vec<u32>, Failure> {
 }
 
 fn wait(args: Args) -> Result<(), Failure> {
+    if args.flag("then") && args.flag("trace") {
+        return Err(Failure::usage("--then and --trace: one of them; behind a trace's end nothing is assumed"));
+    }
     let loaded = files::job(args.path(0))?;
     let own = &loaded.job;
     let then = then(&args, own)?;

@@ -227,12 +227,32 @@ fn the_slider_says_what_the_act_did_in_every_slot() {
     let many = Job { chunks: 200, span: 3, delay: 43, limit: 50, sizes: vec![90_000, 40_000, 30_000, 9], overrides: vec![], forecast };
     let (skipped, passed) = every_slot(&browser, &folder, &many);
     assert!(skipped > 5 && passed > 5, "{skipped} {passed}");
-    // All held, nothing held, and nothing ever shown.
-    every_slot(&browser, &folder, &Job { limit: 65535, ..many.clone() });
+    // No place to hold anything; then room for all, and nothing ever shown.
     every_slot(&browser, &folder, &Job { limit: 0, ..flight.clone() });
-    let dead = Job { forecast: vec![0; flight.forecast.len()], ..flight };
+    let dead = Job { limit: 65535, forecast: vec![0; flight.forecast.len()], ..flight };
     assert_eq!(every_slot(&browser, &folder, &dead), (30, 0));
 }
+
+/// Presses the buttons and changes the address, one after the other, and writes down where the slider
+/// is after each. The skips of the sample's act are due in slots 102 to 120.
+const BUTTONS: &str = "
+var said = [], at = function (id) { return document.getElementById(id); };
+var say = function (what) { said.push(what + ' ' + at('now').textContent + ' ' + at('slot').value + ' ' + document.body.getAttribute('data-slot')); };
+say('opened');
+at('on').click(); at('on').click(); at('on').click(); say('on');
+at('back').click(); say('back');
+at('skip').click(); say('skip');
+at('skip').click(); say('skip');
+document.querySelectorAll('#skips button')[3].click(); say('reason');
+at('skip').click(); say('first');
+var addresses = ['slot=33', 'slot=0', 'slot=99999', 'nothing', 'slot=186'];
+var next = function () {
+  if (!addresses.length) { at('on').click(); say('end'); at('trial').textContent = said.join('\\n'); return; }
+  var address = addresses.shift();
+  location.hash = address;
+  setTimeout(function () { say(address); next(); }, 100);
+};
+next();";
 
 #[test]
 fn the_buttons_and_the_address_move_the_slider() {
@@ -240,27 +260,27 @@ fn the_buttons_and_the_address_move_the_slider() {
     let folder = Folder::new("buttons");
     let page = folder.0.join("rehearsal.html");
     done(&["rehearse", "samples/flight.txt", "--trace", "samples/flight.txt", "--page", page.to_str().unwrap()]);
-    let slot = |page: &Path, hash: &str| {
-        let dom = dom(&browser, &folder, page, hash, 600);
-        let at = dom
-            .split("data-slot=\"")
-            .find_map(|rest| rest.split_once("\"").map(|(n, _)| n.to_string()).filter(|n| n.parse::<u32>().is_ok()));
-        (at, inside(&dom, "output", "now"))
-    };
-    assert_eq!(slot(&page, "#slot=77"), (Some("77".into()), "slot 77 of 186".into()));
-    assert_eq!(slot(&page, "#slot=0").1, "slot 1 of 186");
-    assert_eq!(slot(&page, "#slot=99999").1, "slot 186 of 186");
-    assert_eq!(slot(&page, "#nothing").1, "slot 1 of 186");
-    let click = |name: &str, times: usize| format!("for (var k = 0; k < {times}; k += 1) {{ document.getElementById('{name}').click(); }}");
-    let on = with_script(&folder, &page, "on.html", &(click("on", 9) + &click("back", 2)));
-    assert_eq!(slot(&on, "#slot=70").1, "slot 77 of 186");
-    // The skips of the sample's act are due in slots 102 to 120; after the last the first comes again.
-    let skip = with_script(&folder, &page, "skip.html", &click("skip", 2));
-    assert_eq!((slot(&skip, "").1, slot(&skip, "#slot=114").1), ("slot 108 of 186".into(), "slot 102 of 186".into()));
-    let listed = with_script(&folder, &page, "listed.html", "document.querySelectorAll('#skips button')[3].click();");
-    assert_eq!(slot(&listed, "").1, "slot 120 of 186");
-    let changed = with_script(&folder, &page, "changed.html", "location.hash = 'slot=33';");
-    assert_eq!(slot(&changed, "#slot=5").1, "slot 33 of 186");
+    let tried = with_script(&folder, &page, "buttons.html", BUTTONS);
+    let said = inside(&dom(&browser, &folder, &tried, "#slot=77", 600), "pre", "trial");
+    let wanted = [
+        ("opened", 77),
+        ("on", 80),
+        ("back", 79),
+        ("skip", 102),
+        ("skip", 108),
+        ("reason", 120),
+        ("first", 102),
+        ("slot=33", 33),
+        ("slot=0", 1),
+        ("slot=99999", 186),
+        ("nothing", 186),
+        ("slot=186", 186),
+        ("end", 186),
+    ];
+    let wanted: Vec<String> = wanted.iter().map(|(what, slot)| format!("{what} slot {slot} of 186 {slot} {slot}")).collect();
+    assert_eq!(said.lines().collect::<Vec<_>>(), wanted);
+    let alone = dom(&browser, &folder, &page, "", 600);
+    assert_eq!(inside(&alone, "output", "now"), "slot 1 of 186");
 }
 
 /// Every text of a picture against every other and against the edges.

@@ -42,7 +42,8 @@ fn every_subcommand_has_help_with_examples_that_run() {
 fn wrong_command_lines_end_with_status_2() {
     let folder = with_samples();
     folder.put("job", job_a().write().unwrap());
-    let cases: [(&[&str], &str); 20] = [
+    let cases: [(&[&str], &str); 21] = [
+        (&["wait", "job", "--then", "1", "--trace", "van"], "--then and --trace: one of them"),
         (&[], "film SUBCOMMAND"),
         (&["made"], "made: there is no such subcommand; is make meant?\nThere are make, show"),
         (&["--paint"], "there is no such subcommand"),
