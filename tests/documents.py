@@ -1,7 +1,7 @@
 """The documents against the tree: no document may name a file, a crate, a call, a definition or a
 must-fail edit that isn't there, and docs/PROMISES.md has to name every edit. Looked at are links,
 what stands in `code`, and paths in commands. The notes and the changelog tell what was, so of them
-only the links are looked at.
+only the links are looked at. In sources every file that a comment names has to be there.
 Run it at the root of the repository: python3 tests/documents.py"""
 import glob
 import os
@@ -155,8 +155,23 @@ def faults(document):
             yield f"{span}: {fault}"
 
 
+def source_faults():
+    """Files that the sources name and the tree lacks; rust/ and film/ name some from their own
+    folder."""
+    name = re.compile(r"(?<![\w./-])(?:tests|tools|bench|docs|samples|examples|include|crates)/[\w./-]*\w\.(?:py|md|txt|c|h|rs|job|trace|svg|out|antt)\b")
+    for pattern in SOURCES:
+        for path in sorted(glob.glob(pattern, recursive=True)):
+            if os.path.isfile(path) and "target/" not in path:
+                for found in set(name.findall(read(path))):
+                    if not any(os.path.exists(os.path.join(place, found)) for place in ("", path.split("/")[0])):
+                        yield f"{path}: {found}: there is no such file"
+
+
 def main():
     count = 0
+    for fault in source_faults():
+        print(fault)
+        count += 1
     for document in DOCUMENTS:
         if not os.path.exists(document):
             continue
