@@ -1,12 +1,15 @@
 """The documents against the tree: no document may name a file, a crate, a call, a definition or a
-must-fail edit that isn't there, and docs/PROMISES.md has to name every edit. Looked at are links,
-what stands in `code`, and paths in commands. The notes and the changelog tell what was, so of them
-only the links are looked at. In sources every file that a comment names has to be there.
+must-fail edit that isn't there; docs/PROMISES.md has to name every edit, docs/CALLS.md every call of
+the header, docs/ARCHITECTURE.md every crate. Looked at are links, what stands in `code`, and paths
+in commands. The notes and the changelog tell what was, so of them only the links are looked at. In
+sources every file that a comment names has to be there.
 Run it at the root of the repository: python3 tests/documents.py"""
 import glob
 import os
 import re
 import sys
+
+import header
 
 DOCUMENTS = ["README.md", "CONTRIBUTING.md", "CHANGELOG.md"] + sorted(glob.glob("docs/*.md") + glob.glob("docs/notes/*.md") + glob.glob("bench/*.md"))
 HISTORY = ("docs/notes/", "CHANGELOG.md")
@@ -178,10 +181,11 @@ def main():
         for fault in dict.fromkeys(faults(document)):
             print(f"{document}: {fault}")
             count += 1
-    promises = read("docs/PROMISES.md")
-    for edit in sorted(EDITS - set(re.findall(r"`(\w+/\w+)`", promises))):
-        print(f"docs/PROMISES.md: {edit} is an edit that it does not name")
-        count += 1
+    for document, what, wanted in (("docs/PROMISES.md", "an edit", EDITS), ("docs/CALLS.md", "a call of the header", set(header.calls())),
+                                   ("docs/ARCHITECTURE.md", "a crate", CRATES)):
+        for lacking in sorted(wanted - set(re.findall(r"`([\w/]+)`", read(document)))):
+            print(f"{document}: {lacking} is {what} that it does not name")
+            count += 1
     print(f"{len(DOCUMENTS)} documents, {count} faults")
     sys.exit(bool(count))
 
