@@ -1,7 +1,7 @@
-"""The constants of include/film_planner.h against the theorems and definitions that bound them: each
-constant's number has to stand in the statement that is named here for it, and in the sources where
-they name it too. A constant without a row is refused. That the statements hold is the proofs' work.
-Run it at the root of the repository: python3 tests/constants.py"""
+"""The constants of include/film_planner.h against the theorems and definitions that bound them:
+each constant's number has to stand in the statement that is named here for it, and in the sources
+where they name it too. A constant without a row is refused. That the statements hold is the proofs'
+work. Run it at the root of the repository: python3 tests/constants.py"""
 import glob
 import re
 import sys

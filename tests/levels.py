@@ -1,6 +1,6 @@
-"""A program at every level of the compiler, by `rt try`: interpreted, compiled at -O0 and at -O3, and
-with what the compiler assumes checked; each time what it writes is compared with its file stdout.
-Nothing is proved by that: it is evidence on the back end, which no proof covers.
+"""A program at every level of the compiler, by `rt try`: interpreted, compiled at -O0 and at -O3,
+and with what the compiler assumes checked; each time what it writes is compared with its file
+stdout. Nothing is proved by that: it is evidence on the back end, which no proof covers.
 
 rt ends an interpreted run after ten million steps, and a compiled one after some seconds. A level
 that is cut short so is not wrong if all that it wrote until then is what is expected; the line says

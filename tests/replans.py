@@ -1,6 +1,6 @@
-"""Planning afresh once more. The calls that the program `test_replan` reads and what it has to print
-of them, by `reference.py`; and what `test_replan_exhaustive` has to print, each layer decided by a
-search over all fetch lists, which takes some minutes."""
+"""Planning afresh once more. The calls that the program `test_replan` reads and what it has to
+print of them, by `reference.py`; and what `test_replan_exhaustive` has to print, each layer decided
+by a search over all fetch lists, which takes some minutes."""
 import random
 from itertools import combinations_with_replacement, product
 from reference import (Job, Override, Refused, Row, begun, check_fetched, check_from, due, fits, in_order, layer_sum, marks_given, own_list,
@@ -17,8 +17,8 @@ def marks_of(levels):
     return [(1 << k) - 1 for k in levels]
 
 
-# ---- single cases: a title, and the call's numbers on one line (crate test_replan, table), and what
-# comes of it
+# ---- single cases: a title, and the call's numbers on one line (crate test_replan, table), and
+# what comes of it
 
 CALLS, ANSWERS = [], []
 
