@@ -38,7 +38,8 @@ def tried(program):
     right = not wrong and len(levels) == len(LEVELS)
     if not right:
         print(out)
-    print(f"{program}: " + ", ".join(f"{level} {levels.get(level, 'did not run')}" for level in LEVELS.values()))
+    print(f"{program}: " + ", ".join(f"{level} {levels.get(level, 'did not run')}" for level in LEVELS.values())
+          + ("" if "whole" in levels.values() else ": none came to the end, so the gate's run is the evidence"))
     return right
 
 
