@@ -4,7 +4,7 @@ other types, and that names each, so that the linker refuses an archive that lac
 since the compiler takes it: arguments of other names, or two of one type in another order; a call
 with slices that the inline layer lacks; a version that is not the crate's; and a header whose code
 is not the one that include/versions.txt keeps for its version.
-Run it at the root of the repository: python3 tools/prototypes.py > target/kit/prototypes.c"""
+Run it at the root of the repository: python3 tests/prototypes.py > target/kit/prototypes.c"""
 import glob
 import re
 import sys

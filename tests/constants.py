@@ -1,7 +1,7 @@
-"""The constants of include/film_planner.h against the theorems and definitions that bound them: each
-constant's number has to stand in the statement that is named here for it, and in the sources where
-they name it too. A constant without a row is refused. That the statements hold is the proofs' work.
-Run it at the root of the repository: python3 tools/constants.py"""
+"""The constants of include/film_planner.h against the theorems and definitions that bound them:
+each constant's number has to stand in the statement that is named here for it, and in the sources
+where they name it too. A constant without a row is refused. That the statements hold is the proofs'
+work. Run it at the root of the repository: python3 tests/constants.py"""
 import glob
 import re
 import sys
@@ -69,7 +69,7 @@ def statement(crate, name, theorem):
     specs = read(glob.glob(f"crates/{crate}/specs/**/*.antt", recursive=True))
     found = re.findall(rf"^(?:(?:pub|abbrev|unfoldable) )*(?:record )?{re.escape(name)} .*?(?=\n\n|\Z)", specs, re.M | re.S)
     if len(found) != 1:
-        sys.exit(f"crates/{crate}/specs has {len(found)} times {name}: tools/constants.py asks for it")
+        sys.exit(f"crates/{crate}/specs has {len(found)} times {name}: tests/constants.py asks for it")
     return " ".join((re.split(r"\n(?! )", found[0])[0] if theorem else found[0]).split())
 
 

@@ -1,15 +1,8 @@
-"""Two films on one link once more, by `reference.py`: the lines that the program `test_booking` has
-to print.
-Run it at the root of the repository: python3 tools/bookings.py | diff -
-crates/test_booking/stdout"""
-from reference import *
-
-A = Job(3, 2, 2, 2, [2, 1], [], [3, 0, 1, 0, 2, 0])
-OWN = [(1, 2, 0, 2), (1, 2, 1, 1), (5, 3, 0, 2)]
-
-
-def columns(rows):
-    return [list(c) for c in zip(*rows)] if rows else [[], [], [], []]
+"""Two films on one link once more, by `reference.py`: what the program `test_booking` has to
+print."""
+from reference import Job, Override, Refused, Row, book, plan, release, verdict
+from jobs import JOB_A, MARKS_A, ROWS_A, columns
+from printing import printed_by
 
 
 def answer(call, *args):
@@ -70,15 +63,15 @@ def together():
 # ---- 19 and 20 on job A
 
 def booked(marks, rows):
-    tell(f"{len(rows)} rows of verdict {verdict(A, [Row(*x) for x in rows], marks)}", *answer(book, A, marks, *columns(rows)))
+    tell(f"{len(rows)} rows of verdict {verdict(JOB_A, [Row(*x) for x in rows], marks)}", *answer(book, JOB_A, marks, *columns(rows)))
 
 
 def released(text, rows):
-    tell(text, *answer(release, A, *columns(rows)))
+    tell(text, *answer(release, JOB_A, *columns(rows)))
 
 
 def nineteen():
-    booked([0, 3, 1], OWN)
+    booked(MARKS_A, ROWS_A)
     booked([0, 0, 0], [])
     booked([0, 0, 0], [(0, 2, 0, 2)])
     booked([0, 0, 0], [(1, 2, 0, 1)])
@@ -86,14 +79,14 @@ def nineteen():
     booked([0, 0, 1], [(3, 3, 0, 2)])
     booked([0, 1, 0], [(5, 2, 0, 2)])
     booked([0, 3, 1], [(1, 2, 0, 2), (1, 2, 1, 1), (3, 3, 0, 1), (5, 3, 0, 1)])
-    booked([0, 3, 3], OWN)
+    booked([0, 3, 3], ROWS_A)
 
 
 def twenty():
     released("no rows", [])
     released("no rule is asked", [(1, 9, 9, 0), (6, 0, 255, 5)])
-    released("a list never booked", OWN + [(6, 1, 0, 5)])
-    released("a slot that isn't there after others", OWN + [(7, 1, 0, 5)])
+    released("a list never booked", ROWS_A + [(6, 1, 0, 5)])
+    released("a slot that isn't there after others", ROWS_A + [(7, 1, 0, 5)])
     released("slot 0", [(0, 1, 0, 0)])
     released("slot 7", [(7, 1, 0, 0)])
     released("slot 65535", [(65535, 1, 0, 1)])
@@ -109,7 +102,7 @@ def twenty():
 def both(text, chunks=3, layers=2, sz=(), slots=6, marks=3, ends=(1, 1, 1)):
     """A row in slot 7, for 19 and 20, in a job A of other lengths; ends says how many of the row's
     other fields are handed."""
-    job = A._replace(chunks=chunks, sizes=[2, 1][:layers], overrides=[Override(*o) for o in sz], forecast=A.forecast[:slots])
+    job = JOB_A._replace(chunks=chunks, sizes=[2, 1][:layers], overrides=[Override(*o) for o in sz], forecast=JOB_A.forecast[:slots])
     row = [[7], [2][:ends[0]], [0][:ends[1]], [2][:ends[2]]]
     said = [answer(book, job, [0, 1, 0][:marks], *row)[0], answer(release, job, *row)[0]]
     print(f"{text}: {', '.join(said)}")
@@ -128,7 +121,4 @@ def order():
     both("then 19 and 20")
 
 
-together()
-nineteen()
-twenty()
-order()
+PROGRAMS = {"test_booking": lambda: {"stdout": printed_by(together, nineteen, twenty, order)}}

@@ -1,17 +1,12 @@
-"""Planning afresh once more. The cases that the program `test_replan` reads and what it has to
+"""Planning afresh once more. The calls that the program `test_replan` reads and what it has to
 print of them, by `reference.py`; and what `test_replan_exhaustive` has to print, each layer decided
-by a search over all fetch lists, which takes some minutes. Run it at the root of the repository:
-python3 tools/replans.py cases | diff - crates/test_replan/stdin
-python3 tools/replans.py | diff - crates/test_replan/stdout
-python3 tools/replans.py family | diff - crates/test_replan_exhaustive/stdout"""
+by a search over all fetch lists, which takes some minutes."""
 import random
-import sys
 from itertools import combinations_with_replacement, product
-from reference import *
-
-
-def columns(rows):
-    return [list(c) for c in zip(*rows)] if rows else [[], [], [], []]
+from reference import (Job, Override, Refused, Row, begun, check_fetched, check_from, due, fits, in_order, layer_sum, marks_given, own_list,
+                       plan, replan, settle_afresh, size, verdict)
+from jobs import JOB_A, MARKS_A, ROWS_A, columns
+from printing import printed_by
 
 
 def counts(levels):
@@ -22,10 +17,10 @@ def marks_of(levels):
     return [(1 << k) - 1 for k in levels]
 
 
-# ---- single cases: a title, and the call's numbers on one line (crate test_replan, table), or what
-# comes of it
+# ---- single cases: a title, and the call's numbers on one line (crate test_replan, table), and
+# what comes of it
 
-CASES = sys.argv[1:] == ["cases"]
+CALLS, ANSWERS = [], []
 
 
 def after(lent, result):
@@ -49,7 +44,8 @@ def told(said, four, lent, results):
 
 
 def tell(text, said, *case):
-    print(f"{text}:" + "".join(f"{x} " for x in numbers(*case)) if CASES else f"{text}: {said}")
+    CALLS.append(f"{text}:" + "".join(f"{x} " for x in numbers(*case)) + "\n")
+    ANSWERS.append(f"{text}: {said}\n")
 
 
 def ask(text, job, p, handed, onward, lent=(3, 3, 3, 3, 3)):
@@ -82,10 +78,6 @@ def planned(text, job, lent):
     return rows
 
 
-A = Job(3, 2, 2, 2, [2, 1], [], [3, 0, 1, 0, 2, 0])
-OWN = [(1, 2, 0, 2), (1, 2, 1, 1), (5, 3, 0, 2)]
-
-
 def made():
     ask("a chunk before a begun one", Job(2, 1, 2, 2, [1], [], [1, 1, 1]), 2, [(1, 2, 0, 1)], [1, 1])
     uneven = Job(3, 1, 1, 3, [1], [Override(3, 0, 2)], [1, 1, 0])
@@ -95,14 +87,14 @@ def made():
                                ("a base begun and ended", [(1, 1, 0, 1)], 2), ("a base whole before p", [(1, 1, 0, 3)], 1)):
         ask(text, Job(2, 3, 3, 3, [3], [], [3] * 6), 2, handed, [slot, 0, 2, 0, 0])
     for text, limit, k, onward in (
-            ("as it was", 2, 2, A.forecast[1:]), ("the link is gone", 2, 2, [0] * 5), ("a byte a slot", 2, 2, [1] * 5),
-            ("3 bytes a slot", 2, 2, [3] * 5), ("3 bytes a slot, limit 6", 6, 2, [3] * 5), ("one row fetched", 2, 1, A.forecast[1:]),
-            ("none fetched", 2, 0, A.forecast[1:]), ("none fetched, 3 bytes in slot 2", 2, 0, [3, 1, 0, 2, 0])):
-        ask(f"A at 2, {text}", A._replace(limit=limit), 2, OWN[:k], onward, (3, 6, 6, 6, 6))
+            ("as it was", 2, 2, JOB_A.forecast[1:]), ("the link is gone", 2, 2, [0] * 5), ("a byte a slot", 2, 2, [1] * 5),
+            ("3 bytes a slot", 2, 2, [3] * 5), ("3 bytes a slot, limit 6", 6, 2, [3] * 5), ("one row fetched", 2, 1, JOB_A.forecast[1:]),
+            ("none fetched", 2, 0, JOB_A.forecast[1:]), ("none fetched, 3 bytes in slot 2", 2, 0, [3, 1, 0, 2, 0])):
+        ask(f"A at 2, {text}", JOB_A._replace(limit=limit), 2, ROWS_A[:k], onward, (3, 6, 6, 6, 6))
     for p, k in ((1, 0), (3, 2), (5, 2), (6, 3)):
-        assert ask(f"A's plan at {p}", A, p, OWN[:k], A.forecast[p - 1:]) == OWN[k:]
-    ask("A's plan at 6, a byte more", A, 6, OWN, [1])
-    ask("A at 6, chunk 3 not fetched, 3 bytes in it", A, 6, OWN[:2], [3])
+        assert ask(f"A's plan at {p}", JOB_A, p, ROWS_A[:k], JOB_A.forecast[p - 1:]) == ROWS_A[k:]
+    ask("A's plan at 6, a byte more", JOB_A, 6, ROWS_A, [1])
+    ask("A at 6, chunk 3 not fetched, 3 bytes in it", JOB_A, 6, ROWS_A[:2], [3])
 
 
 def film():
@@ -120,7 +112,7 @@ def film():
 # ---- handed rows
 
 def on_a(text, p, rows, limit=2, upper=1):
-    ask(text, A._replace(limit=limit, sizes=[2, upper]), p, rows, A.forecast[p - 1:] if 1 <= p <= 6 else A.forecast if p == 0 else [])
+    ask(text, JOB_A._replace(limit=limit, sizes=[2, upper]), p, rows, JOB_A.forecast[p - 1:] if 1 <= p <= 6 else JOB_A.forecast if p == 0 else [])
 
 
 def rows():
@@ -158,7 +150,7 @@ def room():
     for text, lent in (("exact room", (3, 3, 3, 3, 3)), ("a mark too few", (2, 3, 3, 3, 3)), ("a slot too few", (3, 2, 3, 3, 3)),
                        ("a chunk too few", (3, 3, 2, 3, 3)), ("a layer too few", (3, 3, 3, 2, 3)), ("bytes too few", (3, 3, 3, 3, 2)),
                        ("nothing lent", (0,) * 5), ("more room", (5, 6, 6, 6, 6))):
-        ask(text, A, 1, [], A.forecast, lent)
+        ask(text, JOB_A, 1, [], JOB_A.forecast, lent)
 
 
 # ---- the order of the refusals, in both calls
@@ -166,7 +158,7 @@ def room():
 def both(text, chunks=3, layers=2, sz=(), slots=6, p=9, slot=9, ends=(1, 1, 1), onward=3, last=0):
     """A row of chunk 9 on a part of job A; ends says how many of the row's other fields are
     handed."""
-    job = A._replace(chunks=chunks, sizes=[2, 1][:layers], overrides=[Override(*o) for o in sz], forecast=A.forecast[:slots])
+    job = JOB_A._replace(chunks=chunks, sizes=[2, 1][:layers], overrides=[Override(*o) for o in sz], forecast=JOB_A.forecast[:slots])
     row = ([slot], [9][:ends[0]], [0][:ends[1]], [2][:ends[2]])
     check(f"{text}, checked", job, p, [0, 0, 0], row)
     ask(f"{text}, planned", job, p, row, [0, 1, 0, 2, last, 0][:onward], (0,) * 5)
@@ -181,37 +173,37 @@ def order():
     both("then 8", **dict(every, sz=(), slots=6))
     both("8 for a layer", ends=(1, 0, 1))
     both("8 for bytes", ends=(1, 1, 0))
-    check("8 for a mark", A, 9, [0, 0], [])
+    check("8 for a mark", JOB_A, 9, [0, 0], [])
     both("then 21 for p", slot=1)
     both("21 for the row", p=2, slot=2)
     both("then 7 of the forecast, a slot too few", p=2, slot=1, onward=4)
     both("a slot too many", p=2, slot=1, onward=6)
     both("bytes out of range", p=2, slot=1, onward=5, last=16777217)
     both("then 22", p=2, slot=1, onward=5, last=16777216)
-    ask("then 11", A, 3, [(1, 2, 0, 2)], A.forecast[2:], (0,) * 5)
+    ask("then 11", JOB_A, 3, [(1, 2, 0, 2)], JOB_A.forecast[2:], (0,) * 5)
 
 
 # ---- the second checker call
 
 def second():
     for p in (0, 1, 6, 7, 65535):
-        check(f"second call, p {p}", A, p, [0, 1, 0], [(1, 2, 0, 2)])
-    check("a short sum before p", A, 2, [0, 0, 0], [(1, 2, 0, 1)])
-    check("its mark says it is carried", A, 2, [0, 1, 0], [(1, 2, 0, 1)])
-    check("a short sum in slot p", A, 1, [0, 0, 0], [(1, 2, 0, 1)])
-    check("a short sum after p", A, 2, [0, 0, 0], [(3, 2, 0, 1)])
-    check("a sum above its size before p", A, 2, [0, 1, 0], [(1, 2, 0, 3)])
-    check("layer 1 whole over no base", A, 2, [0, 2, 0], [(1, 2, 1, 1)])
-    check("a row before slot 1", A, 2, [0, 0, 0], [(0, 2, 0, 1)])
-    check("begun before p and ended after it", A, 3, [0, 1, 0], [(1, 2, 0, 1), (3, 2, 0, 1)])
-    check("whole before p and a byte more after it", A, 3, [0, 1, 0], [(1, 2, 0, 2), (3, 2, 0, 1)])
-    check("begun before p and no more", A, 3, [0, 0, 0], [(1, 2, 0, 1)])
-    check("all rows before p, at 4", A, 4, [0, 1, 0], [(1, 2, 0, 1), (3, 2, 0, 1)])
-    check("A's plan at 4", A, 4, [0, 3, 1], OWN)
-    check("with its last row split, at 4", A, 4, [0, 3, 1], OWN[:2] + [(3, 3, 0, 1), (5, 3, 0, 1)])
-    check("more than a slot carries", A, 4, [0, 0, 1], [(3, 3, 0, 2)])
-    check("a late row", A, 4, [0, 1, 0], [(5, 2, 0, 2)])
-    five = A._replace(overrides=[Override(2, 0, 5)])
+        check(f"second call, p {p}", JOB_A, p, [0, 1, 0], [(1, 2, 0, 2)])
+    check("a short sum before p", JOB_A, 2, [0, 0, 0], [(1, 2, 0, 1)])
+    check("its mark says it is carried", JOB_A, 2, [0, 1, 0], [(1, 2, 0, 1)])
+    check("a short sum in slot p", JOB_A, 1, [0, 0, 0], [(1, 2, 0, 1)])
+    check("a short sum after p", JOB_A, 2, [0, 0, 0], [(3, 2, 0, 1)])
+    check("a sum above its size before p", JOB_A, 2, [0, 1, 0], [(1, 2, 0, 3)])
+    check("layer 1 whole over no base", JOB_A, 2, [0, 2, 0], [(1, 2, 1, 1)])
+    check("a row before slot 1", JOB_A, 2, [0, 0, 0], [(0, 2, 0, 1)])
+    check("begun before p and ended after it", JOB_A, 3, [0, 1, 0], [(1, 2, 0, 1), (3, 2, 0, 1)])
+    check("whole before p and a byte more after it", JOB_A, 3, [0, 1, 0], [(1, 2, 0, 2), (3, 2, 0, 1)])
+    check("begun before p and no more", JOB_A, 3, [0, 0, 0], [(1, 2, 0, 1)])
+    check("all rows before p, at 4", JOB_A, 4, [0, 1, 0], [(1, 2, 0, 1), (3, 2, 0, 1)])
+    check("A's plan at 4", JOB_A, 4, MARKS_A, ROWS_A)
+    check("with its last row split, at 4", JOB_A, 4, MARKS_A, ROWS_A[:2] + [(3, 3, 0, 1), (5, 3, 0, 1)])
+    check("more than a slot carries", JOB_A, 4, [0, 0, 1], [(3, 3, 0, 2)])
+    check("a late row", JOB_A, 4, [0, 1, 0], [(5, 2, 0, 2)])
+    five = JOB_A._replace(overrides=[Override(2, 0, 5)])
     check("3 bytes of 5, at 2", five, 2, [0, 0, 0], [(1, 2, 0, 3)])
     check("4 with a byte from p on", five, 2, [0, 0, 0], [(1, 2, 0, 3), (3, 2, 0, 1)])
     check("4 with a byte in slot p", five, 3, [0, 0, 0], [(1, 2, 0, 3), (3, 2, 0, 1)])
@@ -375,8 +367,13 @@ def family():
     print("standing plans, at each p; that go on as they were: {standing} {standing}".format(**count))
 
 
-if sys.argv[1:] == ["family"]:
-    family()
-else:
-    for lines in (made, film, rows, room, order, second, any_jobs):
-        lines()
+def single():
+    for group in (made, film, rows, room, order, second, any_jobs):
+        group()
+    files = {"stdin": "".join(CALLS).encode(), "stdout": "".join(ANSWERS).encode()}
+    CALLS.clear()
+    ANSWERS.clear()
+    return files
+
+
+PROGRAMS = {"test_replan": single, "test_replan_exhaustive": lambda: {"stdout": printed_by(family)}}

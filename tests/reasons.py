@@ -1,10 +1,9 @@
 """The reason under each missing layer once more (document 02, request 14): plans by `reference.py`,
 and for each missing layer a search over all pairs of slots, with carry and need summed anew for
-each. Writes the case files of the program `test_reasons` and what it has to print.
-Run it at the root of the repository after changing a case: python3 tools/reasons.py"""
-import os
-import shutil
-from reference import *
+each. The case files of the program `test_reasons` and what it has to print."""
+from reference import Job, Override, Refused, bw, check_job, due, ly, pg, plan, read_job, size, sz, write_job
+from jobs import JOB_A
+from printing import cases_page
 
 
 def added(job, levels, i, n):
@@ -48,15 +47,14 @@ def reasons(job):
 # ---- case files
 
 MOST = 1 << 24
-A = Job(3, 2, 2, 2, [2, 1], [], [3, 0, 1, 0, 2, 0])
 POOR = Job(3, 1, 1, 3, [1], [Override(3, 0, 2)], [1, 1, 0])
 
 CASES = [
-    ("job A", A),
-    ("A with limit 3", A._replace(limit=3)),
-    ("A with limit 6", A._replace(limit=6)),
-    ("A with B all 0", A._replace(forecast=[0] * 6)),
-    ("a plan that lacks nothing", A._replace(limit=6, forecast=[9] * 6)),
+    ("job A", JOB_A),
+    ("A with limit 3", JOB_A._replace(limit=3)),
+    ("A with limit 6", JOB_A._replace(limit=6)),
+    ("A with B all 0", JOB_A._replace(forecast=[0] * 6)),
+    ("a plan that lacks nothing", JOB_A._replace(limit=6, forecast=[9] * 6)),
     ("size 5, forecast 5", Job(1, 1, 1, 0, [5], [], [5])),
     ("size 5, forecast 4", Job(1, 1, 1, 0, [5], [], [4])),
     ("limit 0: the chunk can begin in its due slot only", Job(1, 1, 2, 0, [5], [], [5, 0])),
@@ -130,26 +128,23 @@ nothing in no room: written 0
 """
 
 
-def main():
-    folder = "crates/test_reasons/data"
-    shutil.rmtree(folder, ignore_errors=True)
-    os.makedirs(folder)
-    said = lambda data: reasons(read_job(data))
-    cases = [(name, write_job(job)) for name, job in CASES] + REFUSED
-    with open("crates/test_reasons/stdout", "w") as out, open("crates/test_reasons/CASES.md", "w") as notes:
-        notes.write("# The case files of test_reasons\n\nMade by tools/reasons.py. `s..` are job files.\n\n")
-        for k, (name, data) in enumerate(cases):
-            with open(f"{folder}/s{k:02d}", "wb") as file:
-                file.write(data)
-            try:
-                text = said(data)
-            except Refused as r:
-                text = f"refused {r.number}\n"
-            out.write(f"s{k:02d}\n{text}")
-            notes.write(f"- s{k:02d}: {name}\n")
-        out.write(ROOMS + family())
-    print(len(cases), "cases")
+def said(data):
+    try:
+        return reasons(read_job(data))
+    except Refused as r:
+        return f"refused {r.number}\n"
 
 
-if __name__ == "__main__":
-    main()
+def files():
+    made, text, page = {}, "", []
+    for k, (what, data) in enumerate([(what, write_job(job)) for what, job in CASES] + REFUSED):
+        name = f"s{k:02d}"
+        made[f"data/{name}"] = data
+        text += f"{name}\n{said(data)}"
+        page.append((name, what))
+    made["stdout"] = (text + ROOMS + family()).encode()
+    made["CASES.md"] = cases_page("test_reasons", "tests/reasons.py. `s..` are job files.", page)
+    return made
+
+
+PROGRAMS = {"test_reasons": files}

@@ -1,10 +1,10 @@
 """Request 13 once more, literally: the walk step by step, each set decided by an exhaustive search
 for a passing list in playing order that carries exactly its bases. The lines that the program
-`test_search` has to print.
-Run it at the root of the repository: python3 tools/searches.py | diff -
-crates/test_search/stdout"""
+`test_search` has to print."""
 from itertools import product
 from reference import Job, Override, Refused, Row, check_job, due, own_list, size, verdict, moore_hodgson as most_pictures
+from jobs import JOB_A
+from printing import printed_by
 
 
 def spread(left, slots, room):
@@ -114,9 +114,6 @@ def tell(text, answer, marks, rows):
 
 # ---- jobs by the line
 
-A = Job(3, 2, 2, 2, [2, 1], [], [3, 0, 1, 0, 2, 0])
-
-
 def lines(name, job):
     print(name)
     check_job(job)
@@ -147,14 +144,14 @@ def room():
     for text, *lent in (("just enough", 3, 3, 3, 3, 3), ("more than enough", 4, 4, 4, 4, 4), ("a mark short", 2, 4, 4, 4, 4),
                         ("a slot short", 4, 2, 4, 4, 4), ("a chunk short", 4, 4, 2, 4, 4), ("a layer short", 4, 4, 4, 2, 4),
                         ("bytes short", 4, 4, 4, 4, 2)):
-        ask(text, A, lent)
+        ask(text, JOB_A, lent)
 
 
 def order():
     print("order")
     for text, chunks, layers, uneven, slots in (("5 first", 501, 0, 1, 5), ("then 6", 3, 0, 1, 5), ("then 18", 3, 2, 1, 5),
                                                 ("then 7", 3, 2, 0, 5), ("then 11", 3, 2, 0, 6)):
-        job = A._replace(chunks=chunks, sizes=[2, 1][:layers], overrides=[Override(1, 0, 1)][:uneven], forecast=A.forecast[:slots])
+        job = JOB_A._replace(chunks=chunks, sizes=[2, 1][:layers], overrides=[Override(1, 0, 1)][:uneven], forecast=JOB_A.forecast[:slots])
         ask(text, job, [2] * 5)
 
 
@@ -195,9 +192,10 @@ def family():
     print("family: jobs {jobs}, searches {searches}, ended {ended}, cut without a shortfall {sure}, steps {steps}, bases {bases}, shortfalls {short}, check {check}".format(**t))
 
 
-lines("job A", A)
-lines("uneven", Job(3, 1, 2, 1, [2], [Override(2, 0, 1), Override(3, 0, 3)], [4, 1, 1, 0]))
-lines("four chunks", Job(4, 1, 1, 1, [2, 1], [Override(2, 0, 1), Override(3, 0, 3), Override(4, 0, 3)], [3, 2, 2, 1]))
-room()
-order()
-family()
+def single_jobs():
+    lines("job A", JOB_A)
+    lines("uneven", Job(3, 1, 2, 1, [2], [Override(2, 0, 1), Override(3, 0, 3)], [4, 1, 1, 0]))
+    lines("four chunks", Job(4, 1, 1, 1, [2, 1], [Override(2, 0, 1), Override(3, 0, 3), Override(4, 0, 3)], [3, 2, 2, 1]))
+
+
+PROGRAMS = {"test_search": lambda: {"stdout": printed_by(single_jobs, room, order, family)}}

@@ -1,16 +1,12 @@
-"""Writes the case files of the programs `test_files`, `test_calls` and `test_report`
-(crates/NAME/data) and what they, `test_buffers` and `test_uneven` have to print
-(crates/NAME/stdout): for the case files from `reference.py`, for the direct calls from
-`expected_calls.txt`, `expected_rooms.txt`, `expected_uneven.txt`, `LARGE` and `ROOMS`, which are
-written by hand.
-Run it at the root of the repository after changing a case: python3 tools/cases.py"""
-import os
-import shutil
-from reference import *
+"""The case files of the programs `test_files`, `test_calls` and `test_report`, and what they,
+`test_buffers` and `test_uneven` have to print: for the case files from `reference.py`, for the
+direct calls from by_hand/ and from `LARGE` and `ROOMS` below, which are written by hand."""
+from reference import Job, Override, Refused, bw, ft, kp, ly, pg, read_job, read_plan, report, sz, verdict, write_job
+from jobs import JOB_A
+from printing import by_hand, cases_page
 
-A = Job(3, 2, 2, 2, [2, 1], [], [3, 0, 1, 0, 2, 0])
 PG, LY, EN = pg(3, 2, 2, 2), ly(2) + ly(1), b"EN"
-BW = b"".join(bw(1, b) for b in A.forecast)
+BW = b"".join(bw(1, b) for b in JOB_A.forecast)
 TWO = bw(3, 1) + bw(3, 2)
 SZ = sz(2, 1, 2) + sz(3, 0, 1)
 
@@ -206,9 +202,9 @@ TOP = 1 << 24
 
 # Jobs whose report is printed.
 REPORTS = [
-    ("job A", A),
+    ("job A", JOB_A),
     ("one chunk", Job(1, 1, 1, 0, [5], [], [5])),
-    ("nothing carried", A._replace(forecast=[0] * 6)),
+    ("nothing carried", JOB_A._replace(forecast=[0] * 6)),
     ("more switched than film shown", Job(2, 1, 1, 2, [1, 7], [], [1, 8])),
     ("less switched than film shown", Job(4, 1, 1, 4, [9, 3], [], [12, 9, 12, 9])),
     ("the largest layers, nothing left over", stepped(4, [TOP] * 4, [4, 1, 4, 0, 2, 4, 3])),
@@ -261,54 +257,43 @@ def job_lines(data):
 
 def plan_line(data):
     try:
-        marks, rows = read_plan(A, data)
+        marks, rows = read_plan(JOB_A, data)
     except Refused as r:
         return f"refused {r.number}"
-    return f"rows {len(rows)} verdict {verdict(A, rows, marks)}"
+    return f"rows {len(rows)} verdict {verdict(JOB_A, rows, marks)}"
 
 
-def write_data(program, files):
-    folder = f"crates/{program}/data"
-    shutil.rmtree(folder, ignore_errors=True)
-    os.makedirs(folder)
-    for name, data in files:
-        with open(f"{folder}/{name}", "wb") as f:
-            f.write(data)
+def case_files():
+    made, lines, page = {}, [], []
+    for kind, cases, line in (("j", JOBS, job_lines), ("p", PLANS, plan_line)):
+        for k, (what, data) in enumerate(cases):
+            name = f"{kind}{k:02d}"
+            made[f"data/{name}"] = data
+            lines.append(f"{name} {line(data)}\n")
+            page.append((name, what))
+    made["data/q00"] = TOO_LONG
+    made["stdout"] = ("".join(lines) + LARGE).encode()
+    made["CASES.md"] = cases_page("test_files", "tests/cases.py. `j..` are job files, read in one sequence and then as mixed files, `p..` plan "
+                                  "files for job A. `q00` is a plan file of 6 chunks and 5,955 rows: 65,537 bytes.", page)
+    return made
 
 
-def write_files():
-    cases = [(f"{kind}{k:02d}", what, data, line)
-             for kind, of_kind, line in (("j", JOBS, job_lines), ("p", PLANS, plan_line)) for k, (what, data) in enumerate(of_kind)]
-    write_data("test_files", [(name, data) for name, _, data, _ in cases] + [("q00", TOO_LONG)])
-    with open("crates/test_files/stdout", "w") as f:
-        for name, _, data, line in cases:
-            f.write(f"{name} {line(data)}\n")
-        f.write(LARGE)
-    with open("crates/test_files/CASES.md", "w") as f:
-        f.write("# The case files of test_files\n\nMade by tools/cases.py. `j..` are job files, read in one sequence and then as mixed files, `p..` plan files for job A. `q00` is a plan file of 6 chunks and 5,955 rows: 65,537 bytes.\n\n")
-        for name, what, _, _ in cases:
-            f.write(f"- {name}: {what}\n")
-    print(len(JOBS), "job files,", len(PLANS), "plan files")
+def report_files():
+    made, text, page = {}, "", []
+    for k, (what, job) in enumerate(REPORTS):
+        name = f"r{k:02d}"
+        made[f"data/{name}"] = write_job(job)
+        text += f"{name}\n{report(job)}"
+        page.append((name, what))
+    made["stdout"] = (text + ROOMS).encode()
+    made["CASES.md"] = cases_page("test_report", "tests/cases.py. `r..` are job files.", page)
+    return made
 
 
-def write_calls():
-    write_data("test_calls", [("q00", TOO_LONG)])
-    shutil.copyfile("tools/expected_calls.txt", "crates/test_calls/stdout")
-    shutil.copyfile("tools/expected_rooms.txt", "crates/test_buffers/stdout")
-    shutil.copyfile("tools/expected_uneven.txt", "crates/test_uneven/stdout")
-
-
-def write_reports():
-    write_data("test_report", [(f"r{k:02d}", write_job(job)) for k, (_, job) in enumerate(REPORTS)])
-    with open("crates/test_report/stdout", "w") as out, open("crates/test_report/CASES.md", "w") as cases:
-        cases.write("# The case files of test_report\n\nMade by tools/cases.py. `r..` are job files.\n\n")
-        for k, (what, job) in enumerate(REPORTS):
-            out.write(f"r{k:02d}\n{report(job)}")
-            cases.write(f"- r{k:02d}: {what}\n")
-        out.write(ROOMS)
-    print(len(REPORTS), "reports")
-
-
-write_files()
-write_calls()
-write_reports()
+PROGRAMS = {
+    "test_files": case_files,
+    "test_report": report_files,
+    "test_calls": lambda: {"data/q00": TOO_LONG, "stdout": by_hand("test_calls")},
+    "test_buffers": lambda: {"stdout": by_hand("test_buffers")},
+    "test_uneven": lambda: {"stdout": by_hand("test_uneven")},
+}

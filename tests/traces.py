@@ -1,10 +1,7 @@
-"""Writes the case files of the program test_trace (crates/test_trace/data) and what it has to print
-(crates/test_trace/stdout): for the case files from `reference.py`, for the other calls from
-`expected_traces.txt`, which is written by hand.
-Run it at the root of the repository after changing a case: python3 tools/traces.py"""
-import os
-import shutil
-from reference import *
+"""The case files of the program `test_trace` and what it has to print: for the case files from
+`reference.py`, for the other calls from by_hand/test_trace.txt."""
+from reference import Refused, read_trace, write_trace
+from printing import by_hand, cases_page
 
 # (what the case is, its bytes). All are read for three slots.
 CASES = [
@@ -58,23 +55,13 @@ def line(data):
     return f"written {len(write_trace(forecast))}, then {' '.join(map(str, forecast))} 9"
 
 
-def main():
-    folder = "crates/test_trace"
-    shutil.rmtree(f"{folder}/data", ignore_errors=True)
-    os.makedirs(f"{folder}/data")
-    lines = []
-    for k, (_, data) in enumerate(CASES):
-        with open(f"{folder}/data/t{k:02d}", "wb") as f:
-            f.write(data)
-        lines.append(f"t{k:02d} {line(data)}")
-    with open("tools/expected_traces.txt") as f:
-        lines += f.read().splitlines()
-    with open(f"{folder}/stdout", "w") as f:
-        f.write("\n".join(lines) + "\n")
-    with open(f"{folder}/CASES.md", "w") as f:
-        f.write("# The case files of test_trace\n\nMade by tools/traces.py: traces, read for three slots.\n\n")
-        f.writelines(f"- t{k:02d}: {what}\n" for k, (what, _) in enumerate(CASES))
-    print(len(CASES), "traces")
+def files():
+    names = [f"t{k:02d}" for k in range(len(CASES))]
+    lines = "".join(f"{name} {line(data)}\n" for name, (_, data) in zip(names, CASES))
+    made = {f"data/{name}": data for name, (_, data) in zip(names, CASES)}
+    made["stdout"] = lines.encode() + by_hand("test_trace")
+    made["CASES.md"] = cases_page("test_trace", "tests/traces.py: traces, read for three slots.", zip(names, (what for what, _ in CASES)))
+    return made
 
 
-main()
+PROGRAMS = {"test_trace": files}

@@ -1,29 +1,29 @@
-"""Runs the built programs on case files, damaged, truncated and oversized files, random small jobs
-and random mixed files, and compares every output with `reference.py` and `reasons.py`. Run it at
-the root of the repository after `rt check film_plan film_report film_verdict film_convert
-film_reasons`:
-python3 tools/try_programs.py"""
+"""The built programs on case files, damaged, truncated and oversized files, random small jobs and
+random mixed files; every output is compared with `reference.py` and `reasons.py`. Run it at the
+root of the repository after `rt check film_plan film_report film_verdict film_convert film_reasons`:
+python3 tests/try_programs.py [FOLDER OF THE PROGRAMS]"""
 import glob
 import os
 import random
 import subprocess
+import sys
 import tempfile
-from reference import *
+
+from reference import Job, Override, Refused, bw, convert, ly, marks_given, pg, plan, read_job, read_plan, report, verdict, write_job
+from jobs import JOB_A, UNEVEN_A, plan_file
 from reasons import reasons
 
-BIN = os.path.abspath("target/bin")
-A = write_job(Job(3, 2, 2, 2, [2, 1], [], [3, 0, 1, 0, 2, 0]))
-U = write_job(Job(3, 2, 2, 2, [2, 1], [Override(2, 1, 2), Override(3, 0, 1)], [3, 0, 1, 0, 2, 0]))
+BIN = os.path.abspath((sys.argv[1:] or ["target/bin"])[0])
+A, U = write_job(JOB_A), write_job(UNEVEN_A)
 
 
 def run(program, data=b"", folder=None):
     return subprocess.run([f"{BIN}/{program}"], input=data, stdout=subprocess.PIPE, cwd=folder).stdout
 
 
-def plan_file(job):
+def planned(job):
     _, rows = plan(job)
-    marks = marks_given(job, rows)
-    return b"".join(kp(i + 1, m) for i, m in enumerate(marks)) + b"".join(ft(*row) for row in rows) + b"EN"
+    return plan_file(marks_given(job, rows), rows)
 
 
 def damaged(data):
@@ -101,7 +101,7 @@ def try_jobs():
         else:
             if job.chunks > 20:
                 continue
-            wanted = plan_file(job), report(job).encode()
+            wanted = planned(job), report(job).encode()
         assert (run("film_plan", data), run("film_report", data)) == wanted, data[:80]
         tried += 1
     print(tried, "inputs of film_plan and film_report")

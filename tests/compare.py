@@ -3,11 +3,11 @@ damaged files, jobs and lists, meters in any state, and lent slices too short by
 longer, with every byte around each slice watched. A difference is printed as a case to be replayed.
 Run it at the root of the repository, with the Rattle toolchain and gcc:
 
-    python3 tools/compare.py                     100,000 calls and some more, in a few minutes
-    python3 tools/compare.py --calls 1000000 --seed 7
-    python3 tools/compare.py --only film_check,film_plan
-    python3 tools/compare.py --replay CASE       a case as printed, or a file that holds it
-    python3 tools/compare.py --null              slices of length 0 as null, which the header asks
+    python3 tests/compare.py                     100,000 calls and some more, in a few minutes
+    python3 tests/compare.py --calls 1000000 --seed 7
+    python3 tests/compare.py --only film_check,film_plan
+    python3 tests/compare.py --replay CASE       a case as printed, or a file that holds it
+    python3 tests/compare.py --null              slices of length 0 as null, which the header asks
                                                  nobody to hand: what the archive does then
 """
 import argparse
@@ -23,7 +23,11 @@ from array import array
 from collections import Counter
 
 import header
-from reference import *
+from reference import (Job, Override, Refused, Row, brought, check_fields, check_job, check_sizes, check_slot, convert, count_marks,
+                       count_word, due, fits_fast, four, ft, in_range, kp, listed, live, live_fast,
+                       marks_given, meter_forecast, meter_take, plan, plan_fast, read_job, read_plan,
+                       read_trace, reasons, release, replan, report, search, size, sizes_by_chunk, taken,
+                       verdict, verdict_fast, wait, write_job, write_trace)
 
 REFUSED = 1 << 32
 NUMBERS = {"b": ctypes.c_uint8, "h": ctypes.c_uint16, "w": ctypes.c_uint32, "q": ctypes.c_uint64, "z": ctypes.c_size_t}

@@ -1,9 +1,8 @@
 """What to fetch next once more: what the program `test_live` has to print, by `reference.py`, whose
-reading of the rule is literal. Every list of a family of small films, in half a minute. Run it at
-the root of the repository:
-python3 tools/lives.py | diff - crates/test_live/stdout"""
+reading of the rule is literal. Every list of a family of small films, in half a minute."""
 from itertools import combinations_with_replacement
-from reference import *
+from reference import Job, Override, Refused, Row, asks, check_fetched, due, layer_sum, size, taken
+from printing import printed_by
 
 # Sizes by chunk: equal chunks of one layer, uneven ones, equal chunks of two layers, uneven ones.
 KINDS = [[[2]] * 3, [[3]] * 3, [[1], [3], [1]], [[3], [2], [1]], [[2, 1]] * 3, [[1, 2]] * 3, [[3, 1]] * 3, [[1, 1], [3, 1], [2, 1]]]
@@ -60,7 +59,7 @@ def accepted(job, p, rows):
     return True
 
 
-def main():
+def family():
     count = dict.fromkeys("films lists refused asks none pieces fewer sum taken accepted".split(), 0)
     for k, job in films():
         last = due(job, job.chunks)
@@ -91,4 +90,4 @@ def main():
     print("first bytes of the asks as rows; that the next slot accepts: {taken} {accepted}".format(**count))
 
 
-main()
+PROGRAMS = {"test_live": lambda: {"stdout": printed_by(family)}}
