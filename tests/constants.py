@@ -30,8 +30,8 @@ BOUNDS = [
     ("REASONS", "core_ffi", "reasons-written", "length (planText (jobIn h)) ≤ {}"),
     ("TRACE", "trace", "trace-fits", "length (traceOf f) ≤ {}"),
     # The slices beside the library's own: 11 exactly if they are shorter.
-    ("PROGRAMME", "core_ffi", "jobReturnRefusal", "leb {} (length programme)"),
-    ("LENGTHS", "core_ffi", "jobReturnRefusal", "leb {} (length lengths)"),
+    ("PROGRAMME", "core_ffi", "jobReturnRefusal", "leb {} (length (lent .programme))"),
+    ("LENGTHS", "core_ffi", "jobReturnRefusal", "leb {} (length (lent .lengths))"),
     ("COUNTS", "core_ffi", "withCounts", "leb {} (length counts)"),
     ("COUNTS", "core_ffi", "withWalk", "leb {} (length counts)"),
     ("WALK", "core_ffi", "withWalk", "leb {} (length walk)"),
