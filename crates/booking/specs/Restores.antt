@@ -3,7 +3,6 @@
 -- the list still booked.
 use Prim.Native.Nat.{ℕ}
 use mathlib.Core.Path.{_≡_, refl, sym, _∙_}
-use mathlib.Core.Bool.{cond}
 use mathlib.Core.List.{List, [], _∷_}
 use mathlib.Core.Logic.{⊎-elim}
 use native.Mathlib.Omega.{arith}
@@ -20,9 +19,9 @@ use Rattle.fetch.specs.Rows.{Row}
 use Rattle.fetch.specs.Slices.{ListSlices, RowSlices, listRows, rowSlices, slicesRefusal}
 use Rattle.fetch.specs.Input
 use Rattle.checker.specs.Checked.{checkRefusal}
-use Rattle.booking.specs.Booking.{Balanced, Run, Without, addedBack, booking, passRefusal, releasing, roomRefusal, start, takenOff}
+use Rattle.booking.specs.Booking.{Run, Without, addedBack, booking, passRefusal, releasing, roomRefusal, start, takenOff}
 use Rattle.booking.specs.Booking
-use Rattle.booking.specs.Answer.{Booked, Released, answer, bookRefusal, forecastAfter, onForecast, releaseRefusal, rowsRefusal}
+use Rattle.booking.specs.Answer.{Booked, Released, answer, bookRefusal, onForecast, releaseRefusal, rowsRefusal}
 use Rattle.booking.specs.declared.Answer.{Answer}
 use Rattle.booking.specs.declared.Answer.the-variants.{Done, Refused}
 use Rattle.booking.specs.Theorems.{balanced, booked-accepted, booked-bookable, booked-whole, remainder-accepted, still-booked-releasable}

@@ -1,6 +1,6 @@
--- Theorems. Document 01: "Verdict 0 means all hold; else the lowest broken rule is the verdict. Rules
--- 2 to 7 apply only if 1 holds." Verdict n exactly if the rules below n hold and rule n does not,
--- the rules as fetch, Rules, says them.
+-- Theorems. Document 01: "Verdict 0 means all hold; else the lowest broken rule is the verdict.
+-- Rules 2 to 7 apply only if 1 holds." Verdict n exactly if the rules below n hold and rule n does
+-- not, the rules as fetch, Rules, says them.
 use Prim.Native.Nat.{ℕ, suc, _+_, _≤_, _<_}
 use mathlib.Core.Path.{_≡_, refl}
 use mathlib.Core.Bool.{Bool, true, false}

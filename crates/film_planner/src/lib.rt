@@ -9,3 +9,4 @@ mod lists;
 mod meters;
 mod plans;
 mod texts;
+mod version;

@@ -1,13 +1,12 @@
 -- Theorems. Document 01, "Link meter": "It keeps the last ten samples", of a meter from its first
 -- sample on.
-use Prim.Native.Nat.{ℕ}
 use mathlib.Core.Path.{_≡_, refl, sym, ap, subst, _∙_}
 use mathlib.Core.List.{List, [], _∷_, _++_, append-assoc, append-nil}
 use mathlib.Core.Logic.{_↔_}
 use native.Mathlib.Omega.{arith}
 use Rattle.theory_basics.specs.Tests.{All}
 use Rattle.meter.specs.declared.Meter.{Meter}
-use Rattle.meter.specs.Meter.{Sample, samplesOf, empty, SampleInRange, Rising, lastSampleSlot, InOrder, lastTen, takeRefusal, taken}
+use Rattle.meter.specs.Meter.{Sample, samplesOf, empty, SampleInRange, Rising, lastTen, takeRefusal, taken}
 use Rattle.meter.specs.Promises.{taken-iff, taken-samples}
 use Rattle.meter.specs.lemmas.LastTen.{last-slot-ten, last-ten-snoc}
 use Rattle.meter.specs.lemmas.Order.{Fine, fine-snoc, last-ten-in-order}

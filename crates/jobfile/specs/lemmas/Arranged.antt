@@ -1,5 +1,5 @@
--- Lemmas. The records of a mixed file: without a fault and with nothing lacking exactly if one PG is
--- among them, no run is empty and the job is accepted. Assumes nothing.
+-- Lemmas. The records of a mixed file: without a fault and with nothing lacking exactly if one PG
+-- is among them, no run is empty and the job is accepted. Assumes nothing.
 use Prim.Native.Nat.{ℕ, zero, suc, _+_, _*_, _≤_}
 use mathlib.Core.Path.{_≡_, refl, ap, _∙_}
 use mathlib.Core.Bool.{Bool, true, false, _&&_}

@@ -16,8 +16,8 @@ print-answer-requires c κs = search needs
 
 returns : tie.Need-returns
 returns c =
-    answer-printed mixed jobFile 46800 file-short (c .before .before .before .before .args .job .now) _ _ _ _ _
-    (c .before .convert-file .ensures) (c .print-answer .ensures) (omega arith)
+    answer-printed mixed jobFile 46800 file-short (c .before .before .before .before .before .args .job .now) _ _ _ _ _
+    (c .before .before .convert-file .ensures) (c .print-answer .ensures) (omega arith)
 
 pub print-converted-spec : {M : Type 1} → statement M
 print-converted-spec = tie.close (tie.spec convert-file-requires print-answer-requires returns)

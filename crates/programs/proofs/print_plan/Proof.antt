@@ -17,8 +17,8 @@ print-answer-requires c κs = search needs
 
 returns : tie.Need-returns
 returns c =
-    answer-printed oneSequence (λ j. fileOf (planOfJob j)) 64091 plan-file-fits (c .before .before .before .before .args .job .now) _ _ _ _ _
-    (c .before .plan-file .ensures) (c .print-answer .ensures) (omega arith)
+    answer-printed oneSequence (λ j. fileOf (planOfJob j)) 64091 plan-file-fits (c .before .before .before .before .before .args .job .now) _ _ _ _ _
+    (c .before .before .plan-file .ensures) (c .print-answer .ensures) (omega arith)
 
 pub print-plan-spec : {M : Type 1} → statement M
 print-plan-spec = tie.close (tie.spec plan-file-requires print-answer-requires returns)

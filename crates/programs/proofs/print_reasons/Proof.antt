@@ -16,8 +16,8 @@ print-answer-requires c κs = search needs
 
 returns : tie.Need-returns
 returns c =
-    answer-printed oneSequence planText 94000 text-fits (c .before .before .before .before .args .job .now) _ _ _ _ _
-    (c .before .reasons-file .ensures) (c .print-answer .ensures) (omega arith)
+    answer-printed oneSequence planText 94000 text-fits (c .before .before .before .before .before .args .job .now) _ _ _ _ _
+    (c .before .before .reasons-file .ensures) (c .print-answer .ensures) (omega arith)
 
 pub print-reasons-spec : {M : Type 1} → statement M
 print-reasons-spec = tie.close (tie.spec reasons-file-requires print-answer-requires returns)

@@ -15,8 +15,8 @@ print-answer-requires c κs = search needs
 
 returns : tie.Need-returns
 returns c =
-    answer-printed oneSequence planReport 7633 plan-report-fits (c .before .before .before .before .args .job .now) _ _ _ _ _
-    (c .before .report-file .ensures) (c .print-answer .ensures) (omega arith)
+    answer-printed oneSequence planReport 7633 plan-report-fits (c .before .before .before .before .before .args .job .now) _ _ _ _ _
+    (c .before .before .report-file .ensures) (c .print-answer .ensures) (omega arith)
 
 pub print-report-spec : {M : Type 1} → statement M
 print-report-spec = tie.close (tie.spec report-file-requires print-answer-requires returns)
