@@ -11,7 +11,7 @@ pub const PLAN: Command = Command {
 
 Plans a job (its text or its file; standard input without JOB) and writes the plan file to FILE or
 to standard output. With --text it prints the plan by slot instead, a line for each fetch:
-`slot 77: chunk 12 layer 0, 6,000 bytes`.
+`slot 77: chunk 17 layer 2, 6,000 bytes`.
 
   film plan samples/flight.txt --text
   film plan samples/flight.txt --out flight.plan",

@@ -265,13 +265,17 @@ fn margin(args: Args) -> Result<(), Failure> {
     let Some((permille, plan)) = first else { return Err(Failure::bad("no fall loses a picture, which cannot be")) };
     let less = fallen(job, permille);
     let before = skipped(&now);
-    let lost: Vec<u16> = skipped(&plan).into_iter().filter(|i| !before.contains(i)).collect();
+    // What is lost at this permille, not by all of the fall: with a smaller one the plan may skip
+    // as many chunks, and others.
+    let last = plan_of(&fallen(job, permille - 1))?;
+    let lost: Vec<u16> = skipped(&plan).into_iter().filter(|i| !skipped(&last).contains(i)).collect();
     let mut text = match permille {
         1 => format!("the link may not fall at all, not by a permille: {shown} of {of} are shown now\n"),
         _ => format!(
-            "the link may fall by {} ({} permille) in every slot: {shown} of {of} are still shown\n",
+            "the link may fall by {} ({} permille) in every slot: {shown} of {of} are still shown{}\n",
             percent(permille - 1),
-            permille - 1
+            permille - 1,
+            if skipped(&last) == before { String::new() } else { format!(", not the same ones: {}", skips(&last)) }
         ),
     };
     text += &format!("at {} a picture is lost: {} shown, {}\n", percent(permille), plan.counts[0], skips(&plan));

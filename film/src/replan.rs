@@ -21,7 +21,8 @@ on every slot brings BYTES (--rate), or what the slots P and later of a trace of
 
 It prints what the plan afresh carries beside the plan of the whole job, with --text also its rows
 from P on. --out writes the rows fetched and the new ones as a plan file, which
-`film check JOB PLAN --from P` judges (with --rate or --trace on the link as it is then known).
+`film check JOB PLAN --from P` judges. That judges by the forecast of JOB: after --rate or --trace,
+give it a text whose forecast says from P on what that link brings.
 
   film plan samples/flight.txt --text > flight.rows
   film replan samples/flight.txt --at 60 --fetched flight.rows --rate 50000",

@@ -7,7 +7,7 @@ use std::path::Path;
 
 /// So many faults are told: of a file that is no list of rows every line is one.
 const TOLD: usize = 5;
-const WANTED: &str = "A row is `slot 77: chunk 12 layer 0, 6,000 bytes` or four numbers, slot chunk layer bytes.";
+const WANTED: &str = "A row is `slot 77: chunk 17 layer 2, 6,000 bytes` or four numbers, slot chunk layer bytes.";
 
 /// The numbers of a line, in either form.
 fn numbers(line: &str) -> Option<Vec<&str>> {

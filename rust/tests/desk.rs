@@ -196,7 +196,7 @@ fn the_largest_job() {
     let job = Job { chunks: 500, span: 7, delay: 107, limit: 28, sizes: vec![9000, 7000, 5000, 4000], overrides, forecast };
     assert_eq!(job.write().unwrap().len(), 46_800);
     let plan = job.plan().unwrap();
-    // As `tools/reference.py` plans it.
+    // As `tests/reference.py` plans it.
     assert_eq!((plan.counts, plan.list.len()), ([500, 500, 406, 185], 4982));
     assert_eq!([0, 1, 2, 3].map(|n| count_marks(&plan.marks, n)), plan.counts.map(u64::from));
     assert_eq!(job.check(&plan.marks, &plan.list), Ok(Verdict::Passes));

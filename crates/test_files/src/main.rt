@@ -1,7 +1,7 @@
 // Tests of the readers, the writers and the checker by files. First the case files of data/
-// (CASES.md says what each is), whose lines tools/reference.py, another reading of document 01,
+// (CASES.md says what each is), whose lines tests/reference.py, another reading of document 01,
 // computes; then plan files at the limit of 65,536 bytes, whose lines are written by hand in
-// tools/cases.py.
+// tests/cases.py.
 mod files;
 mod large;
 mod print;

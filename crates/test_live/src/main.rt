@@ -1,7 +1,7 @@
 // What to fetch next on all cases of a small family: C 2 or 3, L 1 or 2, s 1 to 3, last due slot at
 // most 4, limit 0 to 3, one or two layers of 1 to 3 bytes, equal and uneven; each p; every list of
 // bytes before p, at most two a slot, none late and no layer of more than its size; and the rates
-// 0 to 3 and the largest. The rows are handed in two orders. tools/lives.py reads the rule anew and
+// 0 to 3 and the largest. The rows are handed in two orders. tests/lives.py reads the rule anew and
 // prints the same counts and the same checksum over all answers. Then the first 0, 1 and 2 bytes of
 // the asks as rows of slot p: the next slot accepts every such list.
 mod asked;

@@ -1,7 +1,7 @@
 // Planning afresh on all cases of a small family: C 2 or 3, L 1 or 2, s 1 to 3, last due slot at
 // most 4, limit 0 to 3, one or two layers of 1 or 2 bytes, equal and uneven; each p; every list of
 // bytes before p, at most two a slot, none late and no layer of more than its size; and each
-// forecast of 0, 1 or 2 bytes a slot from p on. The rows are handed in two orders. tools/replans.py
+// forecast of 0, 1 or 2 bytes a slot from p on. The rows are handed in two orders. tests/replans.py
 // decides each layer by a search over all lists and prints the same counts and the same checksum
 // over all answers. Then standing plans, at every p against the rest of the plan.
 mod asked;

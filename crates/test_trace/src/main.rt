@@ -1,7 +1,7 @@
 // Tests of the calls on link traces. First the case files of data/ (CASES.md says what each is),
-// read for three slots and written again, whose lines tools/reference.py computes; then slot
+// read for three slots and written again, whose lines tests/reference.py computes; then slot
 // counts, rooms and refusals that compete, whose lines are written by hand in
-// tools/expected_traces.txt.
+// tests/by_hand/test_trace.txt.
 mod print;
 mod reading;
 mod writing;
