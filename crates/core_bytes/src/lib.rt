@@ -39,8 +39,7 @@ pub fn w_at(s: &[u8], at: usize) -> u32
     wide(s[at]) + wide(s[at + 1]) * 256 + (wide(s[at + 2]) + wide(s[at + 3]) * 256) * 65536
 }
 
-// Whether the two bytes at a place are the mark. Compared as numbers, so that the compiler joins the
-// loads.
+// Whether the two bytes at a place are the mark. As numbers, so that the compiler joins the loads.
 pub fn is_mark(s: &[u8], at: usize, mark: &[u8; 2]) -> bool
     requires { ⌜ at + 2 ≤ length (now s) ⌝ }
     ensures { λ r. ⌜ r ≡ eqb (getD (now (s .entry)) at 0) (getD (now (mark .entry)) 0 0)
