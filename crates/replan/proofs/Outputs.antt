@@ -12,7 +12,7 @@ use Rattle.theory_basics.specs.Refusals.{_orElse_, unless}
 use Rattle.theory_basics.specs.Tests.{All}
 use Rattle.theory_basics.specs.lemmas.Refusals.{orElse-none, orElse-some}
 use Rattle.job.specs.Input.{JobInput, jobIn}
-use Rattle.job.specs.Theorems.{input-iff}
+use Rattle.job.specs.Theorems.{input-accepted}
 use Rattle.job.specs.Job.{Accepted, chunks}
 use Rattle.core_sizes.specs.Table.{sizesTable, tableAt}
 use Rattle.core_sizes.specs.Theorems.{table-is}
@@ -101,7 +101,7 @@ module _ (h : JobInput) (o : ReplanInput) (z : askedRefusal h o ≡ 0) where
   earlier = take (o .from - 1) (h .forecast)
 
   accepted : Accepted (jobIn h)
-  accepted = input-iff h .0 (asked .job) .1
+  accepted = input-accepted h (asked .job)
 
   pub some-slot : 1 ≤ o .from
   some-slot = asked .slot-in .low

@@ -16,7 +16,7 @@ use Rattle.theory_basics.specs.lemmas.Refusals.{orElse-some}
 use Rattle.theory_basics.specs.lemmas.Tests.{eqb-iff, test}
 use Rattle.theory_basics.specs.Refusals.{unless}
 use Rattle.job.specs.Input.{JobInput, jobIn, jobRefusal}
-use Rattle.job.specs.Theorems.{input-iff}
+use Rattle.job.specs.Theorems.{input-accepted}
 use Rattle.job.specs.Job.{Accepted, chunks}
 use Rattle.fetch.specs.Rows.{Row, rowsOf, rowSlot, rowChunk, rowLayer, rowBytes}
 use Rattle.fetch.specs.Slices.{ListSlices, slicesOf}
@@ -41,7 +41,7 @@ module _ (h : JobInput) where
   -- They have room for any plan.
   is-given : jobRefusal h ≡ 0 → given h room ≡ true
   is-given ok =
-      let a : Accepted (jobIn h) = input-iff h .0 ok .1 in
+      let a : Accepted (jobIn h) = input-accepted h ok in
       let n = length (planRows (jobIn h)) in
       let rows = le-leb n (length (zeros 5599)) (omega (arith, few a, length-replicate {A = ℕ} 5599 0)) in
       rw (ok, le-leb (chunks (jobIn h)) (length (zeros 500)) (omega (arith, a .chunks-in .high, length-replicate {A = ℕ} 500 0)), rows)
@@ -117,7 +117,7 @@ made-columns {h} p {n} e =
 
 module _ {h : JobInput} {n : ℕ} {ss cs ls bs : List ℕ} (c : Made h n ss cs ls bs) where
   pub made-rows : Rows (take n ss) (take n cs) (take n ls) (take n bs)
-  made-rows = rw (c .slots-are .is, c .chunks-are .is, c .layers-are .is, c .bytes-are .is) (own-rows (input-iff h .0 (c .none) .1))
+  made-rows = rw (c .slots-are .is, c .chunks-are .is, c .layers-are .is, c .bytes-are .is) (own-rows (input-accepted h (c .none)))
 
   pub made-few : length (take n bs) ≤ 5599
   made-few = omega (arith, made-rows .few, made-rows .bytes-each)

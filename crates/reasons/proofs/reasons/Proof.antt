@@ -1,9 +1,10 @@
 -- `reasons` meets its contract: the refusals in their order, then the text. Assumes nothing.
 use native.Mathlib.Omega.{arith}
-use Rattle.reasons.proofs.Answer.{accepted, fits, none, promised, told-put, told-refused}
+use Rattle.reasons.proofs.Answer.{fits, none, promised, told-put, told-refused}
 use borrow.Author.Needs.{needs}
 use Rattle.reasons.proofs.reasons.Statement.{statement}
 use Rattle.reasons.proofs.reasons.Tie as tie
+use Rattle.job.specs.Theorems.{input-accepted}
 
 refusal-requires : tie.Need-refusal-requires
 refusal-requires c κs = search needs
@@ -21,7 +22,7 @@ returns-2 : tie.Need-returns-2
 returns-2 c = promised (c .before .before .put-tight .ensures)
 
 put-plan-requires : tie.Need-put-plan-requires
-put-plan-requires c κs = let z = none (c .before .before .before .refusal .ensures) (c .before .before .if1 .left) in (accepted _ z, omega (arith, fits _ z))
+put-plan-requires c κs = let z = none (c .before .before .before .refusal .ensures) (c .before .before .if1 .left) in (input-accepted _ z, omega (arith, fits _ z))
 
 same-length-2 : tie.Need-same-length-2
 same-length-2 c = search needs
