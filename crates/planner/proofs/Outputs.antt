@@ -119,10 +119,6 @@ module _
 abbrev planned : Job → Result
 planned j = ownResult j (plan j)
 
--- What a refusal's number says.
-pub none : {k refusal : ℕ} → k ≡ refusal → k ≤ 0 → refusal ≡ 0
-none e h = omega arith
-
 module _ (h : JobInput) (marks slots cs layers bytes : List ℕ) where
   abbrev j : Job
   j = jobIn h

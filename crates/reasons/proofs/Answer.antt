@@ -26,9 +26,6 @@ use Rattle.records.specs.declared.Written.{Written}
 use Rattle.records.specs.declared.Written.the-variants.{Bytes, Refused}
 use Rattle.job.specs.Theorems.{input-accepted}
 
-pub none : {k refused : ℕ} → k ≡ refused → k ≤ 0 → refused ≡ 0
-none e h = omega arith
-
 pub fits : (h : JobInput) → jobRefusal h ≡ 0 → length (planText (jobIn h)) ≤ 94000
 fits h z = text-fits (jobIn h) (input-accepted h z)
 

@@ -37,10 +37,6 @@ use Rattle.search.proofs.Deciding.{plan-found-fits}
 
 -- ---- what is handed
 
--- What a refusal's number says.
-pub none : {k refusal : ℕ} → k ≡ refusal → k ≤ 0 → refusal ≡ 0
-none e h = omega arith
-
 module _ (h : JobInput) (budget : ℕ) (marks slots cs layers bytes : List ℕ) where
   abbrev j : Job
   j = jobIn h
