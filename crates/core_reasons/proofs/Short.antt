@@ -1,5 +1,5 @@
 -- Laws on the stretch of a trial: what the tables hold. Assumes nothing.
-use mathlib.Core.Path.{_≡_, refl, sym, _∙_, ap}
+use mathlib.Core.Path.{_≡_, sym, _∙_, ap}
 use mathlib.Core.Bool.{cond}
 use mathlib.Core.List.{List, [], _∷_, _++_, map}
 use Prim.Native.Nat.{ℕ, suc, _+_, _*_, _-_, _/_, _≤_, _<_, min}
@@ -18,11 +18,8 @@ use Rattle.core_reasons.specs.declared.passes.Stretch.{Stretch}
 use Rattle.core_reasons.specs.lemmas.Tables.{Given, SetTablesPost, FindShortPost, FindShortPre, bytesIn, chunksIn, levelIn, trial}
 use Rattle.core_reasons.specs.lemmas.Passes.{Holds, FindStretchPost, FindStretchPre}
 use Rattle.theory_basics.specs.lemmas.Tables.{all-from, all-take}
+use Rattle.theory_basics.specs.lemmas.Lists.{map-cong}
 use Rattle.theory_plan.specs.lemmas.Words.{due-by}
-
-map-same : (f g : ℕ → ℕ) (ks : List ℕ) → All (λ k. f k ≡ g k) ks → map f ks ≡ map g ks
-map-same f g [] a = refl
-map-same f g (k ∷ ks) a = rw (a .0, map-same f g ks (a .1))
 
 all-map : (P : ℕ → Type 0) (f : ℕ → ℕ) (ks : List ℕ) → All (λ k. P (f k)) ks → All P (map f ks)
 all-map P f [] a = tt
@@ -70,7 +67,7 @@ module _ (p : Programme) (held : ℕ) (sums after levels : List ℕ) (i n cap fi
     same-bytes =
         l .carried
         ∙ rw same-kept
-        (map-same (λ k. bytesIn sums k (levelIn levels i n cap k)) (λ k. sum (size j k) (trial plan i n cap k)) (kept j (trial plan i n cap))
+        (map-cong (λ k. bytesIn sums k (levelIn levels i n cap k)) (λ k. sum (size j k) (trial plan i n cap k)) (kept j (trial plan i n cap))
         (picked-each (λ k. leb 1 (trial plan i n cap k)) (λ k. bytesIn sums k (levelIn levels i n cap k) ≡ sum (size j k) (trial plan i n cap k)) 0 (chunks j) (λ k u v t.
         ap (bytesIn sums k) (same-level k u (omega arith)) ∙ g .sizes k (trial plan i n cap k) u (omega arith) (leb→le 1 (trial plan i n cap k) t) (ok k u (omega arith)))))
 

@@ -15,6 +15,7 @@ use Rattle.theory_basics.specs.Tests.{All, In}
 use Rattle.theory_basics.specs.lemmas.Ranges.{pre-mono}
 use Rattle.theory_basics.specs.lemmas.Tables.{all-take}
 use Rattle.theory_basics.specs.lemmas.Tests.{all-map, at-row, by-cond, each-row, test, true-T}
+use Rattle.theory_basics.specs.lemmas.Lists.{map-cong}
 use Rattle.job.specs.Job.{Accepted, chunks, due, dueSlot, forecast, heldMost, Job, lastDue, lastSlot, layers, Override, size, Within}
 use Rattle.job.specs.declared.Programme.{Programme}
 use Rattle.fetch.specs.Marks.{bit}
@@ -209,10 +210,6 @@ picked-front f lo zero m edge = let e : 0 + m ≡ m = omega arith in rw e (none 
 picked-front f lo (suc n) m edge =
     let e : suc n + m ≡ suc (n + m) = omega arith in
     rw e (ap (λ (l : List ℕ). cond (f (suc lo)) (suc lo ∷ l) l) (picked-front f (suc lo) n m (λ i u v. edge i (omega arith) (omega arith))))
-
-map-cong : (f edge : ℕ → ℕ) (ks : List ℕ) → All (λ k. f k ≡ edge k) ks → map f ks ≡ map edge ks
-map-cong f edge [] a = refl
-map-cong f edge (k ∷ ks) a = rw (a .0, map-cong f edge ks (a .1))
 
 asc-join : (lo mid hi : ℕ) (a b : List ℕ) → lo ≤ suc mid → mid ≤ hi → Asc lo mid a → Asc (suc mid) hi b → Asc lo hi (a ++ b)
 asc-join lo mid hi [] b u v x y = asc-lower lo (suc mid) hi b u y

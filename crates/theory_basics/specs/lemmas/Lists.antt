@@ -1,7 +1,7 @@
--- Lemmas. Lists given by the value at each index. Assumes nothing.
+-- Lemmas. Lists given by the value at each index, and maps. Assumes nothing.
 use Prim.Native.Nat.{ℕ, zero, suc, _<_}
 use mathlib.Core.Path.{_≡_, refl, _∙_}
-use mathlib.Core.List.{[], _∷_}
+use mathlib.Core.List.{List, [], _∷_, map}
 use mathlib.Core.Logic.{⊎-elim}
 use native.Mathlib.Omega.{arith}
 use lib.ListN.{length, getD, length-append, List·getD-append}
@@ -9,6 +9,7 @@ use lib.Seq.{getD-at}
 use lib.Dec.{ltb, ltb→lt, nltb→le}
 use Rattle.theory_basics.specs.Lists.{upTo}
 use Rattle.theory_basics.specs.lemmas.Tests.{test}
+use Rattle.theory_basics.specs.Tests.{All}
 
 module _ {A : Type 0} where
   pub length-upTo : (f : ℕ → A) (n : ℕ) → length (upTo f n) ≡ n
@@ -26,3 +27,10 @@ module _ {A : Type 0} where
   pub upTo-cong : (f g : ℕ → A) (n : ℕ) → ((k : ℕ) → k < n → f k ≡ g k) → upTo f n ≡ upTo g n
   upTo-cong f g zero h = refl
   upTo-cong f g (suc n) h = rw (upTo-cong f g n (λ k u. h k (omega arith)), h n (omega arith))
+
+-- ---- maps
+
+-- Functions that agree on a list map it alike.
+pub map-cong : {A B : Type 0} (f g : A → B) (l : List A) → All (λ x. f x ≡ g x) l → map f l ≡ map g l
+map-cong f g [] a = refl
+map-cong f g (x ∷ l) a = rw (a .0, map-cong f g l (a .1))
