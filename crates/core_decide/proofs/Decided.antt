@@ -23,6 +23,7 @@ use Rattle.core_decide.specs.lemmas.Decision.{keptOf, Sums, Slot, SumTab
 use Rattle.theory_plan.specs.lemmas.Words.{due-by}
 use Rattle.theory_plan.specs.lemmas.Queue.{each-is, all-ones, ones, releases}
 use Rattle.theory_basics.specs.lemmas.Tables.{all-take}
+use Rattle.theory_basics.specs.lemmas.Lists.{each-of-map}
 use Rattle.core_decide.proofs.Settle.{same-long, marks-of}
 use Rattle.theory_plan.specs.Bases.{Asc}
 
@@ -82,10 +83,6 @@ base-kept j (k ∷ ks) =
     let z : size j k 0 ≡ 0 + size j k 0 = omega arith in
     rw (base-kept j ks) (ap (λ (b : ℕ). record { chunk = k; due = due j k; bytes = b; mark = 1 } ∷ based j ks) z)
 
-all-small : (f : ℕ → ℕ) (b : ℕ) → ((k : ℕ) → f k ≤ b) → (ks : List ℕ) → All (λ x. x ≤ b) (map f ks)
-all-small f b h [] = tt
-all-small f b h (k ∷ ks) = (h k, all-small f b h ks)
-
 -- ---- kept chunks, however they were found
 
 module _
@@ -111,7 +108,7 @@ module _
         due-slots = due-in;
         release-slots = subst (All Slot) (sym r) (release-slots p (o .late) (o .ends) (p .limit / p .span) (500 - first) (drop first dues) due-in);
         within = b .within;
-        carried = subst (All (λ x. x ≤ 16777216)) (sym (b .base-bytes)) (all-small (λ k. size k 0) 16777216 (λ k. o .small k 0) ks);
+        carried = subst (All (λ x. x ≤ 16777216)) (sym (b .base-bytes)) (each-of-map (λ x. x ≤ 16777216) (λ k. size k 0) (λ k. o .small k 0) ks);
         long = (o .long .0, b .long .0, b .long .1, lr, b .long .2, o .long .1, rw (o .marks) (length-replicate {A = ℕ} 500 1));
       }
 

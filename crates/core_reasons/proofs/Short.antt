@@ -1,7 +1,7 @@
 -- Laws on the stretch of a trial: what the tables hold. Assumes nothing.
 use mathlib.Core.Path.{_≡_, sym, _∙_, ap}
 use mathlib.Core.Bool.{cond}
-use mathlib.Core.List.{List, [], _∷_, _++_, map}
+use mathlib.Core.List.{List, _++_, map}
 use Prim.Native.Nat.{ℕ, suc, _+_, _*_, _-_, _/_, _≤_, _<_, min}
 use native.Mathlib.Omega.{arith}
 use lib.ListN.{length, getD, take, drop}
@@ -18,12 +18,8 @@ use Rattle.core_reasons.specs.declared.passes.Stretch.{Stretch}
 use Rattle.core_reasons.specs.lemmas.Tables.{Given, SetTablesPost, FindShortPost, FindShortPre, bytesIn, chunksIn, levelIn, trial}
 use Rattle.core_reasons.specs.lemmas.Passes.{Holds, FindStretchPost, FindStretchPre}
 use Rattle.theory_basics.specs.lemmas.Tables.{all-from, all-take}
-use Rattle.theory_basics.specs.lemmas.Lists.{map-cong}
+use Rattle.theory_basics.specs.lemmas.Lists.{map-cong, all-of-map}
 use Rattle.theory_plan.specs.lemmas.Words.{due-by}
-
-all-map : (P : ℕ → Type 0) (f : ℕ → ℕ) (ks : List ℕ) → All (λ k. P (f k)) ks → All P (map f ks)
-all-map P f [] a = tt
-all-map P f (k ∷ ks) a = (a .0, all-map P f ks (a .1))
 
 module _ (p : Programme) (held : ℕ) (sums after levels : List ℕ) (i n cap first : ℕ) (dues ready bytes : List ℕ) (l : SetTablesPost p sums levels i n cap first dues bytes) (r : drop first ready ≡ take (500 - first) (ones held ++ drop first dues)) where
   -- ---- slots
@@ -31,7 +27,7 @@ module _ (p : Programme) (held : ℕ) (sums after levels : List ℕ) (i n cap fi
   slots : 1 ≤ p .delay → p .chunks ≤ 500 → dueSlot p (p .chunks) ≤ 3600 → All (Within 1 3600) (drop first dues)
   slots late few ends =
       rw (l .due-slots)
-      (all-map (Within 1 3600) (dueSlot p) (chunksIn p levels i n cap)
+      (all-of-map (Within 1 3600) (dueSlot p) (chunksIn p levels i n cap)
       (picked-each (λ k. leb 1 (levelIn levels i n cap k)) (λ k. Within 1 3600 (dueSlot p k)) 0 (p .chunks) (λ k u v t. record { low = omega arith; high = omega (arith, due-by p k (omega arith)) })))
 
   pub pass-from : (dues₀ ready₀ bytes₀ : List ℕ) → FindShortPre p held sums after levels n cap dues₀ ready₀ bytes₀ → length ready ≡ 500 → FindStretchPre after dues ready bytes first

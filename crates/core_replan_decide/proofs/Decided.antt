@@ -15,7 +15,7 @@ use Rattle.theory_basics.specs.Tests.{All, In}
 use Rattle.theory_basics.specs.lemmas.Ranges.{pre-mono}
 use Rattle.theory_basics.specs.lemmas.Tables.{all-take}
 use Rattle.theory_basics.specs.lemmas.Tests.{all-map, at-row, by-cond, each-row, test, true-T}
-use Rattle.theory_basics.specs.lemmas.Lists.{map-cong}
+use Rattle.theory_basics.specs.lemmas.Lists.{map-cong, each-of-map}
 use Rattle.job.specs.Job.{Accepted, chunks, due, dueSlot, forecast, heldMost, Job, lastDue, lastSlot, layers, Override, size, Within}
 use Rattle.job.specs.declared.Programme.{Programme}
 use Rattle.fetch.specs.Marks.{bit}
@@ -114,7 +114,7 @@ module _ {p : Programme} {layers start : ℕ} {part : List ℕ} {left : ℕ → 
         within = n .within;
         ids-in = within-all (suc last) (p .chunks) (p .chunks) ns (omega arith) (omega arith) (n .ascending);
         slots = subst (All Slot) (sym (n .due-slots)) (slots-all (suc last) ns (n .ascending));
-        light = subst (All (λ b. b ≤ 16777216)) (sym (n .base-bytes)) (light-all ns);
+        light = subst (All (λ b. b ≤ 16777216)) (sym (n .base-bytes)) (each-of-map (λ b. b ≤ 16777216) (baseOf left) (λ k. o .small k 0) ns);
         long = (o .long .1, s .long, f .long .0, n .long .0, n .long .1, n .long .2, n .long .3);
       }
     where
@@ -125,10 +125,6 @@ module _ {p : Programme} {layers start : ℕ} {part : List ℕ} {left : ℕ → 
       slots-all : (lo : ℕ) (ks : List ℕ) → Asc lo (p .chunks) ks → All Slot (map (dueSlot p) ks)
       slots-all lo [] a = tt
       slots-all lo (k ∷ ks) a = let d = due-in (o .fine) k (a .1) in (record { low = d .0; high = d .1 }, slots-all (suc k) ks (a .2))
-
-      light-all : (ks : List ℕ) → All (λ b. b ≤ 16777216) (map (baseOf left) ks)
-      light-all [] = tt
-      light-all (k ∷ ks) = (o .small k 0, light-all ks)
 
   pub layers-from :
       {table front ids₁ dues₁ bytes₁ mark₁ ids₂ dues₂ bytes₂ mark₂ ready₂ room : List ℕ} {head new first needOf : ℕ} (held : ℕ) → SumTable start part table →

@@ -34,3 +34,11 @@ module _ {A : Type 0} where
 pub map-cong : {A B : Type 0} (f g : A → B) (l : List A) → All (λ x. f x ≡ g x) l → map f l ≡ map g l
 map-cong f g [] a = refl
 map-cong f g (x ∷ l) a = rw (a .0, map-cong f g l (a .1))
+
+pub all-of-map : {A B : Type 0} (P : B → Type 0) (f : A → B) (l : List A) → All (λ x. P (f x)) l → All P (map f l)
+all-of-map P f [] a = tt
+all-of-map P f (x ∷ l) a = (a .0, all-of-map P f l (a .1))
+
+pub each-of-map : {A B : Type 0} (P : B → Type 0) (f : A → B) → ((x : A) → P (f x)) → (l : List A) → All P (map f l)
+each-of-map P f h [] = tt
+each-of-map P f h (x ∷ l) = (h x, each-of-map P f h l)
