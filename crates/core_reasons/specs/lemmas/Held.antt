@@ -3,7 +3,7 @@
 use Prim.Native.Nat.{ℕ, zero, suc, _+_, _-_, _≤_, _<_}
 use mathlib.Core.Path.{_≡_, refl, sym, ap, _∙_}
 use mathlib.Core.Bool.{cond}
-use mathlib.Core.List.{List, [], _∷_, _++_, map}
+use mathlib.Core.List.{List, [], _∷_, _++_}
 use mathlib.Core.Logic.{⊎-elim}
 use native.Mathlib.Omega.{arith}
 use borrow.Author.Tests.{lt-ltb, le-ltb}
@@ -12,6 +12,7 @@ use lib.ListN.{length, getD, take, drop, length-drop, length-map}
 use lib.Seq.{getD-drop, getD-take}
 use Rattle.theory_basics.specs.lemmas.Ranges.{pre-mono}
 use Rattle.theory_basics.specs.lemmas.Tests.{test}
+use Rattle.theory_basics.specs.lemmas.Lists.{getD-map}
 use Rattle.job.specs.Job.{Accepted, Job, due, forecast, heldMost, lastSlot}
 use Rattle.theory_plan.specs.Plan.{bytes as carriedBytes, kept}
 use Rattle.theory_plan.specs.lemmas.Choice.{fits-can-carry}
@@ -24,11 +25,6 @@ use Rattle.theory_reasons.specs.lemmas.Named.{passed, passed-late, stretch-pass
 use Rattle.theory_reasons.specs.lemmas.Search.{Agrees, forward, forward-agrees, forward-is, search-agrees}
 use Rattle.theory_reasons.specs.lemmas.Kept.{canBegin, keptChunk, keptCount}
 use Rattle.core_reasons.specs.lemmas.Passes.{Holds, lateIn, place, searchIn, upToIn}
-
-nth-map : (f : ℕ → ℕ) (l : List ℕ) (q : ℕ) → q < length l → getD (map f l) q 0 ≡ f (getD l q 0)
-nth-map f [] q h = absurd (omega arith)
-nth-map f (x ∷ l) zero h = refl
-nth-map f (x ∷ l) (suc q) h = nth-map f l q (omega arith)
 
 nth-each : (f : ℕ → ℕ) (l : List ℕ) (q : ℕ) → q < length l → getD (each f l) q 0 ≡ f (getD l q 0)
 nth-each f [] q h = absurd (omega arith)
@@ -53,10 +49,10 @@ module _ (j : Job) (a : Accepted j) (choice : ℕ → ℕ) (after dues ready byt
   count-is = omega (arith, length-drop first dues, ap length (h .due-slots), length-map (kept j choice) (due j))
 
   bytes-at : (q : ℕ) → q < c → place first bytes q ≡ keptBytes j choice q
-  bytes-at q l = sym (getD-drop first bytes q 0) ∙ ap (λ (t : List ℕ). getD t q 0) (h .carried) ∙ nth-map (carriedBytes j choice) (kept j choice) q l
+  bytes-at q l = sym (getD-drop first bytes q 0) ∙ ap (λ (t : List ℕ). getD t q 0) (h .carried) ∙ getD-map (carriedBytes j choice) (kept j choice) q l
 
   due-at : (q : ℕ) → q < c → place first dues q ≡ keptDue j choice q
-  due-at q l = sym (getD-drop first dues q 0) ∙ ap (λ (t : List ℕ). getD t q 0) (h .due-slots) ∙ nth-map (due j) (kept j choice) q l
+  due-at q l = sym (getD-drop first dues q 0) ∙ ap (λ (t : List ℕ). getD t q 0) (h .due-slots) ∙ getD-map (due j) (kept j choice) q l
 
   begin-at : (q : ℕ) → q < c → place first ready q ≡ canBegin j choice q
   begin-at q l =

@@ -42,3 +42,8 @@ all-of-map P f (x ∷ l) a = (a .0, all-of-map P f l (a .1))
 pub each-of-map : {A B : Type 0} (P : B → Type 0) (f : A → B) → ((x : A) → P (f x)) → (l : List A) → All P (map f l)
 each-of-map P f h [] = tt
 each-of-map P f h (x ∷ l) = (h x, each-of-map P f h l)
+
+pub getD-map : (f : ℕ → ℕ) (l : List ℕ) (q : ℕ) → q < length l → getD (map f l) q 0 ≡ f (getD l q 0)
+getD-map f [] q h = absurd (omega arith)
+getD-map f (x ∷ l) zero h = refl
+getD-map f (x ∷ l) (suc q) h = getD-map f l q (omega arith)

@@ -12,6 +12,7 @@ use lib.ListN.{length, getD, length-append, length-map, length-replicate, replic
 use Rattle.theory_basics.specs.Sums.{sum}
 use Rattle.theory_basics.specs.lemmas.Ranges.{sum-cong}
 use Rattle.theory_basics.specs.lemmas.Tests.{test}
+use Rattle.theory_basics.specs.lemmas.Lists.{getD-map}
 use Rattle.job.specs.Job.{Job, due, heldMost}
 use Rattle.theory_plan.specs.Plan.{bytes, kept}
 use Rattle.theory_reasons.specs.Statement.{beginSlots, bytesNeeded, need}
@@ -43,17 +44,12 @@ at-one zero l q u = absurd (omega arith)
 at-one (suc h) l zero u = refl
 at-one (suc h) l (suc q) u = at-one h l q (omega arith)
 
-nth-map : (f : ℕ → ℕ) (l : List ℕ) (q : ℕ) → q < length l → getD (map f l) q 0 ≡ f (getD l q 0)
-nth-map f [] q h = absurd (omega arith)
-nth-map f (x ∷ l) zero h = refl
-nth-map f (x ∷ l) (suc q) h = nth-map f l q (omega arith)
-
 begin-at : (j : Job) (ks : List ℕ) (q : ℕ) → q < length ks → getD (beginSlots j ks) q 0 ≡ cond (ltb q (heldMost j)) 1 (due j (getD ks (q - heldMost j) 0))
 begin-at j ks q l =
     let H = heldMost j in
     ⊎-elim
     (λ t. let u = ltb→lt q H t in rw (lt-ltb q H u) (at-one H (map (due j) ks) q u))
-    (λ t. let u = nltb→le q H t in rw (le-ltb q H u) (behind H (map (due j) ks) q u ∙ nth-map (due j) ks (q - H) (omega arith)))
+    (λ t. let u = nltb→le q H t in rw (le-ltb q H u) (behind H (map (due j) ks) q u ∙ getD-map (due j) ks (q - H) (omega arith)))
     (test (ltb q H))
 
 -- ---- need as a sum
