@@ -1,11 +1,12 @@
--- Lemmas. Lists given by the value at each index, and maps. Assumes nothing.
-use Prim.Native.Nat.{ℕ, zero, suc, _<_}
-use mathlib.Core.Path.{_≡_, refl, _∙_}
-use mathlib.Core.List.{List, [], _∷_, map}
+-- Lemmas. Lists given by the value at each index, maps, and what is past a front. Assumes
+-- nothing.
+use Prim.Native.Nat.{ℕ, zero, suc, _+_, _-_, _≤_, _<_}
+use mathlib.Core.Path.{_≡_, refl, sym, ap, _∙_}
+use mathlib.Core.List.{List, [], _∷_, _++_, map}
 use mathlib.Core.Logic.{⊎-elim}
 use native.Mathlib.Omega.{arith}
-use lib.ListN.{length, getD, length-append, List·getD-append}
-use lib.Seq.{getD-at}
+use lib.ListN.{length, getD, drop, length-append, List·getD-append}
+use lib.Seq.{drop-append-add, getD-at}
 use lib.Dec.{ltb, ltb→lt, nltb→le}
 use Rattle.theory_basics.specs.Lists.{upTo}
 use Rattle.theory_basics.specs.lemmas.Tests.{test}
@@ -47,3 +48,8 @@ pub getD-map : (f : ℕ → ℕ) (l : List ℕ) (q : ℕ) → q < length l → g
 getD-map f [] q h = absurd (omega arith)
 getD-map f (x ∷ l) zero h = refl
 getD-map f (x ∷ l) (suc q) h = getD-map f l q (omega arith)
+
+-- ---- past a front
+
+pub drop-past : {A : Type 0} (a b : List A) (n : ℕ) → length a ≤ n → drop n (a ++ b) ≡ drop (n - length a) b
+drop-past a b n h = let e : length a + (n - length a) ≡ n = omega arith in ap (λ (k : ℕ). drop k (a ++ b)) (sym e) ∙ drop-append-add a b (n - length a)

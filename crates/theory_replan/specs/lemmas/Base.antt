@@ -19,6 +19,7 @@ use Rattle.theory_basics.specs.Sums.{sum}
 use Rattle.theory_basics.specs.Tests.{All, any, In}
 use Rattle.theory_basics.specs.lemmas.Ranges.{sum-cong, sum-mono, sum-zero}
 use Rattle.theory_basics.specs.lemmas.Tests.{and-T, any-row, at-row, by-cond, eqb-iff, not-T-false, same-test, T-and, T-or-iff, T-true, test}
+use Rattle.theory_basics.specs.lemmas.Lists.{drop-past}
 use Rattle.job.specs.Job.{chunks, due, heldMost, Job, Layer, layers, size}
 use Rattle.fetch.specs.Rows.{bytesOfLayer, Carried, Row}
 use Rattle.fetch.specs.lemmas.Rows.{any-some, bytes-none, some-row}
@@ -68,11 +69,6 @@ need-cong v w d A (k ∷ ks) a = rw (a .0, need-cong v w d A ks (a .1))
 needs-cong : (v w d A : ℕ → ℕ) (ks : List ℕ) → All (λ k. v k ≡ w k) ks → needs-of v d A ks ≡ needs-of w d A ks
 needs-cong v w d A [] a = refl
 needs-cong v w d A (k ∷ ks) a = rw (need-cong v w d A (k ∷ ks) a, needs-cong v w d A ks (a .1))
-
-drop-past : (a b : List ℕ) (n : ℕ) → length a ≤ n → drop n (a ++ b) ≡ drop (n - length a) b
-drop-past [] b n l = let e : n - 0 ≡ n = omega arith in rw e
-drop-past (x ∷ a) b zero l = absurd (omega arith)
-drop-past (x ∷ a) b (suc n) l = let e : suc n - suc (length a) ≡ n - length a = omega arith in drop-past a b n (omega arith) ∙ ap (λ (m : ℕ). drop m b) (sym e)
 
 -- Tails ask nothing of the first h chunks.
 tails-later : (v w d A : ℕ → ℕ) (h : ℕ) (ks : List ℕ) → All (λ k. v k ≤ w k) (drop h ks) → Tails w d A h ks → Tails v d A h ks

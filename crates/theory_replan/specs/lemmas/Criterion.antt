@@ -16,6 +16,7 @@ use Rattle.theory_basics.specs.Lists.{has}
 use Rattle.theory_basics.specs.Tests.{All}
 use Rattle.theory_basics.specs.lemmas.Ranges.{count-none}
 use Rattle.theory_basics.specs.lemmas.Tests.{and-T, at-row, by-cond, not-T-false, T-and, T-or-iff, T-true, test}
+use Rattle.theory_basics.specs.lemmas.Lists.{drop-past}
 use Rattle.job.specs.Job.{chunks, due, heldMost, Job, lastSlot}
 use Rattle.fetch.specs.Rows.{begun, held, Row}
 use Rattle.fetch.specs.Rules.{RowInRange}
@@ -141,11 +142,6 @@ FrontOk d A h [] ns = Unit {0}
 FrontOk d A h (b ∷ bs) ns = (getD ns (h - length (b ∷ bs)) 0 ≤ A (d b - 1)) × FrontOk d A h bs ns
 
 module _ (w d A : ℕ → ℕ) (h : ℕ) where
-  drop-past : (a b : List ℕ) (n : ℕ) → length a ≤ n → drop n (a ++ b) ≡ drop (n - length a) b
-  drop-past [] b n l = let e : n - 0 ≡ n = omega arith in rw e
-  drop-past (x ∷ a) b zero l = absurd (omega arith)
-  drop-past (x ∷ a) b (suc n) l = let e : suc n - suc (length a) ≡ n - length a = omega arith in drop-past a b n (omega arith) ∙ ap (λ (m : ℕ). drop m b) (sym e)
-
   pub front-tails : (bs ks : List ℕ) → length bs ≤ h → Tails w d A h (bs ++ ks) ↔ (FrontOk d A h bs (needs-of w d A ks) × Tails w d A h ks)
   front-tails [] ks l = (λ t. (tt, t), λ u. u .1)
   front-tails (b ∷ bs) ks l =
