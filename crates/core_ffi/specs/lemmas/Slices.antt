@@ -2,7 +2,7 @@
 -- the library's own is too short. Assumes nothing.
 use Prim.Native.Nat.{ℕ, _≤_}
 use mathlib.Core.Path.{_≡_, refl, sym, ap, _∙_}
-use mathlib.Core.Bool.{Bool, true, false, cond, not, _&&_}
+use mathlib.Core.Bool.{Bool, true, false, cond, _&&_}
 use mathlib.Core.List.{List, [], _∷_, _++_, append-nil}
 use native.Mathlib.Omega.{arith}
 use lib.Dec.{T-not, eqb, eqb→eq}
@@ -52,14 +52,6 @@ meter-of kept e f = cc
 
 pub refused-keeps : (refused : ℕ) (result old : List ℕ) → (refused ≡ 0 → ⊥) → lentAfter refused result old ≡ old
 refused-keeps refused result old n = rw (ne-eqb refused 0 n)
-
-pub test-false : (r t : Bool) → r ≡ t → not r ≡ true → t ≡ false
-test-false true t e f = let z : _≡_ {A = ℕ} 0 1 = cc in absurd (omega arith)
-test-false false t e f = sym e
-
-pub test-true : (r t : Bool) → r ≡ t → not r ≡ false → t ≡ true
-test-true true t e f = sym e
-test-true false t e f = let z : _≡_ {A = ℕ} 0 1 = cc in absurd (omega arith)
 
 pub eleven-first : (a b : Bool) → a ≡ false → unless 11 (a && b) ≡ 11
 eleven-first a b e = ap (λ (x : Bool). unless 11 (x && b)) e

@@ -7,6 +7,7 @@ use mathlib.Core.Logic.{_⊎_, inl, inr, ⊎-elim, _↔_}
 use native.Mathlib.Omega.{arith}
 use native.Mathlib.Numerals.{add-one}
 use lib.Dec.{T, leb, ltb, eqb, leb→le, nleb→lt, ltb→lt, nltb→le, eqb→eq, eqb-refl, le→leb, lt→ltb}
+use borrow.Author.Tests.{not-true, not-false}
 use Rattle.theory_basics.specs.Tests.{allTo, allBelow, All, all, any, In, here, there}
 
 -- ---- by cases
@@ -43,6 +44,13 @@ not-T-false false t = refl
 pub true-T : (b : Bool) → b ≡ true → T b
 true-T true e = tt
 true-T false e = let z : _≡_ {A = ℕ} 0 1 = cc in absurd (omega arith)
+
+-- The answer of a test that the code negates.
+pub answer-true : (r b : Bool) → r ≡ b → not r ≡ false → b ≡ true
+answer-true r b e f = sym e ∙ not-false r f
+
+pub answer-false : (r b : Bool) → r ≡ b → not r ≡ true → b ≡ false
+answer-false r b e f = sym e ∙ not-true r f
 
 -- Two tests that say the same are the same.
 pub same-test : (a b : Bool) → (T a → T b) → (T b → T a) → a ≡ b
