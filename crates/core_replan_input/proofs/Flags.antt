@@ -11,7 +11,7 @@ use lib.ListN.{length, getD, set, length-set}
 use lib.Dec.{eqb, ltb, ltb→lt, nltb→le}
 use Rattle.theory_basics.specs.Tests.{allBelow}
 use Rattle.theory_basics.specs.lemmas.Tables.{at-set, below-next}
-use Rattle.theory_basics.specs.lemmas.Tests.{allTo-more, last, test}
+use Rattle.theory_basics.specs.lemmas.Tests.{allTo-more, last, test, flag-says}
 use Rattle.fetch.specs.Rows.{markByte}
 use Rattle.core_rules.specs.declared.Seen.{Seen}
 use Rattle.core_rules.specs.lemmas.Tables.{SeeChunkPost, carriedBy, lowerBy}
@@ -43,10 +43,6 @@ pub leaving-end : {table sums left : List ℕ} {k : ℕ} → Leaving table sums 
 leaving-end l h = record { is = λ m u. l .is m (omega (arith, l .within)); long = l .long }
 
 -- ---- flags and marks
-
-flag-says : (b : Bool) → eqb (cond b 1 0) 1 ≡ b
-flag-says true = refl
-flag-says false = refl
 
 module _ {size : ℕ → ℕ → ℕ} {sums first : List ℕ} {depth : ℕ} where
   pub flagged-none : {begun whole : List ℕ} → length begun ≡ 500 → length whole ≡ 500 → SetFlagsPost size sums first depth 0 (record { lower = true; few = true }) begun whole

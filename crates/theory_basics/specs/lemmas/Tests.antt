@@ -52,6 +52,11 @@ answer-true r b e f = sym e ∙ not-false r f
 pub answer-false : (r b : Bool) → r ≡ b → not r ≡ true → b ≡ false
 answer-false r b e f = sym e ∙ not-true r f
 
+-- A flag of 1 or 0 says its test.
+pub flag-says : (b : Bool) → eqb (cond b 1 0) 1 ≡ b
+flag-says true = refl
+flag-says false = refl
+
 -- Two tests that say the same are the same.
 pub same-test : (a b : Bool) → (T a → T b) → (T b → T a) → a ≡ b
 same-test true true f g = refl
