@@ -1,6 +1,6 @@
 -- Lemmas. Tables: lists that stand at the end of a table, stores, what holds of each place. Assumes
 -- nothing.
-use mathlib.Core.Path.{_≡_, _∙_}
+use mathlib.Core.Path.{_≡_, sym, _∙_}
 use mathlib.Core.List.{List, [], _∷_}
 use mathlib.Core.Logic.{⊎-elim}
 use Prim.Native.Nat.{ℕ, zero, suc, _+_, _-_, _≤_, _<_}
@@ -41,11 +41,14 @@ at-set P l q v k h f g =
 
 -- ---- neighbours
 
+pub ne-lt : (m n : ℕ) → m ≤ n → (m ≡ n → ⊥) → m < n
+ne-lt m n h o = ⊎-elim (λ t. ltb→lt m n t) (λ t. absurd (o (omega (arith, nltb→le m n t)))) (test (ltb m n))
+
 pub below-next : (k q : ℕ) → k < q + 1 → (k ≡ q → ⊥) → k < q
-below-next k q h o = ⊎-elim (λ t. ltb→lt k q t) (λ t. absurd (o (omega (arith, nltb→le k q t)))) (test (ltb k q))
+below-next k q h o = ne-lt k q (omega arith) o
 
 pub above-next : (k q : ℕ) → q ≤ k → (k ≡ q → ⊥) → q + 1 ≤ k
-above-next k q h o = ⊎-elim (λ t. omega (arith, ltb→lt q k t)) (λ t. absurd (o (omega (arith, nltb→le q k t)))) (test (ltb q k))
+above-next k q h o = omega (arith, ne-lt q k h (λ e. o (sym e)))
 
 -- One place fewer is left of a table.
 pub fewer : (n q : ℕ) → q < n → n - (q + 1) < n - q

@@ -10,13 +10,14 @@ use native.Mathlib.Numerals.{add-one}
 use borrow.Author.Tests.{eq-eqb, ne-eqb, lt-ltb, le-ltb}
 use lib.ListN.{drop}
 use lib.Seq.{drop-drop}
-use lib.Dec.{T-not, ltb, eqb, ltb→lt, nltb→le, eqb→eq, eqb-refl}
+use lib.Dec.{T-not, ltb, eqb, eqb→eq, eqb-refl}
 use Rattle.theory_basics.specs.lemmas.Tests.{test}
 use Rattle.theory_plan.specs.lemmas.Fill.{QueuedPiece, Ready, left-of, needs}
 use Rattle.theory_plan.specs.lemmas.Need.{Feas, Tails}
 use Rattle.theory_plan.specs.lemmas.Feasible.{needOf}
 use Rattle.theory_basics.specs.Lists.{has}
 use Rattle.theory_basics.specs.Tests.{All}
+use Rattle.theory_basics.specs.lemmas.Tables.{ne-lt}
 use Rattle.theory_plan.specs.Bases.{Asc}
 
 -- ---- the queue
@@ -142,9 +143,6 @@ left-of-layer size i n r m (suc c) h =
     let e : c + suc m ≡ suc c + m = omega arith in
     rw (eq-eqb i i refl, ne-eqb m n o) (omega (arith, rw e at (left-of-layer size i n r (suc m) c (omega arith)))))
     (test (eqb m n))
-  where
-    ne-lt : (m n : ℕ) → m ≤ n → (m ≡ n → ⊥) → m < n
-    ne-lt m n h o = ⊎-elim (λ t. ltb→lt m n t) (λ t. absurd (o (omega (arith, nltb→le m n t)))) (test (ltb m n))
 
 pub has-low : (lo c : ℕ) (ks : List ℕ) (i : ℕ) → Asc lo c ks → i < lo → has ks i ≡ false
 has-low lo c [] i a h = refl
