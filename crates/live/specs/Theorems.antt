@@ -4,11 +4,11 @@ use Prim.Native.Nat.{ℕ, suc, _-_, _≤_, _<_}
 use mathlib.Core.Path.{_≡_, sym, _∙_, ap, ap₂}
 use mathlib.Core.List.{List, [], _++_}
 use mathlib.Core.Logic.{⊎-elim}
-use lib.Dec.{T-not, eqb, eqb-refl, eqb→eq}
+use lib.Dec.{eqb, eqb→eq}
 use lib.ListN.{length}
 use Rattle.theory_basics.specs.Refusals.{_orElse_}
 use Rattle.theory_basics.specs.lemmas.Refusals.{orElse-iff, orElse-none, orElse-some}
-use Rattle.theory_basics.specs.lemmas.Tests.{test}
+use Rattle.theory_basics.specs.lemmas.Tests.{test, neqb→ne}
 use Rattle.job.specs.Input.{jobIn, jobRefusal}
 use Rattle.job.specs.Theorems.{input-accepted}
 use Rattle.job.specs.Job.{Accepted, forecast, lastSlot}
@@ -36,7 +36,7 @@ module _ (i : LiveInput) where
       let accepted = input-accepted (i .job) (eqb→eq job 0 t) in
       ap (λ (n : ℕ). job orElse list orElse n) (as-planning-afresh (jobIn (i .job)) accepted (i .slot) (fetched i)))
       (λ t.
-      let n : job ≡ 0 → ⊥ = λ z. T-not (eqb job 0) t (rw z (eqb-refl 0)) in
+      let n : job ≡ 0 → ⊥ = neqb→ne job 0 t in
       orElse-some job (list orElse theirs) n ∙ sym (orElse-some job (list orElse ours) n))
       (test (eqb job 0))
 

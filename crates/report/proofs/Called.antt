@@ -6,14 +6,14 @@ use mathlib.Core.Bool.{Bool, true, false, cond}
 use mathlib.Core.List.{List, map}
 use mathlib.Core.Logic.{⊎-elim}
 use native.Mathlib.Omega.{arith}
-use lib.Dec.{T, T-not, eqb, eqb→eq}
+use lib.Dec.{T, eqb, eqb→eq}
 use lib.ListN.{length, getD, take, drop, length-append, length-map, replicate, length-replicate}
 use lib.Seq.{take-at, length-take-le}
 use borrow.Author.Tests.{eq-eqb, le-leb, ne-eqb}
 use Rattle.theory_basics.specs.Lent.{over}
 use Rattle.theory_basics.specs.Sums.{sum}
 use Rattle.theory_basics.specs.lemmas.Refusals.{orElse-some}
-use Rattle.theory_basics.specs.lemmas.Tests.{eqb-iff, test}
+use Rattle.theory_basics.specs.lemmas.Tests.{test, neqb→ne}
 use Rattle.theory_basics.specs.Refusals.{unless}
 use Rattle.job.specs.Input.{JobInput, jobIn, jobRefusal}
 use Rattle.job.specs.Theorems.{input-accepted}
@@ -51,7 +51,7 @@ module _ (h : JobInput) where
       ⊎-elim
       (λ t. let z : jobRefusal h ≡ 0 = eqb→eq (jobRefusal h) 0 t in rw (is-given z, z))
       (λ t.
-      let n : jobRefusal h ≡ 0 → ⊥ = λ z. T-not (eqb (jobRefusal h) 0) t (eqb-iff (jobRefusal h) 0 .1 z) in
+      let n : jobRefusal h ≡ 0 → ⊥ = neqb→ne (jobRefusal h) 0 t in
       let e : planRefusal h room ≡ jobRefusal h = orElse-some (jobRefusal h) (unless 11 (holds (jobIn h) room)) n in
       rw (e, ne-eqb (jobRefusal h) 0 n))
       (test (eqb (jobRefusal h) 0))

@@ -6,13 +6,13 @@ use mathlib.Core.Bool.{Bool, true, false, cond, not, _&&_}
 use mathlib.Core.List.{List, []}
 use native.Mathlib.Omega.{arith}
 use mathlib.Core.Logic.{⊎-elim}
-use lib.Dec.{T-not, eqb, eqb→eq, leb}
+use lib.Dec.{eqb, eqb→eq, leb}
 use lib.ListN.{length}
 use borrow.Author.Tests.{lt-leb, ne-eqb}
 use Rattle.theory_basics.specs.Lent.{lentAfter, over}
 use Rattle.theory_basics.specs.Refusals.{_orElse_, unless}
 use Rattle.theory_basics.specs.lemmas.Refusals.{orElse-none, orElse-some}
-use Rattle.theory_basics.specs.lemmas.Tests.{eqb-iff, test, tests, true-T, answer-false, answer-true}
+use Rattle.theory_basics.specs.lemmas.Tests.{test, tests, true-T, answer-false, answer-true, neqb→ne}
 use Rattle.job.specs.Input.{overrideBytes, overrideChunks, overrideLayers}
 use Rattle.job.specs.Job.{Job, layers}
 use Rattle.jobrecords.specs.Reader.{Buffers, JobReadPromise, buffers, jobAnswer, lentBy, lentRead, readAnswer, jobReadRefusal, roomRefusal}
@@ -90,7 +90,7 @@ module _ (sequenced : Bool) (file : List ℕ) where
       ∙ eleven-first (leb (layers j) 0) (leb (length (j .overrides)) (length cs) && (leb (length (j .overrides)) (length ls) && (leb (length (j .overrides)) (length bs) && leb (length (j .forecast)) (length f)))) (lt-leb (layers j) 0 some)
       ∙ sym (orElse-none refused 11 none))
       (λ t.
-      let some : refused ≡ 0 → ⊥ = λ e. T-not (eqb refused 0) t (eqb-iff refused 0 .1 e) in
+      let some : refused ≡ 0 → ⊥ = neqb→ne refused 0 t in
       orElse-some refused room some ∙ sym (orElse-some refused 11 some))
       (test (eqb refused 0))
 

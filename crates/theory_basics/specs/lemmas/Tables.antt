@@ -8,9 +8,9 @@ use native.Mathlib.Omega.{arith}
 use native.Mathlib.Numerals.{add-one}
 use lib.ListN.{length, getD, set, take, drop, length-set, length-drop}
 use lib.Seq.{drop-cons, getD-set-same, getD-set-other, drop-set-lt, getD-drop}
-use lib.Dec.{ltb, eqb, ltb→lt, nltb→le, eqb→eq, eqb-refl, T-not}
+use lib.Dec.{ltb, eqb, ltb→lt, nltb→le, eqb→eq}
 use Rattle.theory_basics.specs.Tests.{All}
-use Rattle.theory_basics.specs.lemmas.Tests.{test}
+use Rattle.theory_basics.specs.lemmas.Tests.{test, neqb→ne}
 
 -- ---- the end of a table
 
@@ -36,7 +36,7 @@ pub at-set : (P : ℕ → Type 0) (l : List ℕ) (q v k : ℕ) → q < length l 
 at-set P l q v k h f g =
     ⊎-elim
     (λ t. let e = eqb→eq k q t in rw (e, getD-set-same l q v 0 h) (f e))
-    (λ t. let o : k ≡ q → ⊥ = λ e. T-not (eqb k q) t (rw e (eqb-refl q)) in rw (getD-set-other l q k v 0 o) (g o))
+    (λ t. let o : k ≡ q → ⊥ = neqb→ne k q t in rw (getD-set-other l q k v 0 o) (g o))
     (test (eqb k q))
 
 -- ---- neighbours

@@ -6,7 +6,7 @@ use mathlib.Core.List.{List, [], _∷_, _++_}
 use mathlib.Core.Logic.{_⊎_, inl, inr, ⊎-elim, _↔_}
 use native.Mathlib.Omega.{arith}
 use native.Mathlib.Numerals.{add-one}
-use lib.Dec.{T, leb, ltb, eqb, leb→le, nleb→lt, ltb→lt, nltb→le, eqb→eq, eqb-refl, le→leb, lt→ltb}
+use lib.Dec.{T, T-not, leb, ltb, eqb, leb→le, nleb→lt, ltb→lt, nltb→le, eqb→eq, eqb-refl, le→leb, lt→ltb}
 use borrow.Author.Tests.{not-true, not-false}
 use Rattle.theory_basics.specs.Tests.{allTo, allBelow, All, all, any, In, here, there}
 
@@ -44,6 +44,9 @@ not-T-false false t = refl
 pub true-T : (b : Bool) → b ≡ true → T b
 true-T true e = tt
 true-T false e = let z : _≡_ {A = ℕ} 0 1 = cc in absurd (omega arith)
+
+pub neqb→ne : (m n : ℕ) → T (not (eqb m n)) → m ≡ n → ⊥
+neqb→ne m n t e = T-not (eqb m n) t (rw e (eqb-refl n))
 
 -- The answer of a test that the code negates.
 pub answer-true : (r b : Bool) → r ≡ b → not r ≡ false → b ≡ true

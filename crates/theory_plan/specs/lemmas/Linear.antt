@@ -10,11 +10,12 @@ use native.Mathlib.Numerals.{add-one}
 use borrow.Author.Tests.{eq-eqb, ne-eqb, lt-leb, le-leb, lt-ltb, le-ltb}
 use lib.ListN.{getD, drop}
 use lib.Seq.{drop-drop}
-use lib.Dec.{T, T-not, not-T, leb, ltb, eqb, leb→le, nleb→lt, ltb→lt, nltb→le, lt→ltb, le→leb, eqb→eq, eqb-refl}
+use lib.Dec.{T, not-T, leb, ltb, eqb, leb→le, nleb→lt, ltb→lt, nltb→le, lt→ltb, le→leb, eqb→eq, eqb-refl}
 use Rattle.theory_basics.specs.Lists.{has}
 use Rattle.theory_basics.specs.Sums.{sum}
 use Rattle.theory_basics.specs.lemmas.Ranges.{sum-cong, sum-mono}
-use Rattle.theory_basics.specs.lemmas.Tests.{T-and, T-true, by-cond, not-T-false, same-test, test, tests}
+use Rattle.theory_basics.specs.lemmas.Tests.{T-and, T-true, by-cond, not-T-false, same-test, test, tests, neqb→ne}
+use Rattle.theory_basics.specs.lemmas.Tables.{ne-lt}
 use Rattle.job.specs.Job.{Job, chunks, due, heldMost, layers, size}
 use Rattle.fetch.specs.Marks.{bit, withLayer}
 use Rattle.fetch.specs.Rows.{markByte}
@@ -182,11 +183,8 @@ pub level-top : (m n : ℕ) → 1 ≤ n → m ≤ n → ltb (n - 1) m ≡ eqb m 
 level-top m n u h =
     ⊎-elim
     (λ t. let e = eqb→eq m n t in rw (e, eq-eqb n n refl) (lt-ltb (n - 1) n (omega arith)))
-    (λ t. let o : m ≡ n → ⊥ = λ e. T-not (eqb m n) t (rw e (eqb-refl n)) in rw (ne-eqb m n o) (le-ltb (n - 1) m (less m n h o)))
+    (λ t. let o : m ≡ n → ⊥ = neqb→ne m n t in rw (ne-eqb m n o) (le-ltb (n - 1) m (omega (arith, ne-lt m n h o))))
     (test (eqb m n))
-  where
-    less : (m n : ℕ) → m ≤ n → (m ≡ n → ⊥) → m ≤ n - 1
-    less m n h o = ⊎-elim (λ t. omega (arith, ltb→lt m n t)) (λ t. absurd (o (omega (arith, nltb→le m n t)))) (test (ltb m n))
 
 -- ---- a layer above the base
 

@@ -11,7 +11,7 @@ use borrow.Author.Tests.{eq-eqb, ne-eqb, lt-ltb, le-ltb}
 use lib.Dec.{T, T-not, not-T, leb, ltb, eqb, leb→le, ltb→lt, nltb→le, eqb→eq, eqb-refl, le→leb}
 use Rattle.theory_basics.specs.Sums.{sum}
 use Rattle.theory_basics.specs.Tests.{allTo}
-use Rattle.theory_basics.specs.lemmas.Tests.{T-and, T-and-iff, T-true, allTo-iff, and-T, by-cond, eqb-iff, leb-iff, not-T-false, same-test, test}
+use Rattle.theory_basics.specs.lemmas.Tests.{T-and, T-and-iff, T-true, allTo-iff, and-T, by-cond, eqb-iff, leb-iff, not-T-false, same-test, test, neqb→ne}
 use Rattle.job.specs.Job.{EqualBases, Job, Layer, Within, chunks, due, heldMost, layers, size}
 use Rattle.theory_plan.specs.Bases.{baseSize, isKept}
 use Rattle.theory_plan.specs.lemmas.Choice.{Fits, can-carry-iff-fits}
@@ -91,7 +91,7 @@ sweep-grown j n lo (suc m) p k =
     let e : k ≡ suc lo = eqb→eq k (suc lo) t in
     let s : q (suc lo) ≡ p (suc lo) = sweep-below j n (suc lo) m p (suc lo) (omega arith) in
     rw e (subst (λ (x : ℕ). SameOrOneMore n x (try j n q (suc lo) (suc lo))) s (try-grown j n q (suc lo))))
-    (λ t. rw (try-other j n q (suc lo) k (λ e. T-not (eqb k (suc lo)) t (rw e (eqb-refl (suc lo))))) (sweep-grown j n (suc lo) m p k))
+    (λ t. rw (try-other j n q (suc lo) k (neqb→ne k (suc lo) t)) (sweep-grown j n (suc lo) m p k))
     (test (eqb k (suc lo)))
 
 -- Trials of earlier chunks leave the later ones alone.
@@ -188,7 +188,7 @@ module _
   raise-is-tried e k =
       ⊎-elim
       (λ t. let q = eqb→eq k i t in rw (q, eq-eqb i i refl) (ap suc e))
-      (λ t. rw (ne-eqb k i (λ q. T-not (eqb k i) t (rw q (eqb-refl i)))) (state-is-settled k))
+      (λ t. rw (not-T-false (eqb k i) t) (state-is-settled k))
       (test (eqb k i))
 
   -- It carries the layer exactly if the layers below are carried and the choice that is tried fits.
@@ -242,7 +242,7 @@ tried-kept j n p i up there =
     same-kept j n p (tried p n i) up (λ k u v.
     ⊎-elim
     (λ w. let e = eqb→eq k i w in rw (e, eq-eqb i i refl) (omega arith))
-    (λ w. rw (ne-eqb k i (λ e. T-not (eqb k i) w (rw e (eqb-refl i)))) (by-cond (λ a. min (min (p k) a) n ≡ min (p k) n) (ltb i k) (λ o. omega arith) (λ o. omega arith)))
+    (λ w. rw (not-T-false (eqb k i) w) (by-cond (λ a. min (min (p k) a) n ≡ min (p k) n) (ltb i k) (λ o. omega arith) (λ o. omega arith)))
     (test (eqb k i)))
 
 -- ---- the computed choices are settled as Statement says

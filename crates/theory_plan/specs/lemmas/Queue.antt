@@ -10,8 +10,8 @@ use native.Mathlib.Numerals.{add-one}
 use borrow.Author.Tests.{eq-eqb, ne-eqb, lt-ltb, le-ltb}
 use lib.ListN.{drop}
 use lib.Seq.{drop-drop}
-use lib.Dec.{T-not, ltb, eqb, eqb→eq, eqb-refl}
-use Rattle.theory_basics.specs.lemmas.Tests.{test}
+use lib.Dec.{ltb, eqb, eqb→eq}
+use Rattle.theory_basics.specs.lemmas.Tests.{test, neqb→ne}
 use Rattle.theory_plan.specs.lemmas.Fill.{QueuedPiece, Ready, left-of, needs}
 use Rattle.theory_plan.specs.lemmas.Need.{Feas, Tails}
 use Rattle.theory_plan.specs.lemmas.Feasible.{needOf}
@@ -138,7 +138,7 @@ left-of-layer size i n r m (suc c) h =
     let e : m ≡ n = eqb→eq m n t in
     rw (eq-eqb i i refl, eq-eqb m n e, lt-ltb n (suc c + m) (omega arith)) (omega (arith, ap (size i) e, left-of-lower-layer size i n r (suc m) c (omega arith))))
     (λ t.
-    let o : m ≡ n → ⊥ = λ e. T-not (eqb m n) t (rw e (eqb-refl n)) in
+    let o : m ≡ n → ⊥ = neqb→ne m n t in
     let o′ : m < n = ne-lt m n h o in
     let e : c + suc m ≡ suc c + m = omega arith in
     rw (eq-eqb i i refl, ne-eqb m n o) (omega (arith, rw e at (left-of-layer size i n r (suc m) c (omega arith)))))
@@ -166,7 +166,7 @@ left-of-queue w d A size lv lo c i n (k ∷ ks) (q ∷ rs) a r =
     let x′ : left-of (at-layer i n) (pieces size k q 0 (lv k)) ≡ cond (ltb n (lv i)) (size i n) 0 = rw e x in
     rw (eq-eqb k i e) (omega (arith, u, v′, x′)))
     (λ t.
-    let o : k ≡ i → ⊥ = λ e. T-not (eqb k i) t (rw e (eqb-refl i)) in
+    let o : k ≡ i → ⊥ = neqb→ne k i t in
     rw (ne-eqb k i o) (omega (arith, u, v, left-of-other-chunk size i n k q 0 (lv k) o)))
     (test (eqb k i))
 

@@ -9,11 +9,11 @@ use mathlib.Core.Logic.{⊎-elim}
 use native.Mathlib.Omega.{arith}
 use borrow.Author.Tests.{eq-eqb, ne-eqb, lt-leb, le-leb, lt-ltb, le-ltb}
 use lib.ListN.{getD}
-use lib.Dec.{T-not, leb, ltb, eqb, ltb→lt, nltb→le, eqb→eq, eqb-refl}
+use lib.Dec.{leb, ltb, eqb, ltb→lt, nltb→le, eqb→eq}
 use Rattle.theory_basics.specs.Sums.{count, pre}
 use Rattle.theory_basics.specs.lemmas.Ranges.{pre-add, count-none, point, point-in}
 use Rattle.theory_basics.specs.Tests.{All}
-use Rattle.theory_basics.specs.lemmas.Tests.{test}
+use Rattle.theory_basics.specs.lemmas.Tests.{test, not-T-false}
 use Rattle.job.specs.Job.{Job, chunks, due, heldMost, size}
 use Rattle.theory_plan.specs.lemmas.Fill.{QueuedPiece}
 use Rattle.theory_plan.specs.lemmas.Queue.{each, ones, pieces, queue, releases}
@@ -53,7 +53,7 @@ count-has p hi c (k ∷ ks) h a =
     at i =
         ⊎-elim
         (λ t. let e = eqb→eq k i t in rw (eq-eqb k i e, e, desc-lacks k i ks (omega arith) (a .2)) (omega arith))
-        (λ t. rw (ne-eqb k i (λ e. T-not (eqb k i) t (rw e (eqb-refl i)))) (omega arith))
+        (λ t. rw (not-T-false (eqb k i) t) (omega arith))
         (test (eqb k i))
 
 -- ---- the release of the chunk begun last

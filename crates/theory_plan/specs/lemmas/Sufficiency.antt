@@ -6,13 +6,13 @@ use mathlib.Core.Bool.{Bool, true, false, not, cond, _&&_, _||_}
 use mathlib.Core.List.{List, [], _∷_, _++_, append-assoc}
 use mathlib.Core.Logic.{_⊎_, inl, inr, ⊎-elim}
 use native.Mathlib.Omega.{arith}
-use borrow.Author.Tests.{eq-eqb, ne-eqb, lt-leb, lt-ltb, le-ltb}
+use borrow.Author.Tests.{eq-eqb, lt-leb, lt-ltb, le-ltb}
 use lib.ListN.{length, length-append}
-use lib.Dec.{T, T-not, leb, ltb, eqb, ltb→lt, nltb→le, le→leb, eqb→eq, eqb-refl}
+use lib.Dec.{T, leb, ltb, eqb, ltb→lt, nltb→le, le→leb, eqb→eq, eqb-refl}
 use Rattle.theory_basics.specs.Sums.{count}
 use Rattle.theory_basics.specs.lemmas.Ranges.{pre-add, pre-le, count-mono, count-none, point, point-total}
 use Rattle.theory_basics.specs.Tests.{All}
-use Rattle.theory_basics.specs.lemmas.Tests.{T-and, T-or-iff, all-append, and-T, at-row, by-cond, each-row, test, tests}
+use Rattle.theory_basics.specs.lemmas.Tests.{T-and, T-or-iff, all-append, and-T, at-row, by-cond, each-row, test, tests, not-T-false}
 use Rattle.job.specs.Job.{Job, chunks, due, forecast, heldMost, lastSlot, layers, size}
 use Rattle.fetch.specs.Rows.{Row, begun, bytesOfLayer, held}
 use Rattle.fetch.specs.Rules.{RowInRange, Passes}
@@ -50,7 +50,7 @@ counted-at : (X : ℕ → Bool) (b : Bool) (k i : ℕ) → cond ((eqb k i && b) 
 counted-at X b k i =
     ⊎-elim
     (λ t. let e = eqb→eq k i t in rw (eq-eqb k i e, e) (omega arith))
-    (λ t. rw (ne-eqb k i (λ e. T-not (eqb k i) t (rw e (eqb-refl i)))) (omega arith))
+    (λ t. rw (not-T-false (eqb k i) t) (omega arith))
     (test (eqb k i))
 
 count-live : (t c : ℕ) (d : ℕ → ℕ) (ks rs : List ℕ) → count (λ i. live t ks rs i && ltb t (d i)) c ≤ lives t d ks rs

@@ -7,9 +7,9 @@ use mathlib.Core.Path.{_≡_, refl, sym, ap}
 use mathlib.Core.Bool.{Bool}
 use mathlib.Core.Logic.{⊎-elim, _↔_}
 use native.Mathlib.Omega.{arith}
-use borrow.Author.Tests.{eq-eqb, ne-eqb, lt-ltb, le-ltb}
-use lib.Dec.{T, T-not, ltb, eqb, ltb→lt, nltb→le, eqb→eq, eqb-refl}
-use Rattle.theory_basics.specs.lemmas.Tests.{test}
+use borrow.Author.Tests.{eq-eqb, lt-ltb, le-ltb}
+use lib.Dec.{T, ltb, eqb, ltb→lt, nltb→le, eqb→eq}
+use Rattle.theory_basics.specs.lemmas.Tests.{test, not-T-false}
 use Rattle.job.specs.Job.{Job, chunks, lastSlot, layers}
 use Rattle.theory_plan.specs.Bases.{isKept}
 use Rattle.theory_plan.specs.Statement.{BasesMooreHodgson, CanCarry, Choice, IsPlan, Same, SettledByTrials, Settles}
@@ -85,7 +85,7 @@ module _ (j : Job) (n : ℕ) (h : n < layers j) where
             ⊎-elim
             (λ t. rw (eq-eqb k i (eqb→eq k i t)))
             (λ t.
-            rw (ne-eqb k i (λ e. T-not (eqb k i) t (rw e (eqb-refl i))))
+            rw (not-T-false (eqb k i) t)
             (⊎-elim (λ w. rw (lt-ltb i k (ltb→lt i k w)) (f k (ltb→lt i k w) y)) (λ w. rw (le-ltb i k (nltb→le i k w)) (s k x y)) (test (ltb i k))))
             (test (eqb k i))) (a .1),
       )

@@ -5,20 +5,20 @@
 -- the pass.
 use Prim.Native.Nat.{ℕ, zero, suc, _+_, _-_, _≤_, _<_, max, min}
 use mathlib.Core.Path.{_≡_, refl, sym, ap, _∙_, subst}
-use mathlib.Core.Bool.{Bool, true, false, not, cond, _&&_, _||_}
+use mathlib.Core.Bool.{Bool, true, false, cond, _&&_, _||_}
 use mathlib.Core.List.{List, [], _∷_, _++_, append-assoc}
 use mathlib.Core.Logic.{_⊎_, inl, inr, ⊎-elim, _↔_}
 use native.Mathlib.Omega.{arith}
 use native.Mathlib.Numerals.{add-one}
 use borrow.Author.Tests.{eq-eqb, ne-eqb, lt-leb, le-leb, lt-ltb, le-ltb}
 use lib.ListN.{drop, getD, length, length-append}
-use lib.Dec.{T, T-not, not-T, leb, ltb, eqb, leb→le, nleb→lt, ltb→lt, nltb→le, lt→ltb, le→leb, eqb→eq, eqb-refl}
+use lib.Dec.{T, not-T, leb, ltb, eqb, leb→le, nleb→lt, ltb→lt, nltb→le, lt→ltb, le→leb, eqb→eq}
 use Rattle.theory_basics.specs.lemmas.Tables.{all-drop}
 use Rattle.theory_basics.specs.Lists.{has}
 use Rattle.theory_basics.specs.Sums.{sum}
 use Rattle.theory_basics.specs.Tests.{All, any, In}
 use Rattle.theory_basics.specs.lemmas.Ranges.{sum-cong, sum-mono, sum-zero}
-use Rattle.theory_basics.specs.lemmas.Tests.{and-T, any-row, at-row, by-cond, eqb-iff, not-T-false, same-test, T-and, T-or-iff, T-true, test}
+use Rattle.theory_basics.specs.lemmas.Tests.{and-T, any-row, at-row, by-cond, eqb-iff, not-T-false, same-test, T-and, T-or-iff, T-true, test, neqb→ne}
 use Rattle.theory_basics.specs.lemmas.Lists.{drop-past}
 use Rattle.job.specs.Job.{chunks, due, heldMost, Job, Layer, layers, size}
 use Rattle.fetch.specs.Rows.{bytesOfLayer, Carried, Row}
@@ -171,21 +171,20 @@ module _
     tried-fits : FitsFrom j p fetched z ↔ Feas (left z) (due j) A H (busyFrom j p fetched z)
     tried-fits =
         let d = feas-from-due j p fetched z in
-        let ne : (k : ℕ) → T (not (eqb k i)) → k ≡ i → ⊥ = λ k t e. T-not (eqb k i) t (rw e (eqb-refl i)) in
         let over : All (λ k. due j k < p → bytesLeft j fetched z k ≡ 0) (busyChunks j fetched z) =
         picked-each (busy fetched z) (λ k. due j k < p → bytesLeft j fetched z k ≡ 0) 0 (chunks j) (λ k x y t l.
         ⊎-elim
         (λ w. absurd (omega (arith, ap (due j) (eqb→eq k i w))))
-        (λ w. omega (arith, sum-mono (rest k) (z k) (q k) (z-le k x (omega arith) (ne k w)), nothing-left k x (omega arith) l))
+        (λ w. omega (arith, sum-mono (rest k) (z k) (q k) (z-le k x (omega arith) (neqb→ne k i w)), nothing-left k x (omega arith) l))
         (test (eqb k i))) in (
           λ f. d .0 (f .feas) .1,
           λ f.
               record {
-                whole = λ k x y. ⊎-elim (λ w. let o = eqb→eq k i w in rw (o, eq-eqb i i refl) (omega (arith, lacks))) (λ w. rw (ne-eqb k i (ne k w)) (omega arith)) (test (eqb k i));
+                whole = λ k x y. ⊎-elim (λ w. let o = eqb→eq k i w in rw (o, eq-eqb i i refl) (omega (arith, lacks))) (λ w. rw (not-T-false (eqb k i) w) (omega arith)) (test (eqb k i));
                 in-front = λ k x y l.
                     ⊎-elim
                     (λ w. subst (λ (c : ℕ). T (carries fetched c) ⊎ All (λ x. x .chunk < c) fetched) (sym (eqb→eq k i w)) may)
-                    (λ w. fq .in-front k x y (omega (arith, l, z-le k x y (ne k w))))
+                    (λ w. fq .in-front k x y (omega (arith, l, z-le k x y (neqb→ne k i w))))
                     (test (eqb k i));
                 feas = d .1 (over, f);
               },

@@ -9,12 +9,12 @@ use mathlib.Core.Logic.{_⊎_, inl, inr, ⊎-elim, _↔_}
 use native.Mathlib.Omega.{arith}
 use borrow.Author.Tests.{eq-eqb, le-leb, ne-eqb}
 use lib.ListN.{drop, length}
-use lib.Dec.{T, T-not, leb, ltb, eqb, leb→le, nleb→lt, ltb→lt, nltb→le, le→leb, lt→ltb, eqb→eq, eqb-refl}
+use lib.Dec.{T, T-not, leb, ltb, eqb, leb→le, nleb→lt, ltb→lt, nltb→le, le→leb, lt→ltb, eqb→eq}
 use Rattle.theory_basics.specs.Lists.{has}
 use Rattle.theory_basics.specs.Sums.{count}
 use Rattle.theory_basics.specs.Tests.{All, here, In}
 use Rattle.theory_basics.specs.lemmas.Ranges.{count-cong, count-mono}
-use Rattle.theory_basics.specs.lemmas.Tests.{and-T, at-row, by-cond-both, in-append, in-left, in-right, not-T-false, same-test, T-and, T-or-iff, T-true, test}
+use Rattle.theory_basics.specs.lemmas.Tests.{and-T, at-row, by-cond-both, in-append, in-left, in-right, not-T-false, same-test, T-and, T-or-iff, T-true, test, neqb→ne}
 use Rattle.job.specs.Job.{chunks, due, forecast, heldMost, Job, lastSlot, size}
 use Rattle.fetch.specs.Rows.{begun, held, heldCount, Row}
 use Rattle.theory_plan.specs.Own.{allowed, carriedTo, Fetched, Piece, rowOf, slotTakes, without}
@@ -67,7 +67,7 @@ released-at j lo hi b (x ∷ ks) (r ∷ rs) k a l f t =
     ⊎-elim (λ v. inl v) (λ v. absurd (omega (arith, leb→le i k (w .1), later ks i (a .2) v))) (T-or-iff (eqb x i) (has ks i) .0 (w .0))) (T-or-iff (b i) ((eqb x i || has ks i) && leb i k) .0 y)))) in
     rw (T-true (eqb x k) u) (subst (λ (c : ℕ → Bool). ReleasedAt j c r) s (f .0)))
     (λ u.
-    let o : x ≡ k → ⊥ = λ e. T-not (eqb x k) u (rw e (eqb-refl k)) in
+    let o : x ≡ k → ⊥ = neqb→ne x k u in
     let t′ : T (has ks k) = ⊎-elim (λ v. absurd (T-not (eqb x k) u v)) (λ v. v) (T-or-iff (eqb x k) (has ks k) .0 t) in
     let below : x ≤ k = omega (arith, later ks k (a .2) t′) in
     let g = released-at j (suc x) hi (with x b) ks rs k (a .2) (omega arith) (f .1) t′ in

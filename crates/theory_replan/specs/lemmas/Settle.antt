@@ -8,8 +8,8 @@ use mathlib.Core.Bool.{Bool, true, false, cond}
 use mathlib.Core.Logic.{_⊎_, inl, inr, ⊎-elim, _↔_}
 use native.Mathlib.Omega.{arith}
 use borrow.Author.Tests.{eq-eqb, ne-eqb, lt-ltb, le-ltb}
-use lib.Dec.{T, T-not, ltb, eqb, ltb→lt, nltb→le, eqb→eq, eqb-refl}
-use Rattle.theory_basics.specs.lemmas.Tests.{and-T, by-cond, not-T-false, T-and, T-true, test}
+use lib.Dec.{T, ltb, eqb, ltb→lt, nltb→le, eqb→eq, eqb-refl}
+use Rattle.theory_basics.specs.lemmas.Tests.{and-T, by-cond, not-T-false, T-and, T-true, test, neqb→ne}
 use Rattle.theory_plan.specs.Plan.{raise, settled}
 use Rattle.theory_replan.specs.Plan.{planTo, sweep, takes, try}
 use Rattle.theory_plan.specs.lemmas.Unique.{below, same-down}
@@ -47,7 +47,7 @@ module _ (C N : ℕ) (base : ℕ → ℕ) (Ok : ℕ → (ℕ → ℕ) → Type 0
               ⊎-elim
               (λ t. rw (eq-eqb k i (eqb→eq k i t)))
               (λ t.
-              rw (ne-eqb k i (λ e. T-not (eqb k i) t (rw e (eqb-refl i))))
+              rw (not-T-false (eqb k i) t)
               (⊎-elim (λ w. rw (lt-ltb i k (ltb→lt i k w)) (ap (max (base k)) (f k (ltb→lt i k w) y))) (λ w. rw (le-ltb i k (nltb→le i k w)) (ap (max (base k)) (s k x y))) (test (ltb i k))))
               (test (eqb k i))) (a .1),
         ))
@@ -99,7 +99,7 @@ module _ (C N : ℕ) (base : ℕ → ℕ) (ok : ℕ → (ℕ → ℕ) → Bool) 
       let e : k ≡ suc lo = eqb→eq k (suc lo) t in
       let s : q (suc lo) ≡ p (suc lo) = sweep-below n (suc lo) m p (suc lo) (omega arith) in
       rw e (subst (λ (x : ℕ). SameOrOneMore n x (try ok n q (suc lo) (suc lo))) s (try-grown n q (suc lo))))
-      (λ t. rw (try-other n q (suc lo) k (λ e. T-not (eqb k (suc lo)) t (rw e (eqb-refl (suc lo))))) (sweep-grown n (suc lo) m p k))
+      (λ t. rw (try-other n q (suc lo) k (neqb→ne k (suc lo) t)) (sweep-grown n (suc lo) m p k))
       (test (eqb k (suc lo)))
 
   -- Trials of earlier chunks leave the later ones alone.
@@ -175,7 +175,7 @@ module _ (C N : ℕ) (base : ℕ → ℕ) (ok : ℕ → (ℕ → ℕ) → Bool) 
       raise-is-tried e k =
           ⊎-elim
           (λ t. let q = eqb→eq k i t in rw (q, eq-eqb i i refl) (ap suc e))
-          (λ t. rw (ne-eqb k i (λ q. T-not (eqb k i) t (rw q (eqb-refl i)))) (state-is-settled k))
+          (λ t. rw (not-T-false (eqb k i) t) (state-is-settled k))
           (test (eqb k i))
 
       trial-takes : state i ≡ n → Ok i (raise state i) → n < try ok n state i i
