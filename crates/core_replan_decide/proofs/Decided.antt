@@ -2,7 +2,7 @@
 -- nothing.
 use mathlib.Core.Path.{_≡_, refl, sym, _∙_, ap, subst, fun-ext}
 use mathlib.Core.Bool.{Bool, true, false, cond, _&&_}
-use mathlib.Core.List.{List, [], _∷_, _++_, map}
+use mathlib.Core.List.{List, [], _∷_, _++_, map, map-id}
 use mathlib.Core.Logic.{_⊎_, inl, inr, ⊎-elim}
 use Prim.Native.Nat.{ℕ, zero, suc, _+_, _-_, _/_, _≤_, _<_, min, max}
 use native.Mathlib.Omega.{arith}
@@ -343,10 +343,6 @@ module _
         ids-are =
             sym (chunks-of (drop first ids₂) (drop first dues₂) (drop first bytes₂) (drop first mark₂) (same dues₂ (b .long .1)) (same bytes₂ (b .long .2)) (same mark₂ (b .long .3)))
             ∙ ap (map chunkOf) based-is ∙ map-map chunkOf (keptRest j fetched b1) cs ∙ map-id cs
-          where
-            map-id : (l : List ℕ) → map (λ k. k) l ≡ l
-            map-id [] = refl
-            map-id (x ∷ l) = rw (map-id l)
 
         dues-are : drop first dues₂ ≡ map (due j) cs
         dues-are =

@@ -2,7 +2,7 @@
 -- Assumes nothing.
 use Prim.Native.Nat.{ℕ, suc, _-_, _≤_, _<_}
 use mathlib.Core.Path.{_≡_, refl, sym, _∙_, ap, subst}
-use mathlib.Core.Bool.{Bool, true, false, not}
+use mathlib.Core.Bool.{Bool, true, false}
 use mathlib.Core.List.{List}
 use native.Mathlib.Omega.{arith}
 use lib.ListN.{length, take}
@@ -31,14 +31,6 @@ use Rattle.replan.specs.lemmas.Afresh.{Each, WriteAfreshPre, madeAfresh,
 use Rattle.replan.specs.lemmas.Asked.{askedRefusal}
 use Rattle.replan.specs.Theorems.{afresh-none, settled-afresh}
 use Rattle.replan.proofs.Asked.{Asked, asked-none, input-is}
-
-pub not-true : (b : Bool) → not b ≡ true → b ≡ false
-not-true true e = sym e
-not-true false e = refl
-
-pub not-false : (b : Bool) → not b ≡ false → b ≡ true
-not-false true e = refl
-not-false false e = sym e
 
 -- ---- what is handed over, by the refusal
 

@@ -1,12 +1,13 @@
 -- `live` meets its contract: the refusals in their order, then the asks.
 use borrow.Author.Needs.{needs}
+use borrow.Author.Tests.{not-true, not-false}
 use Prim.Native.Nat.{ℕ}
 use native.Mathlib.Omega.{arith}
 use denote.Ref.{now}
 use lib.ListN.{length-replicate}
 use Rattle.job.specs.Input.{jobInput}
 use Rattle.theory_basics.specs.lemmas.Refusals.{found-none}
-use Rattle.replan.proofs.Outputs.{earlier-long, gather-from, not-false, not-true, some-slot}
+use Rattle.replan.proofs.Outputs.{earlier-long, gather-from, some-slot}
 use Rattle.live.specs.Answer.{liveInput, pieceSlices}
 use Rattle.live.specs.lemmas.Writing.{asReplan}
 use Rattle.live.proofs.Writing.{hand-from, promised-pieces, refused-asked, refused-kept}

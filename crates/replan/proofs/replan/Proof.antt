@@ -7,8 +7,9 @@ use Rattle.job.specs.Input.{jobInput}
 use Rattle.theory_basics.specs.lemmas.Refusals.{found-none}
 use Rattle.replan.specs.Answer.{replanInput}
 use Rattle.replan.specs.Theorems.{settled-afresh, standing-goes-on}
-use Rattle.replan.proofs.Outputs.{earlier-long, gather-from, output-laid, lay-from, none-left, not-false, not-kept, not-true, refused-asked, short-marks, some-slot}
+use Rattle.replan.proofs.Outputs.{earlier-long, gather-from, output-laid, lay-from, none-left, not-kept, refused-asked, short-marks, some-slot}
 use borrow.Author.Needs.{needs}
+use borrow.Author.Tests.{not-true, not-false}
 use Rattle.replan.proofs.replan.Statement.{statement}
 use Rattle.replan.proofs.replan.Tie as tie
 

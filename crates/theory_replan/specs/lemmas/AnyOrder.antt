@@ -4,7 +4,7 @@
 use Prim.Native.Nat.{ℕ, zero, suc, _+_, _-_, _≤_, _<_, max, min}
 use mathlib.Core.Path.{_≡_, refl, sym, ap, _∙_, subst, fun-ext}
 use mathlib.Core.Bool.{Bool, true, false, cond, _&&_, _||_}
-use mathlib.Core.List.{List, [], _∷_, _++_, append-assoc}
+use mathlib.Core.List.{List, [], _∷_, _++_, append-assoc, append-nil}
 use mathlib.Core.Logic.{_⊎_, inl, inr, ⊎-elim, _↔_}
 use native.Mathlib.Omega.{arith}
 use lib.ListN.{drop, length}
@@ -211,12 +211,8 @@ module _ (j : Job) {a b : List Row} (h : Permuted a b) where
   unfetched-permuted [] = refl
   unfetched-permuted (q ∷ ps) = rw (layer-permuted j h (q .chunk) (q .layer), unfetched-permuted ps)
 
-  append-none : (l : List Row) → l ≡ l ++ []
-  append-none [] = refl
-  append-none (x ∷ l) = ap (λ (y : List Row). x ∷ y) (append-none l)
-
   alike : (p : ℕ) (lv : ℕ → ℕ) (m : ℕ) → Alike a b (fetchedFrom j p a lv m) (fetchedFrom j p b lv m)
-  alike p lv zero = record { added = []; first = append-none a; second = append-none b; left = unfetched-permuted (carriedTo j lv (chunks j)) }
+  alike p lv zero = record { added = []; first = sym (append-nil a); second = sym (append-nil b); left = unfetched-permuted (carriedTo j lv (chunks j)) }
   alike p lv (suc m) =
       let s = alike p lv m in
       let f = fetchedFrom j p a lv m in

@@ -4,7 +4,7 @@
 use Prim.Native.Nat.{ℕ, zero, suc, _+_, _-_, _≤_, _<_}
 use mathlib.Core.Path.{_≡_, refl, sym, ap, _∙_, subst, fun-ext}
 use mathlib.Core.Bool.{Bool, true, false, not, cond, _&&_, _||_}
-use mathlib.Core.List.{List, [], _∷_, _++_, append-assoc, map}
+use mathlib.Core.List.{List, [], _∷_, _++_, append-assoc, map, append-nil}
 use mathlib.Core.Logic.{_⊎_, inl, inr, ⊎-elim, _↔_}
 use native.Mathlib.Omega.{arith}
 use borrow.Author.Tests.{eq-eqb, le-leb, ne-eqb}
@@ -100,10 +100,6 @@ enough d zero ks = each-enough ks
     each-enough [] = omega arith
     each-enough (k ∷ ks) = omega (arith, each-enough ks)
 enough d (suc h) ks = omega (arith, enough d h ks)
-
-append-none : (l : List Row) → l ≡ l ++ []
-append-none [] = refl
-append-none (x ∷ l) = ap (λ (y : List Row). x ∷ y) (append-none l)
 
 -- ---- rule 6 allows the first part left exactly if its release has come
 
@@ -217,7 +213,7 @@ module _ (j : Job) (sized : Sized j) (p : ℕ) (fetched : List Row) (ok : Accept
   slot-fill :
       (t : ℕ) → p ≤ t → t ≤ lastSlot j → (c : ℕ) (rows : List Row) (left : List Piece) → I t c rows left →
       Alike rows (slotTakes j t c rows left) (take-slot t c (map piece left))
-  slot-fill t from to c rows [] v = record { rows-are = append-none rows; left-is = refl }
+  slot-fill t from to c rows [] v = record { rows-are = sym (append-nil rows); left-is = refl }
   slot-fill t from to c rows (q ∷ qs) v =
       let x = rowOf t q (q .bytes) in
       rw (allowed-is t from to c rows q qs v)
@@ -234,14 +230,14 @@ module _ (j : Job) (sized : Sized j) (p : ℕ) (fetched : List Row) (ok : Accept
       let more = slot-fill t from to (c - q .bytes) (rows ++ (x ∷ [])) qs next in
       record { rows-are = more .rows-are ∙ append-assoc rows (x ∷ []) (take-slot t (c - q .bytes) (map piece qs) .rows); left-is = more .left-is })
       (λ w. record { rows-are = refl; left-is = refl }))
-      (λ u. record { rows-are = append-none rows; left-is = refl }))
+      (λ u. record { rows-are = sym (append-nil rows); left-is = refl }))
 
   -- ---- all slots
 
   all-slots :
       (n m : ℕ) → n + m ≤ suc (lastSlot j) - p →
       fetchedFrom j p fetched lv (n + m) .rows ≡ fetchedFrom j p fetched lv m .rows ++ fill (forecast j) n (m + (p - 1)) (map piece (fetchedFrom j p fetched lv m .left))
-  all-slots zero m h = let e : 0 + m ≡ m = omega arith in rw e (append-none (fetchedFrom j p fetched lv m .rows))
+  all-slots zero m h = let e : 0 + m ≡ m = omega arith in rw e (sym (append-nil (fetchedFrom j p fetched lv m .rows)))
   all-slots (suc n) m h =
       let g = fetchedFrom j p fetched lv m in
       let e : suc n + m ≡ n + suc m = omega arith in

@@ -4,7 +4,7 @@
 use Prim.Native.Nat.{ℕ, zero, suc, _+_, _-_, _≤_, _<_, max}
 use mathlib.Core.Path.{_≡_, refl, sym, ap, _∙_, subst}
 use mathlib.Core.Bool.{Bool, true, false, not, cond, _&&_, _||_}
-use mathlib.Core.List.{List, [], _∷_, _++_, append-assoc}
+use mathlib.Core.List.{List, [], _∷_, _++_, append-assoc, append-nil}
 use mathlib.Core.Logic.{_⊎_, inl, inr, ⊎-elim}
 use native.Mathlib.Omega.{arith}
 use borrow.Author.Tests.{eq-eqb, ne-eqb, lt-ltb, le-ltb}
@@ -34,10 +34,6 @@ use Rattle.theory_replan.specs.lemmas.Parts.{blocked-need, count-picked,
 use Rattle.theory_replan.specs.lemmas.Take.{Ends, slot-ends, Stop, Taken, taken-all, taken-keys, taken-left, taken-needs, taken-paid, taken-rising, taken-some}
 use Rattle.theory_replan.specs.lemmas.Unfetched.{carried-all, carried-rises, Chosen, left-of-chunk, left-of-layer, unfetched-all, unfetched-rising}
 use Rattle.theory_plan.specs.Bases.{Asc}
-
-append-none : {A : Type 0} (l : List A) → l ++ [] ≡ l
-append-none [] = refl
-append-none (x ∷ xs) = ap (λ (l : _). x ∷ l) (append-none xs)
 
 after-step : (j : Job) (t : ℕ) → 1 ≤ t → t ≤ lastSlot j → after j (t - 1) ≡ forecast j t + after j t
 after-step j zero h l = absurd (omega arith)
@@ -328,7 +324,7 @@ module _ (j : Job) (sized : Sized j) (p : ℕ) (fetched : List Row) (ok : Accept
       let e : max 0 (p - 1) ≡ p - 1 = omega arith in ap (after j) e ∙ from-step j p p (ok .p-low) (omega arith) (ok .p-high) in
       record {
         made = [];
-        made-is = sym (append-none fetched);
+        made-is = sym (append-nil fetched);
         made-later = tt;
         rising = rises;
         good = good;
