@@ -48,7 +48,8 @@ use Rattle.programs.specs.Theorems.{said-accepted}
 use Rattle.whole_files.specs.lemmas.Plans.{plan-file-fits}
 use Rattle.core_ffi.specs.Meters.{Storage, cellsRefusal, meanRefusal, meterIn}
 use Rattle.core_ffi.specs.lemmas.Largest.{marks-long}
-pub use Rattle.core_ffi.specs.lemmas.Largest.{verdict-few, verdict-from-few, word-few}
+pub use Rattle.core_ffi.specs.lemmas.Largest.{verdict-few, verdict-from-few}
+pub use Rattle.fetch.specs.Words.{word-few}
 pub use Rattle.trace.specs.Theorems.{trace-fits}
 pub use Rattle.wait.specs.Theorems.{wait-few}
 
