@@ -20,7 +20,7 @@ use Rattle.checker.specs.Checked.{checkFromRefusal, checkRefusal}
 use Rattle.planfile.specs.lemmas.Back.{field}
 use Rattle.theory_plan.specs.Plan.{plan}
 use Rattle.theory_plan.specs.Statement.{marksOf}
-use Rattle.theory_plan.specs.Theorems.{plan-carried, plan-exists}
+use Rattle.theory_plan.specs.Theorems.{plan-carried, plan-exists, marks-long}
 use Rattle.theory_plan.specs.lemmas.Words.{accepted-sized}
 use Rattle.planner.specs.Answer.{planRows}
 use Rattle.theory_search.specs.Search.{found}
@@ -32,7 +32,6 @@ use Rattle.replan.specs.Theorems.{settled-afresh}
 use Rattle.report.specs.lemmas.Again.{rows-again}
 use Rattle.core_ffi.specs.Convention.{answered}
 use Rattle.core_ffi.specs.Lists.{checkAnswer, checkFromAnswer}
-use Rattle.core_ffi.specs.lemmas.Largest.{marks-long}
 use Rattle.fetch.specs.Theorems.{verdict-iff, slot-iff}
 
 -- ---- a list and its marks in slices

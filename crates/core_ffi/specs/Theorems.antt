@@ -27,7 +27,7 @@ use Rattle.planfile.specs.lemmas.Back.{accepts}
 use Rattle.planfile.specs.lemmas.Few.{rows-inside}
 use Rattle.theory_plan.specs.Plan.{plan}
 use Rattle.theory_plan.specs.Statement.{marksOf}
-use Rattle.theory_plan.specs.Theorems.{own-list-rows, plan-exists}
+use Rattle.theory_plan.specs.Theorems.{own-list-rows, plan-exists, marks-long}
 use Rattle.planner.specs.Answer.{planRows}
 use Rattle.theory_replan.specs.Desk.{replans}
 use Rattle.theory_replan.specs.Refusal.{replanRefusal}
@@ -47,7 +47,6 @@ use Rattle.whole_files.specs.Files.{jobFileRefusal, jobSaid, planOfJob}
 use Rattle.programs.specs.Theorems.{said-accepted}
 use Rattle.whole_files.specs.lemmas.Plans.{plan-file-fits}
 use Rattle.core_ffi.specs.Meters.{Storage, cellsRefusal, meanRefusal, meterIn}
-use Rattle.core_ffi.specs.lemmas.Largest.{marks-long}
 pub use Rattle.core_ffi.specs.lemmas.Largest.{verdict-few, verdict-from-few}
 pub use Rattle.fetch.specs.Words.{word-few}
 pub use Rattle.trace.specs.Theorems.{trace-fits}

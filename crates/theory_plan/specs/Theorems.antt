@@ -8,7 +8,7 @@ use mathlib.Core.Logic.{⊎-elim, _↔_}
 use native.Mathlib.Omega.{arith}
 use lib.ListN.{length}
 use lib.Dec.{T, not-T, ltb, ltb→lt, nltb→le}
-use Rattle.theory_basics.specs.lemmas.Lists.{upTo-cong}
+use Rattle.theory_basics.specs.lemmas.Lists.{upTo-cong, length-upTo}
 use Rattle.theory_basics.specs.lemmas.Tests.{test}
 use Rattle.fetch.specs.Rows.{Row, layerCount, markByte, marksGiven}
 use Rattle.fetch.specs.Rules.{Keeps, Passes, PlayingOrder}
@@ -99,6 +99,10 @@ plan-carried j sized p dec = own-carries j sized p (dec .choice) (fits-can-carry
 pub absent-count : (j : Job) (choice : ℕ → ℕ) → Choice j choice → (n : ℕ) → layers j ≤ n → countOf j choice n ≡ 0
 absent-count j lv c n h =
     count-none (λ i. ltb n (lv i)) (chunks j) (λ i u v. not-T (ltb n (lv i)) (λ t. omega (arith, ltb→lt n (lv i) t, c i u v)))
+
+-- A choice has a mark for each chunk.
+pub marks-long : (j : Job) (choice : ℕ → ℕ) → length (marksOf j choice) ≡ chunks j
+marks-long j choice = length-upTo (λ k. markByte (λ n. ltb n (choice (k + 1))) (layers j)) (chunks j)
 
 -- ---- the own list
 

@@ -10,7 +10,6 @@ use lib.ListN.{length, getD}
 use lib.Dec.{eqb, eqb-refl, ltb}
 use Rattle.theory_basics.specs.Tests.{All, In}
 use Rattle.theory_basics.specs.Lists.{upTo}
-use Rattle.theory_basics.specs.lemmas.Lists.{length-upTo}
 use Rattle.theory_basics.specs.lemmas.Tables.{all-at}
 use Rattle.theory_basics.specs.lemmas.Tests.{all-append, at-row, each-row}
 use Rattle.job.specs.Job.{Job, Accepted, Within, chunks, forecast, layers, lastSlot}
@@ -22,7 +21,7 @@ use Rattle.planfile.specs.PlanFile.{InWidth, Plan, RowInWidth, fileOf}
 use Rattle.planfile.specs.Theorems.{always-fits}
 use Rattle.theory_plan.specs.Plan.{plan}
 use Rattle.theory_plan.specs.Statement.{marksOf}
-use Rattle.theory_plan.specs.Theorems.{own-list-rows, plan-carried, plan-exists}
+use Rattle.theory_plan.specs.Theorems.{own-list-rows, plan-carried, plan-exists, marks-long}
 use Rattle.theory_plan.specs.lemmas.Words.{accepted-sized}
 use Rattle.planner.specs.Answer.{planRows}
 use Rattle.whole_files.specs.Files.{planOfJob}
@@ -42,7 +41,7 @@ module _ (j : Job) (a : Accepted j) where
   plan-keeps = plan-carried j (accepted-sized j a) (plan j) (plan-exists j a) .0
 
   pub plan-marks-long : length (marksOf j (plan j)) ≡ chunks j
-  plan-marks-long = length-upTo _ (chunks j)
+  plan-marks-long = marks-long j (plan j)
 
   pub plan-rows-few : length (planRows j) ≤ 5599
   plan-rows-few = own-list-rows j a (plan j) (plan-exists j a .choice)
