@@ -4,7 +4,7 @@ use mathlib.Core.Path.{_≡_, refl, sym, _∙_, ap, subst, fun-ext}
 use mathlib.Core.Bool.{Bool, true, false, cond, _&&_}
 use mathlib.Core.List.{List, [], _∷_, _++_, map, map-id}
 use mathlib.Core.Logic.{_⊎_, inl, inr, ⊎-elim}
-use Prim.Native.Nat.{ℕ, zero, suc, _+_, _-_, _/_, _≤_, _<_, min, max}
+use Prim.Native.Nat.{ℕ, zero, suc, _+_, _-_, _/_, _≤_, _<_, max}
 use native.Mathlib.Omega.{arith}
 use lib.ListN.{length, getD, take, drop, replicate, length-append, length-drop, length-map, length-replicate}
 use lib.Seq.{getD-append-add, getD-drop}
@@ -14,11 +14,10 @@ use Rattle.theory_basics.specs.Sums.{pre}
 use Rattle.theory_basics.specs.Tests.{All, In}
 use Rattle.theory_basics.specs.lemmas.Ranges.{pre-mono}
 use Rattle.theory_basics.specs.lemmas.Tables.{all-take}
-use Rattle.theory_basics.specs.lemmas.Tests.{all-map, at-row, by-cond, each-row, test, true-T}
+use Rattle.theory_basics.specs.lemmas.Tests.{all-map, at-row, each-row, test, true-T}
 use Rattle.theory_basics.specs.lemmas.Lists.{map-cong, each-of-map}
 use Rattle.job.specs.Job.{Accepted, chunks, due, dueSlot, forecast, heldMost, Job, lastDue, lastSlot, layers, Override, size, Within}
 use Rattle.job.specs.declared.Programme.{Programme}
-use Rattle.fetch.specs.Marks.{bit}
 use Rattle.fetch.specs.Rows.{bytesOfLayer, Row}
 use Rattle.theory_plan.specs.lemmas.Parts.{ForecastPart, at, left-before, leftAfter, padded, padded-long, part-small}
 use Rattle.theory_plan.specs.Plan.{after, picked}
@@ -45,6 +44,7 @@ use Rattle.core_replan_decide.specs.lemmas.Begun.{KeepBegunPost, KeepBeg
 use Rattle.core_replan_decide.specs.lemmas.Composed.{below, front-kept, keptRest, layers-kept, new-kept, news, nothing-fetched, passes-are-plan, rest}
 use Rattle.core_replan_decide.specs.lemmas.Tables.{baseOf, capOf, Falls, Fine, FindFrontPost, FindFrontPre, isBegun, LastBegunPost, NewBasesPost, NewBasesPre, of}
 use Rattle.theory_plan.specs.Bases.{Asc}
+use Rattle.theory_plan.specs.lemmas.Layers.{on-layers-take}
 
 -- ---- the forecast from a slot on
 
@@ -166,34 +166,6 @@ back-cong :
 unfolding back
 back-cong size size′ A n hs [] a = refl
 back-cong size size′ A n hs (k ∷ ks) a = rw (back-cong size size′ A n (drop 1 hs) ks (a .1), a .0)
-
--- ---- a release for each chunk is enough
-
-rooms-take : (A : ℕ → ℕ) (room : ℕ) (ws rs : List ℕ) → rooms A room ws (take (length ws) rs) ≡ rooms A room ws rs
-rooms-take A room [] rs = refl
-rooms-take A room (w ∷ ws) [] = refl
-rooms-take A room (w ∷ ws) (r ∷ rs) = rw (rooms-take A (min room (A (r - 1)) - w) ws rs)
-
-module _ (size : ℕ → ℕ → ℕ) (A : ℕ → ℕ) where
-  back-long : (n : ℕ) (hs : List ℕ) (ks : List Kept) → length (back size A n hs ks .kept) ≡ length ks
-  unfolding back
-  back-long n hs [] = refl
-  back-long n hs (k ∷ ks) =
-      let o = back size A n (drop 1 hs) ks in
-      by-cond (λ (t : Tried). length (t .kept) ≡ suc (length ks)) (bit (k .mark) (n - 1) && leb (k .bytes + max (A (k .due)) (o .need) + size (k .chunk) n) (getD hs 0 0)) (λ t. ap suc (back-long n (drop 1 hs) ks)) (λ t. ap suc (back-long n (drop 1 hs) ks))
-
-  on-layers-long : (room : ℕ) (rs : List ℕ) (n : ℕ) (ks : List Kept) → length (onLayers size A room rs n ks) ≡ length ks
-  on-layers-long room rs zero ks = refl
-  on-layers-long room rs (suc n) ks = back-long (suc n) _ (onLayers size A room rs n ks) ∙ on-layers-long room rs n ks
-
-  on-layers-take : (room : ℕ) (rs : List ℕ) (n : ℕ) (ks : List Kept) → onLayers size A room (take (length ks) rs) n ks ≡ onLayers size A room rs n ks
-  on-layers-take room rs zero ks = refl
-  on-layers-take room rs (suc n) ks =
-      let o = onLayers size A room rs n ks in
-      let e : length ks ≡ length (map bytesKept o) = sym (length-map o bytesKept ∙ on-layers-long room rs n ks) in
-      ap (onLayer size A room (take (length ks) rs) (suc n)) (on-layers-take room rs n ks)
-      ∙ ap (λ (m : ℕ). back size A (suc n) (rooms A room (map bytesKept o) (take m rs)) o .kept) e
-      ∙ ap (λ (hs : List ℕ). back size A (suc n) hs o .kept) (rooms-take A room (map bytesKept o) rs)
 
 -- ---- lists
 

@@ -10,6 +10,7 @@ pub mod Feasible
 pub mod Fill
 pub mod Kept
 pub mod Level
+pub mod Layers
 pub mod Linear
 pub mod Necessity
 pub mod Need
