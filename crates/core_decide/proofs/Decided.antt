@@ -18,7 +18,7 @@ use Rattle.theory_plan.specs.lemmas.Trials.{bases, markOf, keptAt, onLayers, ba
 use Rattle.theory_plan.specs.lemmas.Parts.{at, padded, padded-long, part-small}
 use Rattle.core_decide.specs.lemmas.Decision.{keptOf, Sums, Slot, SumTable, basesIn, SettleLayersPre, SettleLayersPost, SettleKeptPre, Decides, SettleKeptPost, jobFrom, DecidePre, DecidePost}
 use Rattle.theory_plan.specs.lemmas.Words.{due-by}
-use Rattle.theory_plan.specs.lemmas.Queue.{each-is, all-ones, ones, releases}
+use Rattle.theory_plan.specs.lemmas.Queue.{all-ones, ones, releases}
 use Rattle.theory_basics.specs.lemmas.Tables.{all-take}
 use Rattle.theory_basics.specs.lemmas.Lists.{each-of-map}
 use Rattle.core_decide.proofs.Settle.{same-long, marks-of}
@@ -84,7 +84,7 @@ module _
     j = jobOf p sizes overrides forecast
 
     released : drop first ready ≡ take (length ks) (releases (due j) (heldMost j) ks)
-    released = r ∙ ap (λ (l : List ℕ). take (500 - first) (ones (p .limit / p .span) ++ l)) (o .kept .due-slots ∙ sym (each-is (dueSlot p) ks)) ∙ ap (λ (n : ℕ). take n (releases (due j) (heldMost j) ks)) (sym many)
+    released = r ∙ ap (λ (l : List ℕ). take (500 - first) (ones (p .limit / p .span) ++ l)) (o .kept .due-slots) ∙ ap (λ (n : ℕ). take n (releases (due j) (heldMost j) ks)) (sym many)
 
     -- The tables start with the base alone.
     begins : keptOf ks (drop first dues) (drop first bytes) (drop first mark) ≡ based j ks

@@ -8,7 +8,7 @@ use native.Mathlib.Omega.{arith}
 use lib.ListN.{length, getD, take, drop, length-drop}
 use lib.Dec.{leb, ltb, leb→le, nleb→lt}
 use Rattle.theory_basics.specs.Lists.{upTo}
-use Rattle.theory_basics.specs.lemmas.Lists.{upTo-cong}
+use Rattle.theory_basics.specs.lemmas.Lists.{upTo-cong, all-of-map}
 use Rattle.theory_basics.specs.Tests.{All}
 use Rattle.theory_basics.specs.lemmas.Tests.{by-cond}
 use Rattle.job.specs.Job.{Job, Accepted, Within, size, chunks, layers, due, forecast, heldMost, lastSlot}
@@ -23,7 +23,7 @@ use Rattle.theory_plan.specs.lemmas.Kept.{picked-each}
 use Rattle.theory_plan.specs.lemmas.Linear.{level-of, mark-level}
 use Rattle.theory_plan.specs.lemmas.Necessity.{Each}
 use Rattle.theory_plan.specs.lemmas.OwnFill.{own-list-is}
-use Rattle.theory_plan.specs.lemmas.Queue.{each, feas-relok, pieces, queue, ready-queue, releases, weight, each-is, all-ones}
+use Rattle.theory_plan.specs.lemmas.Queue.{feas-relok, pieces, queue, ready-queue, releases, weight, all-ones}
 use Rattle.theory_plan.specs.Statement.{Choice, countsOf, marksOf}
 use Rattle.theory_plan.specs.Theorems.{own-list-rows}
 use Rattle.theory_plan.specs.lemmas.Sufficiency.{fetch}
@@ -64,10 +64,6 @@ fed-ready d A (p ∷ q) r = (omega (arith, r .0, load-needs d A (p ∷ q)), r .1
 each-kept : (P : ℕ → Type 0) (c lo : ℕ) (ks : List ℕ) → Asc lo c ks → 1 ≤ lo → ((k : ℕ) → 1 ≤ k → k ≤ c → P k) → Each P ks
 each-kept P c lo [] a l f = tt
 each-kept P c lo (k ∷ ks) a l f = (f k (omega arith) (a .1), each-kept P c (suc k) ks (a .2) (omega arith) f)
-
-all-each : (P : ℕ → Type 0) (g : ℕ → ℕ) (ks : List ℕ) → Each (λ k. P (g k)) ks → All P (map g ks)
-all-each P g [] a = tt
-all-each P g (k ∷ ks) a = (a .0, all-each P g ks (a .1))
 
 -- ---- of a decided choice
 
@@ -135,7 +131,7 @@ module _
         room = record { part-in = subst (ForecastPart 1) (sym (o .forecast-is)) (accepted-job.part-in j ok); low = omega arith; high = omega arith; count = omega arith; s = omega arith; c = omega arith; l = omega arith; b = omega arith };
         by = subst (All (λ r. r ≤ lastOf 1 f)) (sym (o .tables .releases-are)) released;
         chunks-in = subst (All (Within 1 500)) (sym (o .tables .chunks)) (asc-within 1 (chunks j) 1 500 (kept j x) (omega arith) (ok .chunks-in .high) (kept-asc j x));
-        levels = subst (All Levels) (sym (o .tables .marks)) (all-each Levels (λ k. levelMark (x k)) (kept j x) (each-imp (λ k. (1 ≤ x k) × (x k ≤ 4)) (λ k. Levels (levelMark (x k))) (kept j x) level levels-in));
+        levels = subst (All Levels) (sym (o .tables .marks)) (all-of-map Levels (λ k. levelMark (x k)) (kept j x) (each-imp (λ k. (1 ≤ x k) × (x k ≤ 4)) (λ k. Levels (levelMark (x k))) (kept j x) level levels-in));
         fed = subst (Fed (leftAt 1 f)) (sym queued) (subst (λ (A : ℕ → ℕ). Fed A plan-queue) (sym left-is) (fed-ready (due j) (after j) plan-queue (plan-ready .1)));
         fits = subst (λ (q : List QueuedPiece). load q ≤ getD f 0 0 + leftAt 1 f 1) (sym queued) (omega (arith, load-needs (due j) (after j) plan-queue, plan-ready .0, ap (λ (A : ℕ → ℕ). A 0) left-is, left-next 1 f 0 (omega arith)));
         long = o .tables .long;
@@ -144,8 +140,8 @@ module _
       released : All (λ r. r ≤ lastOf 1 f) (take (500 - first) (releases (due j) (heldMost j) (kept j x)))
       released =
           all-take (λ r. r ≤ lastOf 1 f) (500 - first) (releases (due j) (heldMost j) (kept j x))
-          (all-ones (λ r. r ≤ lastOf 1 f) (omega (arith, first-slot)) (heldMost j) (each (due j) (kept j x))
-          (subst (All (λ r. r ≤ lastOf 1 f)) (sym (each-is (due j) (kept j x))) (all-each (λ r. r ≤ lastOf 1 f) (due j) (kept j x) (each-kept (λ k. due j k ≤ lastOf 1 f) (chunks j) 1 (kept j x) (kept-asc j x) (omega arith) (λ k u v. omega (arith, due-by (j .programme) k v, slots-are))))))
+          (all-ones (λ r. r ≤ lastOf 1 f) (omega (arith, first-slot)) (heldMost j) (map (due j) (kept j x))
+          (all-of-map (λ r. r ≤ lastOf 1 f) (due j) (kept j x) (each-kept (λ k. due j k ≤ lastOf 1 f) (chunks j) 1 (kept j x) (kept-asc j x) (omega arith) (λ k u v. omega (arith, due-by (j .programme) k v, slots-are)))))
 
       level : (k : ℕ) → (1 ≤ x k) × (x k ≤ 4) → Levels (levelMark (x k))
       level k h =

@@ -12,7 +12,7 @@ use Rattle.job.specs.declared.Programme.{Programme}
 use Rattle.job.specs.Job.{Accepted, Job, Within, chunks, due, dueSlot, heldMost, size}
 use Rattle.theory_plan.specs.Plan.{kept, picked}
 use Rattle.theory_plan.specs.lemmas.Kept.{picked-cong, picked-each}
-use Rattle.theory_plan.specs.lemmas.Queue.{each, ones, releases, all-ones, each-is}
+use Rattle.theory_plan.specs.lemmas.Queue.{ones, releases, all-ones}
 use Rattle.theory_plan.specs.Statement.{CanCarry, Choice}
 use Rattle.core_reasons.specs.declared.passes.Stretch.{Stretch}
 use Rattle.core_reasons.specs.lemmas.Tables.{Given, SetTablesPost, FindShortPost, FindShortPre, bytesIn, chunksIn, levelIn, trial}
@@ -72,7 +72,7 @@ module _ (p : Programme) (held : ℕ) (sums after levels : List ℕ) (i n cap fi
         record {
           sums = g .forecasts;
           due-slots = same-dues;
-          release-slots = r ∙ rw (e, same-dues) (ap (λ (t : List ℕ). take (500 - first) (ones (heldMost j) ++ t)) (sym (each-is (due j) (kept j (trial plan i n cap)))));
+          release-slots = r ∙ rw (e, same-dues);
           carried = same-bytes;
         }
 

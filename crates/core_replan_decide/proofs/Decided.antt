@@ -26,7 +26,7 @@ use Rattle.theory_plan.specs.lemmas.Ascending.{asc-lower}
 use Rattle.theory_plan.specs.lemmas.Kept.{picked-cong, picked-each}
 use Rattle.theory_plan.specs.lemmas.Level.{level}
 use Rattle.theory_plan.specs.lemmas.Linear.{map-map, needs-at, needs-of}
-use Rattle.theory_plan.specs.lemmas.Queue.{all-ones, each, each-is, ones, releases}
+use Rattle.theory_plan.specs.lemmas.Queue.{all-ones, ones, releases}
 use Rattle.theory_plan.specs.lemmas.Trials.{back, bytesKept, candidate, chunkOf, Kept, levelMark, markOf, onLayer, onLayers, rooms, Stack, Tried}
 use Rattle.theory_plan.specs.lemmas.Words.{carries, layer-of}
 use Rattle.theory_replan.specs.Plan.{afterFrom, busy, bytesLeft}
@@ -326,7 +326,7 @@ module _
           rs = releases (due j) (heldMost j) cs
 
           released : drop first ready ≡ take (500 - first) rs
-          released = r ∙ ap (λ (m : ℕ). take (500 - first) (ones m ++ drop first dues₂)) h ∙ ap (λ (l : List ℕ). take (500 - first) (ones (heldMost j) ++ l)) (dues-are ∙ sym (each-is (due j) cs))
+          released = r ∙ ap (λ (m : ℕ). take (500 - first) (ones m ++ drop first dues₂)) h ∙ ap (λ (l : List ℕ). take (500 - first) (ones (heldMost j) ++ l)) dues-are
 
           -- Layer by layer, by the table of what is left.
           layers-left : (m : ℕ) → m < layers j → onLayers (left) A (A 0) rs m (map (keptRest j fetched b1) cs) ≡ map (keptRest j fetched (below j fetched plan (suc m))) cs

@@ -28,7 +28,7 @@ use Rattle.theory_plan.specs.lemmas.Kept.{picked-asc, picked-each}
 use Rattle.theory_plan.specs.lemmas.Level.{level, level-iff}
 use Rattle.theory_plan.specs.lemmas.Linear.{level-of, mark-level}
 use Rattle.theory_plan.specs.lemmas.Parts.{ForecastPart}
-use Rattle.theory_plan.specs.lemmas.Queue.{all-ones, each, each-is, feas-relok, ones, releases, RelOk}
+use Rattle.theory_plan.specs.lemmas.Queue.{all-ones, feas-relok, releases, RelOk, releases-enough}
 use Rattle.theory_plan.specs.lemmas.Trials.{levelMark}
 use Rattle.theory_plan.specs.lemmas.Words.{accepted-sized, due-by, layer-of}
 use Rattle.theory_replan.specs.Own.{ownRest, unfetched}
@@ -294,8 +294,8 @@ module _
       released : All (λ r. r ≤ lastOf start part) (take (500 - first) rs)
       released =
           all-take (λ r. r ≤ lastOf start part) (500 - first) rs
-          (all-ones (λ r. r ≤ lastOf start part) (omega (arith, some-slot)) (heldMost j) (each (due j) cs)
-          (subst (All (λ r. r ≤ lastOf start part)) (sym (each-is (due j) cs)) (all-of-map (λ r. r ≤ lastOf start part) (due j) cs (picked-each member (λ k. due j k ≤ lastOf start part) 0 (chunks j) (λ k u v t. omega (arith, due-by p k (omega arith), last-is))))))
+          (all-ones (λ r. r ≤ lastOf start part) (omega (arith, some-slot)) (heldMost j) (map (due j) cs)
+          (all-of-map (λ r. r ≤ lastOf start part) (due j) cs (picked-each member (λ k. due j k ≤ lastOf start part) 0 (chunks j) (λ k u v t. omega (arith, due-by p k (omega arith), last-is)))))
 
       level-all : (l : List ℕ) → All (λ k. plan k ≤ layers j) l → All (λ k. AnyLevels (levelMark (plan k))) l
       level-all [] y = tt
@@ -374,15 +374,7 @@ module _
   rest-queue : map pc (unfetched fetched (carriedTo j plan (chunks j))) ≡ queueLeft (rest j fetched) plan cs rs
   rest-queue =
       carried-left (chunks j) (omega arith)
-      ∙ sym (queue-all (rest j fetched) plan 1 (chunks j) cs rs (picked-asc member 0 (chunks j) (chunks j) (omega arith)) (enough (heldMost j) cs))
-    where
-      each-long : (l : List ℕ) → length l ≤ length (each (due j) l)
-      each-long [] = omega arith
-      each-long (k ∷ l) = omega (arith, each-long l)
-
-      enough : (h : ℕ) (l : List ℕ) → length l ≤ length (ones h ++ each (due j) l)
-      enough zero l = each-long l
-      enough (suc h) l = omega (arith, enough h l)
+      ∙ sym (queue-all (rest j fetched) plan 1 (chunks j) cs rs (picked-asc member 0 (chunks j) (chunks j) (omega arith)) (releases-enough (due j) (heldMost j) cs))
 
   rows-are : ownRest j start fetched plan ≡ onward start part start (getD part 0 0) (leftQueue left (drop first ids) (drop first ready) (drop first mark))
   unfolding pc

@@ -33,7 +33,7 @@ use Rattle.theory_plan.specs.Statement.{BasesMooreHodgson, Choice}
 use Rattle.theory_plan.specs.lemmas.Trials.{Stack, candidate, keeps, push, bases, levelMark, Kept, rooms, Tried, tryOne, back, bytesKept, keptAt, onLayer, onLayers, based, stacked, keptBases, decidedOn, decided}
 use Rattle.theory_plan.specs.lemmas.KeepOrDrop.{kept-asc}
 use Rattle.theory_plan.specs.lemmas.Words.{layer-of}
-use Rattle.theory_plan.specs.lemmas.Queue.{RelOk, each, feas-relok, ones, releases}
+use Rattle.theory_plan.specs.lemmas.Queue.{RelOk, feas-relok, ones, releases}
 
 -- ---- the base
 
@@ -109,12 +109,12 @@ relok-uncons : (w d A : ℕ → ℕ) (gs : List ℕ) (r : ℕ) (rs : List ℕ) �
 relok-uncons w d A [] r rs t = (omega arith, tt)
 relok-uncons w d A (g ∷ gs) r rs t = (t .0, t .1)
 
-tails-if : (w d A : ℕ → ℕ) (h : ℕ) (ks : List ℕ) → RelOk w d A (drop h ks) (each d ks) → Tails w d A h ks
+tails-if : (w d A : ℕ → ℕ) (h : ℕ) (ks : List ℕ) → RelOk w d A (drop h ks) (map d ks) → Tails w d A h ks
 tails-if w d A zero [] t = tt
 tails-if w d A (suc h) [] t = tt
 tails-if w d A zero (k ∷ ks) t = (t .0, tails-if w d A zero ks (t .1))
 tails-if w d A (suc h) (k ∷ ks) t =
-    let u = relok-uncons w d A (drop h ks) (d k) (each d ks) t in
+    let u = relok-uncons w d A (drop h ks) (d k) (map d ks) t in
     (u .0, tails-if w d A (suc h) ks (rw (drop-drop, add-one) at (u .1)))
 
 relok-rest : (w d A : ℕ → ℕ) (h : ℕ) (gs rs : List ℕ) → RelOk w d A gs (ones h ++ rs) → RelOk w d A (drop h gs) rs
@@ -130,7 +130,7 @@ pub record Roomy (w d A : ℕ → ℕ) (room : ℕ) (ks rs : List ℕ) : Type 0 
 pub feas-roomy : (w d A : ℕ → ℕ) (h : ℕ) (ks : List ℕ) → Feas w d A h ks ↔ Roomy w d A (A 0) ks (releases d h ks)
 feas-roomy w d A h ks = (
   λ f. record { within = f .whole; released = feas-relok w d A h ks f },
-  λ r. record { whole = r .within; tails = tails-if w d A h ks (relok-rest w d A h ks (each d ks) (r .released)) },
+  λ r. record { whole = r .within; tails = tails-if w d A h ks (relok-rest w d A h ks (map d ks) (r .released)) },
 )
 
 -- A front chunk that has its own room leaves the rest of the room.

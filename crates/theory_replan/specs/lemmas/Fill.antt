@@ -23,7 +23,7 @@ use Rattle.theory_plan.specs.Statement.{Choice}
 use Rattle.theory_plan.specs.lemmas.Count.{some-row}
 use Rattle.theory_plan.specs.lemmas.Fill.{after-row, fill, less, Out, QueuedPiece, rest-after, row, take-slot}
 use Rattle.theory_plan.specs.lemmas.Kept.{has-picked, picked-asc, picked-each}
-use Rattle.theory_plan.specs.lemmas.Queue.{each, has-low, ones, queue, releases}
+use Rattle.theory_plan.specs.lemmas.Queue.{has-low, ones, queue, releases, releases-enough}
 use Rattle.theory_plan.specs.lemmas.Release.{Fair, fair-queue, ReleasedAt, with}
 use Rattle.theory_plan.specs.lemmas.Words.{carries, Sized}
 use Rattle.theory_replan.specs.Plan.{busy}
@@ -93,14 +93,6 @@ released-at j lo hi b (x ∷ ks) (r ∷ rs) k a l f t =
         (λ v. absurd (subst T (has-low (suc x) hi l i s (omega (arith, nltb→le x i v))) t))
         (test (ltb x i))
 
-enough : (d : ℕ → ℕ) (h : ℕ) (ks : List ℕ) → length ks ≤ length (releases d h ks)
-enough d zero ks = each-enough ks
-  where
-    each-enough : (ks : List ℕ) → length ks ≤ length (each d ks)
-    each-enough [] = omega arith
-    each-enough (k ∷ ks) = omega (arith, each-enough ks)
-enough d (suc h) ks = omega (arith, enough d h ks)
-
 -- ---- rule 6 allows the first part left exactly if its release has come
 
 module _ (j : Job) (sized : Sized j) (p : ℕ) (fetched : List Row) (ok : Acceptable j p fetched) (lv : ℕ → ℕ) (choice : Choice j lv) (f : FitsFrom j p fetched lv) where
@@ -124,7 +116,7 @@ module _ (j : Job) (sized : Sized j) (p : ℕ) (fetched : List Row) (ok : Accept
   released : (k : ℕ) → T (has chunksFrom k) → ReleasedAt j (λ i. has chunksFrom i && leb i k) (ready k)
   released k t =
       let asc : Asc 1 (chunks j) chunksFrom = picked-asc member 0 (chunks j) (chunks j) (omega arith) in
-      released-at j 1 (chunks j) (λ i. false) chunksFrom (releases (due j) (heldMost j) chunksFrom) k asc (enough (due j) (heldMost j) chunksFrom) (fair-queue j (λ k. 1) chunksFrom asc (picked-each member (λ k. 1 ≤ 1) 0 (chunks j) (λ i u v t. omega arith))) t
+      released-at j 1 (chunks j) (λ i. false) chunksFrom (releases (due j) (heldMost j) chunksFrom) k asc (releases-enough (due j) (heldMost j) chunksFrom) (fair-queue j (λ k. 1) chunksFrom asc (picked-each member (λ k. 1 ≤ 1) 0 (chunks j) (λ i u v t. omega arith))) t
 
   module _ (t : ℕ) (from : p ≤ t) (to : t ≤ lastSlot j) (c : ℕ) (rows : List Row) (q : Piece) (qs : List Piece) (v : I t c rows (q ∷ qs)) where
     abbrev k : ℕ
