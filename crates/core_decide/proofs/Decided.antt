@@ -1,7 +1,7 @@
 -- Laws on the whole decision: what the tables hold at its end is the plan. Assumes nothing.
 use mathlib.Core.Path.{_≡_, refl, sym, _∙_, ap, subst, fun-ext}
 use mathlib.Core.Bool.{cond}
-use mathlib.Core.List.{List, [], _∷_, _++_, map}
+use mathlib.Core.List.{List, [], _∷_, _++_, map, map-map}
 use Prim.Native.Nat.{ℕ, zero, suc, _+_, _-_, _/_, _≤_, _<_}
 use native.Mathlib.Omega.{arith}
 use lib.ListN.{length, getD, take, drop, replicate, length-drop, length-map, length-replicate}
@@ -13,7 +13,7 @@ use Rattle.theory_plan.specs.lemmas.Ascending.{asc-within}
 use Rattle.theory_plan.specs.Plan.{byMooreHodgson, kept, plan, after}
 use Rattle.theory_plan.specs.lemmas.MooreHodgson.{kept-by-after}
 use Rattle.core_moore_hodgson.specs.lemmas.Tables.{KeptIn}
-use Rattle.theory_plan.specs.lemmas.Linear.{bases-kept, decided-is, map-map}
+use Rattle.theory_plan.specs.lemmas.Linear.{bases-kept, decided-is}
 use Rattle.theory_plan.specs.lemmas.Trials.{bases, markOf, keptAt, onLayers, based, decidedOn, keptBases, stacked}
 use Rattle.theory_plan.specs.lemmas.Parts.{at, padded, padded-long, part-small}
 use Rattle.core_decide.specs.lemmas.Decision.{keptOf, Sums, Slot, SumTable, basesIn, SettleLayersPre, SettleLayersPost, SettleKeptPre, Decides, SettleKeptPost, jobFrom, DecidePre, DecidePost}

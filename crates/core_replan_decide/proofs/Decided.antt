@@ -2,7 +2,7 @@
 -- nothing.
 use mathlib.Core.Path.{_≡_, refl, sym, _∙_, ap, subst, fun-ext}
 use mathlib.Core.Bool.{Bool, true, false, cond, _&&_}
-use mathlib.Core.List.{List, [], _∷_, _++_, map, map-id}
+use mathlib.Core.List.{List, [], _∷_, _++_, map, map-id, map-map}
 use mathlib.Core.Logic.{_⊎_, inl, inr, ⊎-elim}
 use Prim.Native.Nat.{ℕ, zero, suc, _+_, _-_, _/_, _≤_, _<_, max}
 use native.Mathlib.Omega.{arith}
@@ -25,7 +25,7 @@ use Rattle.theory_plan.specs.lemmas.Feasible.{needOf}
 use Rattle.theory_plan.specs.lemmas.Ascending.{asc-lower}
 use Rattle.theory_plan.specs.lemmas.Kept.{picked-cong, picked-each}
 use Rattle.theory_plan.specs.lemmas.Level.{level}
-use Rattle.theory_plan.specs.lemmas.Linear.{map-map, needs-at, needs-of}
+use Rattle.theory_plan.specs.lemmas.Linear.{needs-at, needs-of}
 use Rattle.theory_plan.specs.lemmas.Queue.{all-ones, ones, releases}
 use Rattle.theory_plan.specs.lemmas.Trials.{back, bytesKept, candidate, chunkOf, Kept, levelMark, markOf, onLayer, onLayers, rooms, Stack, Tried}
 use Rattle.theory_plan.specs.lemmas.Words.{carries, layer-of}

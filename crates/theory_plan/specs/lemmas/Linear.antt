@@ -3,7 +3,7 @@
 use Prim.Native.Nat.{ℕ, zero, suc, _+_, _-_, _≤_, _<_, max, min}
 use mathlib.Core.Path.{_≡_, refl, sym, ap, _∙_, subst}
 use mathlib.Core.Bool.{Bool, true, false, cond, _&&_}
-use mathlib.Core.List.{List, [], _∷_, _++_, map}
+use mathlib.Core.List.{List, [], _∷_, _++_, map, map-map}
 use mathlib.Core.Logic.{⊎-elim, _↔_}
 use native.Mathlib.Omega.{arith}
 use native.Mathlib.Numerals.{add-one}
@@ -16,6 +16,8 @@ use Rattle.theory_basics.specs.Sums.{sum}
 use Rattle.theory_basics.specs.lemmas.Ranges.{sum-cong, sum-mono}
 use Rattle.theory_basics.specs.lemmas.Tests.{T-and, T-true, by-cond, not-T-false, same-test, test, tests, neqb→ne}
 use Rattle.theory_basics.specs.lemmas.Tables.{ne-lt}
+use Rattle.theory_basics.specs.lemmas.Lists.{map-cong}
+use Rattle.theory_basics.specs.Tests.{All}
 use Rattle.job.specs.Job.{Job, chunks, due, heldMost, layers, size}
 use Rattle.fetch.specs.Marks.{bit, withLayer}
 use Rattle.fetch.specs.Rows.{markByte}
@@ -26,7 +28,6 @@ use Rattle.theory_plan.specs.Bases.{Asc, baseSize, forecastBy, mooreHodg
 use Rattle.theory_plan.specs.Plan.{byMooreHodgson, bytes, kept, picked, plan, planByTrials, tried, after}
 use Rattle.theory_plan.specs.lemmas.Feasible.{needOf}
 use Rattle.theory_plan.specs.lemmas.Kept.{picked-cong, picked-each, picked-has}
-use Rattle.theory_plan.specs.lemmas.Necessity.{Each}
 use Rattle.theory_plan.specs.lemmas.Need.{Feas, Tails, feas-mono, need-mono}
 use Rattle.theory_plan.specs.lemmas.Plan.{TakesFitting, by-moore-hodgson-iff, either-way, plan-bases, plan-choice, plan-fits, plan-takes, plan-elsewhere, tried-kept, trials-choice, trials-fit, trials-take}
 use Rattle.theory_plan.specs.Statement.{BasesMooreHodgson, Choice}
@@ -140,7 +141,7 @@ front w d A room k r ks rs h = (
   λ f. record { within = omega (arith, f .within); released = (omega (arith, f .within), f .released) },
 )
 
-pub relok-mono : (v w d A : ℕ → ℕ) (ks rs : List ℕ) → Each (λ k. v k ≤ w k) ks → RelOk w d A ks rs → RelOk v d A ks rs
+pub relok-mono : (v w d A : ℕ → ℕ) (ks rs : List ℕ) → All (λ k. v k ≤ w k) ks → RelOk w d A ks rs → RelOk v d A ks rs
 relok-mono v w d A [] rs a t = tt
 relok-mono v w d A (k ∷ ks) [] a t = t
 relok-mono v w d A (k ∷ ks) (r ∷ rs) a t = (omega (arith, need-mono v w d A (k ∷ ks) a, t .0), relok-mono v w d A ks rs (a .1) (t .1))
@@ -353,14 +354,6 @@ module _ (j : Job) (n : ℕ) (up : 1 ≤ n) (few : n < 8) (p : ℕ → ℕ) (acc
 
 -- ---- the whole plan
 
-map-same : {A : Type 0} (f g : ℕ → A) (ks : List ℕ) → Each (λ k. f k ≡ g k) ks → map f ks ≡ map g ks
-map-same f g [] a = refl
-map-same f g (k ∷ ks) a = rw (a .0, map-same f g ks (a .1))
-
-pub map-map : {A B : Type 0} (f : A → B) (g : ℕ → A) (ks : List ℕ) → map f (map g ks) ≡ map (λ k. f (g k)) ks
-map-map f g [] = refl
-map-map f g (k ∷ ks) = rw (map-map f g ks)
-
 -- On the kept chunks of a choice that fits, whose upper layers are taken as document 01 says, the
 -- passes take its layers.
 module _ (j : Job) (p : ℕ → ℕ) (c : Choice j p) (f : Fits j p) (takes : (n : ℕ) → TakesFitting j p (suc n)) where
@@ -370,7 +363,7 @@ module _ (j : Job) (p : ℕ → ℕ) (c : Choice j p) (f : Fits j p) (takes : (n
 
   same-levels : (a b : ℕ → ℕ) → ((i : ℕ) → 1 ≤ i → i ≤ chunks j → 1 ≤ p i → a i ≡ b i) → map (keptAt j a) (kept j p) ≡ map (keptAt j b) (kept j p)
   same-levels a b e =
-      map-same (keptAt j a) (keptAt j b) (kept j p)
+      map-cong (keptAt j a) (keptAt j b) (kept j p)
       (picked-each (λ i. leb 1 (p i)) (λ k. keptAt j a k ≡ keptAt j b k) 0 (chunks j)
       (λ i u v t. ap (λ (m : ℕ). keptAt j (λ k. m) i) (e i u (omega arith) (leb→le 1 (p i) t))))
 
