@@ -8,7 +8,7 @@ use lib.ListN.{length, getD, take, drop, replicate, length-drop, length-map, len
 use Rattle.theory_basics.specs.Sums.{pre}
 use Rattle.theory_basics.specs.Tests.{All}
 use Rattle.job.specs.declared.Programme.{Programme}
-use Rattle.job.specs.Job.{Job, Override, jobOf, sizeIn, size, due, dueSlot, heldMost, lastDue, layers, chunks}
+use Rattle.job.specs.Job.{Job, Override, jobOf, sizeIn, size, due, dueSlot, heldMost, layers, chunks}
 use Rattle.theory_plan.specs.lemmas.Ascending.{asc-within}
 use Rattle.theory_plan.specs.Plan.{byMooreHodgson, kept, plan, after}
 use Rattle.theory_plan.specs.lemmas.MooreHodgson.{kept-by-after}
@@ -17,23 +17,11 @@ use Rattle.theory_plan.specs.lemmas.Linear.{bases-kept, decided-is}
 use Rattle.theory_plan.specs.lemmas.Trials.{bases, markOf, keptAt, onLayers, based, decidedOn, keptBases, stacked}
 use Rattle.theory_plan.specs.lemmas.Parts.{at, padded, padded-long, part-small}
 use Rattle.core_decide.specs.lemmas.Decision.{keptOf, Sums, Slot, SumTable, basesIn, SettleLayersPre, SettleLayersPost, SettleKeptPre, Decides, SettleKeptPost, jobFrom, DecidePre, DecidePost}
-use Rattle.theory_plan.specs.lemmas.Words.{due-by}
-use Rattle.theory_plan.specs.lemmas.Queue.{all-ones, ones, releases}
-use Rattle.theory_basics.specs.lemmas.Tables.{all-take}
+use Rattle.theory_plan.specs.lemmas.Words.{due-slots}
+use Rattle.theory_plan.specs.lemmas.Queue.{ones, releases, release-slots}
 use Rattle.theory_basics.specs.lemmas.Lists.{each-of-map}
 use Rattle.core_decide.proofs.Settle.{same-long, marks-of}
-use Rattle.theory_plan.specs.Bases.{Asc}
 use Rattle.theory_plan.specs.lemmas.Layers.{on-layers-take}
-
--- ---- slots
-
-module _ (p : Programme) (late : 1 ≤ p .delay) (ends : lastDue p ≤ 3600) where
-  pub due-slots : (lo : ℕ) (ks : List ℕ) → Asc lo (p .chunks) ks → All Slot (map (dueSlot p) ks)
-  due-slots lo [] a = tt
-  due-slots lo (k ∷ ks) a = (record { low = omega arith; high = omega (arith, due-by p k (a .1)) }, due-slots (suc k) ks (a .2))
-
-  pub release-slots : (h n : ℕ) (ds : List ℕ) → All Slot ds → All Slot (take n (ones h ++ ds))
-  release-slots h n ds a = all-take Slot n (ones h ++ ds) (all-ones Slot (record { low = omega arith; high = omega arith }) h ds a)
 
 -- ---- the start of the layers
 
@@ -72,7 +60,7 @@ module _
         small = o .small;
         sums = o .sums;
         due-slots = due-in;
-        release-slots = subst (All Slot) (sym r) (release-slots p (o .late) (o .ends) (p .limit / p .span) (500 - first) (drop first dues) due-in);
+        release-slots = subst (All Slot) (sym r) (release-slots (p .limit / p .span) (500 - first) (drop first dues) due-in);
         within = b .within;
         carried = subst (All (λ x. x ≤ 16777216)) (sym (b .base-bytes)) (each-of-map (λ x. x ≤ 16777216) (λ k. size k 0) (λ k. o .small k 0) ks);
         long = (o .long .0, b .long .0, b .long .1, lr, b .long .2, o .long .1, rw (o .marks) (length-replicate {A = ℕ} 500 1));

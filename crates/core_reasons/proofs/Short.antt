@@ -12,12 +12,12 @@ use Rattle.job.specs.declared.Programme.{Programme}
 use Rattle.job.specs.Job.{Accepted, Job, Within, chunks, due, dueSlot, heldMost, size}
 use Rattle.theory_plan.specs.Plan.{kept, picked}
 use Rattle.theory_plan.specs.lemmas.Kept.{picked-cong, picked-each}
-use Rattle.theory_plan.specs.lemmas.Queue.{ones, releases, all-ones}
+use Rattle.theory_plan.specs.lemmas.Queue.{ones, releases, release-slots}
 use Rattle.theory_plan.specs.Statement.{CanCarry, Choice}
 use Rattle.core_reasons.specs.declared.passes.Stretch.{Stretch}
 use Rattle.core_reasons.specs.lemmas.Tables.{Given, SetTablesPost, FindShortPost, FindShortPre, bytesIn, chunksIn, levelIn, trial}
 use Rattle.core_reasons.specs.lemmas.Passes.{Holds, FindStretchPost, FindStretchPre}
-use Rattle.theory_basics.specs.lemmas.Tables.{all-from, all-take}
+use Rattle.theory_basics.specs.lemmas.Tables.{all-from}
 use Rattle.theory_basics.specs.lemmas.Lists.{map-cong, all-of-map}
 use Rattle.theory_plan.specs.lemmas.Words.{due-by}
 
@@ -33,7 +33,7 @@ module _ (p : Programme) (held : ℕ) (sums after levels : List ℕ) (i n cap fi
   pub pass-from : (dues₀ ready₀ bytes₀ : List ℕ) → FindShortPre p held sums after levels n cap dues₀ ready₀ bytes₀ → length ready ≡ 500 → FindStretchPre after dues ready bytes first
   pass-from dues₀ ready₀ bytes₀ o e =
       let s = slots (o .late) (o .few) (o .ends) in
-      let b : All (Within 1 3600) (drop first ready) = rw r (all-take (Within 1 3600) (500 - first) (ones held ++ drop first dues) (all-ones (Within 1 3600) (record { low = omega arith; high = omega arith }) held (drop first dues) s)) in
+      let b : All (Within 1 3600) (drop first ready) = rw r (release-slots held (500 - first) (drop first dues) s) in
       record {
         within = l .within;
         sums = o .forecasts;

@@ -13,7 +13,6 @@ use native.Mathlib.Nat.{mul-le-mul-right}
 use Rattle.theory_basics.specs.Sums.{pre}
 use Rattle.theory_basics.specs.Tests.{All, In}
 use Rattle.theory_basics.specs.lemmas.Ranges.{pre-mono}
-use Rattle.theory_basics.specs.lemmas.Tables.{all-take}
 use Rattle.theory_basics.specs.lemmas.Tests.{all-map, at-row, each-row, test, true-T}
 use Rattle.theory_basics.specs.lemmas.Lists.{map-cong, each-of-map}
 use Rattle.job.specs.Job.{Accepted, chunks, due, dueSlot, forecast, heldMost, Job, lastDue, lastSlot, layers, Override, size, Within}
@@ -22,13 +21,13 @@ use Rattle.fetch.specs.Rows.{bytesOfLayer, Row}
 use Rattle.theory_plan.specs.lemmas.Parts.{ForecastPart, at, left-before, leftAfter, padded, padded-long, part-small}
 use Rattle.theory_plan.specs.Plan.{after, picked}
 use Rattle.theory_plan.specs.lemmas.Feasible.{needOf}
-use Rattle.theory_plan.specs.lemmas.Ascending.{asc-lower}
+use Rattle.theory_plan.specs.lemmas.Ascending.{asc-lower, asc-within}
 use Rattle.theory_plan.specs.lemmas.Kept.{picked-cong, picked-each}
 use Rattle.theory_plan.specs.lemmas.Level.{level}
 use Rattle.theory_plan.specs.lemmas.Linear.{needs-at, needs-of}
-use Rattle.theory_plan.specs.lemmas.Queue.{all-ones, ones, releases}
+use Rattle.theory_plan.specs.lemmas.Queue.{ones, releases, release-slots}
 use Rattle.theory_plan.specs.lemmas.Trials.{back, bytesKept, candidate, chunkOf, Kept, levelMark, markOf, onLayer, onLayers, rooms, Stack, Tried}
-use Rattle.theory_plan.specs.lemmas.Words.{carries, layer-of}
+use Rattle.theory_plan.specs.lemmas.Words.{carries, layer-of, due-slots}
 use Rattle.theory_replan.specs.Plan.{afterFrom, busy, bytesLeft}
 use Rattle.theory_replan.specs.Statement.{Acceptable, IsReplan}
 use Rattle.theory_replan.specs.lemmas.Criterion.{busyFrom}
@@ -37,7 +36,6 @@ use Rattle.theory_replan.specs.lemmas.Linear.{new-bases}
 use Rattle.theory_replan.specs.lemmas.Passes.{basesNew, frontOk}
 use Rattle.core_decide.proofs.Settle.{marks-of, same-long}
 use Rattle.core_decide.specs.lemmas.Decision.{keptOf, SettleLayersPost, SettleLayersPre, Slot, Sums, SumTable}
-use Rattle.core_replan_decide.proofs.Bases.{due-in}
 use Rattle.core_replan_decide.specs.declared.Chosen.{Chosen}
 use Rattle.core_replan_decide.specs.lemmas.Decision.{Decided, DecidePre, DecidePost, jobFrom, Tabled}
 use Rattle.core_replan_decide.specs.lemmas.Begun.{KeepBegunPost, KeepBegunPre, choose, frontOne, scanFront}
@@ -108,23 +106,15 @@ module _ {p : Programme} {layers start : ℕ} {part : List ℕ} {left : ℕ → 
         small = o .small;
         sums = sums-small s;
         fb-in = f .within;
-        chunks-in = within-all 1 last (p .chunks) (drop head front) (omega arith) lp (f .ascending);
+        chunks-in = asc-within 1 last 1 (p .chunks) (drop head front) (omega arith) lp (f .ascending);
         need-in = rw (e, z) (omega (arith, n .top, sums-small s 0));
         room = omega (arith, f .room, n .room);
         within = n .within;
-        ids-in = within-all (suc last) (p .chunks) (p .chunks) ns (omega arith) (omega arith) (n .ascending);
-        slots = subst (All Slot) (sym (n .due-slots)) (slots-all (suc last) ns (n .ascending));
+        ids-in = asc-within (suc last) (p .chunks) 1 (p .chunks) ns (omega arith) (omega arith) (n .ascending);
+        slots = subst (All Slot) (sym (n .due-slots)) (due-slots p (o .fine .late) (o .fine .ends) (suc last) ns (n .ascending));
         light = subst (All (λ b. b ≤ 16777216)) (sym (n .base-bytes)) (each-of-map (λ b. b ≤ 16777216) (baseOf left) (λ k. o .small k 0) ns);
         long = (o .long .1, s .long, f .long .0, n .long .0, n .long .1, n .long .2, n .long .3);
       }
-    where
-      within-all : (lo hi top : ℕ) (ks : List ℕ) → 1 ≤ lo → hi ≤ top → Asc lo hi ks → All (Within 1 top) ks
-      within-all lo hi top [] u v a = tt
-      within-all lo hi top (k ∷ ks) u v a = (record { low = omega arith; high = omega arith }, within-all (suc k) hi top ks (omega arith) v (a .2))
-
-      slots-all : (lo : ℕ) (ks : List ℕ) → Asc lo (p .chunks) ks → All Slot (map (dueSlot p) ks)
-      slots-all lo [] a = tt
-      slots-all lo (k ∷ ks) a = let d = due-in (o .fine) k (a .1) in (record { low = d .0; high = d .1 }, slots-all (suc k) ks (a .2))
 
   pub layers-from :
       {table front ids₁ dues₁ bytes₁ mark₁ ids₂ dues₂ bytes₂ mark₂ ready₂ room : List ℕ} {head new first needOf : ℕ} (held : ℕ) → SumTable start part table →
@@ -139,7 +129,7 @@ module _ {p : Programme} {layers start : ℕ} {part : List ℕ} {left : ℕ → 
         chunks-in = all-map (Within 1 (p .chunks)) (Within 1 500) (drop first ids₂) (λ x w. record { low = w .low; high = omega (arith, w .high, o .fine .few) }) (b .ids-in);
         sums = sums-small s;
         due-slots = b .slots;
-        release-slots = subst (All Slot) (sym r) (all-take Slot (500 - first) (ones held ++ drop first dues₂) (all-ones Slot (record { low = omega arith; high = omega arith }) held (drop first dues₂) (b .slots)));
+        release-slots = subst (All Slot) (sym r) (release-slots held (500 - first) (drop first dues₂) (b .slots));
         within = b .within;
         carried = b .light;
         long = (s .long, b .long .0, b .long .1, lr, b .long .2, lm, b .long .3);

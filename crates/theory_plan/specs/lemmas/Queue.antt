@@ -8,7 +8,7 @@ use mathlib.Core.Logic.{⊎-elim}
 use native.Mathlib.Omega.{arith}
 use native.Mathlib.Numerals.{add-one}
 use borrow.Author.Tests.{eq-eqb, ne-eqb, lt-ltb, le-ltb}
-use lib.ListN.{length, getD, drop, replicate, length-append, length-map, length-replicate, getD-replicate, List·getD-append}
+use lib.ListN.{length, getD, take, drop, replicate, length-append, length-map, length-replicate, getD-replicate, List·getD-append}
 use lib.Seq.{drop-drop, getD-append-add}
 use lib.Dec.{ltb, eqb, eqb→eq, ltb→lt, nltb→le}
 use Rattle.theory_basics.specs.lemmas.Tests.{test, neqb→ne}
@@ -17,9 +17,10 @@ use Rattle.theory_plan.specs.lemmas.Need.{Feas, Tails}
 use Rattle.theory_plan.specs.lemmas.Feasible.{needOf}
 use Rattle.theory_basics.specs.Lists.{has}
 use Rattle.theory_basics.specs.Tests.{All}
-use Rattle.theory_basics.specs.lemmas.Tables.{ne-lt}
+use Rattle.theory_basics.specs.lemmas.Tables.{ne-lt, all-take}
 use Rattle.theory_basics.specs.lemmas.Lists.{getD-map}
 use Rattle.theory_plan.specs.Bases.{Asc}
+use Rattle.job.specs.Job.{Within}
 
 -- ---- the queue
 
@@ -178,6 +179,10 @@ behind-ones h l q u =
 pub all-ones : (P : ℕ → Type 0) → P 1 → (h : ℕ) (l : List ℕ) → All P l → All P (ones h ++ l)
 all-ones P o zero l a = a
 all-ones P o (suc h) l a = (o, all-ones P o h l a)
+
+-- With due slots they are slots.
+pub release-slots : (h n : ℕ) (ds : List ℕ) → All (Within 1 3600) ds → All (Within 1 3600) (take n (ones h ++ ds))
+release-slots h n ds a = all-take (Within 1 3600) n (ones h ++ ds) (all-ones (Within 1 3600) (record { low = omega arith; high = omega arith }) h ds a)
 
 -- The release of the chunk at each place, and that there are enough of them.
 pub release-at : (d : ℕ → ℕ) (h : ℕ) (ks : List ℕ) (q : ℕ) → q < length ks → getD (releases d h ks) q 0 ≡ cond (ltb q h) 1 (d (getD ks (q - h) 0))
