@@ -1,6 +1,6 @@
 -- Lemmas. Tables: lists that stand at the end of a table, stores, what holds of each place. Assumes
 -- nothing.
-use mathlib.Core.Path.{_≡_, sym, _∙_}
+use mathlib.Core.Path.{_≡_, sym, _∙_, ap}
 use mathlib.Core.List.{List, [], _∷_}
 use mathlib.Core.Logic.{⊎-elim}
 use Prim.Native.Nat.{ℕ, zero, suc, _+_, _-_, _≤_, _<_}
@@ -28,6 +28,10 @@ drop-before l q h k = let e : q - 1 + 1 ≡ q = omega arith in drop-next l (q - 
 
 pub set-before : (l : List ℕ) (q v : ℕ) → 0 < q → q ≤ length l → drop (q - 1) (set l (q - 1) v) ≡ v ∷ drop q l
 set-before l q v h k = let e : q - 1 + 1 ≡ q = omega arith in drop-set l (q - 1) v (omega arith) ∙ rw e
+
+-- A place of the end, once v is written before q.
+pub written-before : (l : List ℕ) (q v k : ℕ) → 0 < q → q ≤ length l → getD (set l (q - 1) v) (q - 1 + k) 0 ≡ getD (v ∷ drop q l) k 0
+written-before l q v k h u = sym (getD-drop (q - 1) (set l (q - 1) v) k 0) ∙ ap (λ (s : List ℕ). getD s k 0) (set-before l q v h u)
 
 -- ---- a store
 
