@@ -26,7 +26,8 @@ use Rattle.planner.specs.declared.Planned.{Planned}
 use Rattle.report.specs.declared.table.Spent.the-variants.{Bytes as sent, Refused as unsent}
 use Rattle.report.specs.lemmas.Tables.{Rows, Summed, Tabled}
 use Rattle.report.specs.lemmas.Again.{rows-again}
-use Rattle.report.proofs.Own.{few, own-rows, spent-again}
+use Rattle.report.proofs.Own.{own-rows, spent-again}
+use Rattle.theory_plan.specs.Theorems.{plan-rows-few}
 
 -- The slices that the report lends: zeros.
 abbrev pub zeros : ℕ → List ℕ
@@ -43,7 +44,7 @@ module _ (h : JobInput) where
   is-given ok =
       let a : Accepted (jobIn h) = input-accepted h ok in
       let n = length (planRows (jobIn h)) in
-      let rows = le-leb n (length (zeros 5599)) (omega (arith, few a, length-replicate {A = ℕ} 5599 0)) in
+      let rows = le-leb n (length (zeros 5599)) (omega (arith, plan-rows-few (jobIn h) a, length-replicate {A = ℕ} 5599 0)) in
       rw (ok, le-leb (chunks (jobIn h)) (length (zeros 500)) (omega (arith, a .chunks-in .high, length-replicate {A = ℕ} 500 0)), rows)
 
   answers : answerOf h room ≡ cond (eqb (jobRefusal h) 0) (made (length (planRows (jobIn h)))) (refused (jobRefusal h))

@@ -114,6 +114,13 @@ own-list-ascending = own-ascending
 pub own-list-rows : (j : Job) → Accepted j → (choice : ℕ → ℕ) → Choice j choice → length (ownList j choice) ≤ 5599
 own-list-rows = own-few-rows
 
+-- Of an accepted job's plan: it keeps rules 1 to 7 and has no more rows.
+pub plan-keeps : (j : Job) → Accepted j → Keeps j (marksOf j (plan j)) (ownList j (plan j))
+plan-keeps j a = plan-carried j (accepted-sized j a) (plan j) (plan-exists j a) .0
+
+pub plan-rows-few : (j : Job) → Accepted j → length (ownList j (plan j)) ≤ 5599
+plan-rows-few j a = own-list-rows j a (plan j) (plan-exists j a .choice)
+
 -- ---- document 01's way by itself
 
 -- It too settles exactly one choice,
