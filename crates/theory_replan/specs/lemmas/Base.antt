@@ -26,14 +26,14 @@ use Rattle.fetch.specs.lemmas.Rows.{any-some, bytes-none, some-row}
 use Rattle.theory_plan.specs.Plan.{picked}
 use Rattle.theory_plan.specs.lemmas.Feasible.{needOf}
 use Rattle.theory_plan.specs.Statement.{Choice}
-use Rattle.theory_plan.specs.lemmas.Kept.{has-picked, picked-asc, picked-cong, picked-each}
+use Rattle.theory_plan.specs.lemmas.Kept.{picked-asc, picked-cong, picked-each}
 use Rattle.theory_plan.specs.lemmas.Level.{level, level-choice, level-iff}
 use Rattle.theory_plan.specs.lemmas.Linear.{needs-of}
 use Rattle.theory_plan.specs.lemmas.Need.{Feas, need-mono, Tails}
 use Rattle.theory_plan.specs.lemmas.Words.{carries, due-mono, layer-of, Sized}
 use Rattle.theory_replan.specs.Plan.{afterFrom, busy, busyChunks, bytesLeft, triedFrom}
 use Rattle.theory_replan.specs.Statement.{Acceptable}
-use Rattle.theory_replan.specs.lemmas.Criterion.{all-has, begun-few, busyFrom, feas-from-due, front-feas, front-need, FrontOk}
+use Rattle.theory_replan.specs.lemmas.Criterion.{begun-few, busyFrom, feas-from-due, front-feas, front-need, FrontOk, nothing-left}
 use Rattle.theory_replan.specs.lemmas.Fits.{FitsFrom}
 use Rattle.theory_replan.specs.lemmas.Held.{carries-row}
 use Rattle.theory_replan.specs.lemmas.Rest.{from-anti}
@@ -138,15 +138,6 @@ module _
       omega (arith, level-iff j fetched (ok .lower) k n r .1 h))
       ∙ sum-zero (base k)
 
-  nothing-left : (k : ℕ) → 1 ≤ k → k ≤ chunks j → due j k < p → left q k ≡ 0
-  nothing-left k u v h =
-      ⊎-elim
-      (λ t.
-      all-has (λ k. due j k < p → bytesLeft j fetched q k ≡ 0) (busyChunks j fetched q) k (feas-from-due j p fetched q .0 (fq .feas) .0)
-      (subst T (sym (has-picked (busy fetched q) 0 (chunks j) k u (omega arith))) (T-or-iff (carries fetched k) (leb 1 (q k)) .1 (inr t))) h)
-      (λ t. let e : q k ≡ 0 = omega (arith, nleb→lt 1 (q k) t) in rw e)
-      (test (leb 1 (q k)))
-
   module _ (i m : ℕ) (all : i + m ≡ chunks j) (lo : 1 ≤ i) (due-then : p ≤ due j i) (lacks : base i ≡ 0) (may : T (carries fetched i) ⊎ All (λ x. x .chunk < i) fetched) where
     -- What is tried.
     abbrev z : ℕ → ℕ
@@ -175,7 +166,7 @@ module _
         picked-each (busy fetched z) (λ k. due j k < p → bytesLeft j fetched z k ≡ 0) 0 (chunks j) (λ k x y t l.
         ⊎-elim
         (λ w. absurd (omega (arith, ap (due j) (eqb→eq k i w))))
-        (λ w. omega (arith, sum-mono (rest k) (z k) (q k) (z-le k x (omega arith) (neqb→ne k i w)), nothing-left k x (omega arith) l))
+        (λ w. omega (arith, sum-mono (rest k) (z k) (q k) (z-le k x (omega arith) (neqb→ne k i w)), nothing-left j p fetched q (fq .feas) k x (omega arith) l))
         (test (eqb k i))) in (
           λ f. d .0 (f .feas) .1,
           λ f.

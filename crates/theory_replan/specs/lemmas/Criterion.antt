@@ -24,7 +24,7 @@ use Rattle.theory_plan.specs.Plan.{after, picked}
 use Rattle.theory_plan.specs.lemmas.Feasible.{needOf}
 use Rattle.theory_plan.specs.lemmas.Ascending.{count-all}
 use Rattle.theory_plan.specs.lemmas.Count.{some-row}
-use Rattle.theory_plan.specs.lemmas.Kept.{picked-asc, picked-cong, picked-each}
+use Rattle.theory_plan.specs.lemmas.Kept.{picked-asc, picked-cong, picked-each, has-picked}
 use Rattle.theory_plan.specs.lemmas.Linear.{needs-at, needs-of}
 use Rattle.theory_plan.specs.lemmas.Need.{Feas, need-drop, Tails}
 use Rattle.theory_plan.specs.lemmas.Words.{carries, due-mono}
@@ -101,6 +101,18 @@ feas-from-due j p fetched lv =
     feas-due (bytesLeft j fetched lv) (due j) (afterFrom j p) (heldMost j) p (due-mono j)
     (λ t l. let e : max t (p - 1) ≡ max 0 (p - 1) = omega arith in ap (after j) e)
     (busy fetched lv) 0 (chunks j)
+
+-- A chunk due before p has nothing left.
+pub nothing-left :
+    (j : Job) (p : ℕ) (fetched : List Row) (lv : ℕ → ℕ) → Feas (bytesLeft j fetched lv) (due j) (afterFrom j p) (heldMost j) (busyChunks j fetched lv) →
+    (k : ℕ) → 1 ≤ k → k ≤ chunks j → due j k < p → bytesLeft j fetched lv k ≡ 0
+nothing-left j p fetched lv f k u v h =
+    ⊎-elim
+    (λ t.
+    all-has (λ k. due j k < p → bytesLeft j fetched lv k ≡ 0) (busyChunks j fetched lv) k (feas-from-due j p fetched lv .0 f .0)
+    (subst T (sym (has-picked (busy fetched lv) 0 (chunks j) k u (omega arith))) (T-or-iff (carries fetched k) (leb 1 (lv k)) .1 (inr t))) h)
+    (λ t. let e : lv k ≡ 0 = omega (arith, nleb→lt 1 (lv k) t) in rw e)
+    (test (leb 1 (lv k)))
 
 -- ---- the begun chunks that are due from p on are at most H
 

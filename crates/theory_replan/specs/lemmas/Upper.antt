@@ -10,12 +10,12 @@ use mathlib.Core.Logic.{_⊎_, inl, inr, ⊎-elim, _↔_}
 use native.Mathlib.Omega.{arith}
 use borrow.Author.Tests.{eq-eqb, ne-eqb, lt-leb, le-leb, lt-ltb, le-ltb}
 use lib.Pow.{pow-mono}
-use lib.Dec.{T, leb, ltb, eqb, leb→le, nleb→lt, ltb→lt, nltb→le, lt→ltb, le→leb, eqb→eq, eqb-refl}
+use lib.Dec.{T, leb, ltb, eqb, leb→le, ltb→lt, nltb→le, lt→ltb, le→leb, eqb→eq, eqb-refl}
 use Rattle.theory_basics.specs.Lists.{has}
 use Rattle.theory_basics.specs.Sums.{sum}
 use Rattle.theory_basics.specs.Tests.{All}
 use Rattle.theory_basics.specs.lemmas.Ranges.{sum-mono}
-use Rattle.theory_basics.specs.lemmas.Tests.{and-T, by-cond, not-T-false, same-test, T-and, T-or-iff, T-true, test, tests, neqb→ne}
+use Rattle.theory_basics.specs.lemmas.Tests.{and-T, by-cond, not-T-false, same-test, T-and, T-true, test, tests, neqb→ne}
 use Rattle.job.specs.Job.{chunks, due, heldMost, Job, Layer, layers, size}
 use Rattle.fetch.specs.Marks.{bit, withLayer}
 use Rattle.fetch.specs.Rows.{bytesOfLayer, Row}
@@ -23,7 +23,7 @@ use Rattle.fetch.specs.lemmas.Marks.{mark-bit, mark-high, mark-lt, same-bits, w
 use Rattle.theory_plan.specs.Plan.{picked}
 use Rattle.theory_plan.specs.lemmas.Feasible.{needOf}
 use Rattle.theory_plan.specs.Statement.{Choice}
-use Rattle.theory_plan.specs.lemmas.Kept.{feas-picked, has-picked, picked-cong, picked-each}
+use Rattle.theory_plan.specs.lemmas.Kept.{feas-picked, picked-cong, picked-each}
 use Rattle.theory_plan.specs.lemmas.Level.{level, level-iff}
 use Rattle.theory_plan.specs.lemmas.Linear.{feas-roomy, front, level-bit, level-next, level-top, relok-mono, Roomy}
 use Rattle.theory_plan.specs.lemmas.Need.{Feas, need-mono}
@@ -32,7 +32,7 @@ use Rattle.theory_plan.specs.lemmas.Trials.{back, Kept, levelMark, rooms, Tried
 use Rattle.theory_plan.specs.lemmas.Words.{carries, layer-of}
 use Rattle.theory_replan.specs.Plan.{afterFrom, busy, busyChunks, bytesLeft, triedFrom}
 use Rattle.theory_replan.specs.Statement.{Acceptable}
-use Rattle.theory_replan.specs.lemmas.Criterion.{all-has, busyFrom, feas-from-due}
+use Rattle.theory_replan.specs.lemmas.Criterion.{busyFrom, feas-from-due, nothing-left}
 use Rattle.theory_replan.specs.lemmas.Fits.{FitsFrom}
 
 -- ---- in general
@@ -269,16 +269,6 @@ module _
           (λ t. le→leb 1 (q k) (omega (arith, leb→le 1 (max (base k) (min (q k) c)) t, fq .whole k u v)))
           (λ t. le→leb 1 (max (base k) (min (q k) c)) (omega (arith, leb→le 1 (q k) t)))
 
-  -- A chunk due before p has nothing left.
-  nothing-left : (k : ℕ) → 1 ≤ k → k ≤ chunks j → due j k < p → left q k ≡ 0
-  nothing-left k u v h =
-      ⊎-elim
-      (λ t.
-      all-has (λ k. due j k < p → bytesLeft j fetched q k ≡ 0) (busyChunks j fetched q) k (feas-from-due j p fetched q .0 (fq .feas) .0)
-      (subst T (sym (has-picked (busy fetched q) 0 (chunks j) k u (omega arith))) (T-or-iff (carries fetched k) (leb 1 (q k)) .1 (inr t))) h)
-      (λ t. let e : q k ≡ 0 = omega (arith, nleb→lt 1 (q k) t) in rw e)
-      (test (leb 1 (q k)))
-
   tried-fits :
       (i : ℕ) → 1 ≤ i → i ≤ chunks j → T (member i) → n ≤ q i → base i ≤ n →
       FitsFrom j p fetched (triedFrom j fetched q n i) ↔ Feas (trial i) (due j) A (heldMost j) (busyFrom j p fetched q)
@@ -291,7 +281,7 @@ module _
       picked-each (busy fetched z) (λ k. due j k < p → bytesLeft j fetched z k ≡ 0) 0 (chunks j) (λ k x y t l.
       ⊎-elim
       (λ w. absurd (omega (arith, ap (due j) (eqb→eq k i w))))
-      (λ w. let o : k ≡ i → ⊥ = neqb→ne k i w in omega (arith, sum-mono (rest k) (z k) (q k) (tried-le i k reached x (omega arith) o), nothing-left k x (omega arith) l))
+      (λ w. let o : k ≡ i → ⊥ = neqb→ne k i w in omega (arith, sum-mono (rest k) (z k) (q k) (tried-le i k reached x (omega arith) o), nothing-left j p fetched q (fq .feas) k x (omega arith) l))
       (test (eqb k i))) in (
         λ f. subst (Feas (trial i) (due j) A (heldMost j)) e (d .0 (f .feas) .1),
         λ f.
