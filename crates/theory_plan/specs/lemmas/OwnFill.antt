@@ -3,7 +3,7 @@
 -- Section 3 of the argument.
 use Prim.Native.Nat.{ℕ, zero, suc, _+_, _-_, _≤_}
 use mathlib.Core.Path.{_≡_, refl, sym, ap, _∙_, subst, fun-ext}
-use mathlib.Core.Bool.{Bool, true, false, not, cond, _&&_, _||_}
+use mathlib.Core.Bool.{Bool, true, false, not, cond, _&&_, _||_, and-true}
 use mathlib.Core.List.{List, [], _∷_, _++_, append-assoc, append-nil}
 use native.Mathlib.Omega.{arith}
 use borrow.Author.Tests.{le-leb}
@@ -33,10 +33,6 @@ begun-by-slot t rows a = fun-ext (λ i. at i rows a)
     at : (i : ℕ) (rows : List Row) → All (λ x. x .slot ≤ t) rows → begun rows t i ≡ carries rows i
     at i [] a = refl
     at i (x ∷ xs) a = rw (le-leb (x .slot) t (a .0), at i xs (a .1), and-true (eqb (x .chunk) i))
-      where
-        and-true : (b : Bool) → (b && true) ≡ b
-        and-true true = refl
-        and-true false = refl
 
 carries-last : (rows : List Row) (x : Row) → carries (rows ++ (x ∷ [])) ≡ with (x .chunk) (carries rows)
 carries-last rows x = fun-ext (λ i. at i rows)

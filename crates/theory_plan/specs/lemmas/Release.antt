@@ -3,7 +3,7 @@
 -- the last begun first. Sections 2 and 3 of the argument.
 use Prim.Native.Nat.{ℕ, zero, suc, _+_, _-_, _≤_, _<_, compare·suc-suc}
 use mathlib.Core.Path.{_≡_, refl, sym, ap, _∙_, subst, fun-ext}
-use mathlib.Core.Bool.{Bool, true, false, cond, _&&_, _||_}
+use mathlib.Core.Bool.{Bool, false, cond, _&&_, _||_, or-self-left}
 use mathlib.Core.List.{List, [], _∷_, _++_, map}
 use mathlib.Core.Logic.{⊎-elim}
 use native.Mathlib.Omega.{arith}
@@ -129,11 +129,7 @@ abbrev pub with : ℕ → (ℕ → Bool) → ℕ → Bool
 with k b i = eqb k i || b i
 
 pub with-twice : (k : ℕ) (b : ℕ → Bool) → with k (with k b) ≡ with k b
-with-twice k b = fun-ext (λ i. or-twice (eqb k i) (b i))
-  where
-    or-twice : (x y : Bool) → (x || (x || y)) ≡ (x || y)
-    or-twice true y = refl
-    or-twice false y = refl
+with-twice k b = fun-ext (λ i. or-self-left (eqb k i) (b i))
 
 -- Where the chunks b have begun: each piece of the queue has the release of its chunk, those before
 -- it begun.

@@ -9,6 +9,7 @@ use mathlib.Core.Logic.{_⊎_, inl, inr, ⊎-elim, _↔_}
 use native.Mathlib.Omega.{arith}
 use lib.ListN.{drop, length}
 use lib.Dec.{T, eqb, leb, ltb}
+use lib.Seq.{drop-append-seam}
 use Rattle.theory_basics.specs.Sums.{count}
 use Rattle.theory_basics.specs.Tests.{All, all, any, here, In, there}
 use Rattle.theory_basics.specs.lemmas.Ranges.{bit, sum-cong}
@@ -28,7 +29,6 @@ use Rattle.theory_replan.specs.Own.{fetchedFrom, ownRest, unfetched}
 use Rattle.theory_replan.specs.Refusal.{replanRefusal}
 use Rattle.theory_replan.specs.Statement.{Acceptable, CanCarryOnlyFrom, IsReplan, joined, rowsBefore, rowsFrom, TrialFrom}
 use Rattle.theory_replan.specs.lemmas.Tried.{can-carry-from-same}
-use Rattle.theory_replan.specs.lemmas.Decision.{drop-first}
 use Rattle.theory_replan.specs.lemmas.Standing.{standing-plan}
 
 pub permuted-same : (l : List Row) → Permuted l l
@@ -228,7 +228,7 @@ module _ (j : Job) {a b : List Row} (h : Permuted a b) where
   unfolding ownRest
   rest-order-free p lv =
       let s = alike p lv (suc (lastSlot j) - p) in
-      ap (drop (length a)) (s .first) ∙ drop-first a (s .added) ∙ sym (ap (drop (length b)) (s .second) ∙ drop-first b (s .added))
+      ap (drop (length a)) (s .first) ∙ drop-append-seam a (s .added) ∙ sym (ap (drop (length b)) (s .second) ∙ drop-append-seam b (s .added))
 
 -- A standing plan whose own rows before p are fetched in any order: it goes on.
 pub standing-any-order :

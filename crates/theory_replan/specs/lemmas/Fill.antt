@@ -10,6 +10,7 @@ use native.Mathlib.Omega.{arith}
 use borrow.Author.Tests.{eq-eqb, le-leb, ne-eqb}
 use lib.ListN.{drop, length}
 use lib.Dec.{T, T-not, leb, ltb, eqb, leb→le, nleb→lt, ltb→lt, nltb→le, le→leb, lt→ltb, eqb→eq}
+use lib.Seq.{drop-append-seam}
 use Rattle.theory_basics.specs.Lists.{has}
 use Rattle.theory_basics.specs.Sums.{count}
 use Rattle.theory_basics.specs.Tests.{All, here, In}
@@ -30,7 +31,6 @@ use Rattle.theory_replan.specs.Plan.{busy}
 use Rattle.theory_replan.specs.Own.{fetchedFrom, ownRest, unfetched}
 use Rattle.theory_replan.specs.Statement.{Acceptable}
 use Rattle.theory_replan.specs.lemmas.Criterion.{busyFrom}
-use Rattle.theory_replan.specs.lemmas.Decision.{drop-first}
 use Rattle.theory_replan.specs.lemmas.Fits.{FitsFrom}
 use Rattle.theory_replan.specs.lemmas.Held.{begun-by, begun-row, carries-more, carries-row, held-same, in-last}
 use Rattle.theory_replan.specs.lemmas.Rest.{before-first, due-later, Inv, run, start, step}
@@ -260,5 +260,5 @@ module _ (j : Job) (sized : Sized j) (p : ℕ) (fetched : List Row) (ok : Accept
       let q = map piece (unfetched fetched (carriedTo j lv (chunks j))) in
       ap (λ (i : ℕ). drop (length fetched) (fetchedFrom j p fetched lv i .rows)) e
       ∙ ap (drop (length fetched)) (all-slots n 0 (omega arith))
-      ∙ drop-first fetched (fill (forecast j) n (0 + (p - 1)) q)
+      ∙ drop-append-seam fetched (fill (forecast j) n (0 + (p - 1)) q)
       ∙ ap (λ (i : ℕ). fill (forecast j) n i q) z

@@ -10,6 +10,7 @@ use native.Mathlib.Omega.{arith}
 use native.Mathlib.Nat.{mul-le-mul-right}
 use lib.ListN.{length, drop, length-append}
 use lib.Dec.{T, ltb}
+use lib.Seq.{drop-append-seam}
 use Rattle.theory_basics.specs.Lists.{upTo}
 use Rattle.theory_basics.specs.Tests.{All, In}
 use Rattle.theory_basics.specs.lemmas.Lists.{length-upTo}
@@ -21,7 +22,6 @@ use Rattle.theory_plan.specs.Statement.{Choice}
 use Rattle.theory_plan.specs.lemmas.Words.{accepted-sized, Sized}
 use Rattle.theory_replan.specs.Own.{fetchedFrom, ownRest, unfetched}
 use Rattle.theory_replan.specs.Statement.{Acceptable, IsReplan}
-use Rattle.theory_replan.specs.lemmas.Decision.{drop-first}
 use Rattle.theory_replan.specs.lemmas.Fits.{FitsFrom}
 use Rattle.theory_replan.specs.lemmas.Parts.{PartBefore, Rising}
 use Rattle.theory_replan.specs.lemmas.Plan.{is-replan-fits}
@@ -157,7 +157,7 @@ module _ (j : Job) (p : ℕ) (fetched : List Row) (lv : ℕ → ℕ) where
 
   rest-is : (h : p ≤ lastSlot j) → ownRest j p fetched lv ≡ done h .holds .made
   unfolding ownRest
-  rest-is h = ap (drop (length fetched)) (done h .holds .made-is) ∙ drop-first fetched (done h .holds .made)
+  rest-is h = ap (drop (length fetched)) (done h .holds .made-is) ∙ drop-append-seam fetched (done h .holds .made)
 
 -- "One row per slot, chunk and layer", and the rows stand by slot, chunk, layer.
 pub own-rest-ascending : (j : Job) (p : ℕ) (fetched : List Row) (choice : ℕ → ℕ) → p ≤ lastSlot j → Ascending (ownRest j p fetched choice)

@@ -10,6 +10,7 @@ use native.Mathlib.Omega.{arith}
 use borrow.Author.Tests.{eq-eqb, lt-ltb, le-ltb}
 use lib.ListN.{length, drop, take}
 use lib.Dec.{T, T-not, leb, ltb, eqb, leb→le, nleb→lt, ltb→lt, nltb→le, le→leb, eqb→eq, eqb-refl}
+use lib.Seq.{drop-append-seam}
 use Rattle.theory_plan.specs.lemmas.Unique.{carried-cong}
 use Rattle.theory_basics.specs.Sums.{sum}
 use Rattle.theory_basics.specs.Tests.{All, here, In, there}
@@ -39,7 +40,7 @@ use Rattle.theory_replan.specs.Plan.{afterFrom, triedFrom}
 use Rattle.theory_replan.specs.Own.{fetchedFrom, ownRest, unfetched}
 use Rattle.theory_replan.specs.lemmas.Tried.{settles-tried-from-iff}
 use Rattle.theory_replan.specs.Statement.{Acceptable, CanCarryFrom, IsReplan, rowsBefore, rowsFrom}
-use Rattle.theory_replan.specs.lemmas.Decision.{drop-first, fits-can-carry-from}
+use Rattle.theory_replan.specs.lemmas.Decision.{fits-can-carry-from}
 use Rattle.theory_replan.specs.lemmas.Fits.{between-from, can-carry-fits-below, can-carry-fits-from, FitsFrom}
 use Rattle.theory_replan.specs.lemmas.Held.{begun-by, begun-more, begun-row}
 use Rattle.theory_replan.specs.lemmas.OwnState.{Grown, grown, Sofar, sofar}
@@ -308,7 +309,7 @@ module _ (j : Job) (sized : Sized j) (q : ℕ → ℕ) (plan : SettledByTrials j
       let e : suc (lastSlot j) - p + t ≡ lastSlot j - t + t = omega arith in
       ap (λ (g : Fetched). drop (length old) (g .rows)) (same-state (suc (lastSlot j) - p) ∙ ap (fetchedBy j q) e)
       ∙ ap (drop (length old)) (steps .rows-are)
-      ∙ drop-first old more
+      ∙ drop-append-seam old more
 
 -- ---- the theorem
 
