@@ -25,6 +25,7 @@ pub mod Release
 pub mod Shape
 pub mod Stretches
 pub mod Sufficiency
+pub mod Sweep
 pub mod Totals
 pub mod Trials
 pub mod Tried
