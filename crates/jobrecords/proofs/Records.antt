@@ -13,7 +13,7 @@ use Rattle.jobrecords.specs.declared.Record.the-variants.{Pg, Ly, Sz, Bw
 use Rattle.jobrecords.specs.declared.Progress.{Progress}
 use Rattle.jobrecords.specs.Says.{hasProgramme, noProgramme, programmeIn, sizesIn, forecastIn}
 use Rattle.jobrecords.specs.Refusal.{place}
-use Rattle.jobrecords.specs.lemmas.Reading.{runBytes, Fine, Sized, Room, StandsFor, TakeRecordPost}
+use Rattle.jobrecords.specs.lemmas.Reading.{runBytes, withOverrides, withRuns, Fine, Sized, Room, StandsFor, TakeRecordPost}
 use Rattle.jobrecords.specs.lemmas.Clean.{first-programme, programme-in, layer-in, run-in}
 use Rattle.jobrecords.specs.lemmas.Sequence.{previous-snoc}
 use Rattle.jobrecords.specs.lemmas.Joined.{has-append, has-same, programme-same, programme-new, sizes-append, forecast-append}
@@ -25,9 +25,6 @@ afterProgramme j p = record { place = 1; bytes = 0; seen = true; programme = p; 
 
 abbrev afterLayer : Progress → Progress
 afterLayer j = record { place = 2; bytes = 0; seen = j .seen; programme = j .programme; layers = j .layers + 1; overrides = j .overrides; ends = j .ends; slots = j .slots }
-
-abbrev afterRun : Progress → ℕ → ℕ → Progress
-afterRun j count bytes = record { place = 4; bytes = bytes; seen = j .seen; programme = j .programme; layers = j .layers; overrides = j .overrides; ends = j .ends; slots = j .slots + count }
 
 -- A record that says nothing of programme, sizes and forecast.
 abbrev afterOther : Progress → Record → ℕ → ℕ → Progress
@@ -67,14 +64,14 @@ module _ (j : Progress) (z f : List ℕ) (rs : List Record) (i : StandsFor j z f
         forecast-is = i .forecast-is ∙ sym (forecast-append rs (Ly size ∷ []) ∙ append-nil (forecastIn rs));
       }
 
-  stands-run : (count bytes : ℕ) → Fine j (Bw count bytes) → StandsFor (afterRun j count bytes) z (paste f (j .slots) (replicate count bytes) count) (rs ++ (Bw count bytes ∷ []))
+  stands-run : (count bytes : ℕ) → Fine j (Bw count bytes) → StandsFor (withRuns j (j .slots + count) bytes) z (paste f (j .slots) (replicate count bytes) count) (rs ++ (Bw count bytes ∷ []))
   stands-run count bytes e =
       let few = run-in (j .slots) count bytes (e .in-range) .0 in
       let long : count ≤ length (replicate count bytes) = rw length-replicate (omega arith) in
       let inside : j .slots + count ≤ length f = omega (arith, i .room .slots-room) in
       let spread : take (j .slots + count) (paste f (j .slots) (replicate count bytes) count) ≡ take (j .slots) f ++ replicate count bytes = take-paste f (j .slots) (replicate count bytes) count (omega arith) long ∙ ap (λ (l : List ℕ). take (j .slots) f ++ l) (take-all count (replicate count bytes) (rw length-replicate (omega arith))) in
       record {
-        room = record { sized = same-sized j (afterRun j count bytes) z refl refl (i .room .sized); slots-in = few; slots-room = length-paste f (j .slots) (replicate count bytes) count inside long ∙ i .room .slots-room };
+        room = record { sized = same-sized j (withRuns j (j .slots + count) bytes) z refl refl (i .room .sized); slots-in = few; slots-room = length-paste f (j .slots) (replicate count bytes) count inside long ∙ i .room .slots-room };
         place-is = sym (ap place (previous-snoc rs (Bw count bytes)));
         bytes-is = sym (ap runBytes (previous-snoc rs (Bw count bytes)));
         seen-is = i .seen-is ∙ sym (has-same rs (Bw count bytes ∷ []) refl);
@@ -107,11 +104,11 @@ module _ (j : Progress) (z f : List ℕ) (r : Record) (next : ℕ) (fine : Fine 
   pub takes-layer : (size : ℕ) → r ≡ Ly size → TakeRecordPost j z f r next (afterLayer j) (set z (j .layers) size) f
   takes-layer size e = record { stands = λ rs i. rw e (stands-layer j z f rs i size (now-fine (Ly size) e)); overrides-are = rw e; ends-are = rw e }
 
-  pub takes-override : (chunk layer bytes : ℕ) → r ≡ Sz chunk layer bytes → TakeRecordPost j z f r next (afterOther j (Sz chunk layer bytes) (j .overrides + 1) next) z f
-  takes-override chunk layer bytes e = record { stands = λ rs i. rw e (stands-other j z f rs i (Sz chunk layer bytes) (j .overrides + 1) next refl refl refl refl); overrides-are = rw e; ends-are = rw e }
+  pub takes-override : (chunk layer bytes : ℕ) (k : Progress) → r ≡ Sz chunk layer bytes → k ≡ withOverrides j 1 next → TakeRecordPost j z f r next k z f
+  takes-override chunk layer bytes k e w = record { stands = λ rs i. rw (e, w) (stands-other j z f rs i (Sz chunk layer bytes) (j .overrides + 1) next refl refl refl refl); overrides-are = rw (e, w); ends-are = rw (e, w) }
 
-  pub takes-run : (count bytes : ℕ) (g : List ℕ) → r ≡ Bw count bytes → g ≡ paste f (j .slots) (replicate count bytes) count → TakeRecordPost j z f r next (afterRun j count bytes) z g
-  takes-run count bytes g e w = record { stands = λ rs i. rw (e, w) (stands-run j z f rs i count bytes (now-fine (Bw count bytes) e)); overrides-are = rw e; ends-are = rw e }
+  pub takes-run : (count bytes : ℕ) (k : Progress) (g : List ℕ) → r ≡ Bw count bytes → k ≡ withRuns j (j .slots + count) bytes → g ≡ paste f (j .slots) (replicate count bytes) count → TakeRecordPost j z f r next k z g
+  takes-run count bytes k g e v w = record { stands = λ rs i. rw (e, v, w) (stands-run j z f rs i count bytes (now-fine (Bw count bytes) e)); overrides-are = rw (e, v); ends-are = rw (e, v) }
 
   pub takes-end : r ≡ En → TakeRecordPost j z f r next (afterOther j En (j .overrides) (j .ends)) z f
   takes-end e = record { stands = λ rs i. rw e (stands-other j z f rs i En (j .overrides) (j .ends) refl refl refl refl); overrides-are = rw e; ends-are = rw e }

@@ -54,7 +54,7 @@ returns-2 c =
     turn-end (a .sequenced) (now (a .file)) (a .at) (a .j) (now (a .sizes)) (now (a .slots)) (c .before .before .before .before .before .before .before .before .before .before .before .pre) (v .0 .0) (v .0 .1 .0) (sym (c .before .before .before .before .before .before .before .record-at .ensures) ∙ v .1) (c .ended .result) (known (c .before .before .before .is-end .ensures) (c .before .before .if1 .taken)) (c .ended .ensures)
 
 fault-of-requires : tie.Need-fault-of-requires
-fault-of-requires c κs = search needs
+fault-of-requires c κs = c .before .before .before .before .before .before .before .before .before .pre .stands .room .slots-in
 
 returns-3 : tie.Need-returns-3
 returns-3 c =

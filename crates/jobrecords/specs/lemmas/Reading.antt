@@ -24,9 +24,12 @@ use Rattle.jobrecords.specs.declared.Ending.{Ending}
 use Rattle.jobrecords.specs.declared.Ending.the-variants.{Whole, Broken}
 use Rattle.jobrecords.specs.declared.Step.{Step}
 use Rattle.jobrecords.specs.declared.Step.the-variants.{On, Done, Stop}
+use Rattle.jobrecords.specs.declared.Run.{Run}
+use Rattle.jobrecords.specs.declared.Run.the-variants.{Sound, Other}
 use Rattle.jobrecords.specs.Records.{SZ, whole, overrideAt}
+use Rattle.jobrecords.specs.Reader.{readAt}
 use Rattle.jobrecords.specs.Says.{hasProgramme, noProgramme, programmeIn, sizesIn, overridesIn, forecastIn}
-use Rattle.jobrecords.specs.Refusal.{secondRefusal, previous, place, isRunOf, follows, sequenceRefusal, rangeFault, format, jobOfFile}
+use Rattle.jobrecords.specs.Refusal.{secondRefusal, previous, place, isRunOf, follows, sequenceRefusal, rangeFault, runFault, format, jobOfFile}
 
 abbrev pub noRecords : Progress
 noRecords = record { place = 0; bytes = 0; seen = false; programme = noProgramme; layers = 0; overrides = 0; ends = 0; slots = 0 }
@@ -205,6 +208,44 @@ module _ (sequenced : Bool) where
   OneStepPost s at z f (On j next) = (at < next) × OneStepPre s next j z f
   OneStepPost s at z f (Done j) = Complete s j z f
   OneStepPost s at z f (Stop n) = Refuses s n
+
+-- ---- runs and SZs that follow one of their kind
+
+-- The state after n SZs more, the last of which ends at a place, and after runs, the last one of so
+-- many bytes, with so many slots in all.
+abbrev pub withOverrides : Progress → ℕ → ℕ → Progress
+withOverrides j n ends = record { place = 3; bytes = 0; seen = j .seen; programme = j .programme; layers = j .layers; overrides = j .overrides + n; ends = ends; slots = j .slots }
+
+abbrev pub withRuns : Progress → ℕ → ℕ → Progress
+withRuns j slots bytes = record { place = 4; bytes = bytes; seen = j .seen; programme = j .programme; layers = j .layers; overrides = j .overrides; ends = j .ends; slots = slots }
+
+-- A run stands at a place and has no fault after another of the bytes `last` and so many slots.
+pub record SoundAt (s : List ℕ) (at slots last count bytes : ℕ) : Type 0 where
+  pub inside : at + 8 ≤ length s
+  pub reads : (sequenced : Bool) → readAt sequenced s at ≡ Got (Bw count bytes) (at + 8)
+  pub turn : runFollows 4 last bytes ≡ true
+  pub in-range : runFault slots count bytes ≡ 0
+
+abbrev pub SoundRunPost : List ℕ → ℕ → ℕ → ℕ → Run → Type 0
+SoundRunPost s at slots last (Sound count bytes) = SoundAt s at slots last count bytes
+SoundRunPost s at slots last Other = Unit {0}
+
+pub record TakeRunsPre (s : List ℕ) (from : ℕ) (j : Progress) (f : List ℕ) : Type 0 where
+  pub place-is : j .place ≡ 4
+  pub inside : from ≤ length s
+  pub slots-in : j .slots ≤ 3600
+  pub slots-room : length f ≡ 3600
+
+pub record TakeRunsPost (s : List ℕ) (from : ℕ) (j : Progress) (f : List ℕ) (r : Step) (f′ : List ℕ) : Type 0 where
+  pub turned : (q : Bool) (z : List ℕ) (at : ℕ) → at < from → OneStepPre q s from j z f → OneStepPost q s at z f′ r
+
+pub record TakeOverridesPre (s : List ℕ) (from : ℕ) (j : Progress) : Type 0 where
+  pub place-is : j .place ≡ 3
+  pub inside : from ≤ length s
+  pub overrides-in : 9 * j .overrides ≤ from
+
+pub record TakeOverridesPost (s : List ℕ) (from : ℕ) (j : Progress) (r : Step) : Type 0 where
+  pub turned : (z f : List ℕ) (at : ℕ) → at < from → OneStepPre true s from j z f → OneStepPost true s at z f r
 
 -- How many SZs there are, and the place after the last, with a record more that ends at a place.
 abbrev pub moreOverrides : ℕ → Record → ℕ
