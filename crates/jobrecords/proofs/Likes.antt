@@ -20,7 +20,7 @@ use Rattle.jobrecords.specs.declared.Run.the-variants.{Sound}
 use Rattle.jobrecords.specs.Records.{SZ, overrideAt}
 use Rattle.jobrecords.specs.Refusal.{place, previous}
 use Rattle.jobrecords.specs.lemmas.Clean.{run-in}
-use Rattle.jobrecords.specs.lemmas.Reading.{runBytes, faultAfter, OneStepPre, OneStepPost, withOverrides, withRuns, SoundAt, SoundRunPost, TakeRunsPre, TakeRunsPost, TakeOverridesPre, TakeOverridesPost}
+use Rattle.jobrecords.specs.lemmas.Reading.{runBytes, faultAfter, OneStepPre, withOverrides, withRuns, SoundAt, SoundRunPost, Reached, GoesOn, TakeRunsPost, TakeOverridesPost}
 use Rattle.jobrecords.proofs.Fronts.{override-here}
 use Rattle.jobrecords.proofs.Records.{takes-override, takes-run}
 use Rattle.jobrecords.proofs.Steps.{turn-fine, turn-more}
@@ -35,10 +35,10 @@ pub record Taking (s : List ℕ) (from : ℕ) (j : Progress) (old : List ℕ) (a
   pub slots-room : length f ≡ 3600
   pub goes : (q : Bool) (z : List ℕ) → OneStepPre q s from j z old → OneStepPre q s at (withRuns j slots last) z f
 
-pub runs-start : (s : List ℕ) (from : ℕ) (j : Progress) (f : List ℕ) → TakeRunsPre s from j f → Taking s from j f from (j .slots) (j .bytes) f
-runs-start s from j f p =
-    let e : j ≡ withRuns j (j .slots) (j .bytes) = ap (λ (n : ℕ). record { place = n; bytes = j .bytes; seen = j .seen; programme = j .programme; layers = j .layers; overrides = j .overrides; ends = j .ends; slots = j .slots }) (p .place-is) in
-    record { ahead = omega arith; inside = p .inside; slots-in = p .slots-in; slots-room = p .slots-room; goes = λ q z g. subst (λ (k : Progress). OneStepPre q s from k z f) e g }
+pub runs-start : (s : List ℕ) (from : ℕ) (j : Progress) (f : List ℕ) → Reached s from j → length f ≡ 3600 → j .place ≡ 4 → Taking s from j f from (j .slots) (j .bytes) f
+runs-start s from j f p long run =
+    let e : j ≡ withRuns j (j .slots) (j .bytes) = ap (λ (n : ℕ). record { place = n; bytes = j .bytes; seen = j .seen; programme = j .programme; layers = j .layers; overrides = j .overrides; ends = j .ends; slots = j .slots }) run in
+    record { ahead = omega arith; inside = p .inside; slots-in = p .slots-in; slots-room = long; goes = λ q z g. subst (λ (k : Progress). OneStepPre q s from k z f) e g }
 
 -- What `sound_run` answered.
 pub sound-at : (s : List ℕ) (at slots last : ℕ) (r : Run) → SoundRunPost s at slots last r → (count bytes : ℕ) → r ≡ Sound count bytes → SoundAt s at slots last count bytes
@@ -75,7 +75,7 @@ runs-more s from j old at slots last f i count bytes h f′ w =
 
 pub runs-end : (s : List ℕ) (from : ℕ) (j : Progress) (old : List ℕ) (at slots last : ℕ) (f : List ℕ) → Taking s from j old at slots last f → (k : Progress) → k ≡ withRuns j slots last → TakeRunsPost s from j old (On k at) f
 runs-end s from j old at slots last f i k e =
-    record { turned = λ q z start h g. (omega (arith, i .ahead), subst (λ (x : Progress). OneStepPre q s at x z f) (sym e) (i .goes q z g)) }
+    record { goes-on = λ q. record { turned = λ z start h g. (omega (arith, i .ahead), subst (λ (x : Progress). OneStepPre q s at x z f) (sym e) (i .goes q z g)) } }
 
 -- ---- SZs
 
@@ -93,15 +93,15 @@ no-run (Sz chunk layer bytes) e = refl
 no-run (Bw count bytes) e = absurd (omega arith)
 no-run En e = refl
 
-pub overrides-start : (s : List ℕ) (from : ℕ) (j : Progress) → TakeOverridesPre s from j → Passing s from j 0 from
-overrides-start s from j p = record { so-far = omega arith; inside = p .inside; goes = λ z f g. subst (λ (k : Progress). OneStepPre true s from k z f) (same z f g) g } where
+pub overrides-start : (s : List ℕ) (from : ℕ) (j : Progress) → Reached s from j → j .place ≡ 3 → Passing s from j 0 from
+overrides-start s from j p third = record { so-far = omega arith; inside = p .inside; goes = λ z f g. subst (λ (k : Progress). OneStepPre true s from k z f) (same z f g) g } where
   same : (z f : List ℕ) → OneStepPre true s from j z f → j ≡ withOverrides j 0 from
   same z f g =
-      let third : place (previous (g .before)) ≡ 3 = sym (g .stands .place-is) ∙ p .place-is in
-      let none : j .bytes ≡ 0 = g .stands .bytes-is ∙ no-run (previous (g .before)) third in
-      let behind : j .ends ≡ from = g .counts .behind third in
+      let last : place (previous (g .before)) ≡ 3 = sym (g .stands .place-is) ∙ third in
+      let none : j .bytes ≡ 0 = g .stands .bytes-is ∙ no-run (previous (g .before)) last in
+      let behind : j .ends ≡ from = g .counts .behind last in
       let more : j .overrides ≡ j .overrides + 0 = omega arith in
-      ap (λ (n : ℕ). record { place = n; bytes = j .bytes; seen = j .seen; programme = j .programme; layers = j .layers; overrides = j .overrides; ends = j .ends; slots = j .slots }) (p .place-is)
+      ap (λ (n : ℕ). record { place = n; bytes = j .bytes; seen = j .seen; programme = j .programme; layers = j .layers; overrides = j .overrides; ends = j .ends; slots = j .slots }) third
       ∙ ap (λ (n : ℕ). record { place = 3; bytes = n; seen = j .seen; programme = j .programme; layers = j .layers; overrides = j .overrides; ends = j .ends; slots = j .slots }) none
       ∙ ap (λ (n : ℕ). record { place = 3; bytes = 0; seen = j .seen; programme = j .programme; layers = j .layers; overrides = n; ends = j .ends; slots = j .slots }) more
       ∙ ap (λ (n : ℕ). withOverrides j 0 n) behind
@@ -131,8 +131,13 @@ overrides-more s from j n at i b e t =
 
 pub overrides-end : (s : List ℕ) (from : ℕ) (j : Progress) (n at : ℕ) → Passing s from j n at → (k : Progress) → k ≡ withOverrides j n at → TakeOverridesPost s from j (On k at)
 overrides-end s from j n at i k e =
-    record { turned = λ z f start h g. (omega (arith, i .so-far), subst (λ (x : Progress). OneStepPre true s at x z f) (sym e) (i .goes z f g)) }
+    record { goes-on = λ f. record { turned = λ z start h g. (omega (arith, i .so-far), subst (λ (x : Progress). OneStepPre true s at x z f) (sym e) (i .goes z f g)) } }
+
+-- ---- neither
 
 -- In a file of which one sequence is asked.
-pub overrides-turned : (q : Bool) → q ≡ true → (s : List ℕ) (from : ℕ) (j : Progress) (r : Step) → TakeOverridesPost s from j r → (z f : List ℕ) (at : ℕ) → at < from → OneStepPre q s from j z f → OneStepPost q s at z f r
-overrides-turned q e s from j r p z f at h g = subst (λ (b : Bool). OneStepPre b s from j z f → OneStepPost b s at z f r) (sym e) (p .turned z f at h) g
+pub overrides-go : (q : Bool) → q ≡ true → (s : List ℕ) (from : ℕ) (j : Progress) (f : List ℕ) (r : Step) → TakeOverridesPost s from j r → GoesOn q s from j f r f
+overrides-go q e s from j f r p = subst (λ (b : Bool). GoesOn b s from j f r f) (sym e) (p .goes-on f)
+
+pub no-more : (q : Bool) (s : List ℕ) (from : ℕ) (j : Progress) (f : List ℕ) → GoesOn q s from j f (On j from) f
+no-more q s from j f = record { turned = λ z at h g. (h, g) }

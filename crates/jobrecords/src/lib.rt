@@ -20,8 +20,8 @@ ghost use Rattle.jobrecords.specs.lemmas.Reading.{noRecords, readWhole, 
 ghost use Rattle.jobrecords.specs.lemmas.Reading.{overridesOn, endRefusal, endedBy, readRefusalOf, endRefusalOf};
 ghost use Rattle.jobrecords.specs.lemmas.Reading.{Inside, Sized, Room, Fine, TakeRecordPost, OneStepPre};
 ghost use Rattle.jobrecords.specs.lemmas.Reading.{OneStepPost, ReadAllPost, roomBy};
-ghost use Rattle.jobrecords.specs.lemmas.Reading.{withOverrides, withRuns, SoundRunPost, TakeRunsPre, TakeRunsPost};
-ghost use Rattle.jobrecords.specs.lemmas.Reading.{TakeOverridesPre, TakeOverridesPost};
+ghost use Rattle.jobrecords.specs.lemmas.Reading.{withProgramme, withLayers, withOverrides, withRuns};
+ghost use Rattle.jobrecords.specs.lemmas.Reading.{Reached, GoesOn, SoundRunPost, TakeRunsPost, TakeOverridesPost};
 ghost use Rattle.jobrecords.specs.Reader.{readFront, readAt, buffers, JobReadPromise};
 use job::MOST_BYTES;
 use job::OVERRIDES;
@@ -400,6 +400,41 @@ fn fill(slots: &mut [u32], from: usize, count: usize, v: u32)
     }
 }
 
+// The same; most runs have one slot, which needs no loop.
+fn put_run(slots: &mut [u32], from: usize, count: usize, v: u32)
+    requires { ⌜ from + count ≤ length (now slots) ⌝ }
+    ensures { λ _. ⌜ now (slots .exit) ≡ paste (now (slots .entry)) from (replicate count v) count ⌝ }
+{
+    if count == 1 {
+        slots[from] = v;
+        return;
+    }
+    fill(slots, from, count, v);
+}
+
+// The state after a PG.
+fn with_programme(j: Progress, programme: Programme) -> Progress
+    ensures { λ r. ⌜ r ≡ withProgramme j programme ⌝ }
+{
+    let mut k = j;
+    k.place = 1;
+    k.bytes = 0;
+    k.seen = true;
+    k.programme = programme;
+    k
+}
+
+// The state after an LY, with so many layers in all.
+fn with_layers(j: Progress, layers: usize) -> Progress
+    ensures { λ r. ⌜ r ≡ withLayers j layers ⌝ }
+{
+    let mut k = j;
+    k.place = 2;
+    k.bytes = 0;
+    k.layers = layers;
+    k
+}
+
 // The state after n SZs more, the last of which ends at a place.
 fn with_overrides(j: Progress, n: usize, ends: usize) -> Progress
     requires { ⌜ j .overrides + n < 18446744073709551616 ⌝ }
@@ -424,19 +459,7 @@ fn with_runs(j: Progress, slots: usize, bytes: u32) -> Progress
     k
 }
 
-// The same; most runs have one slot, which needs no loop.
-fn put_run(slots: &mut [u32], from: usize, count: usize, v: u32)
-    requires { ⌜ from + count ≤ length (now slots) ⌝ }
-    ensures { λ _. ⌜ now (slots .exit) ≡ paste (now (slots .entry)) from (replicate count v) count ⌝ }
-{
-    if count == 1 {
-        slots[from] = v;
-        return;
-    }
-    fill(slots, from, count, v);
-}
-
-// A record without a fault that ends at a place goes into the state and the tables.
+// A record without a fault, not EN, that ends at a place goes into the state and the tables.
 fn take_record(
     j: Progress,
     record: Record,
@@ -450,21 +473,12 @@ fn take_record(
     ensures { λ r. ⌜ TakeRecordPost j (now (sizes .entry)) (now (slots .entry)) «record» next
         r (now (sizes .exit)) (now (slots .exit)) ⌝ }
 {
-    let mut k = j;
-    k.bytes = 0;
     match record {
-        Record::Pg(programme) => {
-            k.place = 1;
-            k.seen = true;
-            k.programme = programme;
-            k
-        }
+        Record::Pg(programme) => with_programme(j, programme),
         Record::Ly(size) => {
             let n = j.layers;
-            k.place = 2;
-            k.layers = n + 1;
             sizes[n] = size;
-            k
+            with_layers(j, n + 1)
         }
         Record::Sz {
             chunk: _,
@@ -478,10 +492,7 @@ fn take_record(
             put_run(slots, from, more, bytes);
             with_runs(j, end, bytes)
         }
-        Record::En => {
-            k.place = 0;
-            k
-        }
+        Record::En => j,
     }
 }
 
@@ -493,33 +504,6 @@ fn refusal_of(read: Read) -> u8
         Read::Refused(n) => n,
         Read::Got(_, _) => 0,
     }
-}
-
-// One record read, judged and taken.
-fn one_step(
-    sequenced: bool,
-    file: &[u8],
-    at: usize,
-    j: Progress,
-    sizes: &mut [u32],
-    slots: &mut [u32],
-) -> Step
-    requires { ⌜ OneStepPre sequenced (now file) at j (now sizes) (now slots) ⌝ }
-    ensures { λ r. ⌜ OneStepPost sequenced (now (file .entry)) at (now (sizes .exit)) (now (slots .exit)) r ⌝ }
-{
-    let read = record_at(sequenced, file, at);
-    let Read::Got(record, next) = read else {
-        return Step::Stop(refusal_of(read));
-    };
-    if is_end(record) {
-        let after = file.len() - next;
-        return ended(file, j, after, sizes);
-    }
-    let n = fault_of(sequenced, j, record);
-    if n != 0 {
-        return Step::Stop(n);
-    }
-    Step::On(take_record(j, record, next, sizes, slots), next)
 }
 
 // The run at a place, after another of the bytes `last` and so many slots: one that has its mark, its
@@ -548,7 +532,7 @@ fn sound_run(file: &[u8], at: usize, slots: usize, last: u32) -> Run
 // After a run: every sound run that follows. A loop on three numbers, since a file can have 3,600 of
 // them.
 fn take_runs(file: &[u8], from: usize, j: Progress, slots: &mut [u32]) -> Step
-    requires { ⌜ TakeRunsPre (now file) from j (now slots) ⌝ }
+    requires { ⌜ Reached (now file) from j × (length (now slots) ≡ 3600) × (j .place ≡ 4) ⌝ }
     ensures { λ r. ⌜ TakeRunsPost (now (file .entry)) from j (now (slots .entry)) r (now (slots .exit)) ⌝ }
 {
     let mut at = from;
@@ -581,7 +565,7 @@ fn override_at(file: &[u8], at: usize) -> bool
 
 // After an SZ, where one sequence is asked: every SZ that follows.
 fn take_overrides(file: &[u8], from: usize, j: Progress) -> Step
-    requires { ⌜ TakeOverridesPre (now file) from j ⌝ }
+    requires { ⌜ Reached (now file) from j × (j .place ≡ 3) ⌝ }
     ensures { λ r. ⌜ TakeOverridesPost (now (file .entry)) from j r ⌝ }
 {
     let mut n: usize = 0;
@@ -593,8 +577,26 @@ fn take_overrides(file: &[u8], from: usize, j: Progress) -> Step
     Step::On(with_overrides(j, n, at), at)
 }
 
-// A record, and those of its kind that follow a run or an SZ.
-fn one_turn(
+// On from a place after a record that was taken: with the sound runs after a run, with the SZs after
+// an SZ.
+fn go_on(sequenced: bool, file: &[u8], from: usize, j: Progress, slots: &mut [u32]) -> Step
+    requires { ⌜ Reached (now file) from j × (length (now slots) ≡ 3600) ⌝ }
+    ensures { λ r. ⌜ GoesOn sequenced (now (file .entry)) from j (now (slots .entry)) r (now (slots .exit)) ⌝ }
+{
+    let place = j.place;
+    if place == 4 {
+        return take_runs(file, from, j, slots);
+    }
+    if sequenced {
+        if place == 3 {
+            return take_overrides(file, from, j);
+        }
+    }
+    Step::On(j, from)
+}
+
+// A record read, judged and taken, with those of its kind that follow a run or an SZ.
+fn one_step(
     sequenced: bool,
     file: &[u8],
     at: usize,
@@ -605,20 +607,20 @@ fn one_turn(
     requires { ⌜ OneStepPre sequenced (now file) at j (now sizes) (now slots) ⌝ }
     ensures { λ r. ⌜ OneStepPost sequenced (now (file .entry)) at (now (sizes .exit)) (now (slots .exit)) r ⌝ }
 {
-    let step = one_step(sequenced, file, at, j, sizes, slots);
-    let Step::On(taken, next) = step else {
-        return step;
+    let read = record_at(sequenced, file, at);
+    let Read::Got(record, next) = read else {
+        return Step::Stop(refusal_of(read));
     };
-    let place = taken.place;
-    if place == 4 {
-        return take_runs(file, next, taken, slots);
+    if is_end(record) {
+        let after = file.len() - next;
+        return ended(file, j, after, sizes);
     }
-    if sequenced {
-        if place == 3 {
-            return take_overrides(file, next, taken);
-        }
+    let n = fault_of(sequenced, j, record);
+    if n != 0 {
+        return Step::Stop(n);
     }
-    step
+    let taken = take_record(j, record, next, sizes, slots);
+    go_on(sequenced, file, next, taken, slots)
 }
 
 // The state before any record.
@@ -651,7 +653,7 @@ fn read_all(sequenced: bool, file: &[u8], sizes: &mut [u32], slots: &mut [u32]) 
     let mut j = nothing();
     let mut at: usize = 0;
     loop {
-        match one_turn(sequenced, file, at, j, sizes, slots) {
+        match one_step(sequenced, file, at, j, sizes, slots) {
             Step::On(more, next) => {
                 j = more;
                 at = next;

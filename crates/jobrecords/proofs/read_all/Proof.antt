@@ -22,43 +22,43 @@ nothing-requires c κs = search needs
 loop-holds : tie.Need-loop-holds Inv-loop μ-loop
 loop-holds c = let a = c .before .before .before .before .args in rw (c .nothing .ensures) (going-start (a .sequenced) (now (a .file)) (now (a .sizes)) (now (a .slots)) (c .before .before .before .before .pre .0) (c .before .before .before .before .pre .1))
 
-one-turn-requires : tie.Need-one-turn-requires Inv-loop μ-loop
-one-turn-requires c κs = c .before .before .loop .inv
+one-step-requires : tie.Need-one-step-requires Inv-loop μ-loop
+one-step-requires c κs = c .before .before .loop .inv
 
 enum-known-more : tie.Need-enum-known-more Inv-loop μ-loop
 enum-known-more c = search needs
 
 loop-less : tie.Need-loop-less Inv-loop μ-loop
 loop-less c =
-    let t = turned-on (c .before .before .before .before .before .before .before .before .before .before .before .before .before .before .before .args .sequenced) (now (c .before .before .before .before .before .before .before .before .before .before .before .before .before .before .before .args .file)) (c .before .before .before .before .before .before .before .before .before .before .loop .at) _ _ (c .before .before .before .before .before .before .before .one-turn .result) (c .before .before .before .before .before .before .before .one-turn .ensures) (c .before .more .given .0 .0) (c .before .more .given .0 .1 .0) (c .before .more .given .1) in
+    let t = turned-on (c .before .before .before .before .before .before .before .before .before .before .before .before .before .before .before .args .sequenced) (now (c .before .before .before .before .before .before .before .before .before .before .before .before .before .before .before .args .file)) (c .before .before .before .before .before .before .before .before .before .before .loop .at) _ _ (c .before .before .before .before .before .before .before .one-step .result) (c .before .before .before .before .before .before .before .one-step .ensures) (c .before .more .given .0 .0) (c .before .more .given .0 .1 .0) (c .before .more .given .1) in
     omega (arith, t .0, t .1 .reads .inside)
 
 loop-again : tie.Need-loop-again Inv-loop μ-loop
-loop-again c = turned-on (c .before .before .before .before .before .before .before .before .before .before .before .before .before .before .before .args .sequenced) (now (c .before .before .before .before .before .before .before .before .before .before .before .before .before .before .before .args .file)) (c .before .before .before .before .before .before .before .before .before .before .loop .at) _ _ (c .before .before .before .before .before .before .before .one-turn .result) (c .before .before .before .before .before .before .before .one-turn .ensures) (c .before .more .given .0 .0) (c .before .more .given .0 .1 .0) (c .before .more .given .1) .1
+loop-again c = turned-on (c .before .before .before .before .before .before .before .before .before .before .before .before .before .before .before .args .sequenced) (now (c .before .before .before .before .before .before .before .before .before .before .before .before .before .before .before .args .file)) (c .before .before .before .before .before .before .before .before .before .before .loop .at) _ _ (c .before .before .before .before .before .before .before .one-step .result) (c .before .before .before .before .before .before .before .one-step .ensures) (c .before .more .given .0 .0) (c .before .more .given .0 .1 .0) (c .before .more .given .1) .1
 
 enum-known-whole : tie.Need-enum-known-whole Inv-loop μ-loop
 enum-known-whole c = search needs
 
 same-length : tie.Need-same-length Inv-loop μ-loop
-same-length c = c .before .before .before .before .before .before .before .one-turn .kept .1 .1 .1 .1 .0 ∙ c .before .before .before .before .before .before .before .before .before .before .loop .inv .stands .room .sized .sizes-room ∙ sym (c .before .before .before .before .before .before .before .before .before .before .before .before .before .before .before .pre .0)
+same-length c = c .before .before .before .before .before .before .before .one-step .kept .1 .1 .1 .1 .0 ∙ c .before .before .before .before .before .before .before .before .before .before .loop .inv .stands .room .sized .sizes-room ∙ sym (c .before .before .before .before .before .before .before .before .before .before .before .before .before .before .before .pre .0)
 
 same-length-2 : tie.Need-same-length-2 Inv-loop μ-loop
-same-length-2 c = c .before .before .before .before .before .before .before .one-turn .kept .1 .1 .1 .1 .1 .0 ∙ c .before .before .before .before .before .before .before .before .before .before .loop .inv .stands .room .slots-room ∙ sym (c .before .before .before .before .before .before .before .before .before .before .before .before .before .before .before .pre .1)
+same-length-2 c = c .before .before .before .before .before .before .before .one-step .kept .1 .1 .1 .1 .1 .0 ∙ c .before .before .before .before .before .before .before .before .before .before .loop .inv .stands .room .slots-room ∙ sym (c .before .before .before .before .before .before .before .before .before .before .before .before .before .before .before .pre .1)
 
 returns : tie.Need-returns Inv-loop μ-loop
-returns c = turned-done (c .before .before .before .before .before .before .before .before .before .before .before .before .before .before .before .args .sequenced) (now (c .before .before .before .before .before .before .before .before .before .before .before .before .before .before .before .args .file)) (c .before .before .before .before .before .before .before .before .before .before .loop .at) _ _ (c .before .before .before .before .before .before .before .one-turn .result) (c .before .before .before .before .before .before .before .one-turn .ensures) (c .before .whole .given .0 .0) (c .before .whole .given .1)
+returns c = turned-done (c .before .before .before .before .before .before .before .before .before .before .before .before .before .before .before .args .sequenced) (now (c .before .before .before .before .before .before .before .before .before .before .before .before .before .before .before .args .file)) (c .before .before .before .before .before .before .before .before .before .before .loop .at) _ _ (c .before .before .before .before .before .before .before .one-step .result) (c .before .before .before .before .before .before .before .one-step .ensures) (c .before .whole .given .0 .0) (c .before .whole .given .1)
 
 enum-known-n : tie.Need-enum-known-n Inv-loop μ-loop
 enum-known-n c = search needs
 
 same-length-3 : tie.Need-same-length-3 Inv-loop μ-loop
-same-length-3 c = c .before .before .before .before .before .before .before .one-turn .kept .1 .1 .1 .1 .0 ∙ c .before .before .before .before .before .before .before .before .before .before .loop .inv .stands .room .sized .sizes-room ∙ sym (c .before .before .before .before .before .before .before .before .before .before .before .before .before .before .before .pre .0)
+same-length-3 c = c .before .before .before .before .before .before .before .one-step .kept .1 .1 .1 .1 .0 ∙ c .before .before .before .before .before .before .before .before .before .before .loop .inv .stands .room .sized .sizes-room ∙ sym (c .before .before .before .before .before .before .before .before .before .before .before .before .before .before .before .pre .0)
 
 same-length-4 : tie.Need-same-length-4 Inv-loop μ-loop
-same-length-4 c = c .before .before .before .before .before .before .before .one-turn .kept .1 .1 .1 .1 .1 .0 ∙ c .before .before .before .before .before .before .before .before .before .before .loop .inv .stands .room .slots-room ∙ sym (c .before .before .before .before .before .before .before .before .before .before .before .before .before .before .before .pre .1)
+same-length-4 c = c .before .before .before .before .before .before .before .one-step .kept .1 .1 .1 .1 .1 .0 ∙ c .before .before .before .before .before .before .before .before .before .before .loop .inv .stands .room .slots-room ∙ sym (c .before .before .before .before .before .before .before .before .before .before .before .before .before .before .before .pre .1)
 
 returns-2 : tie.Need-returns-2 Inv-loop μ-loop
-returns-2 c = turned-stop (c .before .before .before .before .before .before .before .before .before .before .before .before .before .before .before .args .sequenced) (now (c .before .before .before .before .before .before .before .before .before .before .before .before .before .before .before .args .file)) (c .before .before .before .before .before .before .before .before .before .before .loop .at) _ _ (c .before .before .before .before .before .before .before .one-turn .result) (c .before .before .before .before .before .before .before .one-turn .ensures) (c .before .n .given .0 .0) (c .before .n .given .1)
+returns-2 c = turned-stop (c .before .before .before .before .before .before .before .before .before .before .before .before .before .before .before .args .sequenced) (now (c .before .before .before .before .before .before .before .before .before .before .before .before .before .before .before .args .file)) (c .before .before .before .before .before .before .before .before .before .before .loop .at) _ _ (c .before .before .before .before .before .before .before .one-step .result) (c .before .before .before .before .before .before .before .one-step .ensures) (c .before .n .given .0 .0) (c .before .n .given .1)
 
 pub read-all-spec : {M : Type 1} → statement M
 read-all-spec =
@@ -68,7 +68,7 @@ read-all-spec =
     μ-loop
     nothing-requires
     loop-holds
-    one-turn-requires
+    one-step-requires
     enum-known-more
     loop-less
     loop-again

@@ -14,7 +14,7 @@ abbrev μ-loop : tie.MeasureT-loop
 μ-loop file from j n₀ at₀ n at = length file - at
 
 loop-holds : tie.Need-loop-holds Inv-loop μ-loop
-loop-holds c = let a = c .before .args in overrides-start (now (a .file)) (a .from) (a .j) (c .before .pre)
+loop-holds c = let a = c .before .args in overrides-start (now (a .file)) (a .from) (a .j) (c .before .pre .0) (c .before .pre .1)
 
 override-at-requires : tie.Need-override-at-requires Inv-loop μ-loop
 override-at-requires c κs = c .loop .inv .inside
@@ -35,7 +35,7 @@ loop-again c =
     overrides-more (now (a .file)) (a .from) (a .j) (l .n) (l .at) (l .inv) (c .before .override-at .result) (c .before .override-at .ensures) (c .if1 .taken)
 
 with-overrides-requires : tie.Need-with-overrides-requires Inv-loop μ-loop
-with-overrides-requires c κs = let l = c .before .before .loop in omega (arith, l .inv .so-far, l .inv .inside, c .before .before .before .before .pre .overrides-in)
+with-overrides-requires c κs = let l = c .before .before .loop in omega (arith, l .inv .so-far, l .inv .inside, c .before .before .before .before .pre .0 .overrides-in)
 
 returns : tie.Need-returns Inv-loop μ-loop
 returns c =

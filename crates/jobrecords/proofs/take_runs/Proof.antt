@@ -16,7 +16,7 @@ abbrev μ-loop : tie.MeasureT-loop
 μ-loop file from j slots₀ at₀ so-far₀ last₀ slots at so-far last = length file - at
 
 loop-holds : tie.Need-loop-holds Inv-loop μ-loop
-loop-holds c = let a = c .before .before .args in runs-start (now (a .file)) (a .from) (a .j) (now (a .slots)) (c .before .before .pre)
+loop-holds c = let a = c .before .before .args in runs-start (now (a .file)) (a .from) (a .j) (now (a .slots)) (c .before .before .pre .0) (c .before .before .pre .1) (c .before .before .pre .2)
 
 sound-run-requires : tie.Need-sound-run-requires Inv-loop μ-loop
 sound-run-requires c κs = (c .loop .inv .inside, c .loop .inv .slots-in)
@@ -31,7 +31,7 @@ with-runs-requires : tie.Need-with-runs-requires Inv-loop μ-loop
 with-runs-requires c κs = search needs
 
 same-length : tie.Need-same-length Inv-loop μ-loop
-same-length c = c .before .before .before .before .loop .inv .slots-room ∙ sym (c .before .before .before .before .before .before .before .pre .slots-room)
+same-length c = c .before .before .before .before .loop .inv .slots-room ∙ sym (c .before .before .before .before .before .before .before .pre .1)
 
 returns : tie.Need-returns Inv-loop μ-loop
 returns c =
