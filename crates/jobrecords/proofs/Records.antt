@@ -101,9 +101,7 @@ module _ (j : Progress) (z f : List ℕ) (r : Record) (next : ℕ) (fine : Fine 
   takes-run count bytes k g e v w = record { stands = λ rs i. rw (e, v, w) (stands-run j z f rs i count bytes (now-fine (Bw count bytes) e)); overrides-are = rw (e, v); ends-are = rw (e, v) }
 
   pub takes-no-end : (k : Progress) (z′ f′ : List ℕ) → r ≡ En → TakeRecordPost j z f r next k z′ f′
-  takes-no-end k z′ f′ e = absurd (true-not-false (sym (ap isEnd e) ∙ fine .no-end)) where
-    true-not-false : true ≡ false → ⊥
-    true-not-false e = let z : _≡_ {A = ℕ} 0 1 = cc in omega arith
+  takes-no-end k z′ f′ e = let b : true ≡ false = sym (ap isEnd e) ∙ fine .no-end in absurd (let z : _≡_ {A = ℕ} 0 1 = cc in omega arith)
 
   -- Where the record's values go lies inside the tables.
   pub layer-inside : (size : ℕ) → Room j z f → r ≡ Ly size → j .layers < length z
