@@ -1,18 +1,15 @@
+-- `carries` gives bit n.
 use borrow.Author.Needs.{needs}
 use Rattle.core_fill.proofs.carries.Statement.{statement}
 use Rattle.core_fill.proofs.carries.Tie as tie
-use Rattle.core_fill.proofs.carries.Reads as reads
-use Rattle.core_fill.proofs.carries.Lts as lts
 use mathlib.Core.Path.{ap}
 use Prim.Native.Nat.{ℕ, _/_, _^_}
 use lib.Bits.{and-mask}
 use lib.Dec.{eqb}
 
--- src/lib.rt:135:6
 shr-result : tie.Need-shr-result
 shr-result c = search needs
 
--- src/lib.rt:131:1
 returns : tie.Need-returns
 returns c = ap (λ (x : ℕ). eqb x 1) (and-mask (c .args .mark / 2 ^ c .args .n) 1)
 

@@ -1,9 +1,6 @@
+-- `put_piece` meets its contract: left is still to place, from slot t on.
 use Rattle.core_fill.proofs.put_piece.Statement.{statement}
 use Rattle.core_fill.proofs.put_piece.Tie as tie
-use Rattle.core_fill.proofs.put_piece.Reads as reads
-use Rattle.core_fill.proofs.put_piece.Lts as lts
-use Rattle.core_fill.proofs.put_row.Reads as put-row-reads
-use Rattle.core_fill.proofs.rows_with.Reads as rows-with-reads
 use Prim.Native.Nat.{_+_, _-_, _<_}
 use native.Mathlib.Omega.{arith}
 use lib.ListN.{length-set}
@@ -17,43 +14,33 @@ Inv-loop part start chunk layer size slots₀ chunks₀ layers₀ bytes₀ t₀ 
 abbrev μ-loop : tie.MeasureT-loop
 μ-loop part start chunk layer size slots₀ chunks₀ layers₀ bytes₀ t₀ c₀ n₀ left₀ slots chunks layers bytes t c n left = lastOf start part - t
 
--- src/lib.rt:111:5
 loop-holds : tie.Need-loop-holds Inv-loop μ-loop
 loop-holds c = let a = c .before .before .before .before .before .args in laying-start (a .start) (now (a .part)) (a .chunk) (a .layer) (a .size) (a .at) (now (a .slots)) (now (a .chunks)) (now (a .layers)) (now (a .bytes)) (c .before .before .before .before .before .pre .0) (c .before .before .before .before .before .pre .1) (c .before .before .before .before .before .pre .2)
 
--- src/lib.rt:112:9
 put-row-requires : tie.Need-put-row-requires Inv-loop μ-loop
 put-row-requires c κs = let a = c .before .before .before .before .before .before .before .before .before .before .before .args in let l = c .before .before .before .before .before .loop in laying-places (a .start) (now (a .part)) (a .chunk) (a .layer) (a .size) (a .at) (now (a .slots)) (now (a .chunks)) (now (a .layers)) (now (a .bytes)) (c .before .before .before .before .before .before .before .before .before .before .before .pre .0) (l .slots) (l .chunks) (l .layers) (l .bytes) (l .t) (l .c) (l .n) (l .left) (l .inv)
 
--- src/lib.rt:113:9
 rows-with-requires : tie.Need-rows-with-requires Inv-loop μ-loop
 rows-with-requires c κs = let l = c .before .before .before .before .before .before .before .before .before .before .before .before .before .before .loop in omega (arith, l .inv .putting .goes .rows, l .inv .putting .goes .later, c .before .before .before .before .before .before .before .before .before .before .before .before .before .before .before .before .before .before .before .before .pre .0 .count)
 
--- src/lib.rt:114:16
 sub-left : tie.Need-sub-left Inv-loop μ-loop
 sub-left c = omega (arith, c .before .before .before .before .before .before .before .before .before .before .before .before .before .before .loop-test .taken)
 
--- src/lib.rt:115:13
 add-t : tie.Need-add-t Inv-loop μ-loop
 add-t c = let a = c .before .before .before .before .before .before .before .before .before .before .before .before .before .before .before .before .before .before .before .before .before .args in let l = c .before .before .before .before .before .before .before .before .before .before .before .before .before .before .before .loop in omega (arith, laying-slot-after (a .start) (now (a .part)) (a .chunk) (a .layer) (a .size) (a .at) (now (a .slots)) (now (a .chunks)) (now (a .layers)) (now (a .bytes)) (c .before .before .before .before .before .before .before .before .before .before .before .before .before .before .before .before .before .before .before .before .before .pre .0) (l .slots) (l .chunks) (l .layers) (l .bytes) (l .t) (l .c) (l .n) (l .left) (l .inv) (c .before .before .before .before .before .before .before .before .before .before .before .before .before .before .loop-test .taken), c .before .before .before .before .before .before .before .before .before .before .before .before .before .before .before .before .before .before .before .before .before .pre .0 .part-in .high)
 
--- src/lib.rt:116:17
 sub-k : tie.Need-sub-k Inv-loop μ-loop
 sub-k c = omega (arith, c .before .before .before .before .before .before .before .before .before .before .before .before .before .before .before .loop .inv .putting .goes .low)
 
--- src/lib.rt:117:13
 mul-c : tie.Need-mul-c Inv-loop μ-loop
 mul-c c = let a = c .before .before .before .before .before .before .before .before .before .before .before .before .before .before .before .before .before .before .before .before .before .args in let l = c .before .before .before .before .before .before .before .before .before .before .before .before .before .before .before .loop in omega (arith, laying-slot-after (a .start) (now (a .part)) (a .chunk) (a .layer) (a .size) (a .at) (now (a .slots)) (now (a .chunks)) (now (a .layers)) (now (a .bytes)) (c .before .before .before .before .before .before .before .before .before .before .before .before .before .before .before .before .before .before .before .before .before .pre .0) (l .slots) (l .chunks) (l .layers) (l .bytes) (l .t) (l .c) (l .n) (l .left) (l .inv) (c .before .before .before .before .before .before .before .before .before .before .before .before .before .before .loop-test .taken), c .before .before .before .before .before .before .before .before .before .before .before .before .before .before .before .before .before .before .before .before .before .pre .0 .part-in .high)
 
--- src/lib.rt:117:13
 shared-slice-read-c : tie.Need-shared-slice-read-c Inv-loop μ-loop
 shared-slice-read-c c = let a = c .before .before .before .before .before .before .before .before .before .before .before .before .before .before .before .before .before .before .before .before .before .before .args in let l = c .before .before .before .before .before .before .before .before .before .before .before .before .before .before .before .before .loop in omega (arith, laying-slot-after (a .start) (now (a .part)) (a .chunk) (a .layer) (a .size) (a .at) (now (a .slots)) (now (a .chunks)) (now (a .layers)) (now (a .bytes)) (c .before .before .before .before .before .before .before .before .before .before .before .before .before .before .before .before .before .before .before .before .before .before .pre .0) (l .slots) (l .chunks) (l .layers) (l .bytes) (l .t) (l .c) (l .n) (l .left) (l .inv) (c .before .before .before .before .before .before .before .before .before .before .before .before .before .before .before .loop-test .taken), l .inv .putting .goes .low, c .before .before .before .before .before .before .before .before .before .before .before .before .before .before .before .before .before .before .before .before .before .before .pre .0 .part-in .low)
 
--- src/lib.rt:111:5
 loop-less : tie.Need-loop-less Inv-loop μ-loop
 loop-less c = let a = c .before .before .before .before .before .before .before .before .before .before .before .before .before .before .before .before .before .before .before .before .before .before .args in let l = c .before .before .before .before .before .before .before .before .before .before .before .before .before .before .before .before .loop in omega (arith, laying-slot-after (a .start) (now (a .part)) (a .chunk) (a .layer) (a .size) (a .at) (now (a .slots)) (now (a .chunks)) (now (a .layers)) (now (a .bytes)) (c .before .before .before .before .before .before .before .before .before .before .before .before .before .before .before .before .before .before .before .before .before .before .pre .0) (l .slots) (l .chunks) (l .layers) (l .bytes) (l .t) (l .c) (l .n) (l .left) (l .inv) (c .before .before .before .before .before .before .before .before .before .before .before .before .before .before .before .loop-test .taken))
 
--- src/lib.rt:111:5
 loop-again : tie.Need-loop-again Inv-loop μ-loop
 loop-again c =
     let a = c .before .before .before .before .before .before .before .before .before .before .before .before .before .before .before .before .before .before .before .before .before .before .args in
@@ -62,31 +49,24 @@ loop-again c =
     let e = c .before .before .before .before .before .before .before .before .before .before .put-row .ensures in
     rw (e .0, e .1, e .2, e .3, c .before .rows-with .ensures) (rw d at (laying-more (a .start) (now (a .part)) (a .chunk) (a .layer) (a .size) (a .at) (now (a .slots)) (now (a .chunks)) (now (a .layers)) (now (a .bytes)) (c .before .before .before .before .before .before .before .before .before .before .before .before .before .before .before .before .before .before .before .before .before .before .pre .0) (l .slots) (l .chunks) (l .layers) (l .bytes) (l .t) (l .c) (l .n) (l .left) (l .inv) (c .before .before .before .before .before .before .before .before .before .before .before .before .before .before .before .loop-test .taken)))
 
--- src/lib.rt:119:5
 put-row-requires-2 : tie.Need-put-row-requires-2 Inv-loop μ-loop
 put-row-requires-2 c κs = let a = c .before .before .before .before .before .before .before .before .before .before .before .args in let l = c .before .before .before .before .before .loop in laying-places (a .start) (now (a .part)) (a .chunk) (a .layer) (a .size) (a .at) (now (a .slots)) (now (a .chunks)) (now (a .layers)) (now (a .bytes)) (c .before .before .before .before .before .before .before .before .before .before .before .pre .0) (l .slots) (l .chunks) (l .layers) (l .bytes) (l .t) (l .c) (l .n) (l .left) (l .inv)
 
--- src/lib.rt:121:9
 add-n : tie.Need-add-n Inv-loop μ-loop
 add-n c = let l = c .before .before .before .before .before .before .before .before .before .before .before .before .before .before .loop in omega (arith, l .inv .putting .goes .rows, l .inv .putting .goes .later, c .before .before .before .before .before .before .before .before .before .before .before .before .before .before .before .before .before .before .before .before .pre .0 .count)
 
--- src/lib.rt:88:1
 same-length : tie.Need-same-length Inv-loop μ-loop
 same-length c = let a = c .before .before .before .before .before .before .before .before .before .before .before .before .before .before .before .before .before .before .before .before .args in let l = c .before .before .before .before .before .before .before .before .before .before .before .before .before .before .loop in rw (c .before .before .before .before .before .before .before .before .put-row2 .ensures .0) (simp length-set (laying-long (a .start) (now (a .part)) (a .chunk) (a .layer) (a .size) (a .at) (now (a .slots)) (now (a .chunks)) (now (a .layers)) (now (a .bytes)) (c .before .before .before .before .before .before .before .before .before .before .before .before .before .before .before .before .before .before .before .before .pre .0) (l .slots) (l .chunks) (l .layers) (l .bytes) (l .t) (l .c) (l .n) (l .left) (l .inv) .s))
 
--- src/lib.rt:88:1
 same-length-2 : tie.Need-same-length-2 Inv-loop μ-loop
 same-length-2 c = let a = c .before .before .before .before .before .before .before .before .before .before .before .before .before .before .before .before .before .before .before .before .args in let l = c .before .before .before .before .before .before .before .before .before .before .before .before .before .before .loop in rw (c .before .before .before .before .before .before .before .before .put-row2 .ensures .1) (simp length-set (laying-long (a .start) (now (a .part)) (a .chunk) (a .layer) (a .size) (a .at) (now (a .slots)) (now (a .chunks)) (now (a .layers)) (now (a .bytes)) (c .before .before .before .before .before .before .before .before .before .before .before .before .before .before .before .before .before .before .before .before .pre .0) (l .slots) (l .chunks) (l .layers) (l .bytes) (l .t) (l .c) (l .n) (l .left) (l .inv) .c))
 
--- src/lib.rt:88:1
 same-length-3 : tie.Need-same-length-3 Inv-loop μ-loop
 same-length-3 c = let a = c .before .before .before .before .before .before .before .before .before .before .before .before .before .before .before .before .before .before .before .before .args in let l = c .before .before .before .before .before .before .before .before .before .before .before .before .before .before .loop in rw (c .before .before .before .before .before .before .before .before .put-row2 .ensures .2) (simp length-set (laying-long (a .start) (now (a .part)) (a .chunk) (a .layer) (a .size) (a .at) (now (a .slots)) (now (a .chunks)) (now (a .layers)) (now (a .bytes)) (c .before .before .before .before .before .before .before .before .before .before .before .before .before .before .before .before .before .before .before .before .pre .0) (l .slots) (l .chunks) (l .layers) (l .bytes) (l .t) (l .c) (l .n) (l .left) (l .inv) .l))
 
--- src/lib.rt:88:1
 same-length-4 : tie.Need-same-length-4 Inv-loop μ-loop
 same-length-4 c = let a = c .before .before .before .before .before .before .before .before .before .before .before .before .before .before .before .before .before .before .before .before .args in let l = c .before .before .before .before .before .before .before .before .before .before .before .before .before .before .loop in rw (c .before .before .before .before .before .before .before .before .put-row2 .ensures .3) (simp length-set (laying-long (a .start) (now (a .part)) (a .chunk) (a .layer) (a .size) (a .at) (now (a .slots)) (now (a .chunks)) (now (a .layers)) (now (a .bytes)) (c .before .before .before .before .before .before .before .before .before .before .before .before .before .before .before .before .before .before .before .before .pre .0) (l .slots) (l .chunks) (l .layers) (l .bytes) (l .t) (l .c) (l .n) (l .left) (l .inv) .b))
 
--- src/lib.rt:88:1
 returns : tie.Need-returns Inv-loop μ-loop
 returns c =
     let a = c .before .before .before .before .before .before .before .before .before .before .before .before .before .before .before .before .before .before .before .before .args in
