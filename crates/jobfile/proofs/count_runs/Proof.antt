@@ -1,7 +1,6 @@
+-- The runs that end before the place are counted. Assumes nothing.
 use Rattle.jobfile.proofs.count_runs.Statement.{statement}
 use Rattle.jobfile.proofs.count_runs.Tie as tie
-use Rattle.jobfile.proofs.count_runs.Reads as reads
-use Rattle.jobfile.proofs.count_runs.Lts as lts
 use Prim.Native.Nat.{_+_, _-_, _≤_}
 use native.Mathlib.Omega.{arith}
 use mathlib.Core.Path.{_≡_}
@@ -17,59 +16,45 @@ Inv-loop forecast last n₀ i₀ n i = (last + 1 ≡ length forecast) × (i ≤ 
 abbrev μ-loop : tie.MeasureT-loop
 μ-loop forecast last n₀ i₀ n i = last - i
 
--- src/lib.rt:169:9
 returns : tie.Need-returns Inv-loop μ-loop
 returns c = omega (arith, few-runs (now (c .before .args .forecast)), c .if1 .taken)
 
--- src/lib.rt:171:16
 sub-last : tie.Need-sub-last Inv-loop μ-loop
 sub-last c = omega (arith, c .if1 .left)
 
--- src/lib.rt:174:5
 loop-holds : tie.Need-loop-holds Inv-loop μ-loop
 loop-holds c = (omega (arith, c .if1 .left), omega arith, omega arith, omega arith)
 
--- src/lib.rt:175:17
 mul-x : tie.Need-mul-x Inv-loop μ-loop
 mul-x c = omega arith
 
--- src/lib.rt:175:17
 shared-slice-read-x : tie.Need-shared-slice-read-x Inv-loop μ-loop
 shared-slice-read-x c = omega arith
 
--- src/lib.rt:176:9
 add-i : tie.Need-add-i Inv-loop μ-loop
 add-i c = omega arith
 
--- src/lib.rt:177:12
 mul-if2 : tie.Need-mul-if2 Inv-loop μ-loop
 mul-if2 c = omega arith
 
--- src/lib.rt:177:12
 shared-slice-read-if2 : tie.Need-shared-slice-read-if2 Inv-loop μ-loop
 shared-slice-read-if2 c = omega arith
 
--- src/lib.rt:178:13
 add-n : tie.Need-add-n Inv-loop μ-loop
 add-n c = omega arith
 
--- src/lib.rt:174:5
 loop-less : tie.Need-loop-less Inv-loop μ-loop
 loop-less c = omega arith
 
--- src/lib.rt:174:5
 loop-again : tie.Need-loop-again Inv-loop μ-loop
 loop-again c = (c .before .before .before .before .loop .inv .0, omega arith, omega arith, omega (arith, c .before .before .before .before .loop .inv .3, count-other (now (c .before .before .before .before .before .before .args .forecast)) (c .before .before .before .before .loop .i) (omega arith) (c .if2 .taken)))
 
--- src/lib.rt:174:5
 loop-less-2 : tie.Need-loop-less-2 Inv-loop μ-loop
 loop-less-2 c = omega arith
 
--- src/lib.rt:174:5
 loop-again-2 : tie.Need-loop-again-2 Inv-loop μ-loop
 loop-again-2 c = (c .before .before .before .before .loop .inv .0, omega arith, omega arith, omega (arith, c .before .before .before .before .loop .inv .3, count-same (now (c .before .before .before .before .before .before .args .forecast)) (c .before .before .before .before .loop .i) (omega arith) (c .if2 .left)))
 
--- src/lib.rt:165:1
 returns-2 : tie.Need-returns-2 Inv-loop μ-loop
 returns-2 c = omega (arith, c .before .loop .inv .3, count-last (now (c .before .before .before .args .forecast)) (c .before .loop .i) (omega arith))
 

@@ -1,14 +1,12 @@
+-- The FTs taken so far stand whole one after the other (`FtsRead`). Assumes nothing.
 use Rattle.planfile.proofs.count_fts.Statement.{statement}
 use Rattle.planfile.proofs.count_fts.Tie as tie
-use Rattle.planfile.proofs.count_fts.Reads as reads
-use Rattle.planfile.proofs.count_fts.Lts as lts
-use Rattle.planfile.proofs.is_ft.Reads as is-ft-reads
 use Prim.Native.Nat.{_-_}
 use native.Mathlib.Omega.{arith}
 use lib.ListN.{length}
 use denote.Ref.{now}
 use Rattle.theory_basics.specs.lemmas.Tests.{true-T}
-use Rattle.planfile.specs.lemmas.Scan.{FtsRead, fts-start, fts-more, fts-end}
+use Rattle.planfile.specs.lemmas.Scan.{ft-inside, FtsRead, fts-start, fts-more, fts-end}
 use Rattle.planfile.proofs.Front.{known}
 
 abbrev Inv-loop : tie.InvT-loop
@@ -17,31 +15,24 @@ Inv-loop file from rows₀ at₀ rows at = FtsRead file from rows at
 abbrev μ-loop : tie.MeasureT-loop
 μ-loop file from rows₀ at₀ rows at = length file - at
 
--- src/lib.rt:96:5
 loop-holds : tie.Need-loop-holds Inv-loop μ-loop
 loop-holds c = let a = c .before .args in fts-start (now (a .file)) (a .from) (c .before .pre)
 
--- src/lib.rt:96:11
 is-ft-requires : tie.Need-is-ft-requires Inv-loop μ-loop
 is-ft-requires c κs = c .loop .inv .inside
 
--- src/lib.rt:97:9
 add-rows : tie.Need-add-rows Inv-loop μ-loop
 add-rows c = omega (arith, c .before .before .loop .inv .place, c .before .before .loop .inv .inside)
 
--- src/lib.rt:98:9
 add-at : tie.Need-add-at Inv-loop μ-loop
-add-at c = let a = c .before .before .before .before .args in omega (arith, fts-more (now (a .file)) (a .from) (c .before .before .loop .rows) (c .before .before .loop .at) (c .before .before .loop .inv) (true-T _ (known (c .before .is-ft .ensures) (c .if1 .taken))) .inside)
+add-at c = omega (arith, ft-inside (now (c .before .before .before .before .args .file)) (c .before .before .loop .at) (c .before .before .loop .inv .inside) (true-T _ (known (c .before .is-ft .ensures) (c .if1 .taken))))
 
--- src/lib.rt:96:5
 loop-less : tie.Need-loop-less Inv-loop μ-loop
-loop-less c = let a = c .before .before .before .before .args in omega (arith, fts-more (now (a .file)) (a .from) (c .before .before .loop .rows) (c .before .before .loop .at) (c .before .before .loop .inv) (true-T _ (known (c .before .is-ft .ensures) (c .if1 .taken))) .inside)
+loop-less c = omega (arith, ft-inside (now (c .before .before .before .before .args .file)) (c .before .before .loop .at) (c .before .before .loop .inv .inside) (true-T _ (known (c .before .is-ft .ensures) (c .if1 .taken))))
 
--- src/lib.rt:96:5
 loop-again : tie.Need-loop-again Inv-loop μ-loop
 loop-again c = let a = c .before .before .before .before .args in fts-more (now (a .file)) (a .from) (c .before .before .loop .rows) (c .before .before .loop .at) (c .before .before .loop .inv) (true-T _ (known (c .before .is-ft .ensures) (c .if1 .taken)))
 
--- src/lib.rt:90:1
 returns : tie.Need-returns Inv-loop μ-loop
 returns c = let a = c .before .before .before .before .args in fts-end (now (a .file)) (a .from) (c .before .before .loop .rows) (c .before .before .loop .at) (c .before .before .loop .inv) (known (c .before .is-ft .ensures) (c .if1 .left))
 

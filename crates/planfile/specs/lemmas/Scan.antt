@@ -58,6 +58,17 @@ kpStands file at chunk = leb 5 (length (drop at file)) && (marked kp (drop at fi
 abbrev pub ftStands : List ℕ → ℕ → Bool
 ftStands file at = leb 11 (length (drop at file)) && marked ft (drop at file)
 
+-- Where they stand, the file goes on to their end.
+pub kp-inside : (file : List ℕ) (at chunk : ℕ) → at ≤ length file → T (kpStands file at chunk) → at + 5 ≤ length file
+kp-inside file at chunk l t =
+    let s = drop at file in
+    omega (arith, leb→le 5 (length s) (and-T (leb 5 (length s)) (marked kp s && eqb (hAt s 2) chunk) t .0), length-drop at file)
+
+pub ft-inside : (file : List ℕ) (at : ℕ) → at ≤ length file → T (ftStands file at) → at + 11 ≤ length file
+ft-inside file at l t =
+    let s = drop at file in
+    omega (arith, leb→le 11 (length s) (and-T (leb 11 (length s)) (marked ft s) t .0), length-drop at file)
+
 -- No mark FT is a mark KP.
 not-kp : (s : List ℕ) → T (marked ft s) → marked kp s ≡ false
 not-kp s t =
@@ -208,10 +219,9 @@ fts-start file from l = record { place = omega arith; inside = l; scanned = λ c
 
 pub fts-more : (file : List ℕ) (from rows at : ℕ) → FtsRead file from rows at → T (ftStands file at) → FtsRead file from (rows + 1) (at + 11)
 fts-more file from rows at i t =
-    let long = leb→le 11 (length (drop at file)) (and-T (leb 11 (length (drop at file))) (marked ft (drop at file)) t .0) in
     record {
       place = omega (arith, i .place);
-      inside = omega (arith, long, length-drop at file, i .inside);
+      inside = ft-inside file at (i .inside) t;
       scanned = λ count kept s. ft-next count file at kept rows (i .scanned count kept s) t;
     }
 
