@@ -1,4 +1,3 @@
 mod Front
-mod Steps
 mod Reader
 mod Writer

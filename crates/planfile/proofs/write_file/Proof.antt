@@ -49,7 +49,7 @@ returns-3 c =
 returns-4 : tie.Need-returns-4
 returns-4 c =
     let a = c .before .before .before .before .before .before .before .before .before .before .before .args in
-    short (a .count) (slicesOf (now (a .marks)) (now (a .slots)) (now (a .chunks)) (now (a .layers)) (now (a .bytes))) (now (a .out)) (c .before .before .before .before .list-refusal .result) (c .before .before .before .before .list-refusal .ensures) (c .before .before .before .if1 .left) (c .before .if3 .left) (c .if4 .taken)
+    short (a .count) (slicesOf (now (a .marks)) (now (a .slots)) (now (a .chunks)) (now (a .layers)) (now (a .bytes))) (now (a .out)) (c .before .before .before .before .list-refusal .result) (c .before .before .before .before .list-refusal .ensures) (c .before .before .before .if1 .left) (c .before .if3 .left) (omega (arith, c .if4 .taken))
 
 put-kps-requires : tie.Need-put-kps-requires
 put-kps-requires c κs = (omega (arith, c .before .if4 .left), omega (arith, c .before .before .if3 .left))
