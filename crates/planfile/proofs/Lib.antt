@@ -1,3 +1,4 @@
+mod Ends
 mod Front
 mod Reader
 mod Writer

@@ -1,15 +1,17 @@
 -- Meaning. One record of a plan file: document 01, "KP chunk h, marks b, for chunk 1 to C; then FT
 -- slot h, chunk h, layer b, bytes w; EN" and "Each record is taken only if its mark and its whole
 -- body are there".
-use Prim.Native.Nat.{ℕ}
+use Prim.Native.Nat.{ℕ, _+_}
 use mathlib.Core.Bool.{Bool, true, false, cond}
 use mathlib.Core.List.{List, [], _∷_, _++_}
-use lib.ListN.{length, getD}
+use lib.ListN.{length, getD, drop}
 use lib.Dec.{leb}
 use Rattle.records.specs.Fields.{h, w, hAt, wAt, marked}
 use Rattle.records.specs.File.{Front, got, none}
 use Rattle.planfile.specs.declared.Record.{Record}
 use Rattle.planfile.specs.declared.Record.the-variants.{Kp, Ft, En}
+use Rattle.planfile.specs.declared.Read.{Read}
+use Rattle.planfile.specs.declared.Read.the-variants.{Got, Refused}
 
 -- The marks KP, FT and EN in ASCII.
 abbrev pub kp : List ℕ
@@ -46,3 +48,12 @@ abbrev pub isEnd : Record → Bool
 isEnd (Kp chunk marks) = false
 isEnd (Ft slot chunk layer bytes) = false
 isEnd En = true
+
+-- The same as the record reader's answer: at a place, a record with the place after it, or a
+-- refusal.
+abbrev pub readOf : ℕ → Front Record → Read
+readOf at (got r n) = Got r (at + n)
+readOf at (none n) = Refused n
+
+abbrev pub readAt : List ℕ → ℕ → Read
+readAt s at = readOf at (front (drop at s))

@@ -1,9 +1,9 @@
 // Plan files: the marks of every chunk and the rows of a fetch list, read and written.
 ghost use mathlib.Core.Path.{_≡_};
-ghost use mathlib.Core.Bool.{false, _&&_};
+ghost use mathlib.Core.Bool.{_&&_};
 ghost use mathlib.Core.List.{map};
 ghost use Prim.Native.Nat.{_+_, _*_, _≤_, _<_};
-ghost use lib.ListN.{length, drop};
+ghost use lib.ListN.{length};
 ghost use lib.Dec.{leb};
 ghost use Rattle.job.specs.Input.{jobInput};
 ghost use Rattle.records.specs.File.{fileRefusal};
@@ -11,11 +11,11 @@ ghost use Rattle.theory_basics.specs.Lent.{lentAfter};
 ghost use Rattle.records.specs.Fields.{written};
 ghost use Rattle.fetch.specs.Rows.{rowsOf};
 ghost use Rattle.fetch.specs.Slices.{slicesOf};
-ghost use Rattle.planfile.specs.Records.{encode};
+ghost use Rattle.planfile.specs.Records.{encode, readAt};
 ghost use Rattle.planfile.specs.PlanFile.{format, kps, ftOf, fileOf};
 ghost use Rattle.planfile.specs.Calls.{PlanReadPromise, PlanWritePromise, planOf, writeRest, writtenBy};
 ghost use Rattle.planfile.specs.lemmas.Writing.{planRecordsBytes};
-ghost use Rattle.planfile.specs.lemmas.Scan.{kpStands, ftStands, endOf};
+ghost use Rattle.planfile.specs.lemmas.Scan.{kpStands, ftStands, refusalOf, endOf};
 ghost use Rattle.planfile.specs.lemmas.Scan.{KpsTaken, FtsTaken, FileRowsPost, markOn, rowOn, filled};
 use job::Programme;
 use records::FILE_BYTES;
@@ -36,10 +36,70 @@ pub enum Record {
     En,
 }
 
+// A record with the place after it, or its refusal.
+pub enum Read {
+    Got(Record, usize),
+    Refused(u8),
+}
+
 // The number of rows read, or the refusal.
 pub enum PlanRead {
     Rows(usize),
     Refused(u8),
+}
+
+// The record at a place: 1 where the file ends before its mark or within it, 2 for an unknown mark.
+fn record_at(file: &[u8], at: usize) -> Read
+    ensures { λ r. ⌜ r ≡ readAt (now (file .entry)) at ⌝ }
+{
+    if file.len() < at {
+        return Read::Refused(1);
+    }
+    let rest = &file[at..];
+    let left = rest.len();
+    if left < 2 {
+        return Read::Refused(1);
+    }
+    if records::is_mark(rest, 0, b"KP") {
+        if left < 5 {
+            return Read::Refused(1);
+        }
+        let chunk = records::h_at(rest, 2);
+        let marks = records::byte_at(rest, 4);
+        return Read::Got(Record::Kp { chunk, marks }, at + 5);
+    }
+    if records::is_mark(rest, 0, b"FT") {
+        if left < 11 {
+            return Read::Refused(1);
+        }
+        let slot = records::h_at(rest, 2);
+        let chunk = records::h_at(rest, 4);
+        let layer = records::byte_at(rest, 6);
+        let bytes = records::w_at(rest, 7);
+        return Read::Got(
+            Record::Ft {
+                slot,
+                chunk,
+                layer,
+                bytes,
+            },
+            at + 11,
+        );
+    }
+    if records::is_mark(rest, 0, b"EN") {
+        return Read::Got(Record::En, at + 2);
+    }
+    Read::Refused(2)
+}
+
+// The refusal of a record that was not read, 0 for one that was.
+fn refusal_of(read: Read) -> u8
+    ensures { λ r. ⌜ r ≡ refusalOf read ⌝ }
+{
+    match read {
+        Read::Refused(n) => n,
+        Read::Got(_, _) => 0,
+    }
 }
 
 // Whether a KP for a chunk stands whole at a place.
@@ -101,26 +161,27 @@ fn count_fts(file: &[u8], from: usize) -> usize
 }
 
 // The refusal where the KPs in turn and the FTs end, 0 for an EN that ends the file. A KP there is
-// out of turn, and an FT isn't whole.
+// out of turn, and no FT stands there.
 fn end_refusal(count: usize, kept: usize, file: &[u8], at: usize) -> u8
-    requires { ⌜ (at ≤ length (now file)) × (ftStands (now file) at ≡ false) ⌝ }
-    ensures { λ r. ⌜ r ≡ endOf count kept (drop at (now (file .entry))) ⌝ }
+    ensures { λ r. ⌜ r ≡ endOf count kept (length (now (file .entry))) (readAt (now (file .entry)) at) ⌝ }
 {
-    let left = file.len() - at;
-    if left < 2 {
-        return 1;
+    let read = record_at(file, at);
+    let Read::Got(record, next) = read else {
+        return refusal_of(read);
+    };
+    match record {
+        Record::Kp { chunk: _, marks: _ } => 8,
+        Record::Ft {
+            slot: _,
+            chunk: _,
+            layer: _,
+            bytes: _,
+        } => 1,
+        Record::En => {
+            let over = job::refuse_unless(3, file.len() == next);
+            job::or_else(over, job::refuse_unless(8, kept == count))
+        }
     }
-    if records::is_mark(file, at, b"KP") {
-        return job::or_else(job::refuse_unless(1, 5 <= left), 8);
-    }
-    if records::is_mark(file, at, b"FT") {
-        return 1;
-    }
-    if records::is_mark(file, at, b"EN") {
-        let over = job::refuse_unless(3, left == 2);
-        return job::or_else(over, job::refuse_unless(8, kept == count));
-    }
-    2
 }
 
 // The rows of a file, or its refusal: 9 first, then record by record.

@@ -4,13 +4,13 @@ use Rattle.planfile.proofs.is_ft.Statement.{statement}
 use Rattle.planfile.proofs.is_ft.Tie as tie
 use native.Mathlib.Omega.{arith}
 use denote.Ref.{now}
-use Rattle.planfile.proofs.Front.{ft-cut, ft-whole}
+use Rattle.planfile.proofs.Front.{ft-short, ft-whole}
 
 sub-if1 : tie.Need-sub-if1
 sub-if1 c = search needs
 
 returns : tie.Need-returns
-returns c = ft-cut (now (c .before .before .args .file)) (c .before .before .args .at) (omega arith)
+returns c = ft-short (now (c .before .before .args .file)) (c .before .before .args .at) (omega arith)
 
 is-mark-requires : tie.Need-is-mark-requires
 is-mark-requires c κs = search needs

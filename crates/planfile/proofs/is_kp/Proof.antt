@@ -3,13 +3,13 @@ use borrow.Author.Needs.{needs}
 use Rattle.planfile.proofs.is_kp.Statement.{statement}
 use Rattle.planfile.proofs.is_kp.Tie as tie
 use denote.Ref.{now}
-use Rattle.planfile.proofs.Front.{known, kp-cut, kp-marked, kp-unmarked}
+use Rattle.planfile.proofs.Front.{known, kp-short, kp-marked, kp-unmarked}
 
 sub-if1 : tie.Need-sub-if1
 sub-if1 c = search needs
 
 returns : tie.Need-returns
-returns c = let a = c .before .before .args in kp-cut (now (a .file)) (a .at) (a .chunk) (c .if1 .taken)
+returns c = let a = c .before .before .args in kp-short (now (a .file)) (a .at) (a .chunk) (c .if1 .taken)
 
 is-mark-requires : tie.Need-is-mark-requires
 is-mark-requires c κs = search needs

@@ -20,10 +20,12 @@ use Rattle.records.specs.File.{Front, got, none, recordsRefusal, fileRefusal}
 use Rattle.records.specs.lemmas.Places.{byte-on, h-on, w-on}
 use Rattle.records.specs.lemmas.Reading.{Reads, reads-start, reads-none, reads-fault, reads-more, reads-end}
 use Rattle.fetch.specs.Rows.{Row}
-use Rattle.planfile.specs.Records.{kp, ft, en, front}
+use Rattle.planfile.specs.Records.{kp, ft, en, front, readOf, readAt}
 use Rattle.planfile.specs.PlanFile.{marksIn, rowsIn, fault, format, planIn}
 use Rattle.planfile.specs.declared.Record.{Record}
 use Rattle.planfile.specs.declared.Record.the-variants.{Kp, Ft, En}
+use Rattle.planfile.specs.declared.Read.{Read}
+use Rattle.planfile.specs.declared.Read.the-variants as read
 use Rattle.planfile.specs.declared.PlanRead.{PlanRead}
 use Rattle.planfile.specs.declared.PlanRead.the-variants.{Rows, Refused}
 
@@ -89,15 +91,18 @@ ft-front s l m = rw (le-leb 2 (length s) (omega arith), not-kp s m, T-true (mark
 abbrev pub answerOf : ℕ → ℕ → PlanRead
 answerOf refused rows = cond (eqb refused 0) (Rows rows) (Refused refused)
 
--- The refusal where the KPs in turn and the FTs end, by what stands there; 0 for EN.
-abbrev pub stopOf : ℕ → ℕ → ℕ → Front Record → ℕ
-stopOf count kept left (none n) = n
-stopOf count kept left (got (Kp chunk marks) n) = 8
-stopOf count kept left (got (Ft slot chunk layer bytes) n) = 1
-stopOf count kept left (got En n) = unless 3 (eqb left n) orElse unless 8 (eqb kept count)
+-- The refusal, or 0 for a record.
+abbrev pub refusalOf : Read → ℕ
+refusalOf (read.Got r n) = 0
+refusalOf (read.Refused n) = n
 
-abbrev pub endOf : ℕ → ℕ → List ℕ → ℕ
-endOf count kept s = stopOf count kept (length s) (front s)
+-- The refusal where the KPs in turn and the FTs end, by what is read there, in a file of so many
+-- bytes; 0 for EN.
+abbrev pub endOf : ℕ → ℕ → ℕ → Read → ℕ
+endOf count kept size (read.Refused n) = n
+endOf count kept size (read.Got (Kp chunk marks) next) = 8
+endOf count kept size (read.Got (Ft slot chunk layer bytes) next) = 1
+endOf count kept size (read.Got En next) = unless 3 (eqb size next) orElse unless 8 (eqb kept count)
 
 -- ---- where the records of an accepted file stand
 
@@ -251,7 +256,7 @@ module _ (count : ℕ) (file : List ℕ) (kept : ℕ) (k : KpsTaken count file k
   i = f .read .scanned count kept (k .scanned)
 
   abbrev Ends : Front Record → Type 0
-  Ends x = FileRowsPost count file (recordsRefusal (format count) file) (answerOf (stopOf count kept (length s) x) rows)
+  Ends x = FileRowsPost count file (recordsRefusal (format count) file) (answerOf (endOf count kept (length file) (readOf end x)) rows)
 
   -- A KP here is for another chunk, or for one above C, or it is after an FT.
   late : (chunk : ℕ) → 5 ≤ length s → T (marked kp s) → chunk ≡ hAt s 2 → T (eqb chunk (kept + 1) && (leb chunk count && eqb rows 0)) → ⊥
@@ -267,12 +272,12 @@ module _ (count : ℕ) (file : List ℕ) (kept : ℕ) (k : KpsTaken count file k
   unfolding planIn
   en-end n e l =
       let d = reads-end (format count) file end (i .before) (i .reads) En n e refl in
-      let left : eqb (length s - n) 0 ≡ eqb (length s) n = same-test (eqb (length s - n) 0) (eqb (length s) n) (λ t. eqb-iff (length s) n .1 (omega (arith, eqb→eq (length s - n) 0 t))) (λ t. eqb-iff (length s - n) 0 .1 (omega (arith, eqb→eq (length s) n t))) in
-      let whole : recordsRefusal (format count) file ≡ unless 3 (eqb (length s) n) orElse unless 8 (eqb kept count) = d .refusal-is ∙ rw (left, ← i .kept-is) in
+      let left : eqb (length s - n) 0 ≡ eqb (length file) (end + n) = same-test (eqb (length s - n) 0) (eqb (length file) (end + n)) (λ t. eqb-iff (length file) (end + n) .1 (omega (arith, eqb→eq (length s - n) 0 t, length-drop end file, i .reads .inside))) (λ t. eqb-iff (length s - n) 0 .1 (omega (arith, eqb→eq (length file) (end + n) t, length-drop end file))) in
+      let whole : recordsRefusal (format count) file ≡ unless 3 (eqb (length file) (end + n)) orElse unless 8 (eqb kept count) = d .refusal-is ∙ rw (left, ← i .kept-is) in
       record {
         answer = rw (whole, d .records-are, ← i .rows-is);
         laid = λ z.
-            let c : kept ≡ count = eqb→eq kept count (unless-iff 8 (eqb kept count) (omega arith) .0 (orElse-iff (unless 3 (eqb (length s) n)) (unless 8 (eqb kept count)) .0 (sym whole ∙ z) .1)) in
+            let c : kept ≡ count = eqb→eq kept count (unless-iff 8 (eqb kept count) (omega arith) .0 (orElse-iff (unless 3 (eqb (length file) (end + n))) (unless 8 (eqb kept count)) .0 (sym whole ∙ z) .1)) in
             record {
               marks-are = ap marksIn (d .records-are) ∙ i .marks-are ∙ rw c;
               rows-are = ap rowsIn (d .records-are) ∙ i .rows-are ∙ rw (c, d .records-are, ← i .rows-is);
@@ -291,7 +296,7 @@ module _ (count : ℕ) (file : List ℕ) (kept : ℕ) (k : KpsTaken count file k
       absurd (subst T (f .last) (T-and (leb 11 (length s)) (marked ft s) (leb-iff 11 (length s) .1 (omega (arith, t .0, t .1))) (t .2)))
   by-front (got En n) e t = en-end n e (t .1)
 
-  pub file-end : FileRowsPost count file (recordsRefusal (format count) file) (answerOf (endOf count kept s) rows)
+  pub file-end : FileRowsPost count file (recordsRefusal (format count) file) (answerOf (endOf count kept (length file) (readAt file end)) rows)
   file-end = by-front (front s) refl (stands s)
 
 -- ---- 9 first
@@ -304,7 +309,7 @@ module _ (count : ℕ) (file : List ℕ) where
   abbrev Answers : PlanRead → Type 0
   Answers a = FileRowsPost count file (fileRefusal (format count) file) a
 
-  module _ (l : length file ≤ 65536) (kept : ℕ) (k : KpsTaken count file kept) (rows : ℕ) (f : FtsTaken file (5 * kept) rows) (r : ℕ) (e : r ≡ endOf count kept (drop (5 * kept + 11 * rows) file)) where
+  module _ (l : length file ≤ 65536) (kept : ℕ) (k : KpsTaken count file kept) (rows : ℕ) (f : FtsTaken file (5 * kept) rows) (r : ℕ) (e : r ≡ endOf count kept (length file) (readAt file (5 * kept + 11 * rows))) where
     answered : Answers (answerOf r rows)
     unfolding fileRefusal
     answered = rw (le-leb (length file) 65536 l, e) (file-end count file kept k rows f)
