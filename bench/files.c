@@ -22,7 +22,6 @@ static inline uint32_t get_w(const uint8_t *at)
 
 static inline void put_h(uint8_t *at, uint16_t x) { memcpy(at, &x, 2); }
 static inline void put_w(uint8_t *at, uint32_t x) { memcpy(at, &x, 4); }
-static inline void put_8(uint8_t *at, uint64_t x) { memcpy(at, &x, 8); }
 
 uint64_t plain_read_job(const uint8_t *file, size_t file_len, uint16_t *programme, size_t programme_len, uint64_t *lengths,
     size_t lengths_len, uint32_t *sizes, size_t sizes_len, uint16_t *size_chunks, size_t size_chunks_len,
@@ -36,7 +35,7 @@ uint64_t plain_read_job(const uint8_t *file, size_t file_len, uint16_t *programm
     size_t layers = 0, szs = 0, slots = 0;
     // The last mark's place in the sequence; the last run's bytes, or more than a run can have.
     int place = 0, uneven = 0;
-    uint32_t last = 0;
+    uint32_t last = CHUNK_1;
     uint64_t run = ~(uint64_t)0;
     const uint8_t *at = file, *end = file + file_len;
     for (;;) {
@@ -44,30 +43,34 @@ uint64_t plain_read_job(const uint8_t *file, size_t file_len, uint16_t *programm
         uint32_t mark = get_h(at);
         if (mark == BW) {
             if (end - at < 8) return refuse(1);
-            size_t count = get_h(at + 2);
-            uint32_t bytes = get_w(at + 4);
-            if (place == 0 || bytes == run) return refuse(17);
-            if (count - 1 >= FILM_SLOTS - slots || bytes > MOST_BYTES) return refuse(7);
-            do slot[slots++] = bytes;
-            while (--count);
-            run = bytes;
+            if (place == 0) return refuse(17);
             place = 4;
-            at += 8;
+            do {
+                size_t count = get_h(at + 2);
+                uint32_t bytes = get_w(at + 4);
+                if (bytes == run) return refuse(17);
+                if (count - 1 >= FILM_SLOTS - slots || bytes > MOST_BYTES) return refuse(7);
+                slot[slots] = bytes;
+                for (size_t k = 1; k < count; k++) slot[slots + k] = bytes;
+                slots += count;
+                run = bytes;
+                at += 8;
+            } while (end - at >= 8 && get_h(at) == BW);
         } else if (mark == SZ) {
             if (end - at < 9) return refuse(1);
             if (place == 0 || place > 3) return refuse(17);
-            uint32_t i = get_h(at + 2), n = at[4], bytes = get_w(at + 5);
-            // Rising and in range, there are at most as many as the tables hold.
-            if (uneven || bad_sz(i, n, bytes, last, p[0], size, layers)) {
-                uneven = 1;
-            } else {
+            place = 3;
+            do {
+                uint32_t i = get_h(at + 2), n = at[4], bytes = get_w(at + 5);
+                at += 9;
+                // Rising and in range, there are at most as many as the tables hold.
+                uneven |= bad_sz(i, n, bytes, last, p[0], size, layers);
+                if (uneven) break;
                 sz_chunk[szs] = i;
                 sz_layer[szs] = n;
                 sz_bytes[szs++] = bytes;
                 last = i * 4 + n;
-            }
-            place = 3;
-            at += 9;
+            } while (end - at >= 9 && get_h(at) == SZ);
         } else if (mark == LY) {
             if (end - at < 6) return refuse(1);
             if (place == 0 || place > 2) return refuse(17);
@@ -117,7 +120,10 @@ uint64_t plain_write_job(JOB_PARAMETERS, uint8_t *out, size_t out_len)
     for (size_t t = 1; t < slots; t++) runs += forecast[t] != forecast[t - 1];
     size_t bytes = 12 + 6 * layers + 9 * size_chunks_len + 8 * runs;
     if (out_len < bytes) return refuse(11);
-    put_8(out, PG | (uint64_t)chunks << 16 | (uint64_t)span << 32 | (uint64_t)delay << 48);
+    put_h(out, PG);
+    put_h(out + 2, chunks);
+    put_h(out + 4, span);
+    put_h(out + 6, delay);
     put_h(out + 8, limit);
     out += 10;
     for (size_t n = 0; n < layers; n++, out += 6) {
@@ -125,15 +131,19 @@ uint64_t plain_write_job(JOB_PARAMETERS, uint8_t *out, size_t out_len)
         put_w(out + 2, sizes[n]);
     }
     for (size_t k = 0; k < size_chunks_len; k++, out += 9) {
-        put_w(out, SZ | (uint32_t)size_chunks[k] << 16);
+        put_h(out, SZ);
+        put_h(out + 2, size_chunks[k]);
         out[4] = size_layers[k];
         put_w(out + 5, size_bytes[k]);
     }
     for (size_t t = 0; t < slots; out += 8) {
-        uint64_t from = t, run = forecast[t];
+        size_t from = t;
+        uint32_t run = forecast[t];
         do t++;
         while (t < slots && forecast[t] == run);
-        put_8(out, BW | (t - from) << 16 | run << 32);
+        put_h(out, BW);
+        put_h(out + 2, t - from);
+        put_w(out + 4, run);
     }
     put_h(out, EN);
     return bytes;
@@ -154,8 +164,10 @@ uint64_t plain_read_plan(JOB_PARAMETERS, const uint8_t *file, size_t file_len, u
         uint32_t mark = get_h(at);
         if (mark == FT) {
             if (end - at < 11) return refuse(1);
-            rows++;
-            at += 11;
+            const uint8_t *from = at;
+            do at += 11;
+            while (end - at >= 11 && get_h(at) == FT);
+            rows += (at - from) / 11;
         } else if (mark == KP) {
             if (end - at < 5) return refuse(1);
             if (rows || kept == chunks || get_h(at + 2) != kept + 1) return refuse(8);
@@ -196,11 +208,15 @@ uint64_t plain_write_plan(JOB_PARAMETERS, const uint8_t *marks, size_t marks_len
     if (bytes > FILM_FILE) return refuse(9);
     if (out_len < bytes) return refuse(11);
     for (uint32_t i = 0; i < chunks; i++, out += 5) {
-        put_w(out, KP | (i + 1) << 16);
+        put_h(out, KP);
+        put_h(out + 2, i + 1);
         out[4] = marks[i];
     }
     for (size_t k = 0; k < rows; k++, out += 11) {
-        put_8(out, FT | (uint64_t)row_slots[k] << 16 | (uint64_t)row_chunks[k] << 32 | (uint64_t)row_layers[k] << 48);
+        put_h(out, FT);
+        put_h(out + 2, row_slots[k]);
+        put_h(out + 4, row_chunks[k]);
+        out[6] = row_layers[k];
         put_w(out + 7, row_bytes[k]);
     }
     put_h(out, EN);

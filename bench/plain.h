@@ -31,12 +31,13 @@ static inline int bad_programme(uint32_t chunks, uint32_t span, uint32_t delay)
     return chunks - 1 >= 500 || span - 1 >= 60 || delay - 1 >= 3600 || (chunks - 1) * span + delay > 3600;
 }
 
-// 18 of an SZ, after one whose chunk and layer are `last`.
+// 18 of an SZ, after one that stands in a table of four sizes a chunk at `last`; chunk 1's are those
+// up to 7, so that no SZ names it.
+enum { CHUNK_1 = 7 };
 static inline int bad_sz(
     uint32_t chunk, uint32_t layer, uint32_t bytes, uint32_t last, uint32_t chunks, const uint32_t *sizes, size_t layers)
 {
-    return chunk < 2 || chunk > chunks || layer >= layers || chunk * 4 + layer <= last || bytes - 1 >= MOST_BYTES ||
-           bytes == sizes[layer];
+    return layer >= layers || chunk > chunks || chunk * 4 + layer <= last || bytes - 1 >= MOST_BYTES || bytes == sizes[layer];
 }
 
 // 5, 6, 18, 7 of a job, or 0.
@@ -48,7 +49,7 @@ static inline uint32_t job_refusal(JOB_PARAMETERS)
     for (size_t n = 0; n < layers; n++)
         if (sizes[n] - 1 >= MOST_BYTES) return 6;
     if (size_layers_len != size_chunks_len || size_bytes_len != size_chunks_len) return 18;
-    uint32_t last = 0;
+    uint32_t last = CHUNK_1;
     for (size_t k = 0; k < size_chunks_len; k++) {
         uint32_t i = size_chunks[k], n = size_layers[k];
         if (bad_sz(i, n, size_bytes[k], last, chunks, sizes, layers)) return 18;
