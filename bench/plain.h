@@ -9,6 +9,7 @@ __typeof__(film_read_job) plain_read_job;
 __typeof__(film_write_job) plain_write_job;
 __typeof__(film_read_plan) plain_read_plan;
 __typeof__(film_write_plan) plain_write_plan;
+__typeof__(film_plan) plain_plan;
 
 enum { MOST_BYTES = 16777216 };
 
@@ -56,7 +57,10 @@ static inline uint32_t job_refusal(JOB_PARAMETERS)
         last = i * 4 + n;
     }
     if (slots != (size_t)(chunks - 1) * span + delay) return 7;
-    uint32_t above = 0;
-    for (size_t t = 0; t < slots; t++) above |= forecast[t] > MOST_BYTES;
-    return above ? 7 : 0;
+    uint32_t any = 0;
+    for (size_t t = 0; t < slots; t++) any |= forecast[t];
+    if (any < MOST_BYTES) return 0;
+    for (size_t t = 0; t < slots; t++)
+        if (forecast[t] > MOST_BYTES) return 7;
+    return 0;
 }

@@ -53,7 +53,8 @@ static size_t lent(size_t most) { return room < most ? room : most; }
         LENT(out.film.forecast, FILM_SLOTS)) \
     X(write_job, JOB, LENT(out.text, FILM_JOB_FILE)) \
     X(read_plan, JOB, in.plan_file, in.plan_len, out.plan.marks, FILM_MARKS, ROOM(FILM_FILE_ROWS)) \
-    X(write_plan, JOB, in.plan.marks, in.marks, LIST(in.plan.list.rows), LENT(out.text, FILM_FILE))
+    X(write_plan, JOB, in.plan.marks, in.marks, LIST(in.plan.list.rows), LENT(out.text, FILM_FILE)) \
+    X(plan, JOB, out.plan.marks, FILM_MARKS, ROOM(FILM_ROWS), out.plan.counts, FILM_COUNTS)
 
 #define RUN(name, ...) \
     static uint64_t proved_##name(void) { return film_##name(__VA_ARGS__); } \
@@ -101,10 +102,17 @@ static void equal(void) { largest(0, 1, 28); }
 static void uneven(void) { largest(FILM_SZS, 1, 28); }
 static void ten(void) { largest(0, 10, 28); }
 
+// On a lean link, with a limit that holds it all: request 9 settles the bases.
+static void most(void)
+{
+    largest(FILM_SZS, 1, 3500);
+    for (uint32_t t = 0; t < FILM_SLOTS; t++) in.film.forecast[t] /= 10;
+}
+
 static const struct film {
     const char *name;
     void (*make)(void);
-} films[] = {{"equal", equal}, {"uneven", uneven}, {"ten_a_run", ten}};
+} films[] = {{"equal", equal}, {"uneven", uneven}, {"ten_a_run", ten}, {"most", most}};
 
 // The film's plan and both files.
 static void make_files(void)
@@ -124,6 +132,7 @@ static const struct row {
     {"film_write_job", "equal"}, {"film_write_job", "ten_a_run"}, {"film_write_job", "uneven"},
     {"film_read_plan", "equal"}, {"film_read_plan", "uneven"},
     {"film_write_plan", "equal"}, {"film_write_plan", "uneven"},
+    {"film_plan", "equal"}, {"film_plan", "ten_a_run"}, {"film_plan", "uneven"}, {"film_plan", "most"},
 };
 enum { ROWS = sizeof rows / sizeof *rows };
 
