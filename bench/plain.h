@@ -10,6 +10,10 @@ __typeof__(film_write_job) plain_write_job;
 __typeof__(film_read_plan) plain_read_plan;
 __typeof__(film_write_plan) plain_write_plan;
 __typeof__(film_plan) plain_plan;
+__typeof__(film_check) plain_check;
+__typeof__(film_report) plain_report;
+__typeof__(film_reasons) plain_reasons;
+__typeof__(film_wait) plain_wait;
 
 enum { MOST_BYTES = 16777216 };
 
@@ -41,11 +45,11 @@ static inline int bad_sz(
     return layer >= layers || chunk > chunks || chunk * 4 + layer <= last || bytes - 1 >= MOST_BYTES || bytes == sizes[layer];
 }
 
-// 5, 6, 18, 7 of a job, or 0.
-static inline uint32_t job_refusal(JOB_PARAMETERS)
+// 6, 18 of a film of so many chunks, or 0.
+static inline uint32_t sizes_refusal(uint32_t chunks, const uint32_t *sizes, size_t layers, const uint16_t *size_chunks,
+    size_t size_chunks_len, const uint8_t *size_layers, size_t size_layers_len, const uint32_t *size_bytes,
+    size_t size_bytes_len)
 {
-    (void)limit;
-    if (bad_programme(chunks, span, delay)) return 5;
     if (layers - 1 >= 4) return 6;
     for (size_t n = 0; n < layers; n++)
         if (sizes[n] - 1 >= MOST_BYTES) return 6;
@@ -56,11 +60,39 @@ static inline uint32_t job_refusal(JOB_PARAMETERS)
         if (bad_sz(i, n, size_bytes[k], last, chunks, sizes, layers)) return 18;
         last = i * 4 + n;
     }
-    if (slots != (size_t)(chunks - 1) * span + delay) return 7;
+    return 0;
+}
+
+// Some slot has more bytes than there can be. Seldom has one just as many, and is looked for.
+static inline int bad_bytes(const uint32_t *forecast, size_t slots)
+{
     uint32_t any = 0;
     for (size_t t = 0; t < slots; t++) any |= forecast[t];
-    if (any < MOST_BYTES) return 0;
-    for (size_t t = 0; t < slots; t++)
-        if (forecast[t] > MOST_BYTES) return 7;
+    for (size_t t = 0; any >= MOST_BYTES && t < slots; t++)
+        if (forecast[t] > MOST_BYTES) return 1;
     return 0;
+}
+
+// 5, 6, 18, 7 of a job, or 0.
+static inline uint32_t job_refusal(JOB_PARAMETERS)
+{
+    (void)limit;
+    if (bad_programme(chunks, span, delay)) return 5;
+    uint32_t number = sizes_refusal(chunks, sizes, layers, size_chunks, size_chunks_len, size_layers, size_layers_len,
+        size_bytes, size_bytes_len);
+    if (number) return number;
+    return slots != (size_t)(chunks - 1) * span + delay || bad_bytes(forecast, slots) ? 7 : 0;
+}
+
+// The table of four sizes a chunk, of film that has SZs. Answers how far a chunk's sizes stand from
+// the next one's: 0, and no table, for film of equal chunks.
+static inline size_t set_sizes(JOB_PARAMETERS, uint32_t *table)
+{
+    (void)span, (void)delay, (void)limit, (void)size_layers_len, (void)size_bytes_len, (void)forecast, (void)slots;
+    uint32_t own[4] = {0};
+    if (!size_chunks_len) return 0;
+    memcpy(own, sizes, layers * sizeof *sizes);
+    for (size_t i = 0; i < chunks; i++) memcpy(table + 4 * i, own, sizeof own);
+    for (size_t k = 0; k < size_chunks_len; k++) table[4 * size_chunks[k] - 4 + size_layers[k]] = size_bytes[k];
+    return 4;
 }

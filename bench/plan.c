@@ -6,20 +6,6 @@
 static inline uint64_t more(uint64_t a, uint64_t b) { return a < b ? b : a; }
 static inline uint64_t less(uint64_t a, uint64_t b) { return a < b ? a : b; }
 
-static void set_sizes(JOB_PARAMETERS, struct settled *s)
-{
-    (void)span, (void)delay, (void)limit, (void)size_layers_len, (void)size_bytes_len, (void)forecast, (void)slots;
-    s->size = sizes;
-    s->stride = 0;
-    if (!size_chunks_len) return;
-    uint32_t own[4] = {0};
-    memcpy(own, sizes, layers * sizeof *sizes);
-    for (size_t i = 0; i < chunks; i++) memcpy(s->table + 4 * i, own, sizeof own);
-    for (size_t k = 0; k < size_chunks_len; k++) s->table[4 * size_chunks[k] - 4 + size_layers[k]] = size_bytes[k];
-    s->size = s->table;
-    s->stride = 4;
-}
-
 static void set_sums(uint32_t chunks, uint32_t span, uint32_t delay, const uint32_t *forecast, struct settled *s)
 {
     uint64_t sum = 0;
@@ -151,7 +137,8 @@ static uint32_t keep_layer(uint32_t n, struct settled *s)
 void settle(JOB_PARAMETERS, struct settled *s)
 {
     s->held = limit / span;
-    set_sizes(JOB_ARGUMENTS, s);
+    s->stride = set_sizes(JOB_ARGUMENTS, s->table);
+    s->size = s->stride ? s->table : sizes;
     set_sums(chunks, span, delay, forecast, s);
     s->most = s->held >= chunks && bases_vary(chunks, s);
     if (s->most)

@@ -54,7 +54,11 @@ static size_t lent(size_t most) { return room < most ? room : most; }
     X(write_job, JOB, LENT(out.text, FILM_JOB_FILE)) \
     X(read_plan, JOB, in.plan_file, in.plan_len, out.plan.marks, FILM_MARKS, ROOM(FILM_FILE_ROWS)) \
     X(write_plan, JOB, in.plan.marks, in.marks, LIST(in.plan.list.rows), LENT(out.text, FILM_FILE)) \
-    X(plan, JOB, out.plan.marks, FILM_MARKS, ROOM(FILM_ROWS), out.plan.counts, FILM_COUNTS)
+    X(plan, JOB, out.plan.marks, FILM_MARKS, ROOM(FILM_ROWS), out.plan.counts, FILM_COUNTS) \
+    X(check, JOB, in.plan.marks, in.marks, LIST(in.plan.list.rows)) \
+    X(report, JOB, LENT(out.text, FILM_REPORT)) \
+    X(reasons, JOB, LENT(out.text, FILM_REASONS)) \
+    X(wait, in.job.chunks, in.job.span, in.job.limit, SIZES)
 
 #define RUN(name, ...) \
     static uint64_t proved_##name(void) { return film_##name(__VA_ARGS__); } \
@@ -102,6 +106,47 @@ static void equal(void) { largest(0, 1, 28); }
 static void uneven(void) { largest(FILM_SZS, 1, 28); }
 static void ten(void) { largest(0, 10, 28); }
 
+// 500 chunks whose bases are carried and little else, on a link steady or varying below a bound.
+static void poor(uint16_t limit, uint32_t upper, uint32_t below, size_t szs)
+{
+    seed = 12345;
+    in.film.sizes[0] = 700;
+    for (int n = 1; n < 4; n++) in.film.sizes[n] = upper;
+    for (uint32_t t = 0; t < FILM_SLOTS; t++) {
+        uint32_t bytes = next(below);
+        in.film.forecast[t] = below ? bytes : 100;
+    }
+    for (uint32_t i = 0; i < szs; i++) {
+        in.film.size_chunks[i] = i + 2;
+        in.film.size_layers[i] = 0;
+        in.film.size_bytes[i] = 701 + next(2000);
+    }
+    in.job = (struct film_job){500, 7, 107, limit, in.film.sizes, 4, in.film.size_chunks, in.film.size_layers,
+        in.film.size_bytes, szs, in.film.forecast, FILM_SLOTS};
+}
+
+static void bases(void) { poor(65535, 1000000, 0, 0); }
+static void bases_held(void) { poor(700, 1000000, 0, 0); }
+static void dropped(void) { poor(65535, 300, 400, 499); }
+static void poor_link(void) { poor(35, 300, 400, 0); }
+
+// 500 chunks of one layer with H = 5 or 4, on a link steady or varying below a bound.
+static void to_wait(uint16_t span, uint16_t limit, uint32_t base, uint32_t steady, uint32_t below)
+{
+    seed = 12345;
+    in.film.sizes[0] = base;
+    for (uint32_t t = 0; t < FILM_SLOTS; t++) {
+        uint32_t bytes = next(below);
+        in.film.forecast[t] = below ? bytes : steady;
+    }
+    in.job = (struct film_job){500, span, 3600 - 499 * span, limit, in.film.sizes, 1, in.film.size_chunks,
+        in.film.size_layers, in.film.size_bytes, 0, in.film.forecast, FILM_SLOTS};
+}
+
+static void no_wait(void) { to_wait(1, 5, 100000, 98999, 0); }
+static void late_wait(void) { to_wait(1, 5, 2800, 0, 6000); }
+static void early_wait(void) { to_wait(7, 28, 9000, 0, 6000); }
+
 // On a lean link, with a limit that holds it all: request 9 settles the bases.
 static void most(void)
 {
@@ -112,7 +157,9 @@ static void most(void)
 static const struct film {
     const char *name;
     void (*make)(void);
-} films[] = {{"equal", equal}, {"uneven", uneven}, {"ten_a_run", ten}, {"most", most}};
+} films[] = {{"equal", equal}, {"uneven", uneven}, {"ten_a_run", ten}, {"most", most},
+    {"bases", bases}, {"bases_held", bases_held}, {"dropped", dropped}, {"poor_link", poor_link},
+    {"no_wait", no_wait}, {"late_wait", late_wait}, {"early_wait", early_wait}};
 
 // The film's plan and both files.
 static void make_files(void)
@@ -133,6 +180,10 @@ static const struct row {
     {"film_read_plan", "equal"}, {"film_read_plan", "uneven"},
     {"film_write_plan", "equal"}, {"film_write_plan", "uneven"},
     {"film_plan", "equal"}, {"film_plan", "ten_a_run"}, {"film_plan", "uneven"}, {"film_plan", "most"},
+    {"film_check", "equal"}, {"film_check", "uneven"},
+    {"film_report", "equal"}, {"film_report", "uneven"},
+    {"film_reasons", "bases"}, {"film_reasons", "bases_held"}, {"film_reasons", "dropped"}, {"film_reasons", "poor_link"},
+    {"film_wait", "no_wait"}, {"film_wait", "late_wait"}, {"film_wait", "early_wait"},
 };
 enum { ROWS = sizeof rows / sizeof *rows };
 
