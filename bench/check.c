@@ -2,8 +2,6 @@
 // the chunks and one over the slots.
 #include "plain.h"
 
-enum { CHUNKS = FILM_MARKS, NEVER = 65535 };
-
 uint64_t plain_check(JOB_PARAMETERS, const uint8_t *marks, size_t marks_len, const uint16_t *row_slots,
     size_t row_slots_len, const uint16_t *row_chunks, size_t row_chunks_len, const uint8_t *row_layers,
     size_t row_layers_len, const uint32_t *row_bytes, size_t row_bytes_len)

@@ -14,8 +14,13 @@ __typeof__(film_check) plain_check;
 __typeof__(film_report) plain_report;
 __typeof__(film_reasons) plain_reasons;
 __typeof__(film_wait) plain_wait;
+__typeof__(film_replan) plain_replan;
+__typeof__(film_live) plain_live;
+__typeof__(film_search) plain_search;
+__typeof__(film_read_trace) plain_read_trace;
+__typeof__(film_write_trace) plain_write_trace;
 
-enum { MOST_BYTES = 16777216 };
+enum { CHUNKS = FILM_MARKS, MOST_BYTES = 16777216 };
 
 #define JOB_PARAMETERS \
     uint16_t chunks, uint16_t span, uint16_t delay, uint16_t limit, const uint32_t *sizes, size_t layers, \

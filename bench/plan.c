@@ -3,9 +3,6 @@
 // to the lent slices if these have room for any plan, and a heap finds the largest kept base.
 #include "plan.h"
 
-static inline uint64_t more(uint64_t a, uint64_t b) { return a < b ? b : a; }
-static inline uint64_t less(uint64_t a, uint64_t b) { return a < b ? a : b; }
-
 static void set_sums(uint32_t chunks, uint32_t span, uint32_t delay, const uint32_t *forecast, struct settled *s)
 {
     uint64_t sum = 0;
@@ -20,16 +17,6 @@ static void set_sums(uint32_t chunks, uint32_t span, uint32_t delay, const uint3
     s->after[0] = sum;
     for (uint32_t t = 0; t < delay; t++) sum += forecast[t];
     s->total = sum;
-}
-
-static inline void keep(struct settled *s, uint32_t p, uint32_t i, uint32_t due, uint32_t base, const uint32_t *forecast)
-{
-    s->id[p] = i;
-    s->due[p] = due;
-    s->level[p] = 1;
-    s->bytes[p] = base;
-    s->behind[p] = s->after[i - 1];
-    s->from[p] = s->after[i - 1] + forecast[due - 1];
 }
 
 // Document 01's way: from the last chunk down, kept if its need is at most the whole forecast and the
@@ -71,7 +58,7 @@ static void sift_up(uint64_t *heap, size_t at, uint64_t x)
 
 // Document 02, request 9: chunks from 1 to C are added, and where they exceed the forecast the
 // largest is dropped.
-static void keep_most(uint32_t chunks, uint32_t span, uint32_t delay, const uint32_t *forecast, struct settled *s)
+void keep_most(uint32_t chunks, uint32_t span, uint32_t delay, const uint32_t *forecast, struct settled *s)
 {
     uint64_t heap[CHUNKS], sum = 0;
     uint8_t kept[CHUNKS];
@@ -105,8 +92,7 @@ static int bases_vary(uint32_t chunks, const struct settled *s)
     return 0;
 }
 
-// One layer above the base: forward what can be had by each due slot, then back what is needed.
-static uint32_t keep_layer(uint32_t n, struct settled *s)
+uint32_t keep_layer(uint32_t n, struct settled *s)
 {
     uint64_t room[CHUNKS], left = s->total, need = 0;
     const uint64_t *from = s->from, *behind = s->behind;
@@ -134,20 +120,30 @@ static uint32_t keep_layer(uint32_t n, struct settled *s)
     return count;
 }
 
-void settle(JOB_PARAMETERS, struct settled *s)
+void begin(JOB_PARAMETERS, struct settled *s)
 {
     s->held = limit / span;
     s->stride = set_sizes(JOB_ARGUMENTS, s->table);
     s->size = s->stride ? s->table : sizes;
     set_sums(chunks, span, delay, forecast, s);
+}
+
+void keep_layers(size_t layers, struct settled *s)
+{
+    memset(s->counts, 0, sizeof s->counts);
+    s->counts[0] = CHUNKS - s->first;
+    for (size_t n = 1; n < layers; n++) s->counts[n] = keep_layer(n, s);
+}
+
+void settle(JOB_PARAMETERS, struct settled *s)
+{
+    begin(JOB_ARGUMENTS, s);
     s->most = s->held >= chunks && bases_vary(chunks, s);
     if (s->most)
         keep_most(chunks, span, delay, forecast, s);
     else
         keep_bases(chunks, span, delay, forecast, s);
-    memset(s->counts, 0, sizeof s->counts);
-    s->counts[0] = CHUNKS - s->first;
-    for (size_t n = 1; n < layers; n++) s->counts[n] = keep_layer(n, s);
+    keep_layers(layers, s);
 }
 
 static size_t fill(const struct settled *s, const uint32_t *forecast, uint16_t *restrict row_slots,
@@ -182,31 +178,35 @@ static size_t fill(const struct settled *s, const uint32_t *forecast, uint16_t *
     return rows;
 }
 
-uint64_t plain_plan(JOB_PARAMETERS, uint8_t *marks, size_t marks_len, uint16_t *row_slots, size_t row_slots_len,
-    uint16_t *row_chunks, size_t row_chunks_len, uint8_t *row_layers, size_t row_layers_len, uint32_t *row_bytes,
-    size_t row_bytes_len, uint16_t *counts, size_t counts_len)
+uint64_t list_plan(const struct settled *s, uint32_t chunks, const uint32_t *forecast, PLAN_PARAMETERS)
+{
+    (void)marks_len, (void)counts_len;
+    size_t rows, room = less(less(out_slots_len, out_chunks_len), less(out_layers_len, out_bytes_len));
+    if (room >= FILM_ROWS) {
+        rows = fill(s, forecast, out_slots, out_chunks, out_layers, out_bytes);
+    } else {
+        uint16_t t[FILM_ROWS], i[FILM_ROWS];
+        uint8_t n[FILM_ROWS];
+        uint32_t b[FILM_ROWS];
+        rows = fill(s, forecast, t, i, n, b);
+        if (room < rows) return refuse(11);
+        memcpy(out_slots, t, rows * sizeof *t);
+        memcpy(out_chunks, i, rows * sizeof *i);
+        memcpy(out_layers, n, rows);
+        memcpy(out_bytes, b, rows * sizeof *b);
+    }
+    memset(marks, 0, chunks);
+    for (uint32_t q = s->first; q < CHUNKS; q++) marks[s->id[q] - 1] = (1 << s->level[q]) - 1;
+    memcpy(counts, s->counts, sizeof s->counts);
+    return rows;
+}
+
+uint64_t plain_plan(JOB_PARAMETERS, PLAN_PARAMETERS)
 {
     struct settled s;
     uint32_t number = job_refusal(JOB_ARGUMENTS);
     if (number) return refuse(number);
     if (marks_len < chunks || counts_len < FILM_COUNTS) return refuse(11);
     settle(JOB_ARGUMENTS, &s);
-    size_t rows, room = less(less(row_slots_len, row_chunks_len), less(row_layers_len, row_bytes_len));
-    if (room >= FILM_ROWS) {
-        rows = fill(&s, forecast, row_slots, row_chunks, row_layers, row_bytes);
-    } else {
-        uint16_t t[FILM_ROWS], i[FILM_ROWS];
-        uint8_t n[FILM_ROWS];
-        uint32_t b[FILM_ROWS];
-        rows = fill(&s, forecast, t, i, n, b);
-        if (room < rows) return refuse(11);
-        memcpy(row_slots, t, rows * sizeof *t);
-        memcpy(row_chunks, i, rows * sizeof *i);
-        memcpy(row_layers, n, rows);
-        memcpy(row_bytes, b, rows * sizeof *b);
-    }
-    memset(marks, 0, chunks);
-    for (uint32_t q = s.first; q < CHUNKS; q++) marks[s.id[q] - 1] = (1 << s.level[q]) - 1;
-    memcpy(counts, s.counts, sizeof s.counts);
-    return rows;
+    return list_plan(&s, chunks, forecast, PLAN_ARGUMENTS);
 }

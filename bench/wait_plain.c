@@ -1,8 +1,6 @@
 // The shortest wait in plain C: the forecast's sums once, and a pass over the chunks for each s.
 #include "plain.h"
 
-enum { CHUNKS = FILM_MARKS };
-
 // From the last chunk down: what the forecast may have brought at most when each begins.
 static int keeps_all(size_t chunks, size_t span, size_t held, const uint64_t *upto, const uint32_t *base, size_t stride,
     uint64_t *begins)
