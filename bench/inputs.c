@@ -33,6 +33,7 @@ static size_t lent(size_t most) { return room < most ? room : most; }
     X(write_job, JOB, out.text, lent(FILM_JOB_FILE)) \
     X(read_plan, JOB, in.plan_file, in.plan_len, out.plan.marks, FILM_MARKS, ROOM(out.plan.list, FILM_FILE_ROWS)) \
     X(write_plan, JOB, in.plan.marks, in.marks, LIST(in.plan.list), out.text, lent(FILM_FILE)) \
+    X(plan_file, in.file, in.file_len, out.text, lent(FILM_PLAN_FILE)) \
     X(plan, JOB, PLAN) \
     X(check, JOB, in.plan.marks, in.marks, LIST(in.plan.list)) \
     X(report, JOB, out.text, lent(FILM_REPORT)) \

@@ -19,6 +19,7 @@ __typeof__(film_live) plain_live;
 __typeof__(film_search) plain_search;
 __typeof__(film_read_trace) plain_read_trace;
 __typeof__(film_write_trace) plain_write_trace;
+__typeof__(film_plan_file) plain_plan_file;
 
 enum { CHUNKS = FILM_MARKS, MOST_BYTES = 16777216 };
 

@@ -99,7 +99,7 @@ uint32_t keep_layer(uint32_t n, struct settled *s)
     uint64_t *bytes = s->bytes;
     const uint32_t *size = s->size + n;
     size_t first = s->first, near = less(s->held, CHUNKS - first), q = first, stride = s->stride;
-    uint32_t count = 0;
+    uint32_t count = 0, own = *size;
     for (; q < first + near; q++) {
         room[q] = left;
         left -= less(left, bytes[q]);
@@ -109,11 +109,13 @@ uint32_t keep_layer(uint32_t n, struct settled *s)
         left -= less(left, bytes[q]);
     }
     while (q-- > first) {
-        uint64_t with;
-        need = bytes[q] + more(behind[q], need);
-        if (s->level[q] != n || (with = need + size[stride * (s->id[q] - 1)]) > room[q]) continue;
-        bytes[q] += with - need;
-        need = with;
+        uint64_t have = bytes[q];
+        need = have + more(behind[q], need);
+        if (s->level[q] != n) continue;
+        uint64_t more_bytes = stride ? size[4 * s->id[q] - 4] : own;
+        if (need + more_bytes > room[q]) continue;
+        bytes[q] = have + more_bytes;
+        need += more_bytes;
         s->level[q] = n + 1;
         count++;
     }
