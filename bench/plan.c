@@ -8,10 +8,11 @@ static void set_sums(uint32_t chunks, uint32_t span, uint32_t delay, const uint3
     uint64_t sum = 0;
     const uint32_t *at = forecast + (chunks - 1) * span + delay;
     for (uint32_t i = chunks; i-- > 1;) {
-        uint32_t film = 0; // 60 slots of 2^24 bytes at the most
-        at -= span;
+        uint32_t film = 0, k = span; // 60 slots of 2^24 bytes at the most
         s->after[i] = sum;
-        for (uint32_t k = 0; k < span; k++) film += at[k];
+        for (; k >= 4; k -= 4, at -= 4) film += at[-1] + at[-2] + at[-3] + at[-4];
+        if (k & 2) film += at[-1] + at[-2], at -= 2;
+        if (k & 1) film += *--at;
         sum += film;
     }
     s->after[0] = sum;
@@ -162,13 +163,14 @@ static size_t fill(const struct settled *s, const uint32_t *forecast, uint16_t *
         }
         for (uint32_t n = 0; n < level; n++) {
             uint32_t lacking = size[n];
-            for (; lacking > left; left = forecast[t++]) {
-                if (!left) continue;
+            while (lacking > left) {
                 row_slots[rows] = t;
                 row_chunks[rows] = i;
                 row_layers[rows] = n;
-                row_bytes[rows++] = left;
+                row_bytes[rows] = left;
+                rows += left != 0; // a slot that is spent has no row
                 lacking -= left;
+                left = forecast[t++];
             }
             row_slots[rows] = t;
             row_chunks[rows] = i;

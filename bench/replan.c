@@ -91,13 +91,14 @@ static size_t fill_rest(const struct settled *s, uint32_t from, const uint32_t *
             uint32_t lacking = size[n];
             if (!lacking) continue;
             if (t < ready) left = by_slot[t = ready];
-            for (; lacking > left; left = by_slot[++t]) {
-                if (!left) continue;
+            while (lacking > left) {
                 row_slots[rows] = t;
                 row_chunks[rows] = i;
                 row_layers[rows] = n;
-                row_bytes[rows++] = left;
+                row_bytes[rows] = left;
+                rows += left != 0; // a slot that is spent has no row
                 lacking -= left;
+                left = by_slot[++t];
             }
             row_slots[rows] = t;
             row_chunks[rows] = i;

@@ -2,19 +2,28 @@
 // twice as many at a time.
 #include "plain.h"
 
+// The number that stands in front, of so many digits at the most; how many they are.
+static inline size_t take_number(const uint8_t *at, size_t most, uint32_t *number)
+{
+    uint32_t time = 0, digit;
+    size_t n = 0;
+    for (; n < most && (digit = at[n] - '0') < 10; n++) time = time * 10 + digit;
+    *number = time;
+    return n;
+}
+
 uint64_t plain_read_trace(const uint8_t *trace, size_t trace_len, size_t slots, uint32_t *forecast, size_t forecast_len)
 {
     uint64_t lines[FILM_SLOTS];
     const uint8_t *at = trace, *end = trace + trace_len;
-    uint32_t last = 0;
+    uint32_t last = 0, time;
     if (slots - 1 >= FILM_SLOTS) return refuse(7);
     memset(lines, 0, slots * sizeof *lines);
     while (at != end) {
-        const uint8_t *from = at, *stop = end - at < 7 ? end : at + 7;
-        uint32_t time = 0, digit;
-        for (; at != stop && (digit = *at - '0') < 10; at++) time = time * 10 + digit;
-        if (at == from || at == end || *at != '\n' || time < last) return refuse(14);
-        at++;
+        // Where the longest line would be there, the end is not looked for at each digit.
+        size_t n = end - at >= 8 ? take_number(at, 7, &time) : take_number(at, end - at, &time);
+        at += n;
+        if (n == 0 || n > 7 || at == end || *at++ != '\n' || time < last) return refuse(14);
         if (time / 1000 < slots) lines[time / 1000]++;
         last = time;
     }
