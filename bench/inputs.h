@@ -55,6 +55,9 @@ void make_files(void);
 void fetch_plan(uint16_t from);
 void fetch_live(uint16_t from);
 
+// What the film of that name is.
+const char *words_of(const char *film);
+
 // The call on the film of that name, at slot p if there is one.
 const struct call *ready(const char *call, const char *film, uint16_t from);
 
