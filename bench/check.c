@@ -12,7 +12,8 @@ uint64_t plain_check(JOB_PARAMETERS, const uint8_t *marks, size_t marks_len, con
     uint32_t number = job_refusal(JOB_ARGUMENTS);
     size_t rows = row_slots_len;
     if (number) return refuse(number);
-    if (marks_len != chunks || row_chunks_len != rows || row_layers_len != rows || row_bytes_len != rows) return refuse(8);
+    if (marks_len != chunks || row_chunks_len != rows || row_layers_len != rows || row_bytes_len != rows)
+        return refuse(8);
     memset(by_layer, 0, 4 * chunks * sizeof *by_layer);
     memset(by_slot, 0, slots * sizeof *by_slot);
     memset(begun, 255, chunks * sizeof *begun);

@@ -1,5 +1,5 @@
-// The rows fetched before slot p, tallied: what planning afresh and asking for more both begin with,
-// and rule 6 for the checker too.
+// The rows fetched before slot p, tallied: what planning afresh and asking for more both begin
+// with, and rule 6 for the checker too.
 #pragma once
 #include "plain.h"
 

@@ -27,9 +27,9 @@ static size_t lent(size_t most) { return room < most ? room : most; }
 #define PLAN out.plan.marks, FILM_MARKS, ROOM(out.plan.list, FILM_ROWS), out.plan.counts, FILM_COUNTS
 
 #define CALLS(X) \
-    X(read_job, in.file, in.file_len, out.programme, FILM_PROGRAMME, out.lengths, FILM_LENGTHS, out.film.sizes, FILM_LAYERS, \
-        out.film.size_chunks, FILM_SZS, out.film.size_layers, FILM_SZS, out.film.size_bytes, FILM_SZS, out.film.forecast, \
-        lent(FILM_SLOTS)) \
+    X(read_job, in.file, in.file_len, out.programme, FILM_PROGRAMME, out.lengths, FILM_LENGTHS, out.film.sizes, \
+        FILM_LAYERS, out.film.size_chunks, FILM_SZS, out.film.size_layers, FILM_SZS, out.film.size_bytes, FILM_SZS, \
+        out.film.forecast, lent(FILM_SLOTS)) \
     X(write_job, JOB, out.text, lent(FILM_JOB_FILE)) \
     X(read_plan, JOB, in.plan_file, in.plan_len, out.plan.marks, FILM_MARKS, ROOM(out.plan.list, FILM_FILE_ROWS)) \
     X(write_plan, JOB, in.plan.marks, in.marks, LIST(in.plan.list), out.text, lent(FILM_FILE)) \
