@@ -1,6 +1,6 @@
 // The seven rules in plain C: one pass over the rows into sums by layer and by slot, then one over
 // the chunks and one over the slots.
-#include "plain.h"
+#include "fetched.h"
 
 uint64_t plain_check(JOB_PARAMETERS, const uint8_t *marks, size_t marks_len, const uint16_t *row_slots,
     size_t row_slots_len, const uint16_t *row_chunks, size_t row_chunks_len, const uint8_t *row_layers,
@@ -9,11 +9,11 @@ uint64_t plain_check(JOB_PARAMETERS, const uint8_t *marks, size_t marks_len, con
     uint64_t by_layer[4 * CHUNKS], by_slot[FILM_SLOTS];
     uint32_t table[4 * CHUNKS];
     uint16_t begun[CHUNKS];
-    int16_t change[FILM_SLOTS + 1];
     uint32_t number = job_refusal(JOB_ARGUMENTS);
     size_t rows = row_slots_len;
     if (number) return refuse(number);
-    if (marks_len != chunks || row_chunks_len != rows || row_layers_len != rows || row_bytes_len != rows) return refuse(8);
+    if (marks_len != chunks || row_chunks_len != rows || row_layers_len != rows || row_bytes_len != rows)
+        return refuse(8);
     memset(by_layer, 0, 4 * chunks * sizeof *by_layer);
     memset(by_slot, 0, slots * sizeof *by_slot);
     memset(begun, 255, chunks * sizeof *begun);
@@ -23,7 +23,7 @@ uint64_t plain_check(JOB_PARAMETERS, const uint8_t *marks, size_t marks_len, con
         if (t >= slots || i >= chunks || n >= layers || !bytes) return 1;
         by_slot[t] += bytes;
         by_layer[4 * i + n] += bytes;
-        if (t < begun[i]) begun[i] = t;
+        if (t < begun[i]) begun[i] = t + 1;
         late |= t >= i * span + delay;
     }
     const uint32_t *size = sizes;
@@ -45,14 +45,6 @@ uint64_t plain_check(JOB_PARAMETERS, const uint8_t *marks, size_t marks_len, con
     for (size_t t = 0; t < slots; t++)
         if (by_slot[t] > forecast[t]) return 4;
     if (late) return 5;
-    memset(change, 0, (slots + 1) * sizeof *change);
-    for (uint32_t i = 0; i < chunks; i++) {
-        uint32_t due = i * span + delay - 1;
-        if (begun[i] >= due) continue;
-        change[begun[i]]++;
-        change[due]--;
-    }
-    for (int32_t t = 0, now = 0, held = limit / span; t < (int32_t)slots; t++)
-        if ((now += change[t]) > held) return 6;
+    if (!few_held(chunks, span, delay, limit / span, slots + 1, begun)) return 6;
     return other ? 7 : 0;
 }

@@ -1,4 +1,5 @@
-// The rows fetched before slot p, tallied: what planning afresh and asking for more both begin with.
+// The rows fetched before slot p, tallied: what planning afresh and asking for more both begin
+// with, and rule 6 for the checker too.
 #pragma once
 #include "plain.h"
 
@@ -46,7 +47,7 @@ static inline int tally(JOB_PARAMETERS, FETCHED_PARAMETERS, uint64_t *by_slot, u
     return 1;
 }
 
-// Rule 6: no chunk is begun from p on, so from there on no more are held.
+// Rule 6, where no chunk is begun in slot `from` or later, so that from there on no more are held.
 static inline int few_held(
     uint32_t chunks, uint32_t span, uint32_t delay, int32_t held, uint32_t from, const uint16_t *begun)
 {

@@ -23,93 +23,133 @@ static inline uint32_t get_w(const uint8_t *at)
 static inline void put_h(uint8_t *at, uint16_t x) { memcpy(at, &x, 2); }
 static inline void put_w(uint8_t *at, uint32_t x) { memcpy(at, &x, 4); }
 
-uint64_t plain_read_job(const uint8_t *file, size_t file_len, uint16_t *programme, size_t programme_len, uint64_t *lengths,
-    size_t lengths_len, uint32_t *sizes, size_t sizes_len, uint16_t *size_chunks, size_t size_chunks_len,
-    uint8_t *size_layers, size_t size_layers_len, uint32_t *size_bytes, size_t size_bytes_len, uint32_t *forecast,
-    size_t forecast_len)
-{
-    uint32_t size[FILM_LAYERS], slot[FILM_SLOTS], sz_bytes[FILM_SZS];
-    uint16_t p[4], sz_chunk[FILM_SZS];
+// A job file's records so far: the last mark's place in the sequence, and the tables. Rising and in
+// range, there are never more SZs than theirs hold; `uneven` is refusal 18, which waits for EN.
+struct reading {
+    uint32_t place, uneven;
+    size_t layers, szs, slots;
+    uint16_t programme[4], sz_chunk[FILM_SZS];
     uint8_t sz_layer[FILM_SZS];
-    if (file_len > FILM_FILE) return refuse(9);
-    size_t layers = 0, szs = 0, slots = 0;
-    // The last mark's place in the sequence; the last run's bytes, or more than a run can have.
-    int place = 0, uneven = 0;
-    uint32_t last = CHUNK_1;
-    uint64_t run = ~(uint64_t)0;
-    const uint8_t *at = file, *end = file + file_len;
-    for (;;) {
-        if (end - at < 2) return refuse(1);
-        uint32_t mark = get_h(at);
-        if (mark == BW) {
-            if (end - at < 8) return refuse(1);
-            if (place == 0) return refuse(17);
-            place = 4;
-            do {
-                size_t count = get_h(at + 2);
-                uint32_t bytes = get_w(at + 4);
-                if (bytes == run) return refuse(17);
-                if (count - 1 >= FILM_SLOTS - slots || bytes > MOST_BYTES) return refuse(7);
-                slot[slots] = bytes;
-                for (size_t k = 1; k < count; k++) slot[slots + k] = bytes;
-                slots += count;
-                run = bytes;
-                at += 8;
-            } while (end - at >= 8 && get_h(at) == BW);
-        } else if (mark == SZ) {
-            if (end - at < 9) return refuse(1);
-            if (place == 0 || place > 3) return refuse(17);
-            place = 3;
-            do {
-                uint32_t i = get_h(at + 2), n = at[4], bytes = get_w(at + 5);
-                at += 9;
-                // Rising and in range, there are at most as many as the tables hold.
-                uneven |= bad_sz(i, n, bytes, last, p[0], size, layers);
-                if (uneven) break;
-                sz_chunk[szs] = i;
-                sz_layer[szs] = n;
-                sz_bytes[szs++] = bytes;
-                last = i * 4 + n;
-            } while (end - at >= 9 && get_h(at) == SZ);
-        } else if (mark == LY) {
-            if (end - at < 6) return refuse(1);
-            if (place == 0 || place > 2) return refuse(17);
-            uint32_t bytes = get_w(at + 2);
-            if (bytes - 1 >= MOST_BYTES || layers == FILM_LAYERS) return refuse(6);
-            size[layers++] = bytes;
-            place = 2;
-            at += 6;
-        } else if (mark == PG) {
-            if (end - at < 10) return refuse(1);
-            if (place) return refuse(4);
-            memcpy(p, at + 2, 8);
-            if (bad_programme(p[0], p[1], p[2])) return refuse(5);
-            place = 1;
-            at += 10;
-        } else if (mark == EN) {
-            at += 2;
-            break;
-        } else {
-            return refuse(2);
+    uint32_t size[FILM_LAYERS], sz_bytes[FILM_SZS], slot[FILM_SLOTS];
+};
+
+// The runs that stand one after the other, the first of them whole; where they end, or NULL and the
+// refusal.
+static inline const uint8_t *take_runs(struct reading *r, const uint8_t *at, const uint8_t *end, uint32_t *refusal)
+{
+    uint64_t run = r->place == 4 ? r->slot[r->slots - 1] : ~(uint64_t)0;
+    size_t slots = r->slots;
+    *refusal = 17;
+    if (r->place == 0) return NULL;
+    do {
+        size_t count = get_h(at + 2);
+        uint32_t bytes = get_w(at + 4);
+        if (bytes == run) return NULL;
+        if (count - 1 >= FILM_SLOTS - slots || bytes > MOST_BYTES) {
+            *refusal = 7;
+            return NULL;
         }
+        r->slot[slots] = bytes;
+        for (size_t k = 1; k < count; k++) r->slot[slots + k] = bytes;
+        slots += count;
+        run = bytes;
+        at += 8;
+    } while (end - at >= 8 && get_h(at) == BW);
+    r->slots = slots;
+    r->place = 4;
+    return at;
+}
+
+// The same of SZs, up to the first that is refused at EN.
+static inline const uint8_t *take_szs(struct reading *r, const uint8_t *at, const uint8_t *end, uint32_t *refusal)
+{
+    size_t szs = r->szs;
+    uint32_t last = szs ? r->sz_chunk[szs - 1] * 4 + r->sz_layer[szs - 1] : CHUNK_1;
+    *refusal = 17;
+    if (r->place == 0 || r->place > 3) return NULL;
+    r->place = 3;
+    do {
+        uint32_t i = get_h(at + 2), n = at[4], bytes = get_w(at + 5);
+        at += 9;
+        r->uneven |= bad_sz(i, n, bytes, last, r->programme[0], r->size, r->layers);
+        if (r->uneven) break;
+        r->sz_chunk[szs] = i;
+        r->sz_layer[szs] = n;
+        r->sz_bytes[szs++] = bytes;
+        last = i * 4 + n;
+    } while (end - at >= 9 && get_h(at) == SZ);
+    r->szs = szs;
+    return at;
+}
+
+static inline uint32_t take_layer(struct reading *r, uint32_t bytes)
+{
+    if (r->place == 0 || r->place > 2) return 17;
+    if (bytes - 1 >= MOST_BYTES || r->layers == FILM_LAYERS) return 6;
+    r->size[r->layers++] = bytes;
+    r->place = 2;
+    return 0;
+}
+
+static inline uint32_t take_programme(struct reading *r, const uint8_t *fields)
+{
+    if (r->place) return 4;
+    memcpy(r->programme, fields, sizeof r->programme);
+    r->place = 1;
+    return bad_programme(r->programme[0], r->programme[1], r->programme[2]) ? 5 : 0;
+}
+
+// Every record: 0, or the refusal.
+static uint32_t read_records(struct reading *r, const uint8_t *at, const uint8_t *end)
+{
+    uint32_t refusal = 0;
+    for (;;) {
+        if (end - at < 2) return 1;
+        uint32_t mark = get_h(at);
+        size_t bytes = mark == BW ? 8 : mark == SZ ? 9 : mark == LY ? 6 : mark == PG ? 10 : mark == EN ? 2 : 0;
+        if (!bytes) return 2;
+        if ((size_t)(end - at) < bytes) return 1;
+        if (mark == EN) break;
+        if (mark == BW || mark == SZ) {
+            at = mark == BW ? take_runs(r, at, end, &refusal) : take_szs(r, at, end, &refusal);
+            if (!at) return refusal;
+            continue;
+        }
+        refusal = mark == LY ? take_layer(r, get_w(at + 2)) : take_programme(r, at + 2);
+        if (refusal) return refusal;
+        at += bytes;
     }
-    if (at != end) return refuse(3);
-    if (place == 0) return refuse(4);
-    if (layers == 0) return refuse(6);
-    if (uneven) return refuse(18);
-    if (slots != (size_t)(p[0] - 1) * p[1] + p[2]) return refuse(7);
-    if (programme_len < FILM_PROGRAMME || lengths_len < FILM_LENGTHS || sizes_len < layers || size_chunks_len < szs ||
-        size_layers_len < szs || size_bytes_len < szs || forecast_len < slots)
+    const uint16_t *p = r->programme;
+    if (at + 2 != end) return 3;
+    if (r->place == 0) return 4;
+    if (r->layers == 0) return 6;
+    if (r->uneven) return 18;
+    return r->slots == (size_t)(p[0] - 1) * p[1] + p[2] ? 0 : 7;
+}
+
+uint64_t plain_read_job(const uint8_t *file, size_t file_len, uint16_t *programme, size_t programme_len,
+    uint64_t *lengths, size_t lengths_len, uint32_t *sizes, size_t sizes_len, uint16_t *size_chunks,
+    size_t size_chunks_len, uint8_t *size_layers, size_t size_layers_len, uint32_t *size_bytes, size_t size_bytes_len,
+    uint32_t *forecast, size_t forecast_len)
+{
+    struct reading r;
+    r.place = r.uneven = 0;
+    r.layers = r.szs = r.slots = 0;
+    if (file_len > FILM_FILE) return refuse(9);
+    uint32_t number = read_records(&r, file, file + file_len);
+    if (number) return refuse(number);
+    if (programme_len < FILM_PROGRAMME || lengths_len < FILM_LENGTHS || sizes_len < r.layers ||
+        size_chunks_len < r.szs || size_layers_len < r.szs || size_bytes_len < r.szs || forecast_len < r.slots)
         return refuse(11);
-    memcpy(programme, p, sizeof p);
-    lengths[0] = layers;
-    lengths[1] = szs;
-    memcpy(sizes, size, layers * sizeof *size);
-    memcpy(size_chunks, sz_chunk, szs * sizeof *sz_chunk);
-    memcpy(size_layers, sz_layer, szs);
-    memcpy(size_bytes, sz_bytes, szs * sizeof *sz_bytes);
-    memcpy(forecast, slot, slots * sizeof *slot);
-    return slots;
+    memcpy(programme, r.programme, sizeof r.programme);
+    lengths[0] = r.layers;
+    lengths[1] = r.szs;
+    memcpy(sizes, r.size, r.layers * sizeof *sizes);
+    memcpy(size_chunks, r.sz_chunk, r.szs * sizeof *size_chunks);
+    memcpy(size_layers, r.sz_layer, r.szs);
+    memcpy(size_bytes, r.sz_bytes, r.szs * sizeof *size_bytes);
+    memcpy(forecast, r.slot, r.slots * sizeof *forecast);
+    return r.slots;
 }
 
 uint64_t plain_write_job(JOB_PARAMETERS, uint8_t *out, size_t out_len)
@@ -182,7 +222,8 @@ uint64_t plain_read_plan(JOB_PARAMETERS, const uint8_t *file, size_t file_len, u
     }
     if (at != end) return refuse(3);
     if (kept != chunks) return refuse(8);
-    if (marks_len < chunks || row_slots_len < rows || row_chunks_len < rows || row_layers_len < rows || row_bytes_len < rows)
+    if (marks_len < chunks || row_slots_len < rows || row_chunks_len < rows || row_layers_len < rows ||
+        row_bytes_len < rows)
         return refuse(11);
     at = file;
     for (uint32_t i = 0; i < chunks; i++, at += 5) marks[i] = at[4];
@@ -202,7 +243,8 @@ uint64_t plain_write_plan(JOB_PARAMETERS, const uint8_t *marks, size_t marks_len
     uint32_t number = job_refusal(JOB_ARGUMENTS);
     size_t rows = row_slots_len;
     if (number) return refuse(number);
-    if (marks_len != chunks || row_chunks_len != rows || row_layers_len != rows || row_bytes_len != rows) return refuse(8);
+    if (marks_len != chunks || row_chunks_len != rows || row_layers_len != rows || row_bytes_len != rows)
+        return refuse(8);
     if (rows > FILM_FILE_ROWS) return refuse(9);
     size_t bytes = 5 * (size_t)chunks + 11 * rows + 2;
     if (bytes > FILM_FILE) return refuse(9);

@@ -27,9 +27,9 @@ static size_t lent(size_t most) { return room < most ? room : most; }
 #define PLAN out.plan.marks, FILM_MARKS, ROOM(out.plan.list, FILM_ROWS), out.plan.counts, FILM_COUNTS
 
 #define CALLS(X) \
-    X(read_job, in.file, in.file_len, out.programme, FILM_PROGRAMME, out.lengths, FILM_LENGTHS, out.film.sizes, FILM_LAYERS, \
-        out.film.size_chunks, FILM_SZS, out.film.size_layers, FILM_SZS, out.film.size_bytes, FILM_SZS, out.film.forecast, \
-        lent(FILM_SLOTS)) \
+    X(read_job, in.file, in.file_len, out.programme, FILM_PROGRAMME, out.lengths, FILM_LENGTHS, out.film.sizes, \
+        FILM_LAYERS, out.film.size_chunks, FILM_SZS, out.film.size_layers, FILM_SZS, out.film.size_bytes, FILM_SZS, \
+        out.film.forecast, lent(FILM_SLOTS)) \
     X(write_job, JOB, out.text, lent(FILM_JOB_FILE)) \
     X(read_plan, JOB, in.plan_file, in.plan_len, out.plan.marks, FILM_MARKS, ROOM(out.plan.list, FILM_FILE_ROWS)) \
     X(write_plan, JOB, in.plan.marks, in.marks, LIST(in.plan.list), out.text, lent(FILM_FILE)) \
@@ -173,12 +173,33 @@ static void lines(void)
 }
 
 static const struct film {
-    const char *name;
+    const char *name, *words;
     void (*make)(void);
-} films[] = {{"equal", equal}, {"ten_a_run", ten}, {"uneven", uneven}, {"most", most}, {"all_held", all_held},
-    {"bases", bases}, {"bases_100", bases_100}, {"dropped", dropped}, {"poor_link", poor_link}, {"no_wait", no_wait},
-    {"late_wait", late_wait}, {"early_wait", early_wait}, {"held_10", held_10}, {"held_3", held_3}, {"leaner", leaner},
-    {"lines", lines}};
+} films[] = {
+    {"equal", "equal", equal},
+    {"ten_a_run", "equal, ten slots a run", ten},
+    {"uneven", "uneven", uneven},
+    {"most", "uneven, request 9 settles the bases", most},
+    {"all_held", "equal, the limit holds all", all_held},
+    {"bases", "bases carried and nothing else, H above C", bases},
+    {"bases_100", "the same, H 100", bases_100},
+    {"dropped", "uneven, bases dropped by request 9", dropped},
+    {"poor_link", "H 5, a varying link", poor_link},
+    {"no_wait", "L 1, H 5, a steady link just too slow", no_wait},
+    {"late_wait", "L 1, H 5, a varying link", late_wait},
+    {"early_wait", "L 7, H 4, a varying link", early_wait},
+    {"held_10", "H 10", held_10},
+    {"held_3", "H 3", held_3},
+    {"leaner", "H 10, a leaner link", leaner},
+    {"lines", "1000000 lines", lines},
+};
+
+const char *words_of(const char *name)
+{
+    for (size_t k = 0; k < sizeof films / sizeof *films; k++)
+        if (!strcmp(films[k].name, name)) return films[k].words;
+    exit(2);
+}
 
 void make_files(void)
 {

@@ -55,9 +55,13 @@ void make_files(void);
 void fetch_plan(uint16_t from);
 void fetch_live(uint16_t from);
 
+// What the film of that name is.
+const char *words_of(const char *film);
+
 // The call on the film of that name, at slot p if there is one.
 const struct call *ready(const char *call, const char *film, uint16_t from);
 
-// Answers and lent bytes of every call, on its own rows and on damaged input; exits at a difference.
+// Answers and lent bytes of every call, on its own rows and on damaged input; exits at a
+// difference.
 void compare(const struct call *call);
 void compare_damaged(void);

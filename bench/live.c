@@ -1,5 +1,5 @@
-// What to fetch next in plain C: the rows fetched are tallied, then one scan back for the open chunks,
-// one for the chunks passed over and one for those asked.
+// What to fetch next in plain C: the rows fetched are tallied, then one scan back for the open
+// chunks, one for the chunks passed over and one for those asked.
 #include "fetched.h"
 
 struct now {

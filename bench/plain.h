@@ -1,6 +1,6 @@
-// The calls once more in plain C, to measure the proved ones against: each has its call's prototype,
-// gives its answer and leaves every lent byte as the call does, refusals too. No proof. What has to
-// be looked up by more than one of them stands here.
+// The calls once more in plain C, to measure the proved ones against: each has its call's
+// prototype, gives its answer and leaves every lent byte as the call does, refusals too. No proof.
+// What has to be looked up by more than one of them stands here.
 #pragma once
 #include "film_planner.h"
 #include <string.h>
@@ -42,13 +42,14 @@ static inline int bad_programme(uint32_t chunks, uint32_t span, uint32_t delay)
     return chunks - 1 >= 500 || span - 1 >= 60 || delay - 1 >= 3600 || (chunks - 1) * span + delay > 3600;
 }
 
-// 18 of an SZ, after one that stands in a table of four sizes a chunk at `last`; chunk 1's are those
-// up to 7, so that no SZ names it.
+// 18 of an SZ, after one that stands in a table of four sizes a chunk at `last`; chunk 1's are
+// those up to 7, so that no SZ names it.
 enum { CHUNK_1 = 7 };
-static inline int bad_sz(
-    uint32_t chunk, uint32_t layer, uint32_t bytes, uint32_t last, uint32_t chunks, const uint32_t *sizes, size_t layers)
+static inline int bad_sz(uint32_t chunk, uint32_t layer, uint32_t bytes, uint32_t last, uint32_t chunks,
+    const uint32_t *sizes, size_t layers)
 {
-    return layer >= layers || chunk > chunks || chunk * 4 + layer <= last || bytes - 1 >= MOST_BYTES || bytes == sizes[layer];
+    return layer >= layers || chunk > chunks || chunk * 4 + layer <= last || bytes - 1 >= MOST_BYTES ||
+           bytes == sizes[layer];
 }
 
 // 6, 18 of a film of so many chunks, or 0.

@@ -1,6 +1,7 @@
-// The planner of documents 01 and 02 in plain C: two linear passes a layer and one fill. Sums of the
-// forecast are kept at due slots alone, film of equal chunks has no table of sizes, rows go straight
-// to the lent slices if these have room for any plan, and a heap finds the largest kept base.
+// The planner of documents 01 and 02 in plain C: two linear passes a layer and one fill. Sums of
+// the forecast are kept at due slots alone, film of equal chunks has no table of sizes, rows go
+// straight to the lent slices if these have room for any plan, and a heap finds the largest kept
+// base.
 #include "plan.h"
 
 static void set_sums(uint32_t chunks, uint32_t span, uint32_t delay, const uint32_t *forecast, struct settled *s)
@@ -20,8 +21,9 @@ static void set_sums(uint32_t chunks, uint32_t span, uint32_t delay, const uint3
     s->total = sum;
 }
 
-// Document 01's way: from the last chunk down, kept if its need is at most the whole forecast and the
-// need of the one that comes to stand H places behind it at most the forecast from its due slot on.
+// Document 01's way: from the last chunk down, kept if its need is at most the whole forecast and
+// the need of the one that comes to stand H places behind it at most the forecast from its due slot
+// on.
 static void keep_bases(uint32_t chunks, uint32_t span, uint32_t delay, const uint32_t *forecast, struct settled *s)
 {
     uint64_t needs[2 * CHUNKS], last = 0, total = s->total;

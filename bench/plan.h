@@ -3,7 +3,8 @@
 #include "plain.h"
 
 struct settled {
-    uint32_t held, first; // H; kept chunks stand in playing order in the tables from here up to CHUNKS
+    uint32_t held;        // H
+    uint32_t first;       // kept chunks stand in playing order at the end of the tables from here on
     uint64_t total;       // the whole forecast
     int most;             // request 9 settled the bases
     // Layer n of chunk i has size[stride * (i - 1) + n] bytes: equal film needs no table.
@@ -11,8 +12,8 @@ struct settled {
     size_t stride;
     uint32_t table[4 * FILM_MARKS];
     uint64_t after[FILM_MARKS]; // by chunk: the forecast after its due slot
-    // By place, of kept chunks: number, due slot, layers carried and their bytes, the forecast after
-    // the due slot and from it on.
+    // By place, of kept chunks: number, due slot, layers carried and their bytes, the forecast
+    // after the due slot and from it on.
     uint16_t id[FILM_MARKS], due[FILM_MARKS];
     uint8_t level[FILM_MARKS];
     uint64_t bytes[FILM_MARKS], behind[FILM_MARKS], from[FILM_MARKS];
@@ -40,7 +41,8 @@ void begin(JOB_PARAMETERS, struct settled *s);
 void keep_most(uint32_t chunks, uint32_t span, uint32_t delay, const uint32_t *forecast, struct settled *s);
 
 // Chunk i, due in slot `due`, is kept at place p with its base.
-static inline void keep(struct settled *s, uint32_t p, uint32_t i, uint32_t due, uint32_t base, const uint32_t *forecast)
+static inline void keep(
+    struct settled *s, uint32_t p, uint32_t i, uint32_t due, uint32_t base, const uint32_t *forecast)
 {
     s->id[p] = i;
     s->due[p] = due;
@@ -56,6 +58,6 @@ void keep_layers(size_t layers, struct settled *s);
 // The plan goes to the lent slices if they hold it; the number of rows, or 11.
 uint64_t list_plan(const struct settled *s, uint32_t chunks, const uint32_t *forecast, PLAN_PARAMETERS);
 
-// One layer above the base, of kept chunks that have the layer below: forward what can be had by each
-// due slot, then back what is needed. Answers how many carry it.
+// One layer above the base, of kept chunks that have the layer below: forward what can be had by
+// each due slot, then back what is needed. Answers how many carry it.
 uint32_t keep_layer(uint32_t n, struct settled *s);

@@ -1,5 +1,5 @@
-// The whole program film_plan in plain C: a job on standard input, its plan file on standard output,
-// or `refused n`.
+// The whole program film_plan in plain C: a job on standard input, its plan file on standard
+// output, or `refused n`.
 #include "plain.h"
 #include <stdio.h>
 #include <unistd.h>

@@ -1,10 +1,10 @@
-// Planning afresh in plain C: the rows fetched are tallied, chunks that play after all begun ones are
-// settled from the last down, then the begun ones, then each layer above; the rest is listed.
+// Planning afresh in plain C: the rows fetched are tallied, chunks that play after all begun ones
+// are settled from the last down, then the begun ones, then each layer above; the rest is listed.
 #include "plan.h"
 #include "fetched.h"
 
-// The forecast from p on after each due slot, by chunk, and in whole. Answers the first chunk (from 0)
-// that is due in p or later.
+// The forecast from p on after each due slot, by chunk, and in whole. Answers the first chunk (from
+// 0) that is due in p or later.
 static uint32_t set_sums_from(uint32_t chunks, uint32_t span, uint32_t delay, uint32_t from, const uint32_t *onward,
     struct settled *s)
 {
@@ -34,8 +34,8 @@ static void keep_at(
 
 // Chunks from `next` on, which play after all begun ones, from the last down. A need that comes to
 // stand H places behind a begun chunk must be at most the forecast from that chunk's due slot on
-// (caps, at the end of its table from fb on): g is the first place whose cap is below the least need
-// so far, and least the first place that may still be kept.
+// (caps, at the end of its table from fb on): g is the first place whose cap is below the least
+// need so far, and least the first place that may still be kept.
 static uint64_t keep_new(uint32_t chunks, uint32_t span, uint32_t delay, uint32_t from, const uint32_t *onward,
     const uint32_t *left, int next, const uint64_t *caps, int fb, struct settled *s)
 {
@@ -59,10 +59,10 @@ static uint64_t keep_new(uint32_t chunks, uint32_t span, uint32_t delay, uint32_
     return need;
 }
 
-// The begun chunks at the end of their table, from the last down: each keeps its place, and its base is
-// ended if that can be.
-static void keep_begun(uint32_t span, uint32_t delay, const struct fetched *f, const uint16_t *front, const uint64_t *caps,
-    int fb, uint64_t need, struct settled *s)
+// The begun chunks at the end of their table, from the last down: each keeps its place, and its
+// base is ended if that can be.
+static void keep_begun(uint32_t span, uint32_t delay, const struct fetched *f, const uint16_t *front,
+    const uint64_t *caps, int fb, uint64_t need, struct settled *s)
 {
     uint32_t p = s->first;
     for (int r = CHUNKS - 1; r >= fb; r--) {
@@ -79,7 +79,8 @@ static void keep_begun(uint32_t span, uint32_t delay, const struct fetched *f, c
 }
 
 static size_t fill_rest(const struct settled *s, uint32_t from, const uint32_t *onward, const uint32_t *left_of,
-    uint16_t *restrict row_slots, uint16_t *restrict row_chunks, uint8_t *restrict row_layers, uint32_t *restrict row_bytes)
+    uint16_t *restrict row_slots, uint16_t *restrict row_chunks, uint8_t *restrict row_layers,
+    uint32_t *restrict row_bytes)
 {
     size_t rows = 0;
     uint32_t t = from, left = onward[0], first = s->first, held = s->held;
@@ -110,7 +111,8 @@ static size_t fill_rest(const struct settled *s, uint32_t from, const uint32_t *
     return rows;
 }
 
-static void settle_from(JOB_PARAMETERS, uint32_t from, const struct fetched *f, const uint32_t *onward, struct settled *s)
+static void settle_from(
+    JOB_PARAMETERS, uint32_t from, const struct fetched *f, const uint32_t *onward, struct settled *s)
 {
     (void)sizes, (void)size_chunks, (void)size_layers, (void)size_bytes, (void)forecast, (void)slots;
     (void)size_chunks_len, (void)size_layers_len, (void)size_bytes_len;

@@ -41,8 +41,8 @@ static uint32_t odd_size(uint32_t x)
 static void small_job(void)
 {
     uint32_t layers = 1 + next(4), k = 0;
-    in.job = (struct film_job){1 + next(6), 1 + next(3), 1 + next(4), next(9), in.film.sizes, layers, in.film.size_chunks,
-        in.film.size_layers, in.film.size_bytes, 0, in.film.forecast, 0};
+    in.job = (struct film_job){1 + next(6), 1 + next(3), 1 + next(4), next(9), in.film.sizes, layers,
+        in.film.size_chunks, in.film.size_layers, in.film.size_bytes, 0, in.film.forecast, 0};
     in.job.slots = (in.job.chunks - 1) * in.job.span + in.job.delay;
     for (uint32_t n = 0; n < layers; n++) in.film.sizes[n] = 1 + next(4);
     for (uint32_t i = 2; i <= in.job.chunks; i++)

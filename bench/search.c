@@ -1,5 +1,5 @@
-// The search within a budget in plain C: the walk without recursion, since the kept chunks are their
-// own stack, then the layers above the best set and its rows.
+// The search within a budget in plain C: the walk without recursion, since the kept chunks are
+// their own stack, then the layers above the best set and its rows.
 #include "plan.h"
 
 struct walk {

@@ -1,5 +1,6 @@
 // One table of every call that matters beside its twin in plain C.
-//   table list [CALL]           the rows: call, film, slot or 0, what both did
+//   table list [CALL]           the rows: call, film, slot or 0
+//   table words CALL FILM SLOT  what the row is
 //   table count CALL FILM SLOT proved|plain
 //                               runs one of them once within `counted`, for callgrind to count
 //   table time CALL FILM SLOT   nanoseconds of both, the least of many runs in turns
@@ -69,9 +70,35 @@ static void take_time(const struct call *c)
             uint64_t took = now() - from;
             if (took < least[w]) least[w] = took;
         }
-    uint64_t answer = c->proved();
-    printf("%" PRIu64 " %" PRIu64 " %s%" PRIu32 "\n", least[0], least[1], film_refused(answer) ? "refused " : "",
-        (uint32_t)answer);
+    printf("%" PRIu64 " %" PRIu64 "\n", least[0], least[1]);
+}
+
+// What a call's answer counts, where it isn't rows.
+static const char *unit_of(const char *call)
+{
+    static const char *const units[][2] = {{"film_read_job", "bytes"}, {"film_write_job", "bytes"},
+        {"film_write_plan", "bytes"}, {"film_plan_file", "bytes"}, {"film_report", "bytes"}, {"film_reasons", "bytes"},
+        {"film_read_trace", "bytes"}, {"film_write_trace", "bytes"}, {"film_live", "pieces"}, {"film_wait", "slots"}};
+    for (size_t k = 0; k < sizeof units / sizeof *units; k++)
+        if (!strcmp(units[k][0], call)) return units[k][1];
+    return "rows";
+}
+
+// The job of a row, and how much was read, written or found.
+static void words(const char *call, const char *film, uint16_t slot)
+{
+    uint64_t answer = ready(call, film, slot)->proved();
+    printf("%s: ", words_of(film));
+    if (slot) printf("slot %u, %zu rows fetched, ", slot, in.fetched.rows);
+    if (film_refused(answer)) {
+        printf("refused %" PRIu32 "\n", film_refused(answer));
+        return;
+    }
+    if (!strcmp(call, "film_read_job")) answer = in.file_len;
+    if (!strcmp(call, "film_read_trace")) answer = in.trace_len;
+    if (!strcmp(call, "film_check")) answer = in.plan.list.rows;
+    if (!strcmp(call, "film_search")) printf("%u steps, %u bases, ", out.walk[0], out.plan.counts[0]);
+    printf("%" PRIu64 " %s\n", answer, unit_of(call));
 }
 
 // From fork to the end, with its start.
@@ -134,6 +161,8 @@ int main(int argc, char **argv)
         ready("film_plan", argv[2], 0);
         fwrite(in.file, 1, in.file_len, stdout);
     }
+    else if (!strcmp(what, "words") && argc == 5)
+        words(argv[2], argv[3], atoi(argv[4]));
     else if (!strcmp(what, "time") && argc == 5)
         take_time(ready(argv[2], argv[3], atoi(argv[4])));
     else if (!strcmp(what, "count") && argc == 6)

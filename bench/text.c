@@ -62,8 +62,8 @@ uint64_t plain_report(JOB_PARAMETERS, uint8_t *out, size_t out_len)
     return hand_over(text, at, out, out_len);
 }
 
-// What a trial needs: by chunk the layers carried, the bytes of its first layers, the forecast up to
-// its due slot and before it.
+// What a trial needs: by chunk the layers carried, the bytes of its first layers, the forecast up
+// to its due slot and before it.
 struct trial {
     uint32_t chunks, span, delay, held;
     uint8_t level[CHUNKS];
@@ -71,8 +71,8 @@ struct trial {
     uint64_t upto[CHUNKS], before[CHUNKS];
 };
 
-// The trial of layer n of chunk i (from 0), chunks before it with at most `cap` layers: forward to the
-// first kept chunk that is late, back from it to where the stretch begins. Writes its sentence.
+// The trial of layer n of chunk i (from 0), chunks before it with at most `cap` layers: forward to
+// the first kept chunk that is late, back from it to where the stretch begins. Writes its sentence.
 static uint8_t *put_stretch(uint8_t *at, const struct trial *r, uint32_t i, uint32_t n, uint32_t cap)
 {
     uint16_t kept[CHUNKS], ready[CHUNKS];

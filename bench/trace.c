@@ -1,5 +1,5 @@
-// Link traces in plain C: a line's digits are read one by one, and written once a slot and then copied
-// twice as many at a time.
+// Link traces in plain C: a line's digits are read one by one, and written once a slot and then
+// copied twice as many at a time.
 #include "plain.h"
 
 // The number that stands in front, of so many digits at the most; how many they are.

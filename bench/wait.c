@@ -32,7 +32,8 @@ uint64_t plain_wait(uint16_t chunks, uint16_t span, uint16_t limit, const uint32
         size_layers_len, size_bytes, size_bytes_len, forecast, slots, table);
     upto[0] = 0;
     for (size_t t = 0; t < slots; t++) upto[t + 1] = upto[t] + forecast[t];
-    for (size_t q = 0; q < CHUNKS; q++) begins[chunks + q] = ~(uint64_t)0; // nothing is held back by the last ones
+    // Nothing is held back by the last ones.
+    for (size_t q = 0; q < CHUNKS; q++) begins[chunks + q] = ~(uint64_t)0;
     for (size_t s = 1; film + s <= slots; s++)
         if (keeps_all(chunks, span, held, upto + s, stride ? table : sizes, stride, begins)) return s;
     return refuse(16);
