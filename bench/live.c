@@ -1,74 +1,83 @@
-// What to fetch next in plain C, to measure the proved call against: the same tables of the rows
-// fetched and the same scans, no checks of bounds, no proof.
-#include "live.h"
-#include "replan.c"
+// What to fetch next in plain C: the rows fetched are tallied, then one scan back for the open
+// chunks, one for the chunks passed over and one for those asked.
+#include "fetched.h"
 
-static uint8_t open_now[501], asked_now[501];
+struct now {
+    uint32_t chunks, span, delay, held, slot, rate;
+    uint8_t open[CHUNKS], asked[CHUNKS];
+};
 
-// The chunks due in the slot or later that are begun or not overtaken.
-static void set_open(const struct job *j, uint16_t slot)
+static uint32_t due_of(const struct now *w, uint32_t i) { return i * w->span + w->delay; }
+
+// Due in the slot or later, and begun or not overtaken by one that is.
+static void set_open(struct now *w, const uint16_t *begun)
 {
     int overtaken = 0;
-    for (int i = j->chunks; i >= 1; i--) {
-        int begun = first_slot[i] != 65535;
-        open_now[i] = due_of(j, i) >= slot && (begun || !overtaken);
-        overtaken |= begun;
+    for (uint32_t i = w->chunks; i--;) {
+        int is_begun = begun[i] != NEVER;
+        w->open[i] = due_of(w, i) >= w->slot && (is_begun || !overtaken);
+        overtaken |= is_begun;
     }
 }
 
-static uint64_t brings(const struct job *j, uint16_t slot, uint32_t rate, int i)
+static uint64_t brings(const struct now *w, uint32_t i)
 {
-    return (uint64_t)rate * (due_of(j, i) - slot + 1);
+    return (uint64_t)w->rate * (due_of(w, i) - w->slot + 1);
 }
 
 // The first open chunk that lacks base bytes, and where the chunks passed over from it on end.
-static int passed_until(const struct job *j, uint16_t slot, uint32_t rate, int *first)
+static uint32_t passed_until(const struct now *w, const uint32_t *left, uint32_t *first)
 {
-    int k = 1, near = j->limit / j->span;
-    while (k <= j->chunks && !(open_now[k] && left_of[k - 1][0])) k++;
+    uint32_t k = 0, near = w->held;
+    while (k < w->chunks && !(w->open[k] && left[4 * k])) k++;
     *first = k;
-    if (k > j->chunks || left_of[k - 1][0] <= brings(j, slot, rate, k)) return 0;
-    for (int i = k + 1; i <= j->chunks; i++) {
-        uint64_t missing = left_of[i - 1][0], due = brings(j, slot, rate, i);
-        if (!open_now[i]) continue;
+    if (k == w->chunks || left[4 * k] <= brings(w, k)) return 0;
+    for (uint32_t i = k + 1; i < w->chunks; i++) {
+        if (!w->open[i]) continue;
         if (near-- == 0) return 0;
-        if (missing && missing <= due) return left_of[k - 1][0] + missing > due ? i : 0;
+        uint64_t missing = left[4 * i], due = brings(w, i);
+        if (missing && missing <= due) return left[4 * k] + missing > due ? i : 0;
     }
     return 0;
 }
 
-static void set_asked(const struct job *j, uint16_t slot, int first, int until)
+static void set_asked(struct now *w, const struct fetched *f, uint32_t first, uint32_t until)
 {
-    int hold = j->limit / j->span, held = 0;
-    for (int i = 1; i <= j->chunks; i++) held += first_slot[i] != 65535 && due_of(j, i) > slot;
-    for (int i = 1; i <= j->chunks; i++) {
-        int passed = first <= i && i < until && left_of[i - 1][0];
-        int line = open_now[i] && !passed;
-        int fresh = line && first_slot[i] == 65535 && due_of(j, i) > slot;
+    uint32_t held = 0;
+    for (uint32_t i = 0; i < w->chunks; i++) held += f->begun[i] != NEVER && due_of(w, i) > w->slot;
+    for (uint32_t i = 0; i < w->chunks; i++) {
+        int passed = first <= i && i < until && f->left[4 * i];
+        int line = w->open[i] && !passed;
+        int fresh = line && f->begun[i] == NEVER && due_of(w, i) > w->slot;
         held += fresh;
-        asked_now[i] = line && (!fresh || held <= hold);
+        w->asked[i] = line && (!fresh || held <= w->held);
     }
 }
 
-size_t live_c(const struct job *j, uint16_t slot, const struct fetched *f, uint32_t rate, struct pieces *out)
+uint64_t plain_live(JOB_PARAMETERS, FETCHED_PARAMETERS, uint32_t rate, uint16_t *piece_chunks, size_t piece_chunks_len,
+    uint8_t *piece_layers, size_t piece_layers_len, uint32_t *piece_bytes, size_t piece_bytes_len)
 {
-    size_t rows = 0;
-    int first, until;
-    if (refused(j) || slot < 1 || slot > j->slots) return (size_t)-1;
-    for (size_t k = 0; k < f->rows; k++)
-        if (f->slots[k] >= slot) return (size_t)-1;
-    fill_sizes(j);
-    if (!tally(j, f) || !kept(j, slot) || !few_held(j, j->limit / j->span)) return (size_t)-1;
-    set_open(j, slot);
-    until = passed_until(j, slot, rate, &first);
-    set_asked(j, slot, first, until);
-    for (size_t n = 0; n < j->layers; n++)
-        for (int i = 1; i <= j->chunks; i++) {
-            uint32_t bytes = left_of[i - 1][n];
-            if (!asked_now[i] || !bytes) continue;
-            out->chunks[rows] = i;
-            out->layers[rows] = n;
-            out->bytes[rows++] = bytes;
+    struct fetched f;
+    struct now w;
+    uint32_t first, until, pieces = 0, rows = 0, number = job_refusal(JOB_ARGUMENTS);
+    if (number) return refuse(number);
+    number = rows_refusal(slots, FETCHED_ARGUMENTS);
+    if (number) return refuse(number);
+    if (!take_fetched(JOB_ARGUMENTS, FETCHED_ARGUMENTS, &f)) return refuse(22);
+    w.chunks = chunks, w.span = span, w.delay = delay, w.held = limit / span, w.slot = from, w.rate = rate;
+    set_open(&w, f.begun);
+    until = passed_until(&w, f.left, &first);
+    set_asked(&w, &f, first, until);
+    for (uint32_t i = 0; i < chunks; i++)
+        for (size_t n = 0; w.asked[i] && n < layers; n++) pieces += f.left[4 * i + n] != 0;
+    if (piece_chunks_len < pieces || piece_layers_len < pieces || piece_bytes_len < pieces) return refuse(11);
+    for (size_t n = 0; n < layers; n++)
+        for (uint32_t i = 0; i < chunks; i++) {
+            uint32_t bytes = f.left[4 * i + n];
+            if (!w.asked[i] || !bytes) continue;
+            piece_chunks[rows] = i + 1;
+            piece_layers[rows] = n;
+            piece_bytes[rows++] = bytes;
         }
-    return rows;
+    return pieces;
 }

@@ -1,161 +1,218 @@
-// The planner of documents 01 and 02 in plain C, to measure the proved one against: the same linear
-// decisions and one fill, no checks of bounds, no proof.
+// The planner of documents 01 and 02 in plain C: two linear passes a layer and one fill. Sums of
+// the forecast are kept at due slots alone, film of equal chunks has no table of sizes, rows go
+// straight to the lent slices if these have room for any plan, and a heap finds the largest kept
+// base.
 #include "plan.h"
 
-static uint64_t after[3601], needs[500], behind[500], from[500], bytes_of[500], room[500];
-static uint16_t ids[500];
-static uint8_t mark_of[500];
-static uint32_t size_of[500][4];
-
-static uint64_t more(uint64_t a, uint64_t b) { return a < b ? b : a; }
-
-static int refused(const struct job *j)
+static void set_sums(uint32_t chunks, uint32_t span, uint32_t delay, const uint32_t *forecast, struct settled *s)
 {
-    if (j->chunks < 1 || j->chunks > 500 || j->span < 1 || j->span > 60 || j->delay < 1 || j->delay > 3600) return 5;
-    if ((j->chunks - 1) * j->span + j->delay > 3600) return 5;
-    if (j->layers < 1 || j->layers > 4) return 6;
-    for (size_t n = 0; n < j->layers; n++)
-        if (j->sizes[n] < 1 || j->sizes[n] > 16777216) return 6;
-    for (size_t k = 0, last = 3; k < j->overrides; k++) {
-        uint16_t i = j->size_chunks[k];
-        uint8_t n = j->size_layers[k];
-        uint32_t size = j->size_bytes[k];
-        if (i > j->chunks || n >= j->layers || size < 1 || size > 16777216 || size == j->sizes[n]) return 18;
-        size_t at = (size_t)(i - 1) * 4 + n;
-        if (i == 0 || at <= last) return 18;
-        last = at;
+    uint64_t sum = 0;
+    const uint32_t *at = forecast + (chunks - 1) * span + delay;
+    for (uint32_t i = chunks; i-- > 1;) {
+        uint32_t film = 0, k = span; // 60 slots of 2^24 bytes at the most
+        s->after[i] = sum;
+        for (; k >= 4; k -= 4, at -= 4) film += at[-1] + at[-2] + at[-3] + at[-4];
+        if (k & 2) film += at[-1] + at[-2], at -= 2;
+        if (k & 1) film += *--at;
+        sum += film;
     }
-    for (size_t t = 0; t < j->slots; t++)
-        if (j->forecast[t] > 16777216) return 7;
-    return j->slots == (size_t)((j->chunks - 1) * j->span + j->delay) ? 0 : 7;
+    s->after[0] = sum;
+    for (uint32_t t = 0; t < delay; t++) sum += forecast[t];
+    s->total = sum;
 }
 
-static void fill_sizes(const struct job *j)
+// Document 01's way: from the last chunk down, kept if its need is at most the whole forecast and
+// the need of the one that comes to stand H places behind it at most the forecast from its due slot
+// on.
+static void keep_bases(uint32_t chunks, uint32_t span, uint32_t delay, const uint32_t *forecast, struct settled *s)
 {
-    uint32_t own[4] = {0};
-    for (size_t n = 0; n < j->layers; n++) own[n] = j->sizes[n];
-    for (int i = 0; i < j->chunks; i++) memcpy(size_of[i], own, sizeof own);
-    for (size_t k = 0; k < j->overrides; k++) size_of[j->size_chunks[k] - 1][j->size_layers[k]] = j->size_bytes[k];
+    uint64_t needs[2 * CHUNKS], last = 0, total = s->total;
+    size_t stride = s->stride, held = s->held < CHUNKS ? s->held : CHUNKS, p = CHUNKS;
+    const uint32_t *size = s->size + stride * chunks;
+    uint32_t due = (chunks - 1) * span + delay;
+    memset(needs + CHUNKS, 0, held * sizeof *needs);
+    for (uint32_t i = chunks; i; i--, due -= span) {
+        uint64_t behind = s->after[i - 1], base = *(size -= stride), need = base + more(behind, last);
+        needs[p - 1] = need;
+        if (need > total || needs[p - 1 + held] > behind + forecast[due - 1]) continue;
+        last = need;
+        keep(s, --p, i, due, base, forecast);
+    }
+    s->first = p;
 }
 
-// Chunk i stands at place q among the kept ones.
-static void keep(const struct job *j, int q, int i)
+// A heap by size and then by how early: the size above nine bits that fall by chunk.
+static void sift_down(uint64_t *heap, size_t n, uint64_t x)
 {
-    int due = (i - 1) * j->span + j->delay;
-    ids[q] = i;
-    behind[q] = after[due];
-    from[q] = after[due - 1];
-    bytes_of[q] = size_of[i - 1][0];
-    mark_of[q] = 1;
+    size_t at = 0;
+    for (size_t child; (child = 2 * at + 1) < n; at = child) {
+        if (child + 1 < n && heap[child] < heap[child + 1]) child++;
+        if (heap[child] <= x) break;
+        heap[at] = heap[child];
+    }
+    heap[at] = x;
 }
 
-static int vary(const struct job *j)
+static void sift_up(uint64_t *heap, size_t at, uint64_t x)
 {
-    for (int i = 1; i < j->chunks; i++)
-        if (size_of[i][0] != size_of[0][0]) return 1;
-    return 0;
+    for (size_t parent; at && heap[parent = (at - 1) / 2] < x; at = parent) heap[at] = heap[parent];
+    heap[at] = x;
 }
 
 // Document 02, request 9: chunks from 1 to C are added, and where they exceed the forecast the
-// largest is looked for and dropped.
-static int moore_hodgson(const struct job *j)
+// largest is dropped.
+void keep_most(uint32_t chunks, uint32_t span, uint32_t delay, const uint32_t *forecast, struct settled *s)
 {
-    static uint8_t kept[500];
-    uint64_t sum = 0;
-    int p = 500;
-    for (int i = 0; i < j->chunks; i++) {
-        kept[i] = 1;
-        sum += size_of[i][0];
-        if (sum + after[i * j->span + j->delay] <= after[0]) continue;
-        int largest = -1;
-        for (int k = 0; k <= i; k++)
-            if (kept[k] && (largest < 0 || size_of[largest][0] < size_of[k][0])) largest = k;
-        kept[largest] = 0;
-        sum -= size_of[largest][0];
-    }
-    for (int i = j->chunks; i >= 1; i--)
-        if (kept[i - 1]) keep(j, --p, i);
-    return p;
-}
-
-static int keep_bases(const struct job *j, int hold)
-{
-    int p = 500;
-    uint64_t last = 0;
-    for (int i = j->chunks; i >= 1; i--) {
-        int due = (i - 1) * j->span + j->delay, q = p - 1;
-        uint64_t need = size_of[i - 1][0] + more(after[due], last);
-        needs[q] = need;
-        if (need > after[0]) continue;
-        if ((q + hold < 500 ? needs[q + hold] : 0) > after[due - 1]) continue;
-        keep(j, q, i);
-        last = need;
-        p = q;
-    }
-    return p;
-}
-
-static int try_layer(int n, int p, int hold)
-{
-    uint64_t left = after[0], need = 0;
-    int count = 0;
-    for (int q = p; q < 500; q++) {
-        uint64_t open = q - p < hold ? after[0] : from[q - hold];
-        room[q] = left < open ? left : open;
-        left = room[q] < bytes_of[q] ? 0 : room[q] - bytes_of[q];
-    }
-    for (int q = 499; q >= p; q--) {
-        uint32_t size = size_of[ids[q] - 1][n];
-        uint64_t plain = bytes_of[q] + more(behind[q], need), with = plain + size;
-        need = plain;
-        if (mark_of[q] >> (n - 1) & 1 && with <= room[q]) {
-            need = with;
-            bytes_of[q] += size;
-            mark_of[q] |= 1 << n;
-            count++;
+    uint64_t heap[CHUNKS], sum = 0;
+    uint8_t kept[CHUNKS];
+    size_t n = 0;
+    uint32_t p = CHUNKS;
+    memset(kept, 1, chunks);
+    for (uint32_t i = 0; i < chunks; i++) {
+        uint64_t size = s->size[s->stride * i], x = size << 9 | (511 - i);
+        sum += size;
+        if (sum <= s->total - s->after[i]) {
+            sift_up(heap, n++, x);
+            continue;
         }
+        uint64_t out = x;
+        if (n && heap[0] > x) {
+            out = heap[0];
+            sift_down(heap, n, x);
+        }
+        kept[511 - (out & 511)] = 0;
+        sum -= out >> 9;
+    }
+    for (uint32_t i = chunks; i; i--)
+        if (kept[i - 1]) keep(s, --p, i, (i - 1) * span + delay, s->size[s->stride * (i - 1)], forecast);
+    s->first = p;
+}
+
+static int bases_vary(uint32_t chunks, const struct settled *s)
+{
+    for (uint32_t i = 1; s->stride && i < chunks; i++)
+        if (s->size[4 * i] != s->size[0]) return 1;
+    return 0;
+}
+
+uint32_t keep_layer(uint32_t n, struct settled *s)
+{
+    uint64_t room[CHUNKS], left = s->total, need = 0;
+    const uint64_t *from = s->from, *behind = s->behind;
+    uint64_t *bytes = s->bytes;
+    const uint32_t *size = s->size + n;
+    size_t first = s->first, near = less(s->held, CHUNKS - first), q = first, stride = s->stride;
+    uint32_t count = 0, own = *size;
+    for (; q < first + near; q++) {
+        room[q] = left;
+        left -= less(left, bytes[q]);
+    }
+    for (; q < CHUNKS; q++) {
+        room[q] = left = less(left, from[q - near]);
+        left -= less(left, bytes[q]);
+    }
+    while (q-- > first) {
+        uint64_t have = bytes[q];
+        need = have + more(behind[q], need);
+        if (s->level[q] != n) continue;
+        uint64_t more_bytes = stride ? size[4 * s->id[q] - 4] : own;
+        if (need + more_bytes > room[q]) continue;
+        bytes[q] = have + more_bytes;
+        need += more_bytes;
+        s->level[q] = n + 1;
+        count++;
     }
     return count;
 }
 
-static size_t fill(const struct job *j, int p, int hold, struct plan *out)
+void begin(JOB_PARAMETERS, struct settled *s)
 {
-    size_t rows = 0, t = 1;
-    uint32_t left = j->forecast[0];
-    for (int q = p; q < 500; q++) {
-        size_t ready = q - p < hold ? 1 : (size_t)(ids[q - hold] - 1) * j->span + j->delay;
-        if (t < ready) {
-            t = ready;
-            left = j->forecast[t - 1];
+    s->held = limit / span;
+    s->stride = set_sizes(JOB_ARGUMENTS, s->table);
+    s->size = s->stride ? s->table : sizes;
+    set_sums(chunks, span, delay, forecast, s);
+}
+
+void keep_layers(size_t layers, struct settled *s)
+{
+    memset(s->counts, 0, sizeof s->counts);
+    s->counts[0] = CHUNKS - s->first;
+    for (size_t n = 1; n < layers; n++) s->counts[n] = keep_layer(n, s);
+}
+
+void settle(JOB_PARAMETERS, struct settled *s)
+{
+    begin(JOB_ARGUMENTS, s);
+    s->most = s->held >= chunks && bases_vary(chunks, s);
+    if (s->most)
+        keep_most(chunks, span, delay, forecast, s);
+    else
+        keep_bases(chunks, span, delay, forecast, s);
+    keep_layers(layers, s);
+}
+
+static size_t fill(const struct settled *s, const uint32_t *forecast, uint16_t *restrict row_slots,
+    uint16_t *restrict row_chunks, uint8_t *restrict row_layers, uint32_t *restrict row_bytes)
+{
+    size_t rows = 0;
+    uint32_t t = 1, left = forecast[0], first = s->first, held = s->held;
+    for (uint32_t q = first; q < CHUNKS; q++) {
+        uint32_t i = s->id[q], level = s->level[q];
+        const uint32_t *size = s->size + s->stride * (i - 1);
+        if (q - first >= held && t < s->due[q - held]) {
+            t = s->due[q - held];
+            left = forecast[t - 1];
         }
-        for (size_t n = 0; n < j->layers && mark_of[q] >> n & 1; n++) {
-            uint32_t size = size_of[ids[q] - 1][n];
-            while (size) {
-                while (left == 0) left = j->forecast[t++];
-                uint32_t take = size < left ? size : left;
-                out->slots[rows] = t;
-                out->chunks[rows] = ids[q];
-                out->layers[rows] = n;
-                out->bytes[rows++] = take;
-                size -= take;
-                left -= take;
+        for (uint32_t n = 0; n < level; n++) {
+            uint32_t lacking = size[n];
+            while (lacking > left) {
+                row_slots[rows] = t;
+                row_chunks[rows] = i;
+                row_layers[rows] = n;
+                row_bytes[rows] = left;
+                rows += left != 0; // a slot that is spent has no row
+                lacking -= left;
+                left = forecast[t++];
             }
+            row_slots[rows] = t;
+            row_chunks[rows] = i;
+            row_layers[rows] = n;
+            row_bytes[rows++] = lacking;
+            left -= lacking;
         }
     }
     return rows;
 }
 
-size_t plan_c(const struct job *j, struct plan *out)
+uint64_t list_plan(const struct settled *s, uint32_t chunks, const uint32_t *forecast, PLAN_PARAMETERS)
 {
-    if (refused(j)) return (size_t)-1;
-    fill_sizes(j);
-    int hold = j->limit / j->span;
-    after[j->slots] = 0;
-    for (size_t t = j->slots; t > 0; t--) after[t - 1] = after[t] + j->forecast[t - 1];
-    int p = hold >= j->chunks && vary(j) ? moore_hodgson(j) : keep_bases(j, hold);
-    out->counts[0] = 500 - p;
-    for (size_t n = 1; n < j->layers; n++) out->counts[n] = try_layer(n, p, hold);
-    memset(out->marks, 0, j->chunks);
-    for (int q = p; q < 500; q++) out->marks[ids[q] - 1] = mark_of[q];
-    return fill(j, p, hold, out);
+    (void)marks_len, (void)counts_len;
+    size_t rows, room = less(less(out_slots_len, out_chunks_len), less(out_layers_len, out_bytes_len));
+    if (room >= FILM_ROWS) {
+        rows = fill(s, forecast, out_slots, out_chunks, out_layers, out_bytes);
+    } else {
+        uint16_t t[FILM_ROWS], i[FILM_ROWS];
+        uint8_t n[FILM_ROWS];
+        uint32_t b[FILM_ROWS];
+        rows = fill(s, forecast, t, i, n, b);
+        if (room < rows) return refuse(11);
+        memcpy(out_slots, t, rows * sizeof *t);
+        memcpy(out_chunks, i, rows * sizeof *i);
+        memcpy(out_layers, n, rows);
+        memcpy(out_bytes, b, rows * sizeof *b);
+    }
+    memset(marks, 0, chunks);
+    for (uint32_t q = s->first; q < CHUNKS; q++) marks[s->id[q] - 1] = (1 << s->level[q]) - 1;
+    memcpy(counts, s->counts, sizeof s->counts);
+    return rows;
+}
+
+uint64_t plain_plan(JOB_PARAMETERS, PLAN_PARAMETERS)
+{
+    struct settled s;
+    uint32_t number = job_refusal(JOB_ARGUMENTS);
+    if (number) return refuse(number);
+    if (marks_len < chunks || counts_len < FILM_COUNTS) return refuse(11);
+    settle(JOB_ARGUMENTS, &s);
+    return list_plan(&s, chunks, forecast, PLAN_ARGUMENTS);
 }

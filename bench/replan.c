@@ -1,195 +1,170 @@
-// Planning afresh in plain C, to measure the proved call against: the same tables of the handed
-// rows and the same linear decisions, no checks of bounds, no proof.
-#include "plan.c"
-#include "replan.h"
+// Planning afresh in plain C: the rows fetched are tallied, chunks that play after all begun ones
+// are settled from the last down, then the begun ones, then each layer above; the rest is listed.
+#include "plan.h"
+#include "fetched.h"
 
-static uint64_t slot_sum[3601], layer_sum[500][4], caps[500];
-static uint16_t first_slot[501], begins[3601], ends[3601], front[500];
-static uint32_t left_of[500][4];
-static uint8_t whole_of[500];
-
-static int due_of(const struct job *j, int i) { return (i - 1) * j->span + j->delay; }
-
-// Rules 1 and 5 row by row, and the sums by slot and by layer.
-static int tally(const struct job *j, const struct fetched *f)
+// The forecast from p on after each due slot, by chunk, and in whole. Answers the first chunk (from
+// 0) that is due in p or later.
+static uint32_t set_sums_from(uint32_t chunks, uint32_t span, uint32_t delay, uint32_t from, const uint32_t *onward,
+    struct settled *s)
 {
-    memset(slot_sum, 0, sizeof slot_sum);
-    memset(layer_sum, 0, sizeof layer_sum);
-    memset(first_slot, 255, sizeof first_slot);
-    for (size_t k = 0; k < f->rows; k++) {
-        uint16_t t = f->slots[k], i = f->chunks[k];
-        uint8_t n = f->layers[k];
-        if (t < 1 || i < 1 || i > j->chunks || n >= j->layers || f->bytes[k] < 1 || t > due_of(j, i)) return 0;
-        slot_sum[t] += f->bytes[k];
-        layer_sum[i - 1][n] += f->bytes[k];
-        if (t < first_slot[i]) first_slot[i] = t;
+    uint64_t sum = 0;
+    uint32_t i = chunks, to = (chunks - 1) * span + delay;
+    while (i && (i - 1) * span + delay >= from) {
+        i--;
+        uint32_t back = i && to - span >= from ? to - span : from - 1;
+        s->after[i] = sum;
+        for (uint32_t t = back; t < to; t++) sum += onward[t + 1 - from];
+        to = back;
     }
-    return 1;
+    s->total = sum;
+    return i;
 }
 
-// Rules 2 to 4, and in whose turn chunks begin.
-static int kept(const struct job *j, uint16_t from)
+static void keep_at(
+    struct settled *s, uint32_t p, uint32_t i, uint32_t due, uint32_t bytes, uint32_t level, uint64_t from)
 {
-    uint16_t latest = 0;
-    for (int i = 1; i <= j->chunks; i++) {
-        uint8_t mark = 0;
-        for (size_t n = 0; n < j->layers; n++) {
-            uint64_t sum = layer_sum[i - 1][n], size = size_of[i - 1][n];
-            if (sum > size) return 0;
-            left_of[i - 1][n] = size - sum;
-            mark |= (sum == size) << n;
-        }
-        if (mark & (mark + 1)) return 0;
-        whole_of[i - 1] = mark;
-        if (first_slot[i] == 65535) continue;
-        if (first_slot[i] < latest) return 0;
-        latest = first_slot[i];
-    }
-    for (int t = 1; t < from; t++)
-        if (slot_sum[t] > j->forecast[t - 1]) return 0;
-    return 1;
+    s->id[p] = i + 1;
+    s->due[p] = due;
+    s->level[p] = level;
+    s->bytes[p] = bytes;
+    s->behind[p] = s->after[i];
+    s->from[p] = from;
 }
 
-// Rule 6.
-static int few_held(const struct job *j, int hold)
+// Chunks from `next` on, which play after all begun ones, from the last down. A need that comes to
+// stand H places behind a begun chunk must be at most the forecast from that chunk's due slot on
+// (caps, at the end of its table from fb on): g is the first place whose cap is below the least
+// need so far, and least the first place that may still be kept.
+static uint64_t keep_new(uint32_t chunks, uint32_t span, uint32_t delay, uint32_t from, const uint32_t *onward,
+    const uint32_t *left, int next, const uint64_t *caps, int fb, struct settled *s)
 {
-    int held = 0;
-    memset(begins, 0, sizeof begins);
-    memset(ends, 0, sizeof ends);
-    for (int i = 1; i <= j->chunks; i++) {
-        int due = due_of(j, i);
-        if (first_slot[i] >= due) continue;
-        begins[first_slot[i]]++;
-        ends[due]++;
-    }
-    for (size_t t = 1; t <= j->slots; t++) {
-        held += begins[t] - ends[t];
-        if (held > hold) return 0;
-    }
-    return 1;
-}
-
-static void keep_at(const struct job *j, int q, int i, uint64_t bytes, uint8_t mark)
-{
-    int due = due_of(j, i);
-    ids[q] = i;
-    behind[q] = after[due];
-    from[q] = after[due - 1];
-    bytes_of[q] = bytes;
-    mark_of[q] = mark;
-}
-
-// Chunks that play after all begun ones, from the last down. A need that comes to stand H places
-// behind a begun chunk must be at most the forecast from that chunk's due slot on: g is the first
-// place whose cap is below the least need so far, and floor how many may be kept.
-static int keep_new(const struct job *j, uint16_t start, int hold, int last, int fb)
-{
-    const uint64_t none = 60414754816;
-    int p = 500, floor = 0, g = 500, back = 500 - hold;
-    uint64_t need = 0, roof = back < fb || (back == 500 && fb == 500) ? none : caps[back < 500 ? back : 499];
-    for (int i = j->chunks; i > last; i--) {
-        int due = due_of(j, i), q = p - 1;
-        uint64_t cand = left_of[i - 1][0] + more(after[due], need);
-        needs[q] = cand;
-        if (due < start || cand > after[0] || q < floor || cand > roof) continue;
-        if ((q + hold < 500 ? needs[q + hold] : 0) > after[due - 1]) continue;
-        while (g > fb && caps[g - 1] < cand) g--;
-        if (g < 500 && q + 501 - g - hold > floor) floor = q + 501 - g - hold;
-        keep_at(j, q, i, left_of[i - 1][0], 1);
-        need = cand;
+    uint64_t needs[2 * CHUNKS], need = 0, roof = ~(uint64_t)0, total = s->total;
+    int held = less(s->held, CHUNKS), p = CHUNKS, least = 0, g = CHUNKS, back = CHUNKS - held;
+    if (back >= fb && fb < CHUNKS) roof = caps[less(back, CHUNKS - 1)];
+    memset(needs + CHUNKS, 0, held * sizeof *needs);
+    for (int i = chunks; i-- > next;) {
+        uint32_t due = i * span + delay;
+        uint64_t open = s->after[i] + onward[due - from], tried = left[4 * i] + more(s->after[i], need);
+        int q = p - 1;
+        needs[q] = tried;
+        if (tried > total || q < least || tried > roof || needs[q + held] > open) continue;
+        while (g > fb && caps[g - 1] < tried) g--;
+        if (g < CHUNKS && q + CHUNKS + 1 - g - held > least) least = q + CHUNKS + 1 - g - held;
+        keep_at(s, q, i, due, left[4 * i], 1, open);
+        need = tried;
         p = q;
     }
-    return p;
+    s->first = p;
+    return need;
 }
 
-static int keep_begun(const struct job *j, int fb, int p)
+// The begun chunks at the end of their table, from the last down: each keeps its place, and its
+// base is ended if that can be.
+static void keep_begun(uint32_t span, uint32_t delay, const struct fetched *f, const uint16_t *front,
+    const uint64_t *caps, int fb, uint64_t need, struct settled *s)
 {
-    uint64_t need = p < 500 ? needs[p] : 0;
-    for (int r = 499; r >= fb; r--) {
-        int i = front[r];
-        uint64_t want = more(after[due_of(j, i)], need), with = want + left_of[i - 1][0];
-        uint8_t mark = whole_of[i - 1];
-        int ends_base = !(mark & 1) && with <= after[0];
-        keep_at(j, --p, i, ends_base ? left_of[i - 1][0] : 0, ends_base ? 1 : mark);
-        need = ends_base ? with : want;
+    uint32_t p = s->first;
+    for (int r = CHUNKS - 1; r >= fb; r--) {
+        uint32_t i = front[r], bytes = f->left[4 * i], level = f->level[i];
+        need = more(s->after[i], need);
+        if (level || need + bytes > s->total)
+            bytes = 0;
+        else
+            level = 1;
+        need += bytes;
+        keep_at(s, --p, i, i * span + delay, bytes, level, caps[r]);
     }
-    return p;
+    s->first = p;
 }
 
-static size_t fill_rest(const struct job *j, uint16_t start, const uint32_t *onward, int p, int hold, struct plan *out)
+static size_t fill_rest(const struct settled *s, uint32_t from, const uint32_t *onward, const uint32_t *left_of,
+    uint16_t *restrict row_slots, uint16_t *restrict row_chunks, uint8_t *restrict row_layers,
+    uint32_t *restrict row_bytes)
 {
-    size_t rows = 0, t = start;
-    uint32_t left = onward[0];
-    for (int q = p; q < 500; q++) {
-        size_t ready = q - p < hold ? start : (size_t)due_of(j, ids[q - hold]);
-        for (size_t n = 0; n < j->layers && mark_of[q] >> n & 1; n++) {
-            uint32_t size = left_of[ids[q] - 1][n];
-            if (size && t < ready) {
-                t = ready;
-                left = onward[t - start];
+    size_t rows = 0;
+    uint32_t t = from, left = onward[0], first = s->first, held = s->held;
+    const uint32_t *by_slot = onward - from;
+    for (uint32_t q = first; q < CHUNKS; q++) {
+        uint32_t i = s->id[q], level = s->level[q], ready = q - first < held ? from : s->due[q - held];
+        const uint32_t *size = left_of + 4 * (i - 1);
+        for (uint32_t n = 0; n < level; n++) {
+            uint32_t lacking = size[n];
+            if (!lacking) continue;
+            if (t < ready) left = by_slot[t = ready];
+            while (lacking > left) {
+                row_slots[rows] = t;
+                row_chunks[rows] = i;
+                row_layers[rows] = n;
+                row_bytes[rows] = left;
+                rows += left != 0; // a slot that is spent has no row
+                lacking -= left;
+                left = by_slot[++t];
             }
-            while (size) {
-                while (left == 0) left = onward[++t - start];
-                uint32_t take = size < left ? size : left;
-                out->slots[rows] = t;
-                out->chunks[rows] = ids[q];
-                out->layers[rows] = n;
-                out->bytes[rows++] = take;
-                size -= take;
-                left -= take;
-            }
+            row_slots[rows] = t;
+            row_chunks[rows] = i;
+            row_layers[rows] = n;
+            row_bytes[rows++] = lacking;
+            left -= lacking;
         }
     }
     return rows;
 }
 
-// The layers above the base, of what is left of them; a layer whole before the slot is settled.
-static void try_left(int n, int p, int hold)
+static void settle_from(
+    JOB_PARAMETERS, uint32_t from, const struct fetched *f, const uint32_t *onward, struct settled *s)
 {
-    uint64_t left = after[0], need = 0;
-    for (int q = p; q < 500; q++) {
-        uint64_t open = q - p < hold ? after[0] : from[q - hold];
-        room[q] = left < open ? left : open;
-        left = room[q] < bytes_of[q] ? 0 : room[q] - bytes_of[q];
+    (void)sizes, (void)size_chunks, (void)size_layers, (void)size_bytes, (void)forecast, (void)slots;
+    (void)size_chunks_len, (void)size_layers_len, (void)size_bytes_len;
+    uint16_t front[CHUNKS];
+    uint64_t caps[CHUNKS];
+    uint32_t live = set_sums_from(chunks, span, delay, from, onward, s), next = chunks, fb = CHUNKS;
+    while (next > live && f->begun[next - 1] == NEVER) next--;
+    for (uint32_t i = next; i-- > live;) {
+        if (f->begun[i] == NEVER) continue;
+        front[--fb] = i;
+        caps[fb] = s->after[i] + onward[i * span + delay - from];
     }
-    for (int q = 499; q >= p; q--) {
-        uint32_t size = left_of[ids[q] - 1][n];
-        uint64_t plain = bytes_of[q] + more(behind[q], need), with = plain + size;
-        need = plain;
-        if (mark_of[q] >> (n - 1) & 1 && with <= room[q]) {
-            need = with;
-            bytes_of[q] += size;
-            mark_of[q] |= 1 << n;
-        }
-    }
+    s->held = limit / span;
+    s->size = f->left;
+    s->stride = 4;
+    uint64_t need = keep_new(chunks, span, delay, from, onward, f->left, next, caps, fb, s);
+    keep_begun(span, delay, f, front, caps, fb, need, s);
+    for (size_t n = 1; n < layers; n++) keep_layer(n, s);
 }
 
-size_t replan_c(const struct job *j, uint16_t start, const struct fetched *f, const uint32_t *onward, size_t slots_on, struct plan *out)
+uint64_t plain_replan(JOB_PARAMETERS, FETCHED_PARAMETERS, const uint32_t *onward, size_t onward_len, PLAN_PARAMETERS)
 {
-    int hold = j->limit / j->span, last = 0, fb = 500;
-    if (refused(j) || start < 1 || start > j->slots || slots_on != j->slots - start + 1) return (size_t)-1;
-    for (size_t k = 0; k < f->rows; k++)
-        if (f->slots[k] >= start) return (size_t)-1;
-    for (size_t k = 0; k < slots_on; k++)
-        if (onward[k] > 16777216) return (size_t)-1;
-    fill_sizes(j);
-    if (!tally(j, f) || !kept(j, start) || !few_held(j, hold)) return (size_t)-1;
-    after[j->slots] = 0;
-    for (size_t t = j->slots; t >= start; t--) after[t - 1] = after[t] + onward[t - start];
-    for (size_t t = 0; t + 1 < start; t++) after[t] = after[start - 1];
-    for (int i = j->chunks; i >= 1; i--) {
-        if (first_slot[i] == 65535) continue;
-        if (last == 0) last = i;
-        if (due_of(j, i) < start) continue;
-        front[--fb] = i;
-        caps[fb] = after[due_of(j, i) - 1];
+    struct fetched f;
+    struct settled s;
+    uint32_t number = job_refusal(JOB_ARGUMENTS);
+    if (number) return refuse(number);
+    number = rows_refusal(slots, FETCHED_ARGUMENTS);
+    if (number) return refuse(number);
+    if (onward_len != slots - from + 1 || bad_bytes(onward, onward_len)) return refuse(7);
+    if (!take_fetched(JOB_ARGUMENTS, FETCHED_ARGUMENTS, &f)) return refuse(22);
+    if (marks_len < chunks || counts_len < FILM_COUNTS) return refuse(11);
+    settle_from(JOB_ARGUMENTS, from, &f, onward, &s);
+    size_t rows, room = less(less(out_slots_len, out_chunks_len), less(out_layers_len, out_bytes_len));
+    if (room >= FILM_ROWS) {
+        rows = fill_rest(&s, from, onward, f.left, out_slots, out_chunks, out_layers, out_bytes);
+    } else {
+        uint16_t t[FILM_ROWS], i[FILM_ROWS];
+        uint8_t n[FILM_ROWS];
+        uint32_t b[FILM_ROWS];
+        rows = fill_rest(&s, from, onward, f.left, t, i, n, b);
+        if (room < rows) return refuse(11);
+        memcpy(out_slots, t, rows * sizeof *t);
+        memcpy(out_chunks, i, rows * sizeof *i);
+        memcpy(out_layers, n, rows);
+        memcpy(out_bytes, b, rows * sizeof *b);
     }
-    int p = keep_begun(j, fb, keep_new(j, start, hold, last, fb));
-    for (size_t n = 1; n < j->layers; n++) try_left(n, p, hold);
-    memcpy(out->marks, whole_of, j->chunks);
-    for (int q = p; q < 500; q++) out->marks[ids[q] - 1] = mark_of[q];
-    memset(out->counts, 0, sizeof out->counts);
-    for (int i = 0; i < j->chunks; i++)
-        for (int n = 0; n < 4; n++) out->counts[n] += out->marks[i] >> n & 1;
-    return fill_rest(j, start, onward, p, hold, out);
+    for (uint32_t q = s.first; q < CHUNKS; q++) f.level[s.id[q] - 1] = s.level[q];
+    memset(counts, 0, FILM_COUNTS * sizeof *counts);
+    for (uint32_t i = 0; i < chunks; i++) {
+        uint32_t level = f.level[i];
+        marks[i] = (1 << level) - 1;
+        for (uint32_t n = 0; n < level; n++) counts[n]++;
+    }
+    return rows;
 }

@@ -1,96 +1,83 @@
-// The best base set of 500 uneven chunks within a budget of 10,000,000 steps under a limit that
-// binds, by the proved call, which lays out the plan over it too, or by the same walk in plain C.
-// Prints the set's size and a checksum of it, so that both did the same work.
-#include "film_planner.h"
-#include <stddef.h>
-#include <stdint.h>
-#include <stdio.h>
-#include <stdlib.h>
-#include <string.h>
+// The search within a budget in plain C: the walk without recursion, since the kept chunks are
+// their own stack, then the layers above the best set and its rows.
+#include "plan.h"
 
-enum { C = 500, SPAN = 7, DELAY = 107, SLOTS = (C - 1) * SPAN + DELAY };
+struct walk {
+    uint32_t left, ended;
+    size_t most;
+    uint16_t best[CHUNKS]; // at the end
+};
 
-// H, and the bytes below which the forecast varies.
-static const struct film {
-    uint16_t held;
-    uint32_t below;
-} films[] = {{10, 1800000}, {3, 1800000}, {10, 600000}};
+// By chunk, from 1: base, forecast after its due slot and from it on.
+struct bases {
+    uint64_t size[CHUNKS + 1], after[CHUNKS + 1], from[CHUNKS + 1];
+};
 
-static uint32_t own, base[C + 1], forecast[SLOTS], size_bytes[C];
-static uint16_t size_chunks[C], row_slots[FILM_ROWS], row_chunks[FILM_ROWS], counts[FILM_COUNTS];
-static uint8_t size_layers[C], marks[C], row_layers[FILM_ROWS];
-static uint32_t row_bytes[FILM_ROWS], numbers[FILM_WALK];
-
-size_t search_rattle(const struct film *w, uint32_t budget)
+static void search(uint32_t chunks, size_t held, uint64_t total, const struct bases *b, struct walk *w)
 {
-    size_t n = 0;
-    for (int i = 2; i <= C; i++)
-        if (base[i] != own) {
-            size_chunks[n] = i;
-            size_bytes[n++] = base[i];
-        }
-    uint64_t answer = film_search(C, SPAN, DELAY, w->held * SPAN, &own, 1, size_chunks, n, size_layers, n, size_bytes, n, forecast, SLOTS, budget, marks, C,
-                row_slots, FILM_ROWS, row_chunks, FILM_ROWS, row_layers, FILM_ROWS, row_bytes, FILM_ROWS, counts, FILM_COUNTS, numbers, FILM_WALK);
-    if (film_refused(answer)) exit(1);
-    size_t kept = 0;
-    for (int i = 0; i < C; i++) kept += marks[i] & 1;
-    return kept;
-}
-
-// The walk in plain C: kept chunks and their needs at the end of two tables, the best set in a
-// third.
-static uint64_t after[SLOTS + 1], needs[C + 1];
-static uint16_t kept[C], best[C];
-static size_t most;
-static uint32_t left;
-
-static int walk(int i, int first, int held)
-{
-    for (; i; i--) {
-        if (!left) return 0;
-        left--;
-        int d = (i - 1) * SPAN + DELAY, k = first - 1;
-        uint64_t behind = needs[first] > after[d] ? needs[first] : after[d];
-        needs[k] = base[i] + behind;
-        if (needs[k] <= after[0] && (k + held >= C || needs[k + held] <= after[d - 1])) {
-            kept[k] = i;
-            if ((size_t)(C - k) > most) {
-                most = C - k;
-                memcpy(best + k, kept + k, most * sizeof *best);
+    uint64_t needs[2 * CHUNKS + 1];
+    uint16_t kept[CHUNKS];
+    uint32_t i = chunks, left = w->left;
+    size_t k = CHUNKS, least = CHUNKS;
+    memset(needs + CHUNKS, 0, (CHUNKS + 1) * sizeof *needs);
+    for (;;) {
+        while (i) {
+            if (!left--) goto cut;
+            uint64_t need = b->size[i] + more(b->after[i], needs[k]);
+            needs[k - 1] = need;
+            if (need <= total && needs[k - 1 + held] <= b->from[i]) {
+                kept[--k] = i--;
+                if (k >= least) continue;
+                least = k;
+                memcpy(w->best + k, kept + k, (CHUNKS - k) * sizeof *kept);
+            } else {
+                if (!left--) goto cut;
+                i--;
             }
-            if (!walk(i - 1, k, held)) return 0;
         }
-        if (!left) return 0;
-        left--;
+        if (k == CHUNKS) break;
+        if (!left--) goto cut;
+        i = kept[k++] - 1;
     }
-    return 1;
+    w->ended = 1;
+    w->left = left;
+    w->most = CHUNKS - least;
+    return;
+cut:
+    w->ended = 0;
+    w->left = 0;
+    w->most = CHUNKS - least;
 }
 
-size_t search_c(const struct film *w, uint32_t budget)
+uint64_t plain_search(JOB_PARAMETERS, uint32_t budget, PLAN_PARAMETERS, uint32_t *walk, size_t walk_len)
 {
-    for (int t = SLOTS; t; t--) after[t - 1] = after[t] + forecast[t - 1];
-    left = budget;
-    walk(C, C, w->held);
-    for (size_t k = C - most; k < C; k++) marks[best[k] - 1] = 1;
-    return most;
-}
-
-int main(int argc, char **argv)
-{
-    const struct film *w = &films[argc > 2 ? argv[2][0] - '0' : 0];
-    uint32_t budget = argc > 3 ? strtoul(argv[3], 0, 10) : 10000000, x = 12345;
-    for (int i = 1; i <= C; i++) {
-        x = x * 1664525 + 1013904223;
-        base[i] = 1000000 + (x >> 8) % 15000000;
+    struct settled s;
+    struct walk w = {.left = budget};
+    struct bases b;
+    uint32_t number = job_refusal(JOB_ARGUMENTS), short_by = 0;
+    if (number) return refuse(number);
+    if (marks_len < chunks || counts_len < FILM_COUNTS || walk_len < FILM_WALK) return refuse(11);
+    begin(JOB_ARGUMENTS, &s);
+    for (uint32_t i = 1; i <= chunks; i++) {
+        b.size[i] = s.size[s.stride * (i - 1)];
+        b.after[i] = s.after[i - 1];
+        b.from[i] = s.after[i - 1] + forecast[(i - 1) * span + delay - 1];
     }
-    own = base[1];
-    for (int t = 0; t < SLOTS; t++) {
-        x = x * 1664525 + 1013904223;
-        forecast[t] = (x >> 8) % w->below;
+    search(chunks, less(s.held, CHUNKS), s.total, &b, &w);
+    if (!w.ended) {
+        keep_most(chunks, span, delay, forecast, &s);
+        short_by = CHUNKS - s.first - w.most;
     }
-    size_t n = argc > 1 && argv[1][0] == 'c' ? search_c(w, budget) : search_rattle(w, budget);
-    uint64_t sum = n;
-    for (int i = 0; i < C; i++) sum = sum * 31 + (marks[i] & 1);
-    printf("kept %zu checksum %016llx\n", n, (unsigned long long)sum);
-    return 0;
+    s.first = CHUNKS - w.most;
+    for (uint32_t q = s.first; q < CHUNKS; q++) {
+        uint32_t i = w.best[q];
+        keep(&s, q, i, (i - 1) * span + delay, b.size[i], forecast);
+    }
+    keep_layers(layers, &s);
+    uint64_t rows = list_plan(&s, chunks, forecast, PLAN_ARGUMENTS);
+    if (film_refused(rows)) return rows;
+    walk[0] = budget - w.left;
+    walk[1] = w.ended;
+    walk[2] = short_by;
+    return rows;
 }

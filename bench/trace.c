@@ -1,86 +1,70 @@
-// Link traces of document 02 in plain C beside the proved calls: reads, or writes, a trace of
-// 1,000,000 lines over 3,600 slots by the call named on the command line, and prints its answer and
-// a checksum, so that both did the same work.
-#include "film_planner.h"
-#include <stdint.h>
-#include <stdio.h>
-#include <string.h>
+// Link traces in plain C: a line's digits are read one by one, and written once a slot and then
+// copied twice as many at a time.
+#include "plain.h"
 
-enum { LINES = 1000000, SLOTS = 3600, ROOM = 8 * LINES };
-
-__attribute__((noinline)) size_t read_rattle(const uint8_t *s, size_t n, size_t slots, uint32_t *out, size_t room)
+// The number that stands in front, of so many digits at the most; how many they are.
+static inline size_t take_number(const uint8_t *at, size_t most, uint32_t *number)
 {
-    return film_read_trace(s, n, slots, out, room);
+    uint32_t time = 0, digit;
+    size_t n = 0;
+    for (; n < most && (digit = at[n] - '0') < 10; n++) time = time * 10 + digit;
+    *number = time;
+    return n;
 }
 
-__attribute__((noinline)) size_t read_c(const uint8_t *s, size_t n, size_t slots, uint32_t *out, size_t room)
+uint64_t plain_read_trace(const uint8_t *trace, size_t trace_len, size_t slots, uint32_t *forecast, size_t forecast_len)
 {
-    const size_t refused = (size_t)1 << 32;
-    uint64_t counts[SLOTS] = {0};
-    uint32_t last = 0;
-    if (slots < 1 || slots > SLOTS) return refused + 7;
-    for (size_t i = 0; i < n; i++) {
-        size_t from = i;
-        uint32_t t = 0;
-        while (i < n && i < from + 7 && s[i] >= '0' && s[i] <= '9') t = t * 10 + (s[i++] - '0');
-        if (i == from || i == n || s[i] != '\n' || t < last) return refused + 14;
-        if (t / 1000 < SLOTS) counts[t / 1000]++;
-        last = t;
+    uint64_t lines[FILM_SLOTS];
+    const uint8_t *at = trace, *end = trace + trace_len;
+    uint32_t last = 0, time;
+    if (slots - 1 >= FILM_SLOTS) return refuse(7);
+    memset(lines, 0, slots * sizeof *lines);
+    while (at != end) {
+        // Where the longest line would be there, the end is not looked for at each digit.
+        size_t n = end - at >= 8 ? take_number(at, 7, &time) : take_number(at, end - at, &time);
+        at += n;
+        if (n == 0 || n > 7 || at == end || *at++ != '\n' || time < last) return refuse(14);
+        if (time / 1000 < slots) lines[time / 1000]++;
+        last = time;
     }
-    for (size_t k = 0; k < slots; k++)
-        if (counts[k] > 11184) return refused + 15;
-    if (room < slots) return refused + 11;
-    for (size_t k = 0; k < slots; k++) out[k] = 1500 * counts[k];
+    for (size_t t = 0; t < slots; t++)
+        if (lines[t] > MOST_BYTES / 1500) return refuse(15);
+    if (forecast_len < slots) return refuse(11);
+    for (size_t t = 0; t < slots; t++) forecast[t] = 1500 * lines[t];
     return slots;
 }
 
-__attribute__((noinline)) size_t write_rattle(const uint32_t *forecast, size_t slots, uint8_t *out, size_t room)
+// The line of a slot's first millisecond: "0", or the slots before it and three zeros.
+static size_t put_line(uint32_t t, uint8_t *line)
 {
-    return film_write_trace(forecast, slots, out, room);
+    uint8_t digits[4];
+    size_t n = 0, k = 0;
+    do digits[n++] = '0' + t % 10;
+    while (t /= 10);
+    int zeros = n > 1 || digits[0] != '0' ? 3 : 0;
+    while (n) line[k++] = digits[--n];
+    while (zeros--) line[k++] = '0';
+    line[k++] = '\n';
+    return k;
 }
 
-static size_t line(size_t t, char *text)
+uint64_t plain_write_trace(const uint32_t *forecast, size_t slots, uint8_t *out, size_t out_len)
 {
-    return sprintf(text, "%zu\n", t * 1000);
-}
-
-__attribute__((noinline)) size_t write_c(const uint32_t *forecast, size_t slots, uint8_t *out, size_t room)
-{
-    const size_t refused = (size_t)1 << 32;
-    size_t sum = 0, at = 0;
-    char text[24];
-    if (slots < 1 || slots > SLOTS) return refused + 7;
-    for (size_t t = 0; t < slots; t++)
-        if (forecast[t] > 16777216 || forecast[t] % 1500) return refused + 15;
-    for (size_t t = 0; t < slots; t++) sum += forecast[t] / 1500 * line(t, text);
-    if (room < sum) return refused + 11;
+    uint8_t line[8];
+    size_t bytes = 0;
+    if (slots - 1 >= FILM_SLOTS) return refuse(7);
     for (size_t t = 0; t < slots; t++) {
-        size_t width = line(t, text);
-        for (uint32_t k = forecast[t] / 1500; k; k--) {
-            memcpy(out + at, text, width);
-            at += width;
-        }
+        if (forecast[t] > MOST_BYTES || forecast[t] % 1500) return refuse(15);
+        size_t width = t == 0 ? 2 : t < 10 ? 5 : t < 100 ? 6 : t < 1000 ? 7 : 8;
+        bytes += forecast[t] / 1500 * width;
     }
-    return at;
-}
-
-int main(int argc, char **argv)
-{
-    static uint8_t trace[ROOM];
-    static uint32_t forecast[SLOTS];
-    size_t n = 0, answer;
-    uint64_t sum = 0;
-    int c = argc > 2 && argv[2][0] == 'c';
-    if (argc > 1 && argv[1][0] == 'r') {
-        for (uint64_t k = 0; k < LINES; k++) n += sprintf((char *)trace + n, "%llu\n", (unsigned long long)(k * 36 / 10));
-        answer = c ? read_c(trace, n, SLOTS, forecast, SLOTS) : read_rattle(trace, n, SLOTS, forecast, SLOTS);
-        for (int t = 0; t < SLOTS; t++) sum = sum * 31 + forecast[t];
-    } else {
-        for (int t = 0; t < SLOTS; t++) forecast[t] = 1500 * (LINES / SLOTS + (t < LINES % SLOTS));
-        answer = c ? write_c(forecast, SLOTS, trace, ROOM) : write_rattle(forecast, SLOTS, trace, ROOM);
-        n = answer;
-        for (size_t k = 0; k < n; k++) sum = sum * 31 + trace[k];
+    if (out_len < bytes) return refuse(11);
+    for (size_t t = 0; t < slots; t++) {
+        if (!forecast[t]) continue;
+        size_t done = put_line(t, line), all = forecast[t] / 1500 * done;
+        memcpy(out, line, done);
+        for (; done < all; done *= 2) memcpy(out + done, out, done < all - done ? done : all - done);
+        out += all;
     }
-    printf("%zu bytes, answer %zu checksum %016llx\n", n, answer, (unsigned long long)sum);
-    return 0;
+    return bytes;
 }

@@ -1,57 +1,40 @@
-// The shortest wait of a film of 500 chunks on a forecast of 3,600 slots with a limit that binds,
-// by the proved search or by the obvious way, a whole plan for each s. Prints the answer, so that
-// both did the same work; 2^32 and 16 is refusal 16.
-#include "film_planner.h"
-#include "plan.h"
-#include <stdio.h>
-#include <stdlib.h>
+// The shortest wait in plain C: the forecast's sums once, and a pass over the chunks for each s.
+#include "plain.h"
 
-struct film {
-    uint16_t span, limit;
-    uint32_t base, steady, below;
-};
-
-// steady bytes a slot, or bytes that vary below a bound.
-static const struct film films[] = {
-    {1, 5, 100000, 98999, 0}, // nearly every pass goes down to chunk 1, and no s works
-    {1, 5, 2800, 0, 6000},    // a late answer
-    {7, 28, 9000, 0, 6000},   // an early answer
-};
-
-static uint32_t forecast[3600];
-static struct plan out;
-
-// Equal chunks: no SZ.
-static const uint16_t no_chunks[1];
-static const uint8_t no_layers[1];
-static const uint32_t no_bytes[1];
-
-size_t search(const struct film *w)
+// From the last chunk down: what the forecast may have brought at most when each begins.
+static int keeps_all(size_t chunks, size_t span, size_t held, const uint64_t *upto, const uint32_t *base, size_t stride,
+    uint64_t *begins)
 {
-    return film_wait(500, w->span, w->limit, &w->base, 1, no_chunks, 0, no_layers, 0, no_bytes, 0, forecast, 3600);
+    const uint64_t *at = upto + (chunks - 1) * span;
+    uint64_t begin = *at;
+    for (size_t q = chunks; q--; at -= span) {
+        if (*at < begin) begin = *at;
+        if (begin < base[stride * q]) return 0;
+        begins[q] = begin -= base[stride * q];
+        if (begins[q + held] < at[-1]) return 0;
+    }
+    return 1;
 }
 
-size_t plans(const struct film *w)
+uint64_t plain_wait(uint16_t chunks, uint16_t span, uint16_t limit, const uint32_t *sizes, size_t layers,
+    const uint16_t *size_chunks, size_t size_chunks_len, const uint8_t *size_layers, size_t size_layers_len,
+    const uint32_t *size_bytes, size_t size_bytes_len, const uint32_t *forecast, size_t slots)
 {
-    for (size_t s = 1, last = 499 * w->span + 1; last <= 3600; s++, last++) {
-        uint64_t rows = film_plan(500, w->span, s, w->limit, &w->base, 1, no_chunks, 0, no_layers, 0, no_bytes, 0, forecast, last, out.marks, 500,
-                 out.slots, FILM_ROWS, out.chunks, FILM_ROWS, out.layers, FILM_ROWS, out.bytes, FILM_ROWS, out.counts, FILM_COUNTS);
-        if (film_refused(rows)) exit(1);
-        uint8_t all = 1;
-        for (int i = 0; i < 500; i++) all &= out.marks[i];
-        if (all) return s;
-    }
-    return ((size_t)1 << 32) + FILM_REFUSED_NO_WAIT;
-}
-
-int main(int argc, char **argv)
-{
-    const struct film *w = &films[argc > 2 ? argv[2][0] - '0' : 0];
-    uint32_t x = 12345;
-    for (int t = 0; t < 3600; t++) {
-        x = x * 1664525 + 1013904223;
-        forecast[t] = w->below ? (x >> 16) % w->below : w->steady;
-    }
-    printf("answer %zu\n", argc > 1 && argv[1][0] == 's' ? search(w) : plans(w));
-    return 0;
+    uint64_t upto[FILM_SLOTS + 1], begins[2 * CHUNKS];
+    uint32_t table[4 * CHUNKS];
+    if (bad_programme(chunks, 1, 1) || bad_programme(1, span, 1)) return refuse(5);
+    uint32_t number = sizes_refusal(chunks, sizes, layers, size_chunks, size_chunks_len, size_layers, size_layers_len,
+        size_bytes, size_bytes_len);
+    if (number) return refuse(number);
+    if (slots - 1 >= FILM_SLOTS || bad_bytes(forecast, slots)) return refuse(7);
+    size_t held = limit / span < CHUNKS ? limit / span : CHUNKS, film = (size_t)(chunks - 1) * span;
+    size_t stride = set_sizes(chunks, span, 1, limit, sizes, layers, size_chunks, size_chunks_len, size_layers,
+        size_layers_len, size_bytes, size_bytes_len, forecast, slots, table);
+    upto[0] = 0;
+    for (size_t t = 0; t < slots; t++) upto[t + 1] = upto[t] + forecast[t];
+    // Nothing is held back by the last ones.
+    for (size_t q = 0; q < CHUNKS; q++) begins[chunks + q] = ~(uint64_t)0;
+    for (size_t s = 1; film + s <= slots; s++)
+        if (keeps_all(chunks, span, held, upto + s, stride ? table : sizes, stride, begins)) return s;
+    return refuse(16);
 }

@@ -1,8 +1,9 @@
 """The documents against the tree: no document may name a file, a crate, a call, a definition or a
 must-fail edit that isn't there; docs/PROMISES.md has to name every edit, docs/CALLS.md every call of
-the header, docs/ARCHITECTURE.md every crate. Looked at are links, what stands in `code`, and paths
-in commands. The notes and the changelog tell what was, so of them only the links are looked at. In
-sources every file that a comment names has to be there.
+the header, docs/ARCHITECTURE.md every crate. No long line of a document may stand in it twice.
+Looked at are links, what stands in `code`, and paths in commands. The notes and the changelog tell
+what was, so of them only the links are looked at. In sources every file that a comment names has to
+be there.
 Run it at the root of the repository: python3 tests/documents.py"""
 import glob
 import os
@@ -150,6 +151,10 @@ def faults(document):
     for target in re.findall(r"\]\(([^)#]+)(?:#[^)]*)?\)", text):
         if "://" not in target and not os.path.exists(os.path.join(os.path.dirname(document), target)):
             yield f"{target}: a link to nothing"
+    lines = [line for line in text.splitlines() if len(line) > 60]
+    for line in lines:
+        if lines.count(line) > 1:
+            yield f"{line[:60]}: stands there twice"
     if document.startswith(HISTORY):
         return
     for span in named(text):

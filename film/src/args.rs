@@ -109,7 +109,7 @@ impl Args {
 
     /// The value of an option, the last if it was given more than once.
     pub fn value(&self, name: &str) -> Option<&OsStr> {
-        self.all(name).last().copied().and_then(|values| values.first()).map(|value| value.as_os_str())
+        self.all(name).last().copied().and_then(|values| values.first()).map(OsString::as_os_str)
     }
 
     /// The value of an option as text; what is no UTF-8 in it is replaced.

@@ -93,7 +93,9 @@ pub fn job_of(path: &Path, data: &[u8]) -> Result<Loaded, Failure> {
         true => job_file(path, data)?,
         false => {
             let (job, warnings) = text::read(data, path, None)?;
-            warnings.iter().for_each(|line| out::note(&format!("warning: {line}")));
+            for line in &warnings {
+                out::note(&format!("warning: {line}"));
+            }
             job
         }
     };
@@ -142,7 +144,9 @@ fn no_plan(path: &Path, refusal: Refusal) -> Failure {
 /// The forecast that a trace gives for so many slots; a warning goes to standard error.
 pub fn trace(path: &Path, slots: usize) -> Result<Vec<u32>, Failure> {
     let (forecast, warning) = trace_told(path, slots)?;
-    warning.iter().for_each(|line| out::note(&format!("warning: {line}")));
+    if let Some(line) = &warning {
+        out::note(&format!("warning: {line}"));
+    }
     Ok(forecast)
 }
 

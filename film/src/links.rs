@@ -33,7 +33,9 @@ pub fn read(path: &Path, slots: usize) -> Result<Link, Failure> {
     };
     let name = files::called(path);
     if let Form::Text | Form::Records = form {
-        ends_early(&name, bytes.len(), slots).iter().for_each(|line| out::note(&format!("warning: {line}")));
+        if let Some(line) = ends_early(&name, bytes.len(), slots) {
+            out::note(&format!("warning: {line}"));
+        }
     }
     bytes.resize(slots, 0);
     Ok(Link { name, bytes })
@@ -137,7 +139,7 @@ pub const KINDS: &[(&str, &str)] = &[
     ("steady", "the same in every second"),
 ];
 
-/// Numbers that are the same for the same seed on every machine (SplitMix64).
+/// Numbers that are the same for the same seed on every machine (`SplitMix64`).
 struct Random(u64);
 
 impl Random {

@@ -1,5 +1,18 @@
 //! `film`: one command for people over the proved film planner.
 #![forbid(unsafe_code)]
+// What is cut to fewer bits was judged against its range before; a picture's places, means and
+// times need no more digits than a double has.
+#![allow(clippy::cast_possible_truncation, clippy::cast_possible_wrap, clippy::cast_precision_loss, clippy::cast_sign_loss)]
+// Both arms of a test, and both ends of an answer, read as one table.
+#![allow(clippy::match_bool, clippy::single_match_else)]
+// A text is made line by line, and none is long.
+#![allow(clippy::format_push_string, clippy::format_collect)]
+// Every command is one form of function, which owns its arguments.
+#![allow(clippy::needless_pass_by_value)]
+// The middle of two slots, or of two places of a picture, is within either's type.
+#![allow(clippy::manual_midpoint)]
+// Words of the papers, and of files, are near each other: last and lost, line and lines.
+#![allow(clippy::similar_names)]
 
 mod args;
 mod desk;

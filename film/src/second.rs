@@ -53,7 +53,9 @@ fn second_job(path: &Path, link: &[u32]) -> Result<Job, Failure> {
         };
     }
     let (job, warnings) = text::read(&data, path, Some(link))?;
-    warnings.iter().for_each(|line| out::note(&format!("warning: {line}")));
+    for line in &warnings {
+        out::note(&format!("warning: {line}"));
+    }
     Ok(job)
 }
 

@@ -96,7 +96,7 @@ struct Faulty;
 
 /// The statement of a line, without its comment. In a trace's name in quotes a # is no comment.
 fn statement(line: &str) -> &str {
-    let start = line.trim_start().strip_prefix("trace").map(str::trim_start).unwrap_or("");
+    let start = line.trim_start().strip_prefix("trace").map_or("", str::trim_start);
     let quote = start.chars().next().filter(|c| matches!(c, '"' | '\''));
     let name_end = quote.and_then(|q| start[1..].find(q)).map(|k| line.len() - start.len() + 2 + k);
     let from = name_end.unwrap_or(0);

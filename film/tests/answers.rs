@@ -1,4 +1,10 @@
 //! Every subcommand against the calls.
+// Random numbers are drawn from within the range that they are cut to.
+#![allow(clippy::cast_possible_truncation)]
+// A text is made line by line, and none is long.
+#![allow(clippy::format_collect)]
+// Both arms of a test read as one table.
+#![allow(clippy::single_match_else)]
 mod common;
 use common::*;
 use film_planner::{FetchList, Job, Plan, Row, Verdict};
@@ -140,9 +146,9 @@ fn the_shortest_wait_is_that_of_the_call() {
                     assert!(text.contains(&format!("why not {}: ", delay - 1)) && text.contains(&format!("  {first}\n")), "{text}");
                 }
                 if known.is_ok() {
-                    within += 1
+                    within += 1;
                 } else {
-                    beyond += 1
+                    beyond += 1;
                 }
             }
             Err(_) => {
@@ -357,12 +363,11 @@ fn the_second_film_is_planned_on_what_the_first_leaves() {
         let mut left = first.clone();
         left.book(&plan.marks, &plan.list).unwrap();
         folder.put("first", first.write().unwrap());
-        match k % 2 {
-            0 => drop(folder.put("second", second.write().unwrap())),
-            _ => {
-                let limit = second.limit;
-                folder.put("second", format!("chunks {chunks}\nspan {span}\ndelay {}\nlimit {limit}\nlayer 2\nlayer 1\n", second.delay));
-            }
+        if k % 2 == 0 {
+            folder.put("second", second.write().unwrap());
+        } else {
+            let limit = second.limit;
+            folder.put("second", format!("chunks {chunks}\nspan {span}\ndelay {}\nlimit {limit}\nlayer 2\nlayer 1\n", second.delay));
         }
         second.forecast = left.forecast;
         let wanted = second.plan().unwrap();

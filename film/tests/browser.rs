@@ -1,7 +1,11 @@
 //! The page of a rehearsal and the pictures in a browser without a screen: the slider in every slot
 //! against an act of the wrapper, the buttons and the address; pictures whose texts cover nothing and
-//! stay inside. Where there is no chromium (or what FILM_BROWSER names), they are passed over with a
+//! stay inside. Where there is no chromium (or what `FILM_BROWSER` names), they are passed over with a
 //! message.
+// Random numbers are drawn from within the range that they are cut to.
+#![allow(clippy::cast_possible_truncation)]
+// A text is made line by line, and none is long.
+#![allow(clippy::format_collect, clippy::format_push_string)]
 use film_planner::{Act, Job, Override};
 use std::ffi::OsString;
 use std::io::Write;
@@ -34,8 +38,8 @@ impl Drop for Folder {
 }
 
 fn browser() -> Option<OsString> {
-    let named = std::env::var_os("FILM_BROWSER");
-    let names = named.into_iter().chain(["chromium", "chromium-browser", "google-chrome"].map(OsString::from));
+    let wanted = std::env::var_os("FILM_BROWSER");
+    let names = wanted.into_iter().chain(["chromium", "chromium-browser", "google-chrome"].map(OsString::from));
     let found = names.into_iter().find(|name| Command::new(name).arg("--version").output().is_ok_and(|out| out.status.success()));
     if found.is_none() {
         // Not by eprintln, which a test that passes keeps to itself.
@@ -312,7 +316,7 @@ struct Random(u64);
 
 impl Random {
     fn below(&mut self, n: u32) -> u32 {
-        self.0 = self.0.wrapping_mul(6364136223846793005).wrapping_add(1442695040888963407);
+        self.0 = self.0.wrapping_mul(6_364_136_223_846_793_005).wrapping_add(1_442_695_040_888_963_407);
         ((self.0 >> 33) % u64::from(n.max(1))) as u32
     }
 }
@@ -328,7 +332,7 @@ fn random_job(r: &mut Random) -> Job {
             continue;
         }
         let scale = 10u32.pow(r.below(6));
-        let sizes: Vec<u32> = (0..1 + r.below(4)).map(|_| scale * (1 + r.below(20))).collect();
+        let sizes: Vec<u32> = (0..=r.below(4)).map(|_| scale * (1 + r.below(20))).collect();
         let overrides =
             (2..=chunks).filter(|_| r.below(5) == 0).map(|chunk| Override { chunk, layer: 0, bytes: sizes[0] + 1 + scale }).collect();
         let rich = 1 + r.below(30);

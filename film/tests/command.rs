@@ -1,4 +1,6 @@
 //! The command line: help and its examples, wrong words, files that are none, closed pipes, desk.
+// A text is made line by line, and none is long.
+#![allow(clippy::format_collect)]
 mod common;
 use common::*;
 

@@ -106,6 +106,9 @@ fn pictures_are_whole_and_say_what_the_report_says() {
     println!("150 pictures are whole, counts and bytes are the report's; {told} reasons stand in them");
 }
 
+/// A rule, and marks and rows that break it: slot, chunk, layer, bytes.
+type Broken<'a> = (u8, [u8; 3], &'a [(u16, u16, u8, u32)]);
+
 #[test]
 fn only_a_passing_plan_is_drawn() {
     let folder = Folder::new();
@@ -117,18 +120,17 @@ fn only_a_passing_plan_is_drawn() {
     assert_eq!(folder.film(&["draw", "job", "plan"]).good("A with its plan").out, own);
     assert_eq!(folder.film(&["draw", "job", "--out", "a.svg"]).good("to a file").out, b"");
     assert_eq!(folder.get("a.svg"), own);
-    type Broken<'a> = (u8, [u8; 3], &'a [[u32; 4]]);
     let broken: [Broken; 7] = [
-        (1, [0, 3, 0], &[[1, 2, 0, 2], [1, 2, 1, 1], [7, 3, 0, 2]]),
-        (2, [0, 3, 0], &[[1, 2, 0, 2], [1, 2, 1, 1], [5, 3, 0, 1]]),
-        (3, [0, 2, 1], &[[1, 2, 1, 1], [5, 3, 0, 2]]),
-        (4, [0, 3, 1], &[[1, 2, 0, 2], [1, 2, 1, 1], [6, 3, 0, 2]]),
-        (5, [0, 1, 0], &[[5, 2, 0, 2]]),
-        (6, [0, 3, 1], &[[1, 2, 0, 2], [1, 2, 1, 1], [3, 3, 0, 1], [5, 3, 0, 1]]),
-        (7, [1, 3, 1], &[[1, 2, 0, 2], [1, 2, 1, 1], [5, 3, 0, 2]]),
+        (1, [0, 3, 0], &[(1, 2, 0, 2), (1, 2, 1, 1), (7, 3, 0, 2)]),
+        (2, [0, 3, 0], &[(1, 2, 0, 2), (1, 2, 1, 1), (5, 3, 0, 1)]),
+        (3, [0, 2, 1], &[(1, 2, 1, 1), (5, 3, 0, 2)]),
+        (4, [0, 3, 1], &[(1, 2, 0, 2), (1, 2, 1, 1), (6, 3, 0, 2)]),
+        (5, [0, 1, 0], &[(5, 2, 0, 2)]),
+        (6, [0, 3, 1], &[(1, 2, 0, 2), (1, 2, 1, 1), (3, 3, 0, 1), (5, 3, 0, 1)]),
+        (7, [1, 3, 1], &[(1, 2, 0, 2), (1, 2, 1, 1), (5, 3, 0, 2)]),
     ];
     for (rule, marks, rows) in broken {
-        let list: FetchList = rows.iter().map(|r| film_planner::Row::new(r[0] as u16, r[1] as u16, r[2] as u8, r[3])).collect();
+        let list: FetchList = rows.iter().map(|r| film_planner::Row::new(r.0, r.1, r.2, r.3)).collect();
         folder.put("bad", job.write_plan(&marks, &list).unwrap());
         folder.film(&["draw", "job", "bad"]).bad(
             1,
@@ -156,12 +158,14 @@ fn only_a_passing_plan_is_drawn() {
 /// (Machado, Oliveira and Fernandes 2009).
 const SIGHTS: [[[f64; 3]; 3]; 4] = [
     [[1.0, 0.0, 0.0], [0.0, 1.0, 0.0], [0.0, 0.0, 1.0]],
-    [[0.152286, 1.052583, -0.204868], [0.114503, 0.786281, 0.099216], [-0.003882, -0.048116, 1.051998]],
-    [[0.367322, 0.860646, -0.227968], [0.280085, 0.672501, 0.047413], [-0.011820, 0.042940, 0.968881]],
-    [[1.255528, -0.076749, -0.178779], [-0.078411, 0.930809, 0.147602], [0.004733, 0.691367, 0.303900]],
+    [[0.152_286, 1.052_583, -0.204_868], [0.114_503, 0.786_281, 0.099_216], [-0.003_882, -0.048_116, 1.051_998]],
+    [[0.367_322, 0.860_646, -0.227_968], [0.280_085, 0.672_501, 0.047_413], [-0.011_820, 0.042_940, 0.968_881]],
+    [[1.255_528, -0.076_749, -0.178_779], [-0.078_411, 0.930_809, 0.147_602], [0.004_733, 0.691_367, 0.303_900]],
 ];
 
 /// A colour's place in CIELAB, where distances are about those seen.
+// Letters as the formulas have them.
+#[allow(clippy::many_single_char_names)]
 fn seen(colour: &str, sight: &[[f64; 3]; 3]) -> [f64; 3] {
     let hex = colour.trim_start_matches('#');
     let wide: String = if hex.len() == 3 { hex.chars().flat_map(|c| [c, c]).collect() } else { hex.to_string() };
@@ -180,7 +184,7 @@ fn seen(colour: &str, sight: &[[f64; 3]; 3]) -> [f64; 3] {
         0.2126 * r + 0.7152 * g + 0.0722 * b,
         (0.0193 * r + 0.1192 * g + 0.9505 * b) / 1.089,
     ];
-    let [x, y, z] = xyz.map(|c: f64| if c > 0.008856 { c.cbrt() } else { 7.787 * c + 16.0 / 116.0 });
+    let [x, y, z] = xyz.map(|c: f64| if c > 0.008_856 { c.cbrt() } else { 7.787 * c + 16.0 / 116.0 });
     [116.0 * y - 16.0, 500.0 * (x - y), 200.0 * (y - z)]
 }
 

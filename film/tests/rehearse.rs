@@ -1,5 +1,9 @@
 //! `film rehearse` by the command: its table against the calls, many links, wrong input, and the page
 //! that it writes.
+// Random numbers are drawn from within the range that they are cut to.
+#![allow(clippy::cast_possible_truncation)]
+// A text is made line by line, and none is long.
+#![allow(clippy::format_collect)]
 mod common;
 use common::*;
 use film_planner::{Act, Job};
@@ -114,9 +118,9 @@ fn wrong_links_are_told() {
         ("long", "forecast 3600 x 1\nforecast 1\n"),
         ("halfjob", "chunks 3\nspan 0\n"),
     ];
-    texts.iter().for_each(|(name, text)| {
+    for (name, text) in &texts {
         folder.put(name, text);
-    });
+    }
     let cases: [(&str, i32, &str); 27] = [
         ("", 2, "--trace FILE or --link KIND RATE is needed"),
         ("--trace", 2, "its value is missing"),

@@ -1,4 +1,10 @@
 //! The text of a job and traces: inverse, loosely typed, faulty, damaged.
+// Random numbers are drawn from within the range that they are cut to.
+#![allow(clippy::cast_possible_truncation)]
+// A text is made line by line, and none is long.
+#![allow(clippy::format_collect)]
+// Both arms of a test read as one table.
+#![allow(clippy::match_bool)]
 mod common;
 use common::*;
 use film_planner::{read_trace, Job, Refusal};
@@ -29,7 +35,9 @@ fn loose(random: &mut Random, job: &Job) -> String {
         k += part.len();
     }
     kinds.push(forecast);
-    kinds.iter_mut().for_each(|kind| kind.reverse());
+    for kind in &mut kinds {
+        kind.reverse();
+    }
     let mut lines = Vec::new();
     while kinds.iter().any(|kind| !kind.is_empty()) {
         let k = random.from(0, kinds.len() as u64 - 1) as usize;
@@ -85,7 +93,7 @@ fn traces_give_the_forecast_of_the_proved_reader() {
         let any = random.from(1, 30);
         let slots = *random.one(&[0, 1, 2, 5, 3600, 3601, any]);
         let mut times: Vec<u64> = (0..random.from(0, 40)).map(|_| random.from(0, 9000)).collect();
-        times.sort();
+        times.sort_unstable();
         let mut lines: Vec<String> = times
             .iter()
             .map(|t| match random.from(0, 3) {
@@ -133,7 +141,7 @@ fn times_reached(data: &str) -> u64 {
 fn a_long_trace_is_read_in_pieces() {
     let (folder, mut random) = (Folder::new(), Random(7));
     let mut times: Vec<u64> = (0..700_000).map(|_| random.from(0, 3_599_999)).collect();
-    times.sort();
+    times.sort_unstable();
     let data: String = times.iter().map(|t| format!("{t}\n")).collect();
     assert!(data.len() > 5 << 20);
     folder.put("van", &data).put("text", "chunks 1\nspan 1\ndelay 3600\nlimit 1\nlayer 1\ntrace van\n");

@@ -9,8 +9,12 @@ struct Random(u64);
 
 impl Random {
     fn below(&mut self, n: u32) -> u32 {
-        self.0 = self.0.wrapping_mul(6364136223846793005).wrapping_add(1442695040888963407);
+        self.0 = self.0.wrapping_mul(6_364_136_223_846_793_005).wrapping_add(1_442_695_040_888_963_407);
         ((self.0 >> 33) % u64::from(n.max(1))) as u32
+    }
+
+    fn less(&mut self, n: u16) -> u16 {
+        u16::try_from(self.below(n.into())).expect("below n")
     }
 
     /// From a to b, in hundredths.
@@ -98,6 +102,7 @@ struct Film {
 }
 
 const BASE: u32 = 30_000;
+const DELAY: u16 = 5;
 
 impl Film {
     fn job(&self, r: &mut Random, link: &[u32]) -> Job {
@@ -116,15 +121,11 @@ impl Film {
             }
         }
         let forecast = link.iter().map(|hundredths| hundredths * (BASE / 100)).collect();
-        Job { chunks: self.chunks, span: self.span, delay: self.delay(), limit: self.held * self.span, sizes, overrides, forecast }
-    }
-
-    fn delay(&self) -> u16 {
-        5
+        Job { chunks: self.chunks, span: self.span, delay: DELAY, limit: self.held * self.span, sizes, overrides, forecast }
     }
 
     fn slots(&self) -> usize {
-        usize::from((self.chunks - 1) * self.span + self.delay())
+        usize::from((self.chunks - 1) * self.span + DELAY)
     }
 }
 
@@ -172,9 +173,10 @@ impl Shown {
 
     /// On a steady link at so many hundredths of the bases' rate.
     fn shows_most(&self, film: &Film, part: u32) -> bool {
-        match part < 70 {
-            true => self.act * 4 >= self.plan * 3,
-            false => self.skips_few(film),
+        if part < 70 {
+            self.act * 4 >= self.plan * 3
+        } else {
+            self.skips_few(film)
         }
     }
 
@@ -242,19 +244,19 @@ fn an_act_is_never_refused_whatever_comes() {
     let mut r = Random(7);
     let (mut acts, mut plans) = (0, 0);
     while acts < 2000 {
-        let (chunks, span, delay) = (1 + r.below(6) as u16, 1 + r.below(3) as u16, 1 + r.below(6) as u16);
-        let sizes: Vec<u32> = (0..1 + r.below(4)).map(|_| 1 + r.below(9)).collect();
+        let (chunks, span, delay) = (1 + r.less(6), 1 + r.less(3), 1 + r.less(6));
+        let sizes: Vec<u32> = (0..=r.below(4)).map(|_| 1 + r.below(9)).collect();
         let mut overrides = Vec::new();
         for chunk in 2..=chunks {
-            for (layer, own) in sizes.iter().enumerate() {
+            for (layer, own) in (0u8..).zip(&sizes) {
                 let bytes = 1 + r.below(9);
                 if r.odds(30) && bytes != *own {
-                    overrides.push(Override { chunk, layer: layer as u8, bytes });
+                    overrides.push(Override { chunk, layer, bytes });
                 }
             }
         }
         let slots = usize::from((chunks - 1) * span + delay);
-        let job = Job { chunks, span, delay, limit: r.below(12) as u16, sizes, overrides, forecast: vec![0; slots] };
+        let job = Job { chunks, span, delay, limit: r.less(12), sizes, overrides, forecast: vec![0; slots] };
         let mut act = Act::new(job).expect("the job is in order");
         while !act.is_over() {
             if r.odds(50) {
@@ -279,13 +281,12 @@ fn giving_way_is_never_refused() {
     let mut r = Random(70);
     let (mut slots, mut own) = (0, 0);
     for _ in 0..200 {
-        let (chunks, span, delay) = (15 + r.below(20) as u16, 1 + r.below(3) as u16, 1 + r.below(6) as u16);
-        let sizes: Vec<u32> = (0..1 + r.below(3)).map(|_| 1 + r.below(30)).collect();
+        let (chunks, span, delay) = (15 + r.less(20), 1 + r.less(3), 1 + r.less(6));
+        let sizes: Vec<u32> = (0..=r.below(3)).map(|_| 1 + r.below(30)).collect();
         let overrides = (2..=chunks).filter(|_| r.odds(30)).collect::<Vec<_>>();
         let overrides = overrides.into_iter().map(|chunk| Override { chunk, layer: 0, bytes: 31 + r.below(30) }).collect();
         let forecast = vec![0; usize::from((chunks - 1) * span + delay)];
-        let mut act =
-            Act::new(Job { chunks, span, delay, limit: r.below(12) as u16, sizes, overrides, forecast }).expect("the job is in order");
+        let mut act = Act::new(Job { chunks, span, delay, limit: r.less(12), sizes, overrides, forecast }).expect("the job is in order");
         let usual = 1 + r.below(12);
         while !act.is_over() {
             let rate = act.rate();

@@ -29,7 +29,7 @@ use Rattle.booking.specs.lemmas.Slots.{added-at, bookable-within, bookab
 use Rattle.booking.specs.lemmas.Runs.{slots-there}
 use Rattle.booking.specs.lemmas.Passes.{Added, Covered, bare, refusedBy}
 use Rattle.booking.proofs.Rows.{added-bare, bare-covered, bare-releasable, taken-again, taken-bare}
-use Rattle.job.specs.Theorems.{input-iff}
+use Rattle.job.specs.Theorems.{input-accepted}
 
 -- ---- booking
 
@@ -114,7 +114,7 @@ module _ (h : JobInput) (s : RowSlices) where
         whole = Input.whole-iff 0 [] (s .slots) (s .chunks) (s .layers) (s .bytes) .0 (sym l ∙ list-fine)
 
         pub release-asks : (length (s .slots) ≡ length (s .bytes)) × All (Within 0 16777216) (h .forecast)
-        release-asks = (whole .bytes-each, input-iff h .0 (sym j ∙ job-fine) .1 .forecast-in)
+        release-asks = (whole .bytes-each, input-accepted h (sym j ∙ job-fine) .forecast-in)
 
         module _ (r : ℕ) (mid : List ℕ) (a : Added (h .forecast) (s .slots) (s .bytes) (length (s .slots)) r mid) where
           -- The rows that were added can be taken off again.

@@ -31,7 +31,7 @@ use Rattle.checker.specs.Checked.{checkRefusal}
 use Rattle.booking.specs.Answer.{bookRefusal, onForecast, releaseRefusal, rowsRefusal}
 use Rattle.booking.specs.lemmas.Slots.{length-taken, length-added, taken-at, added-at, slots-equal, all-slots, bookable-within}
 use Rattle.booking.specs.lemmas.Runs.{kept, run-in-range, slots-there, without-bytes, without-all, equal-on}
-use Rattle.job.specs.Theorems.{input-iff}
+use Rattle.job.specs.Theorems.{input-iff, input-accepted}
 
 -- ---- the refusals
 
@@ -193,7 +193,7 @@ module _ (h : JobInput) (s : ListSlices) (fine : bookRefusal h s ≡ 0) where
   -- A list that `book` does not refuse is handed whole, for an accepted job, and can be booked on
   -- its forecast,
   pub booked-accepted : Accepted (jobIn h)
-  booked-accepted = input-iff h .0 (input .0) .1
+  booked-accepted = input-accepted h (input .0)
 
   pub booked-whole : Whole (h .programme .chunks) (s .marks) (s .slots) (s .chunks) (s .layers) (s .bytes)
   booked-whole = Input.whole-iff (h .programme .chunks) (s .marks) (s .slots) (s .chunks) (s .layers) (s .bytes) .0 (input .1)

@@ -2,7 +2,7 @@
 -- Assumes nothing.
 use Prim.Native.Nat.{ℕ, zero, suc, _+_, _*_, _-_, _≤_, _<_}
 use mathlib.Core.Path.{_≡_, refl, sym, ap, _∙_}
-use mathlib.Core.Bool.{Bool, true, false, not, _&&_, _||_, and-false, and-true}
+use mathlib.Core.Bool.{Bool, true, false, not, _&&_, _||_, and-false, and-true, or-true}
 use mathlib.Core.List.{List, [], _∷_, _++_}
 use mathlib.Core.Logic.{⊎-elim}
 use native.Mathlib.Omega.{arith}
@@ -67,10 +67,6 @@ module _ {from : ℕ} {ss cs ls bs late : List ℕ} {k : ℕ} (m : Marking from 
   marking-end h = let e : k ≡ length ss = omega (arith, m .within) in record { is = λ i n u v w. rw e at (m .is i n u v w); long = m .long }
 
   module _ (h : k < length ss) where
-    or-true : (b : Bool) → b || true ≡ true
-    or-true true = refl
-    or-true false = refl
-
     -- A row before the slot sets nothing.
     pub marking-early : x .slot < from → Marking from ss cs ls bs late (k + 1)
     marking-early e =

@@ -1,72 +1,27 @@
 -- Laws on the whole decision: what the tables hold at its end is the plan. Assumes nothing.
 use mathlib.Core.Path.{_≡_, refl, sym, _∙_, ap, subst, fun-ext}
-use mathlib.Core.Bool.{cond, _&&_}
-use mathlib.Core.List.{List, [], _∷_, _++_, map}
-use Prim.Native.Nat.{ℕ, zero, suc, _+_, _-_, _/_, _≤_, _<_, min, max}
+use mathlib.Core.Bool.{cond}
+use mathlib.Core.List.{List, [], _∷_, _++_, map, map-map}
+use Prim.Native.Nat.{ℕ, zero, suc, _+_, _-_, _/_, _≤_, _<_}
 use native.Mathlib.Omega.{arith}
 use lib.ListN.{length, getD, take, drop, replicate, length-drop, length-map, length-replicate}
-use lib.Dec.{leb}
 use Rattle.theory_basics.specs.Sums.{pre}
 use Rattle.theory_basics.specs.Tests.{All}
-use Rattle.theory_basics.specs.lemmas.Tests.{by-cond}
-use Rattle.fetch.specs.Marks.{bit}
 use Rattle.job.specs.declared.Programme.{Programme}
-use Rattle.job.specs.Job.{Job, Override, jobOf, sizeIn, size, due, dueSlot, heldMost, lastDue, layers, chunks}
+use Rattle.job.specs.Job.{Job, Override, jobOf, sizeIn, size, due, dueSlot, heldMost, layers, chunks}
 use Rattle.theory_plan.specs.lemmas.Ascending.{asc-within}
 use Rattle.theory_plan.specs.Plan.{byMooreHodgson, kept, plan, after}
 use Rattle.theory_plan.specs.lemmas.MooreHodgson.{kept-by-after}
 use Rattle.core_moore_hodgson.specs.lemmas.Tables.{KeptIn}
-use Rattle.theory_plan.specs.lemmas.Linear.{bases-kept, decided-is, map-map}
-use Rattle.theory_plan.specs.lemmas.Trials.{Kept, Tried, bases, rooms, back, bytesKept, markOf, keptAt, onLayer, onLayers, based, decidedOn, keptBases, stacked}
+use Rattle.theory_plan.specs.lemmas.Linear.{bases-kept, decided-is}
+use Rattle.theory_plan.specs.lemmas.Trials.{bases, markOf, keptAt, onLayers, based, decidedOn, keptBases, stacked}
 use Rattle.theory_plan.specs.lemmas.Parts.{at, padded, padded-long, part-small}
 use Rattle.core_decide.specs.lemmas.Decision.{keptOf, Sums, Slot, SumTable, basesIn, SettleLayersPre, SettleLayersPost, SettleKeptPre, Decides, SettleKeptPost, jobFrom, DecidePre, DecidePost}
-use Rattle.theory_plan.specs.lemmas.Words.{due-by}
-use Rattle.theory_plan.specs.lemmas.Queue.{each-is, all-ones, ones, releases}
-use Rattle.theory_basics.specs.lemmas.Tables.{all-take}
+use Rattle.theory_plan.specs.lemmas.Words.{due-slots}
+use Rattle.theory_plan.specs.lemmas.Queue.{ones, releases, release-slots}
+use Rattle.theory_basics.specs.lemmas.Lists.{each-of-map}
 use Rattle.core_decide.proofs.Settle.{same-long, marks-of}
-use Rattle.theory_plan.specs.Bases.{Asc}
-
--- ---- a release for each chunk is enough
-
-rooms-take : (A : ℕ → ℕ) (room : ℕ) (ws rs : List ℕ) → rooms A room ws (take (length ws) rs) ≡ rooms A room ws rs
-rooms-take A room [] rs = refl
-rooms-take A room (w ∷ ws) [] = refl
-rooms-take A room (w ∷ ws) (r ∷ rs) = rw (rooms-take A (min room (A (r - 1)) - w) ws rs)
-
-module _ (size : ℕ → ℕ → ℕ) (A : ℕ → ℕ) where
-  back-long : (n : ℕ) (hs : List ℕ) (ks : List Kept) → length (back size A n hs ks .kept) ≡ length ks
-  unfolding back
-  back-long n hs [] = refl
-  back-long n hs (k ∷ ks) =
-      let o = back size A n (drop 1 hs) ks in
-      by-cond
-      (λ (o : Tried). length (o .kept) ≡ suc (length ks))
-      (bit (k .mark) (n - 1) && leb (k .bytes + max (A (k .due)) (o .need) + size (k .chunk) n) (getD hs 0 0))
-      (λ t. ap suc (back-long n (drop 1 hs) ks))
-      (λ t. ap suc (back-long n (drop 1 hs) ks))
-
-  on-layers-long : (room : ℕ) (rs : List ℕ) (n : ℕ) (ks : List Kept) → length (onLayers size A room rs n ks) ≡ length ks
-  on-layers-long room rs zero ks = refl
-  on-layers-long room rs (suc n) ks = back-long (suc n) _ (onLayers size A room rs n ks) ∙ on-layers-long room rs n ks
-
-  pub on-layers-take : (room : ℕ) (rs : List ℕ) (n : ℕ) (ks : List Kept) → onLayers size A room (take (length ks) rs) n ks ≡ onLayers size A room rs n ks
-  on-layers-take room rs zero ks = refl
-  on-layers-take room rs (suc n) ks =
-      let o = onLayers size A room rs n ks in
-      let e : length ks ≡ length (map bytesKept o) = sym (length-map o bytesKept ∙ on-layers-long room rs n ks) in
-      ap (onLayer size A room (take (length ks) rs) (suc n)) (on-layers-take room rs n ks)
-      ∙ ap (λ (m : ℕ). back size A (suc n) (rooms A room (map bytesKept o) (take m rs)) o .kept) e
-      ∙ ap (λ (hs : List ℕ). back size A (suc n) hs o .kept) (rooms-take A room (map bytesKept o) rs)
-
--- ---- slots
-
-module _ (p : Programme) (late : 1 ≤ p .delay) (ends : lastDue p ≤ 3600) where
-  pub due-slots : (lo : ℕ) (ks : List ℕ) → Asc lo (p .chunks) ks → All Slot (map (dueSlot p) ks)
-  due-slots lo [] a = tt
-  due-slots lo (k ∷ ks) a = (record { low = omega arith; high = omega (arith, due-by p k (a .1)) }, due-slots (suc k) ks (a .2))
-
-  pub release-slots : (h n : ℕ) (ds : List ℕ) → All Slot ds → All Slot (take n (ones h ++ ds))
-  release-slots h n ds a = all-take Slot n (ones h ++ ds) (all-ones Slot (record { low = omega arith; high = omega arith }) h ds a)
+use Rattle.theory_plan.specs.lemmas.Layers.{on-layers-take}
 
 -- ---- the start of the layers
 
@@ -81,10 +36,6 @@ base-kept j [] = refl
 base-kept j (k ∷ ks) =
     let z : size j k 0 ≡ 0 + size j k 0 = omega arith in
     rw (base-kept j ks) (ap (λ (b : ℕ). record { chunk = k; due = due j k; bytes = b; mark = 1 } ∷ based j ks) z)
-
-all-small : (f : ℕ → ℕ) (b : ℕ) → ((k : ℕ) → f k ≤ b) → (ks : List ℕ) → All (λ x. x ≤ b) (map f ks)
-all-small f b h [] = tt
-all-small f b h (k ∷ ks) = (h k, all-small f b h ks)
 
 -- ---- kept chunks, however they were found
 
@@ -109,9 +60,9 @@ module _
         small = o .small;
         sums = o .sums;
         due-slots = due-in;
-        release-slots = subst (All Slot) (sym r) (release-slots p (o .late) (o .ends) (p .limit / p .span) (500 - first) (drop first dues) due-in);
+        release-slots = subst (All Slot) (sym r) (release-slots (p .limit / p .span) (500 - first) (drop first dues) due-in);
         within = b .within;
-        carried = subst (All (λ x. x ≤ 16777216)) (sym (b .base-bytes)) (all-small (λ k. size k 0) 16777216 (λ k. o .small k 0) ks);
+        carried = subst (All (λ x. x ≤ 16777216)) (sym (b .base-bytes)) (each-of-map (λ x. x ≤ 16777216) (λ k. size k 0) (λ k. o .small k 0) ks);
         long = (o .long .0, b .long .0, b .long .1, lr, b .long .2, o .long .1, rw (o .marks) (length-replicate {A = ℕ} 500 1));
       }
 
@@ -121,7 +72,7 @@ module _
     j = jobOf p sizes overrides forecast
 
     released : drop first ready ≡ take (length ks) (releases (due j) (heldMost j) ks)
-    released = r ∙ ap (λ (l : List ℕ). take (500 - first) (ones (p .limit / p .span) ++ l)) (o .kept .due-slots ∙ sym (each-is (dueSlot p) ks)) ∙ ap (λ (n : ℕ). take n (releases (due j) (heldMost j) ks)) (sym many)
+    released = r ∙ ap (λ (l : List ℕ). take (500 - first) (ones (p .limit / p .span) ++ l)) (o .kept .due-slots) ∙ ap (λ (n : ℕ). take n (releases (due j) (heldMost j) ks)) (sym many)
 
     -- The tables start with the base alone.
     begins : keptOf ks (drop first dues) (drop first bytes) (drop first mark) ≡ based j ks

@@ -2,30 +2,15 @@
 -- nothing.
 use mathlib.Core.Path.{_≡_, refl, sym, _∙_, ap}
 use mathlib.Core.List.{List, [], _∷_, _++_}
-use Prim.Native.Nat.{ℕ, zero, suc, _+_, _-_, _≤_, _<_, min}
+use Prim.Native.Nat.{ℕ, suc, _+_, _-_, _≤_, _<_, min}
 use native.Mathlib.Omega.{arith}
-use lib.ListN.{length, getD, set, take, drop, length-set, length-append, length-take, length-drop}
-use lib.Seq.{ext-getD, drop-drop, getD-drop, getD-take, getD-append-add}
+use lib.ListN.{length, getD, set, take, drop, length-set, length-append, length-take, length-drop, length-replicate}
+use lib.Seq.{ext-getD, drop-drop, getD-drop, getD-take}
 use Rattle.theory_plan.specs.lemmas.Trials.{rooms}
 use Rattle.theory_basics.specs.lemmas.Tables.{drop-next, at-set, below-next}
-use Rattle.theory_plan.specs.lemmas.Queue.{ones}
+use Rattle.theory_plan.specs.lemmas.Queue.{ones, ones-at, behind-ones}
 
 -- ---- releases
-
-ones-long : (h : ℕ) → length (ones h) ≡ h
-ones-long zero = refl
-ones-long (suc h) = ap suc (ones-long h)
-
-ones-at : (h n : ℕ) (l : List ℕ) → n < h → getD (ones h ++ l) n 0 ≡ 1
-ones-at zero n l u = absurd (omega arith)
-ones-at (suc h) zero l u = refl
-ones-at (suc h) (suc n) l u = ones-at h n l (omega arith)
-
-behind-ones : (h n : ℕ) (l : List ℕ) → h ≤ n → getD (ones h ++ l) n 0 ≡ getD l (n - h) 0
-behind-ones h n l u =
-    let e : h + (n - h) ≡ n = omega arith in
-    let w : length (ones h) + (n - h) ≡ n = omega (arith, ones-long h) in
-    rw w at (getD-append-add (ones h) l (n - h) 0)
 
 pub record Releasing (held first : ℕ) (dues ready : List ℕ) (q : ℕ) : Type 0 where
   pub from : first ≤ q
@@ -51,16 +36,16 @@ module _ (held first : ℕ) (dues : List ℕ) where
         }
 
     pub releasing-one : q - first < held → Releasing held first dues (set ready q 1) (q + 1)
-    releasing-one u = more 1 (sym (ones-at held (q - first) (drop first dues) u))
+    releasing-one u = more 1 (sym (ones-at held (drop first dues) (q - first) u))
 
     pub releasing-due : held ≤ q - first → Releasing held first dues (set ready q (getD dues (q - held) 0)) (q + 1)
     releasing-due u =
         let e : first + (q - first - held) ≡ q - held = omega (arith, s .from) in
-        more (getD dues (q - held) 0) (sym (behind-ones held (q - first) (drop first dues) u ∙ getD-drop first dues (q - first - held) 0 ∙ rw e))
+        more (getD dues (q - held) 0) (sym (behind-ones held (drop first dues) (q - first) u ∙ getD-drop first dues (q - first - held) 0 ∙ rw e))
 
   pub releasing-end : (ready : List ℕ) (q : ℕ) → Releasing held first dues ready q → 500 ≤ q → first ≤ 500 → length dues ≡ 500 → drop first ready ≡ take (500 - first) (ones held ++ drop first dues)
   releasing-end ready q s h k e =
-      let n : length (take (500 - first) (ones held ++ drop first dues)) ≡ 500 - first = simp (length-take, length-append, length-drop) (omega (arith, ones-long held)) in
+      let n : length (take (500 - first) (ones held ++ drop first dues)) ≡ 500 - first = simp (length-take, length-append, length-drop) (omega (arith, length-replicate {A = ℕ} held 1)) in
       ext-getD 0 _ _ (omega (arith, length-drop first ready, s .long, n)) (λ i w.
       let g : first + i - first ≡ i = omega arith in
       getD-drop first ready i 0 ∙ s .done (first + i) (omega arith) (omega (arith, length-drop first ready, s .long)) ∙ rw g (sym (getD-take (500 - first) (ones held ++ drop first dues) i 0 (omega (arith, length-drop first ready, s .long)))))

@@ -1,6 +1,6 @@
 -- Laws on the sums of a forecast. Assumes nothing.
-use mathlib.Core.Path.{_≡_, refl, sym, _∙_, ap}
-use mathlib.Core.Bool.{Bool, true, false, cond, _&&_}
+use mathlib.Core.Path.{_≡_, sym, _∙_, ap}
+use mathlib.Core.Bool.{Bool, cond, _&&_, and-false}
 use mathlib.Core.List.{List}
 use mathlib.Core.Logic.{⊎-elim}
 use Prim.Native.Nat.{ℕ, _+_, _*_, _-_, _≤_, _<_}
@@ -14,10 +14,6 @@ use Rattle.core_decide.specs.lemmas.Decision.{SetPlacesPost, SumTable}
 use Rattle.theory_basics.specs.lemmas.Tables.{at-set, above-next}
 
 -- ---- a value at places
-
-and-false : (b : Bool) → b && false ≡ false
-and-false true = refl
-and-false false = refl
 
 pub placed-start : (from v : ℕ) (old : List ℕ) → length old ≡ 3601 → SetPlacesPost from from v old old
 placed-start from v old h =

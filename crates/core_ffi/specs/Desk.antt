@@ -9,7 +9,7 @@ use lib.ListN.{getD, length, length-append, length-map, take}
 use Rattle.theory_basics.specs.Refusals.{_orElse_}
 use Rattle.theory_basics.specs.lemmas.Refusals.{orElse-iff}
 use Rattle.job.specs.Input.{JobInput, jobInput, jobIn, jobRefusal}
-use Rattle.job.specs.Theorems.{input-iff}
+use Rattle.job.specs.Theorems.{input-iff, input-accepted}
 use Rattle.job.specs.Job.{Job, chunks}
 use Rattle.fetch.specs.Input.{Whole, whole-iff, listRefusal}
 use Rattle.fetch.specs.Rows.{Row, rowAt, rowBytes, rowChunk, rowLayer, rowSlot, rowsOf}
@@ -20,7 +20,7 @@ use Rattle.checker.specs.Checked.{checkFromRefusal, checkRefusal}
 use Rattle.planfile.specs.lemmas.Back.{field}
 use Rattle.theory_plan.specs.Plan.{plan}
 use Rattle.theory_plan.specs.Statement.{marksOf}
-use Rattle.theory_plan.specs.Theorems.{plan-carried, plan-exists}
+use Rattle.theory_plan.specs.Theorems.{plan-carried, plan-exists, marks-long}
 use Rattle.theory_plan.specs.lemmas.Words.{accepted-sized}
 use Rattle.planner.specs.Answer.{planRows}
 use Rattle.theory_search.specs.Search.{found}
@@ -32,7 +32,6 @@ use Rattle.replan.specs.Theorems.{settled-afresh}
 use Rattle.report.specs.lemmas.Again.{rows-again}
 use Rattle.core_ffi.specs.Convention.{answered}
 use Rattle.core_ffi.specs.Lists.{checkAnswer, checkFromAnswer}
-use Rattle.core_ffi.specs.lemmas.Largest.{marks-long}
 use Rattle.fetch.specs.Theorems.{verdict-iff, slot-iff}
 
 -- ---- a list and its marks in slices
@@ -64,7 +63,7 @@ passes-in-slices h choice rows e v =
 pub plan-passes : (h : JobInput) → jobRefusal h ≡ 0 → let j = jobIn h in checkAnswer h (listOf j (plan j) (planRows j)) ≡ 0
 plan-passes h e =
     let j = jobIn h in
-    let a = input-iff h .0 e .1 in
+    let a = input-accepted h e in
     passes-in-slices h (plan j) (planRows j) e (verdict-iff j (marksOf j (plan j)) (planRows j) .1 (plan-carried j (accepted-sized j a) (plan j) (plan-exists j a) .0))
 
 -- ---- film_search, then film_check
@@ -72,7 +71,7 @@ plan-passes h e =
 pub search-passes : (h : JobInput) (budget : ℕ) → jobRefusal h ≡ 0 → let j = jobIn h in checkAnswer h (listOf j (planFound j budget) (rowsFound j budget)) ≡ 0
 search-passes h budget e =
     let j = jobIn h in
-    let a = input-iff h .0 e .1 in
+    let a = input-accepted h e in
     let good = good-enough j a budget (found j budget) (found-is-found j a budget) (planFound j budget) (over-exists j a (found j budget .kept)) in
     passes-in-slices h (planFound j budget) (rowsFound j budget) e (verdict-iff j (marksOf j (planFound j budget)) (rowsFound j budget) .1 (good .passes))
 

@@ -45,8 +45,9 @@ use Rattle.core_ffi.specs.Programs.{verdictAnswer}
 use Rattle.core_ffi.specs.Texts.{waitAnswer}
 use Rattle.core_ffi.specs.Theorems.{converted-small, files-small, forecast-made, job-read, job-written, plan-written, reasons-written, report-written, rows-afresh, rows-found, rows-planned, trace-read}
 use Rattle.fetch.specs.Slices.{ListSlices, RowSlices}
+use Rattle.fetch.specs.Words.{word-few}
 use Rattle.trace.specs.Theorems.{trace-fits}
-use Rattle.core_ffi.specs.lemmas.Largest.{verdict-few, verdict-from-few, word-few}
+use Rattle.core_ffi.specs.lemmas.Largest.{verdict-few, verdict-from-few}
 use Rattle.wait.specs.Theorems.{wait-few}
 
 none-first : (a b : ℕ) → (a orElse b) ≡ 0 → a ≡ 0

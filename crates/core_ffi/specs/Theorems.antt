@@ -12,7 +12,7 @@ use Rattle.theory_basics.specs.Refusals.{_orElse_}
 use Rattle.theory_basics.specs.lemmas.Refusals.{orElse-iff}
 use Rattle.records.specs.File.{fileRefusal}
 use Rattle.job.specs.Input.{JobInput, jobIn, jobRefusal}
-use Rattle.job.specs.Theorems.{input-iff}
+use Rattle.job.specs.Theorems.{input-accepted}
 use Rattle.job.specs.Job.{Accepted, Job, layers}
 use Rattle.job.specs.Uneven.{overrides-few}
 use Rattle.fetch.specs.Input.{listRefusal}
@@ -27,7 +27,7 @@ use Rattle.planfile.specs.lemmas.Back.{accepts}
 use Rattle.planfile.specs.lemmas.Few.{rows-inside}
 use Rattle.theory_plan.specs.Plan.{plan}
 use Rattle.theory_plan.specs.Statement.{marksOf}
-use Rattle.theory_plan.specs.Theorems.{own-list-rows, plan-exists}
+use Rattle.theory_plan.specs.Theorems.{own-list-rows, plan-exists, marks-long}
 use Rattle.planner.specs.Answer.{planRows}
 use Rattle.theory_replan.specs.Desk.{replans}
 use Rattle.theory_replan.specs.Refusal.{replanRefusal}
@@ -47,13 +47,10 @@ use Rattle.whole_files.specs.Files.{jobFileRefusal, jobSaid, planOfJob}
 use Rattle.programs.specs.Theorems.{said-accepted}
 use Rattle.whole_files.specs.lemmas.Plans.{plan-file-fits}
 use Rattle.core_ffi.specs.Meters.{Storage, cellsRefusal, meanRefusal, meterIn}
-use Rattle.core_ffi.specs.lemmas.Largest.{marks-long}
-pub use Rattle.core_ffi.specs.lemmas.Largest.{verdict-few, verdict-from-few, word-few}
+pub use Rattle.core_ffi.specs.lemmas.Largest.{verdict-few, verdict-from-few}
+pub use Rattle.fetch.specs.Words.{word-few}
 pub use Rattle.trace.specs.Theorems.{trace-fits}
 pub use Rattle.wait.specs.Theorems.{wait-few}
-
-accepted : (h : JobInput) → jobRefusal h ≡ 0 → Accepted (jobIn h)
-accepted h e = input-iff h .0 e .1
 
 -- ---- files
 
@@ -70,7 +67,7 @@ job-read sequenced file e =
 
 -- FILM_JOB_FILE.
 pub job-written : (h : JobInput) → jobRefusal h ≡ 0 → length (jobFile (jobIn h)) ≤ 46800
-job-written h e = file-short (jobIn h) (accepted h e)
+job-written h e = file-short (jobIn h) (input-accepted h e)
 
 -- FILM_FILE_ROWS: a plan file that is not refused, of a job of so many chunks.
 pub rows-read : (count : ℕ) (file : List ℕ) → fileRefusal (format count) file ≡ 0 → length (planIn count file .rows) ≤ 5957
@@ -107,7 +104,7 @@ marks-few j choice a = omega (arith, marks-long j choice, a .chunks-in .high)
 -- FILM_ROWS.
 pub rows-planned : (h : JobInput) → jobRefusal h ≡ 0 → length (planRows (jobIn h)) ≤ 5599
 rows-planned h e =
-    let a = accepted h e in
+    let a = input-accepted h e in
     own-list-rows (jobIn h) a (plan (jobIn h)) (plan-exists (jobIn h) a .choice)
 
 pub rows-afresh : (h : JobInput) (o : ReplanInput) → inputRefusal h o ≡ 0 → length (rowsOn h o) ≤ 5599
@@ -115,22 +112,22 @@ rows-afresh h o e =
     let rows : ℕ = listRefusal 0 [] (o .slots) (o .chunks) (o .layers) (o .bytes) in
     let rest : ℕ = replanRefusal (jobIn h) (o .from) (fetched o) (o .onward) in
     let asked = orElse-iff (jobRefusal h) (rows orElse rest) .0 e in
-    replans (jobIn h) (accepted h (asked .0)) (o .from) (fetched o) (o .onward) (orElse-iff rows rest .0 (asked .1) .1) .few-rows
+    replans (jobIn h) (input-accepted h (asked .0)) (o .from) (fetched o) (o .onward) (orElse-iff rows rest .0 (asked .1) .1) .few-rows
 
 pub rows-found : (h : JobInput) (budget : ℕ) → jobRefusal h ≡ 0 → length (rowsFound (jobIn h) budget) ≤ 5599
 rows-found h budget e =
     let j = jobIn h in
-    let a = accepted h e in
+    let a = input-accepted h e in
     own-list-rows j a (planFound j budget) (over-exists j a (found j budget .kept) .choice)
 
 -- ---- text
 
 -- FILM_REPORT and FILM_REASONS.
 pub report-written : (h : JobInput) → jobRefusal h ≡ 0 → length (planReport (jobIn h)) ≤ 7633
-report-written h e = plan-report-fits (jobIn h) (accepted h e)
+report-written h e = plan-report-fits (jobIn h) (input-accepted h e)
 
 pub reasons-written : (h : JobInput) → jobRefusal h ≡ 0 → length (planText (jobIn h)) ≤ 94000
-reasons-written h e = text-fits (jobIn h) (accepted h e)
+reasons-written h e = text-fits (jobIn h) (input-accepted h e)
 
 -- FILM_SLOTS again; FILM_TRACE is `trace-fits`.
 pub trace-read : (trace : List ℕ) (slots : ℕ) → traceRefusal slots trace ≡ 0 → slots ≤ 3600

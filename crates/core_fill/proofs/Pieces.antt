@@ -1,13 +1,15 @@
 -- Laws on one piece that goes into slot after slot. Assumes nothing.
 use mathlib.Core.Path.{_≡_, refl, sym, _∙_, ap}
 use mathlib.Core.List.{List, [], _∷_, _++_, append-assoc}
+use mathlib.Core.Bool.{cond}
 use mathlib.Core.Logic.{⊎-elim}
 use Prim.Native.Nat.{ℕ, zero, suc, _+_, _-_, _≤_, _<_}
 use native.Mathlib.Omega.{arith}
 use native.Mathlib.Numerals.{add-one}
 use lib.ListN.{length, set, getD, length-set}
-use lib.Dec.{ltb, ltb→lt, nltb→le}
-use borrow.Author.Tests.{le-leb, lt-leb, lt-ltb, le-ltb}
+use lib.Seq.{set-set}
+use lib.Dec.{eqb, ltb, ltb→lt, nltb→le}
+use borrow.Author.Tests.{eq-eqb, ne-eqb, le-leb, lt-leb, lt-ltb, le-ltb}
 use Rattle.theory_basics.specs.lemmas.Tests.{test}
 use Rattle.fetch.specs.Rows.{Row, rowSlot, rowChunk, rowLayer, rowBytes}
 use Rattle.theory_plan.specs.lemmas.Fill.{QueuedPiece, row, less, fill}
@@ -187,3 +189,87 @@ module _ (start : ℕ) (part : List ℕ) (chunk layer size : ℕ) (a : Position)
               made-row (p .makes w s₀ c₀ l₀ b₀ ready rest r m) (row t (piece chunk layer left ready) left) refl (places .0) (places .1) (places .2) (places .3)
               (onward-whole start part t c (piece chunk layer left ready) rest (omega (arith, p .goes .later)) (omega (arith, p .some)) h);
         }
+
+-- Placed in part, with a row without bytes at place n perhaps: the next is written over it.
+pub record Laying (start : ℕ) (part : List ℕ) (chunk layer size : ℕ) (a : Position) (ss cs ls bs ss' cs' ls' bs' : List ℕ) (t c n left : ℕ) : Type 0 where
+  pub slots : List ℕ
+  pub chunks : List ℕ
+  pub layers : List ℕ
+  pub bytes : List ℕ
+  pub putting : Putting start part chunk layer size a ss cs ls bs slots chunks layers bytes t c n left
+  pub slots-but : (x : ℕ) → set ss' n x ≡ set slots n x
+  pub chunks-but : (x : ℕ) → set cs' n x ≡ set chunks n x
+  pub layers-but : (x : ℕ) → set ls' n x ≡ set layers n x
+  pub bytes-but : (x : ℕ) → set bs' n x ≡ set bytes n x
+
+but-long : (xs ys : List ℕ) (n : ℕ) → ((x : ℕ) → set xs n x ≡ set ys n x) → length xs ≡ length ys
+but-long xs ys n h = sym (length-set xs n 0) ∙ ap length (h 0) ∙ length-set ys n 0
+
+module _ (start : ℕ) (part : List ℕ) (chunk layer size : ℕ) (a : Position) (ss cs ls bs : List ℕ) (g : PutPiecePre start part 1 a ss cs ls bs) where
+  pub laying-start : 1 ≤ size → size ≤ a .left + leftAt start part (a .slot) → Laying start part chunk layer size a ss cs ls bs ss cs ls bs (a .slot) (a .left) (a .rows) size
+  laying-start h k =
+      record {
+        slots = ss;
+        chunks = cs;
+        layers = ls;
+        bytes = bs;
+        putting = putting-start start part chunk layer size a ss cs ls bs g h k;
+        slots-but = λ x. refl;
+        chunks-but = λ x. refl;
+        layers-but = λ x. refl;
+        bytes-but = λ x. refl;
+      }
+
+  module _ (ss' cs' ls' bs' : List ℕ) (t c n left : ℕ) (p : Laying start part chunk layer size a ss cs ls bs ss' cs' ls' bs' t c n left) where
+    pub laying-slot-after : c < left → t < lastOf start part
+    laying-slot-after = slot-after start part chunk layer size a ss cs ls bs g (p .slots) (p .chunks) (p .layers) (p .bytes) t c n left (p .putting)
+
+    pub laying-long : Same ss cs ls bs ss' cs' ls' bs'
+    laying-long =
+        record {
+          s = but-long ss' (p .slots) n (p .slots-but) ∙ p .putting .long .s;
+          c = but-long cs' (p .chunks) n (p .chunks-but) ∙ p .putting .long .c;
+          l = but-long ls' (p .layers) n (p .layers-but) ∙ p .putting .long .l;
+          b = but-long bs' (p .bytes) n (p .bytes-but) ∙ p .putting .long .b;
+        }
+
+    pub laying-places : (n < length ss') × (n < length cs') × (n < length ls') × (n < length bs') × (t ≤ 3600)
+    laying-places = rw (but-long ss' (p .slots) n (p .slots-but), but-long cs' (p .chunks) n (p .chunks-but), but-long ls' (p .layers) n (p .layers-but), but-long bs' (p .bytes) n (p .bytes-but)) (places start part chunk layer size a ss cs ls bs g (p .slots) (p .chunks) (p .layers) (p .bytes) t c n left (p .putting))
+
+    laying-wait : c ≡ 0 → c < left → Laying start part chunk layer size a ss cs ls bs (set ss' n t) (set cs' n chunk) (set ls' n layer) (set bs' n c) (t + 1) (bytesAt start part (t + 1)) n left
+    laying-wait z h =
+        record {
+          slots = p .slots;
+          chunks = p .chunks;
+          layers = p .layers;
+          bytes = p .bytes;
+          putting = putting-wait start part chunk layer size a ss cs ls bs g (p .slots) (p .chunks) (p .layers) (p .bytes) t c n left (p .putting) z h;
+          slots-but = λ x. set-set ss' n t x ∙ p .slots-but x;
+          chunks-but = λ x. set-set cs' n chunk x ∙ p .chunks-but x;
+          layers-but = λ x. set-set ls' n layer x ∙ p .layers-but x;
+          bytes-but = λ x. set-set bs' n c x ∙ p .bytes-but x;
+        }
+
+    laying-part : 0 < c → c < left → Laying start part chunk layer size a ss cs ls bs (set ss' n t) (set cs' n chunk) (set ls' n layer) (set bs' n c) (t + 1) (bytesAt start part (t + 1)) (n + 1) (left - c)
+    laying-part z h =
+        record {
+          slots = set (p .slots) n t;
+          chunks = set (p .chunks) n chunk;
+          layers = set (p .layers) n layer;
+          bytes = set (p .bytes) n c;
+          putting = putting-part start part chunk layer size a ss cs ls bs g (p .slots) (p .chunks) (p .layers) (p .bytes) t c n left (p .putting) z h;
+          slots-but = λ x. ap (λ (l : List ℕ). set l (n + 1) x) (p .slots-but t);
+          chunks-but = λ x. ap (λ (l : List ℕ). set l (n + 1) x) (p .chunks-but chunk);
+          layers-but = λ x. ap (λ (l : List ℕ). set l (n + 1) x) (p .layers-but layer);
+          bytes-but = λ x. ap (λ (l : List ℕ). set l (n + 1) x) (p .bytes-but c);
+        }
+
+    pub laying-more : c < left → Laying start part chunk layer size a ss cs ls bs (set ss' n t) (set cs' n chunk) (set ls' n layer) (set bs' n c) (t + 1) (bytesAt start part (t + 1)) (cond (eqb c 0) n (n + 1)) (left - c)
+    laying-more h =
+        ⊎-elim
+        (λ u. let z = ltb→lt 0 c u in rw (ne-eqb c 0 (λ e. omega (arith, e))) (laying-part z h))
+        (λ u. let z : c ≡ 0 = omega (arith, nltb→le 0 c u) in let e : left - c ≡ left = omega arith in rw (eq-eqb c 0 z, e) (laying-wait z h))
+        (test (ltb 0 c))
+
+    pub laying-end : left ≤ c → PutPiecePost start part chunk layer size a ss cs ls bs (record { slot = t; left = c - left; rows = n + 1 }) (set ss' n t) (set cs' n chunk) (set ls' n layer) (set bs' n left)
+    laying-end h = rw (p .slots-but t, p .chunks-but chunk, p .layers-but layer, p .bytes-but left) (putting-end start part chunk layer size a ss cs ls bs g (p .slots) (p .chunks) (p .layers) (p .bytes) t c n left (p .putting) h)

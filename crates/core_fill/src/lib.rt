@@ -6,9 +6,12 @@
 use job::CHUNKS;
 use job::SizeTable;
 ghost use mathlib.Core.Path.{_≡_};
+ghost use mathlib.Core.Bool.{cond};
 ghost use mathlib.Core.List.{[], _∷_};
 ghost use Prim.Native.Nat.{ℕ, _+_, _*_, _-_, _<_, _≤_};
 ghost use lib.ListN.{length, drop, set};
+ghost use lib.Dec.{eqb};
+ghost use Rattle.fetch.specs.Marks.{bit};
 ghost use Rattle.core_sizes.specs.Table.{tableAt};
 ghost use Rattle.core_fill.specs.lemmas.Filling.{PutPiecePre, PutPiecePost, PutPost, begun, lastOf, leftAt};
 ghost use Rattle.core_fill.specs.lemmas.Filling.{layersOf, piece, PutChunkPre};
@@ -68,7 +71,20 @@ fn begin(part: &[u32], start: usize, at: Position, ready: u16) -> Position
     at
 }
 
-// A piece that may begin goes into slot after slot until nothing is left of it.
+// The rows made, after a row of b bytes at place n. One without bytes is none: the next is written
+// over it.
+fn rows_with(n: usize, b: u32) -> usize
+    requires { ⌜ n ≤ 5600 ⌝ }
+    ensures { λ r. ⌜ r ≡ cond (eqb b 0) n (n + 1) ⌝ }
+{
+    if b == 0 {
+        return n;
+    }
+    n + 1
+}
+
+// A piece that may begin goes into slot after slot until nothing is left of it. A slot that has no
+// bytes left gets a row too, which does not count: so no slot is asked whether it has.
 fn put_piece(
     part: &[u32],
     start: usize,
@@ -93,18 +109,12 @@ fn put_piece(
     let mut n = at.rows;
     let mut left = size;
     while c < left {
-        let next = t + 1;
-        let k = next - start;
-        if c == 0 {
-            t = next;
-            c = part[k];
-        } else {
-            put_row(slots, chunks, layers, bytes, n, t, chunk, layer, c);
-            n = n + 1;
-            left = left - c;
-            t = next;
-            c = part[k];
-        }
+        put_row(slots, chunks, layers, bytes, n, t, chunk, layer, c);
+        n = rows_with(n, c);
+        left = left - c;
+        t = t + 1;
+        let k = t - start;
+        c = part[k];
     }
     put_row(slots, chunks, layers, bytes, n, t, chunk, layer, left);
     c = c - left;
@@ -114,6 +124,14 @@ fn put_piece(
         left: c,
         rows: n,
     }
+}
+
+// Whether a mark has layer n: fetch's `has` for a layer that a mark may have, without its test.
+fn carries(mark: u8, n: u8) -> bool
+    requires { ⌜ n < 8 ⌝ }
+    ensures { λ r. ⌜ r ≡ bit mark n ⌝ }
+{
+    ((mark as u32) >> n) & 1 == 1
 }
 
 // The layers that a chunk carries.
@@ -138,7 +156,7 @@ fn put_chunk(
 {
     let mut at = begin(part, start, from, ready);
     let mut n: u8 = 0;
-    while fetch::has(mark, n) {
+    while carries(mark, n) {
         let z = core_sizes::size_in(table, chunk, n as usize);
         at = put_piece(part, start, at, chunk, n, z, slots, chunks, layers, bytes);
         n = n + 1;

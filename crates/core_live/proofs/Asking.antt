@@ -3,14 +3,12 @@ use Prim.Native.Nat.{ℕ, _+_, _-_, _/_, _≤_, _<_}
 use mathlib.Core.Path.{_≡_, refl, sym, _∙_}
 use mathlib.Core.Bool.{Bool, cond, not, _&&_, _||_}
 use mathlib.Core.List.{List}
-use mathlib.Core.Logic.{⊎-elim}
 use native.Mathlib.Omega.{arith}
-use lib.Dec.{eqb, leb, ltb, ltb→lt, nltb→le}
+use lib.Dec.{eqb, leb, ltb}
 use lib.ListN.{length, getD, set, length-set}
 use Rattle.theory_basics.specs.Sums.{count}
 use Rattle.theory_basics.specs.lemmas.Ranges.{bit-le, count-more, count-small}
-use Rattle.theory_basics.specs.lemmas.Tables.{at-set}
-use Rattle.theory_basics.specs.lemmas.Tests.{test}
+use Rattle.theory_basics.specs.lemmas.Tables.{at-set, ne-lt}
 use Rattle.job.specs.Job.{dueSlot}
 use Rattle.job.specs.declared.Programme.{Programme}
 use Rattle.core_live.specs.lemmas.ByTables.{askedAt, AskedFlags, begunAt, freshAt, heldAt, lineAt}
@@ -47,7 +45,7 @@ module _ (p : Programme) (start : ℕ) (left : ℕ → ℕ → ℕ) (begun : Lis
       let s : more ≡ heldAt p start begun + count (freshAt p start left begun last from until) (i + 1) =
       omega (arith, a .held-is, e, count-more i (freshAt p start left begun last from until)) in
       let g = a .flags in
-      let back : (k : ℕ) → 1 ≤ k → k ≤ i + 1 → (k - 1 ≡ i → ⊥) → k ≤ i = λ k u v o. ⊎-elim (λ t. omega (arith, ltb→lt (k - 1) i t)) (λ t. absurd (o (omega (arith, nltb→le (k - 1) i t)))) (test (ltb (k - 1) i)) in
+      let back : (k : ℕ) → 1 ≤ k → k ≤ i + 1 → (k - 1 ≡ i → ⊥) → k ≤ i = λ k u v o. omega (arith, ne-lt (k - 1) i (omega arith) o) in
       record {
         within = omega arith;
         held-is = s;

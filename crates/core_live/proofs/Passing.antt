@@ -1,7 +1,7 @@
 -- Laws on what is passed over: the chunks of the next H, and up to which one. Assumes nothing.
 use Prim.Native.Nat.{ℕ, _+_, _-_, _/_, _≤_, _<_}
 use mathlib.Core.Path.{_≡_, refl, sym, _∙_}
-use mathlib.Core.Bool.{Bool, true, false, cond, not, _&&_}
+use mathlib.Core.Bool.{Bool, true, false, cond, not, _&&_, and-assoc}
 use mathlib.Core.List.{List}
 use mathlib.Core.Logic.{⊎-elim}
 use native.Mathlib.Omega.{arith}
@@ -24,14 +24,10 @@ same-near a b seen most e =
     (λ t. let h = nltb→le seen (most + 1) t in rw (le-ltb seen (most + 1) h, lt-leb a (b + most) (omega arith)))
     (test (ltb seen (most + 1)))
 
-and-behind : (a b c : Bool) → (a && b) && c ≡ a && (b && c)
-and-behind true b c = refl
-and-behind false b c = refl
-
 could-is :
     (k i a b seen most : ℕ) (x y : Bool) → k < i → a ≡ b + seen →
     (ltb k i && leb a (b + most) && x && y) ≡ (ltb seen (most + 1) && (x && y))
-could-is k i a b seen most x y h e = rw (lt-ltb k i h, same-near a b seen most e) (and-behind (ltb seen (most + 1)) x y)
+could-is k i a b seen most x y h e = rw (lt-ltb k i h, same-near a b seen most e) (and-assoc (ltb seen (most + 1)) x y)
 
 module _ (p : Programme) (start rate : ℕ) (left : ℕ → ℕ → ℕ) (begun : List ℕ) (last k : ℕ) where
   -- The chunks after k up to i: seen are open, and none could come.

@@ -8,9 +8,9 @@ use lib.ListN.{length, set, drop, length-set, drop-of-length-le}
 use lib.Dec.{T, ltb}
 use borrow.Author.Tests.{le-ltb, lt-ltb}
 use Rattle.theory_basics.specs.Lists.{has}
-use Rattle.theory_basics.specs.Tests.{All}
 use Rattle.theory_basics.specs.lemmas.Tests.{T-true}
 use Rattle.theory_basics.specs.lemmas.Tables.{set-before}
+use Rattle.theory_basics.specs.lemmas.Lists.{map-cong}
 use Rattle.job.specs.declared.Programme.{Programme}
 use Rattle.job.specs.Job.{dueSlot}
 use Rattle.theory_plan.specs.Plan.{picked}
@@ -101,10 +101,6 @@ stands-is : (b : Bool) (v : ℕ) → 1 ≤ v → ltb 0 (cond b v 0) ≡ b
 stands-is true v h = lt-ltb 0 v h
 stands-is false v h = refl
 
-map-picked : (f g : ℕ → ℕ) (ks : List ℕ) → All (λ k. f k ≡ g k) ks → map f ks ≡ map g ks
-map-picked f g [] a = refl
-map-picked f g (k ∷ ks) a = rw (a .0, map-picked f g ks (a .1))
-
 -- What is gathered of the tree are the chunks that the algorithm keeps.
 pub keeps :
     (p : Programme) (size : ℕ → ℕ → ℕ) (after tree : List ℕ) (first : ℕ) (ids dues bytes : List ℕ) → Fit p size after →
@@ -118,7 +114,7 @@ keeps p size after tree first ids dues bytes fit w g =
       within = g .within;
       kept = g .kept ∙ all;
       due-slots = g .due-slots;
-      base-bytes = g .base-bytes ∙ rw (g .kept) (map-picked (λ i. at tree (512 + i)) s (picked (stands tree) 0 (p .chunks)) (picked-each (stands tree) (λ i. at tree (512 + i) ≡ s i) 0 (p .chunks) (λ i u v t. bytes-are i u v (rw (is i u v) at t))));
+      base-bytes = g .base-bytes ∙ rw (g .kept) (map-cong (λ i. at tree (512 + i)) s (picked (stands tree) 0 (p .chunks)) (picked-each (stands tree) (λ i. at tree (512 + i) ≡ s i) 0 (p .chunks) (λ i u v t. bytes-are i u v (rw (is i u v) at t))));
       ascending = rw (g .kept) (picked-asc (stands tree) 0 (p .chunks) (p .chunks) (omega arith));
       long = g .long;
     }

@@ -8,10 +8,10 @@ use Prim.Native.Nat.{ℕ, suc, _+_, _*_, _-_, _≤_, _<_}
 use native.Mathlib.Omega.{arith}
 use native.Mathlib.Numerals.{add-one}
 use lib.ListN.{length, replicate, length-replicate, getD-replicate}
-use lib.Dec.{T, T-not, not-T, ltb, eqb, ltb→lt, nltb→le, eqb→eq, eqb-refl}
+use lib.Dec.{T, not-T, ltb, eqb, ltb→lt, nltb→le, eqb→eq}
 use borrow.Author.Tests.{eq-eqb, ne-eqb}
 use Rattle.theory_basics.specs.Lists.{has}
-use Rattle.theory_basics.specs.lemmas.Tests.{T-true, not-T-false, same-test, test}
+use Rattle.theory_basics.specs.lemmas.Tests.{T-true, not-T-false, same-test, test, neqb→ne}
 use Rattle.job.specs.declared.Programme.{Programme}
 use Rattle.job.specs.Job.{dueSlot}
 use Rattle.theory_plan.specs.Bases.{allBut, keptAfter, keptBytes}
@@ -34,7 +34,7 @@ put-shows s t t′ ks ms m v h x o e f =
           ∙ ⊎-elim
           (λ c. let d = eqb→eq k m c in rw (d, eq-eqb (512 + m) (512 + m) refl) e)
           (λ c.
-          let n : k ≡ m → ⊥ = λ d. T-not (eqb k m) c (rw d (eqb-refl m)) in
+          let n : k ≡ m → ⊥ = neqb→ne k m c in
           rw (ne-eqb (512 + k) (512 + m) (λ d. n (omega arith))) (x .leaf k u ∙ ap (λ (a : Bool). cond a (s k) 0) (sym (f k n))))
           (test (eqb k m));
     }

@@ -8,9 +8,9 @@ use native.Mathlib.Nat.{mul-le-mul-left}
 use lib.ListN.{length, set, length-set}
 use lib.Pow.{pow-pos}
 use lib.Seq.{getD-set-same, getD-set-other}
-use lib.Dec.{T-not, ltb, eqb, ltb→lt, nltb→le, eqb→eq, eqb-refl}
+use lib.Dec.{ltb, eqb, ltb→lt, nltb→le, eqb→eq}
 use borrow.Author.Tests.{eq-eqb, ne-eqb}
-use Rattle.theory_basics.specs.lemmas.Tests.{test}
+use Rattle.theory_basics.specs.lemmas.Tests.{test, neqb→ne}
 use Rattle.theory_plan.specs.lemmas.Parts.{at}
 use Rattle.core_moore_hodgson.specs.lemmas.Tables.{LeafPre, FindLargestPost, Maxima, LeafPost, under}
 
@@ -57,7 +57,7 @@ module _ (start t : List ℕ) (p : ℕ) (c : Climbing start t p) where
             ⊎-elim
             (λ x. let e = eqb→eq q p x in rw (a, b) (rw e (getD-set-same t p (under t p) 0 (omega (arith, c .below, c .long)))))
             (λ x.
-            let d : q ≡ p → ⊥ = λ e. T-not (eqb q p) x (rw e (eqb-refl p)) in
+            let d : q ≡ p → ⊥ = neqb→ne q p x in
             rw (a, b) (getD-set-other t p q (under t p) 0 d ∙ c .right q u w d))
             (test (eqb q p));
         leaves = λ q u. getD-set-other t p q (under t p) 0 (λ e. omega (arith, c .below)) ∙ c .leaves q u;
@@ -69,7 +69,7 @@ module _ (start t : List ℕ) (p : ℕ) (c : Climbing start t p) where
       record {
         long = c .long;
         right = λ q u w.
-            ⊎-elim (λ x. let e = eqb→eq q p x in rw e h) (λ x. c .right q u w (λ e. T-not (eqb q p) x (rw e (eqb-refl p)))) (test (eqb q p));
+            ⊎-elim (λ x. let e = eqb→eq q p x in rw e h) (λ x. c .right q u w (neqb→ne q p x)) (test (eqb q p));
       }
 
   pub climbing-ends : p ≤ 0 → Maxima t
@@ -84,7 +84,7 @@ stored leaf v old t p h c m =
           c .leaves q u
           ∙ ⊎-elim
           (λ x. let e = eqb→eq q leaf x in rw (e, eq-eqb leaf leaf refl) (getD-set-same old leaf v 0 (omega (arith, h .high, h .maxima .long))))
-          (λ x. let d : q ≡ leaf → ⊥ = λ e. T-not (eqb q leaf) x (rw e (eqb-refl leaf)) in rw (ne-eqb q leaf d) (getD-set-other old leaf q v 0 d))
+          (λ x. let d : q ≡ leaf → ⊥ = neqb→ne q leaf x in rw (ne-eqb q leaf d) (getD-set-other old leaf q v 0 d))
           (test (eqb q leaf));
     }
 

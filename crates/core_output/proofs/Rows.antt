@@ -8,9 +8,9 @@ use native.Mathlib.Omega.{arith}
 use lib.ListN.{length, getD, take, drop, length-drop}
 use lib.Dec.{leb, ltb, leb→le, nleb→lt}
 use Rattle.theory_basics.specs.Lists.{upTo}
-use Rattle.theory_basics.specs.lemmas.Lists.{upTo-cong}
+use Rattle.theory_basics.specs.lemmas.Lists.{upTo-cong, all-of-map}
 use Rattle.theory_basics.specs.Tests.{All}
-use Rattle.theory_basics.specs.lemmas.Tests.{by-cond}
+use Rattle.theory_basics.specs.lemmas.Tests.{by-cond, all-map}
 use Rattle.job.specs.Job.{Job, Accepted, Within, size, chunks, layers, due, forecast, heldMost, lastSlot}
 use Rattle.fetch.specs.Counts.{markCount}
 use Rattle.fetch.specs.Rows.{Row, markByte}
@@ -21,9 +21,8 @@ use Rattle.theory_plan.specs.Plan.{kept, after}
 use Rattle.theory_plan.specs.lemmas.Fill.{QueuedPiece, Ready, fill, needs}
 use Rattle.theory_plan.specs.lemmas.Kept.{picked-each}
 use Rattle.theory_plan.specs.lemmas.Linear.{level-of, mark-level}
-use Rattle.theory_plan.specs.lemmas.Necessity.{Each}
 use Rattle.theory_plan.specs.lemmas.OwnFill.{own-list-is}
-use Rattle.theory_plan.specs.lemmas.Queue.{each, feas-relok, pieces, queue, ready-queue, releases, weight, each-is, all-ones}
+use Rattle.theory_plan.specs.lemmas.Queue.{feas-relok, pieces, queue, ready-queue, releases, weight, all-ones}
 use Rattle.theory_plan.specs.Statement.{Choice, countsOf, marksOf}
 use Rattle.theory_plan.specs.Theorems.{own-list-rows}
 use Rattle.theory_plan.specs.lemmas.Sufficiency.{fetch}
@@ -44,7 +43,7 @@ use Rattle.theory_plan.specs.Bases.{Asc}
 
 -- ---- the queue of the tables
 
-queue-is : (size : ℕ → ℕ → ℕ) (lv : ℕ → ℕ) (ks rs : List ℕ) → Each (λ k. lv k ≤ 8) ks → queueOf size ks (take (length ks) rs) (map (λ k. levelMark (lv k)) ks) ≡ queue size lv ks rs
+queue-is : (size : ℕ → ℕ → ℕ) (lv : ℕ → ℕ) (ks rs : List ℕ) → All (λ k. lv k ≤ 8) ks → queueOf size ks (take (length ks) rs) (map (λ k. levelMark (lv k)) ks) ≡ queue size lv ks rs
 queue-is size lv [] rs a = refl
 queue-is size lv (k ∷ ks) [] a = refl
 queue-is size lv (k ∷ ks) (r ∷ rs) a =
@@ -61,13 +60,9 @@ fed-ready d A (p ∷ q) r = (omega (arith, r .0, load-needs d A (p ∷ q)), r .1
 
 -- ---- what holds of the kept chunks
 
-each-kept : (P : ℕ → Type 0) (c lo : ℕ) (ks : List ℕ) → Asc lo c ks → 1 ≤ lo → ((k : ℕ) → 1 ≤ k → k ≤ c → P k) → Each P ks
+each-kept : (P : ℕ → Type 0) (c lo : ℕ) (ks : List ℕ) → Asc lo c ks → 1 ≤ lo → ((k : ℕ) → 1 ≤ k → k ≤ c → P k) → All P ks
 each-kept P c lo [] a l f = tt
 each-kept P c lo (k ∷ ks) a l f = (f k (omega arith) (a .1), each-kept P c (suc k) ks (a .2) (omega arith) f)
-
-all-each : (P : ℕ → Type 0) (g : ℕ → ℕ) (ks : List ℕ) → Each (λ k. P (g k)) ks → All P (map g ks)
-all-each P g [] a = tt
-all-each P g (k ∷ ks) a = (a .0, all-each P g ks (a .1))
 
 -- ---- of a decided choice
 
@@ -87,12 +82,8 @@ module _
   left-is : leftAt 1 f ≡ after j
   left-is = ap (leftAt 1) (o .forecast-is) ∙ accepted-job.left-is j ok
 
-  levels-in : Each (λ k. (1 ≤ x k) × (x k ≤ 4)) (kept j x)
+  levels-in : All (λ k. (1 ≤ x k) × (x k ≤ 4)) (kept j x)
   levels-in = picked-each (λ i. leb 1 (x i)) (λ k. (1 ≤ x k) × (x k ≤ 4)) 0 (chunks j) (λ i u v t. (leb→le 1 (x i) t, omega (arith, c i u (omega arith), ok .layers-in .high)))
-
-  each-imp : (P Q : ℕ → Type 0) (ks : List ℕ) → ((k : ℕ) → P k → Q k) → Each P ks → Each Q ks
-  each-imp P Q [] g a = tt
-  each-imp P Q (k ∷ ks) g a = (g k (a .0), each-imp P Q ks g (a .1))
 
   plan-queue : List QueuedPiece
   plan-queue = queue (size j) x (kept j x) (releases (due j) (heldMost j) (kept j x))
@@ -110,7 +101,7 @@ module _
       ∙ ap (λ (l : List ℕ). queueOf (size j) l (drop first ready) (drop first mark)) (o .tables .chunks)
       ∙ ap (λ (l : List ℕ). queueOf (size j) ks l (drop first mark)) (o .tables .releases-are ∙ ap (λ (n : ℕ). take n rs) (sym many))
       ∙ ap (λ (l : List ℕ). queueOf (size j) ks (take (length ks) rs) l) (o .tables .marks)
-      ∙ queue-is (size j) x ks rs (each-imp (λ k. (1 ≤ x k) × (x k ≤ 4)) (λ k. x k ≤ 8) ks (λ k h. omega arith) levels-in)
+      ∙ queue-is (size j) x ks rs (all-map (λ k. (1 ≤ x k) × (x k ≤ 4)) (λ k. x k ≤ 8) ks (λ k h. omega arith) levels-in)
 
   plan-ready : (needs (due j) (after j) plan-queue ≤ after j 0) × Ready (due j) (after j) plan-queue
   unfolding plan-queue
@@ -135,7 +126,7 @@ module _
         room = record { part-in = subst (ForecastPart 1) (sym (o .forecast-is)) (accepted-job.part-in j ok); low = omega arith; high = omega arith; count = omega arith; s = omega arith; c = omega arith; l = omega arith; b = omega arith };
         by = subst (All (λ r. r ≤ lastOf 1 f)) (sym (o .tables .releases-are)) released;
         chunks-in = subst (All (Within 1 500)) (sym (o .tables .chunks)) (asc-within 1 (chunks j) 1 500 (kept j x) (omega arith) (ok .chunks-in .high) (kept-asc j x));
-        levels = subst (All Levels) (sym (o .tables .marks)) (all-each Levels (λ k. levelMark (x k)) (kept j x) (each-imp (λ k. (1 ≤ x k) × (x k ≤ 4)) (λ k. Levels (levelMark (x k))) (kept j x) level levels-in));
+        levels = subst (All Levels) (sym (o .tables .marks)) (all-of-map Levels (λ k. levelMark (x k)) (kept j x) (all-map (λ k. (1 ≤ x k) × (x k ≤ 4)) (λ k. Levels (levelMark (x k))) (kept j x) level levels-in));
         fed = subst (Fed (leftAt 1 f)) (sym queued) (subst (λ (A : ℕ → ℕ). Fed A plan-queue) (sym left-is) (fed-ready (due j) (after j) plan-queue (plan-ready .1)));
         fits = subst (λ (q : List QueuedPiece). load q ≤ getD f 0 0 + leftAt 1 f 1) (sym queued) (omega (arith, load-needs (due j) (after j) plan-queue, plan-ready .0, ap (λ (A : ℕ → ℕ). A 0) left-is, left-next 1 f 0 (omega arith)));
         long = o .tables .long;
@@ -144,8 +135,8 @@ module _
       released : All (λ r. r ≤ lastOf 1 f) (take (500 - first) (releases (due j) (heldMost j) (kept j x)))
       released =
           all-take (λ r. r ≤ lastOf 1 f) (500 - first) (releases (due j) (heldMost j) (kept j x))
-          (all-ones (λ r. r ≤ lastOf 1 f) (omega (arith, first-slot)) (heldMost j) (each (due j) (kept j x))
-          (subst (All (λ r. r ≤ lastOf 1 f)) (sym (each-is (due j) (kept j x))) (all-each (λ r. r ≤ lastOf 1 f) (due j) (kept j x) (each-kept (λ k. due j k ≤ lastOf 1 f) (chunks j) 1 (kept j x) (kept-asc j x) (omega arith) (λ k u v. omega (arith, due-by (j .programme) k v, slots-are))))))
+          (all-ones (λ r. r ≤ lastOf 1 f) (omega (arith, first-slot)) (heldMost j) (map (due j) (kept j x))
+          (all-of-map (λ r. r ≤ lastOf 1 f) (due j) (kept j x) (each-kept (λ k. due j k ≤ lastOf 1 f) (chunks j) 1 (kept j x) (kept-asc j x) (omega arith) (λ k u v. omega (arith, due-by (j .programme) k v, slots-are)))))
 
       level : (k : ℕ) → (1 ≤ x k) × (x k ≤ 4) → Levels (levelMark (x k))
       level k h =

@@ -8,8 +8,7 @@ use job::ROWS;
 use job::SizeTable;
 ghost use mathlib.Core.Path.{_≡_};
 ghost use Prim.Native.Nat.{_≤_};
-ghost use lib.ListN.{length, getD, drop};
-ghost use lib.Dec.{eqb};
+ghost use lib.ListN.{length, drop};
 ghost use Rattle.theory_basics.specs.Lent.{over};
 ghost use Rattle.core_sizes.specs.Table.{tableAt};
 ghost use Rattle.core_output.specs.lemmas.Writing.{WritePre, FillPre, FillPost, WritePost};
@@ -35,18 +34,7 @@ fn wide(x: u16) -> usize
     x as usize
 }
 
-// Whether the kept chunk at place q is this one.
-fn is_at(ids: &[u16; CHUNKS], q: usize, chunk: usize) -> bool
-    requires { ⌜ (1 ≤ chunk) × (length (now ids) ≡ 500) ⌝ }
-    ensures { λ r. ⌜ r ≡ eqb (getD (now (ids .entry)) q 0) chunk ⌝ }
-{
-    if q < CHUNKS {
-        return wide(ids[q]) == chunk;
-    }
-    false
-}
-
-// A mark for each chunk: the one at its place in the tables, or else what is whole.
+// A mark for each chunk: what is whole, and over it the one at its place in the tables.
 fn spread(
     ids: &[u16; CHUNKS],
     mark: &[u8; CHUNKS],
@@ -65,18 +53,12 @@ fn spread(
     ensures { λ _. ⌜ now (marks .exit) ≡ over
         (marksIn count first (now (ids .entry)) (now (mark .entry)) (now (whole .entry))) (now (marks .entry)) ⌝ }
 {
+    core_slices::copy8(whole, count, marks);
     let mut q = first;
-    let mut i: usize = 0;
-    while i < count {
-        let chunk = i + 1;
-        if is_at(ids, q, chunk) {
-            marks[i] = mark[q];
-            q = q + 1;
-            i = chunk;
-        } else {
-            marks[i] = whole[i];
-            i = chunk;
-        }
+    while q < CHUNKS {
+        let at = wide(ids[q]) - 1;
+        marks[at] = mark[q];
+        q = q + 1;
     }
 }
 

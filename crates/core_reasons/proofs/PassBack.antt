@@ -1,6 +1,6 @@
 -- Laws on the pass back. Assumes nothing.
 use mathlib.Core.Path.{_≡_, refl, sym, ap, _∙_}
-use mathlib.Core.Bool.{Bool, true, false, cond, _&&_}
+use mathlib.Core.Bool.{Bool, true, false, cond, _&&_, and-false}
 use mathlib.Core.List.{List}
 use Prim.Native.Nat.{ℕ, zero, suc, _+_, _*_, _-_, _≤_, _<_}
 use native.Mathlib.Omega.{arith}
@@ -59,11 +59,7 @@ module _ (after ready bytes : List ℕ) (first most m : ℕ) where
 
 module _ (ready : List ℕ) (first h most reach : ℕ) where
   pub starts-not : reach ≤ most → false ≡ startsIn ready first (h - first) && ltb most reach
-  starts-not l = rw (le-ltb most reach l) (sym (no (startsIn ready first (h - first))))
-    where
-      no : (b : Bool) → b && false ≡ false
-      no true = refl
-      no false = refl
+  starts-not l = rw (le-ltb most reach l) (sym (and-false (startsIn ready first (h - first))))
 
   pub starts-first : most < reach → h ≡ first → true ≡ startsIn ready first (h - first) && ltb most reach
   starts-first l e = let z : h - first ≡ 0 = omega arith in rw (lt-ltb most reach l, z)

@@ -1,7 +1,7 @@
 -- Laws on the stretch of a trial: what the tables hold. Assumes nothing.
-use mathlib.Core.Path.{_≡_, refl, sym, _∙_, ap}
+use mathlib.Core.Path.{_≡_, sym, _∙_, ap}
 use mathlib.Core.Bool.{cond}
-use mathlib.Core.List.{List, [], _∷_, _++_, map}
+use mathlib.Core.List.{List, _++_, map}
 use Prim.Native.Nat.{ℕ, suc, _+_, _*_, _-_, _/_, _≤_, _<_, min}
 use native.Mathlib.Omega.{arith}
 use lib.ListN.{length, getD, take, drop}
@@ -12,21 +12,14 @@ use Rattle.job.specs.declared.Programme.{Programme}
 use Rattle.job.specs.Job.{Accepted, Job, Within, chunks, due, dueSlot, heldMost, size}
 use Rattle.theory_plan.specs.Plan.{kept, picked}
 use Rattle.theory_plan.specs.lemmas.Kept.{picked-cong, picked-each}
-use Rattle.theory_plan.specs.lemmas.Queue.{each, ones, releases, all-ones, each-is}
+use Rattle.theory_plan.specs.lemmas.Queue.{ones, releases, release-slots}
 use Rattle.theory_plan.specs.Statement.{CanCarry, Choice}
 use Rattle.core_reasons.specs.declared.passes.Stretch.{Stretch}
 use Rattle.core_reasons.specs.lemmas.Tables.{Given, SetTablesPost, FindShortPost, FindShortPre, bytesIn, chunksIn, levelIn, trial}
 use Rattle.core_reasons.specs.lemmas.Passes.{Holds, FindStretchPost, FindStretchPre}
-use Rattle.theory_basics.specs.lemmas.Tables.{all-from, all-take}
+use Rattle.theory_basics.specs.lemmas.Tables.{all-from}
+use Rattle.theory_basics.specs.lemmas.Lists.{map-cong, all-of-map}
 use Rattle.theory_plan.specs.lemmas.Words.{due-by}
-
-map-same : (f g : ℕ → ℕ) (ks : List ℕ) → All (λ k. f k ≡ g k) ks → map f ks ≡ map g ks
-map-same f g [] a = refl
-map-same f g (k ∷ ks) a = rw (a .0, map-same f g ks (a .1))
-
-all-map : (P : ℕ → Type 0) (f : ℕ → ℕ) (ks : List ℕ) → All (λ k. P (f k)) ks → All P (map f ks)
-all-map P f [] a = tt
-all-map P f (k ∷ ks) a = (a .0, all-map P f ks (a .1))
 
 module _ (p : Programme) (held : ℕ) (sums after levels : List ℕ) (i n cap first : ℕ) (dues ready bytes : List ℕ) (l : SetTablesPost p sums levels i n cap first dues bytes) (r : drop first ready ≡ take (500 - first) (ones held ++ drop first dues)) where
   -- ---- slots
@@ -34,13 +27,13 @@ module _ (p : Programme) (held : ℕ) (sums after levels : List ℕ) (i n cap fi
   slots : 1 ≤ p .delay → p .chunks ≤ 500 → dueSlot p (p .chunks) ≤ 3600 → All (Within 1 3600) (drop first dues)
   slots late few ends =
       rw (l .due-slots)
-      (all-map (Within 1 3600) (dueSlot p) (chunksIn p levels i n cap)
+      (all-of-map (Within 1 3600) (dueSlot p) (chunksIn p levels i n cap)
       (picked-each (λ k. leb 1 (levelIn levels i n cap k)) (λ k. Within 1 3600 (dueSlot p k)) 0 (p .chunks) (λ k u v t. record { low = omega arith; high = omega (arith, due-by p k (omega arith)) })))
 
   pub pass-from : (dues₀ ready₀ bytes₀ : List ℕ) → FindShortPre p held sums after levels n cap dues₀ ready₀ bytes₀ → length ready ≡ 500 → FindStretchPre after dues ready bytes first
   pass-from dues₀ ready₀ bytes₀ o e =
       let s = slots (o .late) (o .few) (o .ends) in
-      let b : All (Within 1 3600) (drop first ready) = rw r (all-take (Within 1 3600) (500 - first) (ones held ++ drop first dues) (all-ones (Within 1 3600) (record { low = omega arith; high = omega arith }) held (drop first dues) s)) in
+      let b : All (Within 1 3600) (drop first ready) = rw r (release-slots held (500 - first) (drop first dues) s) in
       record {
         within = l .within;
         sums = o .forecasts;
@@ -70,7 +63,7 @@ module _ (p : Programme) (held : ℕ) (sums after levels : List ℕ) (i n cap fi
     same-bytes =
         l .carried
         ∙ rw same-kept
-        (map-same (λ k. bytesIn sums k (levelIn levels i n cap k)) (λ k. sum (size j k) (trial plan i n cap k)) (kept j (trial plan i n cap))
+        (map-cong (λ k. bytesIn sums k (levelIn levels i n cap k)) (λ k. sum (size j k) (trial plan i n cap k)) (kept j (trial plan i n cap))
         (picked-each (λ k. leb 1 (trial plan i n cap k)) (λ k. bytesIn sums k (levelIn levels i n cap k) ≡ sum (size j k) (trial plan i n cap k)) 0 (chunks j) (λ k u v t.
         ap (bytesIn sums k) (same-level k u (omega arith)) ∙ g .sizes k (trial plan i n cap k) u (omega arith) (leb→le 1 (trial plan i n cap k) t) (ok k u (omega arith)))))
 
@@ -79,7 +72,7 @@ module _ (p : Programme) (held : ℕ) (sums after levels : List ℕ) (i n cap fi
         record {
           sums = g .forecasts;
           due-slots = same-dues;
-          release-slots = r ∙ rw (e, same-dues) (ap (λ (t : List ℕ). take (500 - first) (ones (heldMost j) ++ t)) (sym (each-is (due j) (kept j (trial plan i n cap)))));
+          release-slots = r ∙ rw (e, same-dues);
           carried = same-bytes;
         }
 

@@ -12,7 +12,7 @@ use lib.ListN.{length, getD, set, drop, length-set, length-drop, drop-of-length-
 use lib.Seq.{drop-set-lt, getD-drop, getD-set-other, getD-set-same}
 use lib.Dec.{T, leb, eqb, ltb, leb→le, le→leb, ltb→lt, nltb→le}
 use borrow.Author.Tests.{le-leb, lt-leb, le-ltb, lt-ltb}
-use Rattle.theory_basics.specs.lemmas.Tables.{set-before}
+use Rattle.theory_basics.specs.lemmas.Tables.{set-before, written-before}
 use Rattle.theory_basics.specs.lemmas.Tests.{and-T, same-test, T-and, test, true-T}
 use Rattle.job.specs.Job.{dueSlot, lastDue}
 use Rattle.job.specs.declared.Programme.{Programme}
@@ -131,15 +131,9 @@ module _ {p : Programme} {held : ℕ} {left : ℕ → ℕ → ℕ} {after : List
       let t : getD (drop first needs) 0 0 ≤ 60397977600 = rw (getD-drop first needs 0 0, e) (omega (arith, f .top, f .sums 0)) in
       omega (arith, f .small i 0, f .sums (dueSlot p i))
 
-  some-first : 0 < first
-  some-first = omega (arith, f .some, f .room)
-
-  written : drop (first - 1) (set needs (first - 1) cand) ≡ cand ∷ drop first needs
-  written = set-before needs first cand some-first (omega (arith, f .within, f .long .1))
-
   -- The need H places on, once the candidate is written in front.
   pub held-is : getD (set needs (first - 1) cand) (first - 1 + held) 0 ≡ getD (cand ∷ drop first needs) held 0
-  held-is = sym (getD-drop (first - 1) (set needs (first - 1) cand) held 0) ∙ ap (λ (l : List ℕ). getD l held 0) written
+  held-is = written-before needs first cand held (omega (arith, f .some, f .room)) (omega (arith, f .within, f .long .1))
 
   abbrev Tells : ℕ → ℕ → ℕ → Bool → Type 0
   Tells start cap lowest r = CanKeepPost p start held left after cap lowest i first needs (set needs (first - 1) cand) r

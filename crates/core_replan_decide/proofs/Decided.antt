@@ -2,9 +2,9 @@
 -- nothing.
 use mathlib.Core.Path.{_≡_, refl, sym, _∙_, ap, subst, fun-ext}
 use mathlib.Core.Bool.{Bool, true, false, cond, _&&_}
-use mathlib.Core.List.{List, [], _∷_, _++_, map}
+use mathlib.Core.List.{List, [], _∷_, _++_, map, map-id, map-map}
 use mathlib.Core.Logic.{_⊎_, inl, inr, ⊎-elim}
-use Prim.Native.Nat.{ℕ, zero, suc, _+_, _-_, _/_, _≤_, _<_, min, max}
+use Prim.Native.Nat.{ℕ, zero, suc, _+_, _-_, _/_, _≤_, _<_, max}
 use native.Mathlib.Omega.{arith}
 use lib.ListN.{length, getD, take, drop, replicate, length-append, length-drop, length-map, length-replicate}
 use lib.Seq.{getD-append-add, getD-drop}
@@ -13,22 +13,21 @@ use native.Mathlib.Nat.{mul-le-mul-right}
 use Rattle.theory_basics.specs.Sums.{pre}
 use Rattle.theory_basics.specs.Tests.{All, In}
 use Rattle.theory_basics.specs.lemmas.Ranges.{pre-mono}
-use Rattle.theory_basics.specs.lemmas.Tables.{all-take}
-use Rattle.theory_basics.specs.lemmas.Tests.{all-map, at-row, by-cond, each-row, test, true-T}
+use Rattle.theory_basics.specs.lemmas.Tests.{all-map, at-row, each-row, test, true-T}
+use Rattle.theory_basics.specs.lemmas.Lists.{map-cong, each-of-map}
 use Rattle.job.specs.Job.{Accepted, chunks, due, dueSlot, forecast, heldMost, Job, lastDue, lastSlot, layers, Override, size, Within}
 use Rattle.job.specs.declared.Programme.{Programme}
-use Rattle.fetch.specs.Marks.{bit}
 use Rattle.fetch.specs.Rows.{bytesOfLayer, Row}
 use Rattle.theory_plan.specs.lemmas.Parts.{ForecastPart, at, left-before, leftAfter, padded, padded-long, part-small}
 use Rattle.theory_plan.specs.Plan.{after, picked}
 use Rattle.theory_plan.specs.lemmas.Feasible.{needOf}
-use Rattle.theory_plan.specs.lemmas.Ascending.{asc-lower}
+use Rattle.theory_plan.specs.lemmas.Ascending.{asc-lower, asc-within}
 use Rattle.theory_plan.specs.lemmas.Kept.{picked-cong, picked-each}
 use Rattle.theory_plan.specs.lemmas.Level.{level}
-use Rattle.theory_plan.specs.lemmas.Linear.{map-map, needs-at, needs-of}
-use Rattle.theory_plan.specs.lemmas.Queue.{all-ones, each, each-is, ones, releases}
+use Rattle.theory_plan.specs.lemmas.Linear.{needs-at, needs-of}
+use Rattle.theory_plan.specs.lemmas.Queue.{ones, releases, release-slots}
 use Rattle.theory_plan.specs.lemmas.Trials.{back, bytesKept, candidate, chunkOf, Kept, levelMark, markOf, onLayer, onLayers, rooms, Stack, Tried}
-use Rattle.theory_plan.specs.lemmas.Words.{carries, layer-of}
+use Rattle.theory_plan.specs.lemmas.Words.{carries, layer-of, due-slots}
 use Rattle.theory_replan.specs.Plan.{afterFrom, busy, bytesLeft}
 use Rattle.theory_replan.specs.Statement.{Acceptable, IsReplan}
 use Rattle.theory_replan.specs.lemmas.Criterion.{busyFrom}
@@ -37,13 +36,13 @@ use Rattle.theory_replan.specs.lemmas.Linear.{new-bases}
 use Rattle.theory_replan.specs.lemmas.Passes.{basesNew, frontOk}
 use Rattle.core_decide.proofs.Settle.{marks-of, same-long}
 use Rattle.core_decide.specs.lemmas.Decision.{keptOf, SettleLayersPost, SettleLayersPre, Slot, Sums, SumTable}
-use Rattle.core_replan_decide.proofs.Bases.{due-in}
 use Rattle.core_replan_decide.specs.declared.Chosen.{Chosen}
 use Rattle.core_replan_decide.specs.lemmas.Decision.{Decided, DecidePre, DecidePost, jobFrom, Tabled}
 use Rattle.core_replan_decide.specs.lemmas.Begun.{KeepBegunPost, KeepBegunPre, choose, frontOne, scanFront}
 use Rattle.core_replan_decide.specs.lemmas.Composed.{below, front-kept, keptRest, layers-kept, new-kept, news, nothing-fetched, passes-are-plan, rest}
 use Rattle.core_replan_decide.specs.lemmas.Tables.{baseOf, capOf, Falls, Fine, FindFrontPost, FindFrontPre, isBegun, LastBegunPost, NewBasesPost, NewBasesPre, of}
 use Rattle.theory_plan.specs.Bases.{Asc}
+use Rattle.theory_plan.specs.lemmas.Layers.{on-layers-take}
 
 -- ---- the forecast from a slot on
 
@@ -107,27 +106,15 @@ module _ {p : Programme} {layers start : ℕ} {part : List ℕ} {left : ℕ → 
         small = o .small;
         sums = sums-small s;
         fb-in = f .within;
-        chunks-in = within-all 1 last (p .chunks) (drop head front) (omega arith) lp (f .ascending);
+        chunks-in = asc-within 1 last 1 (p .chunks) (drop head front) (omega arith) lp (f .ascending);
         need-in = rw (e, z) (omega (arith, n .top, sums-small s 0));
         room = omega (arith, f .room, n .room);
         within = n .within;
-        ids-in = within-all (suc last) (p .chunks) (p .chunks) ns (omega arith) (omega arith) (n .ascending);
-        slots = subst (All Slot) (sym (n .due-slots)) (slots-all (suc last) ns (n .ascending));
-        light = subst (All (λ b. b ≤ 16777216)) (sym (n .base-bytes)) (light-all ns);
+        ids-in = asc-within (suc last) (p .chunks) 1 (p .chunks) ns (omega arith) (omega arith) (n .ascending);
+        slots = subst (All Slot) (sym (n .due-slots)) (due-slots p (o .fine .late) (o .fine .ends) (suc last) ns (n .ascending));
+        light = subst (All (λ b. b ≤ 16777216)) (sym (n .base-bytes)) (each-of-map (λ b. b ≤ 16777216) (baseOf left) (λ k. o .small k 0) ns);
         long = (o .long .1, s .long, f .long .0, n .long .0, n .long .1, n .long .2, n .long .3);
       }
-    where
-      within-all : (lo hi top : ℕ) (ks : List ℕ) → 1 ≤ lo → hi ≤ top → Asc lo hi ks → All (Within 1 top) ks
-      within-all lo hi top [] u v a = tt
-      within-all lo hi top (k ∷ ks) u v a = (record { low = omega arith; high = omega arith }, within-all (suc k) hi top ks (omega arith) v (a .2))
-
-      slots-all : (lo : ℕ) (ks : List ℕ) → Asc lo (p .chunks) ks → All Slot (map (dueSlot p) ks)
-      slots-all lo [] a = tt
-      slots-all lo (k ∷ ks) a = let d = due-in (o .fine) k (a .1) in (record { low = d .0; high = d .1 }, slots-all (suc k) ks (a .2))
-
-      light-all : (ks : List ℕ) → All (λ b. b ≤ 16777216) (map (baseOf left) ks)
-      light-all [] = tt
-      light-all (k ∷ ks) = (o .small k 0, light-all ks)
 
   pub layers-from :
       {table front ids₁ dues₁ bytes₁ mark₁ ids₂ dues₂ bytes₂ mark₂ ready₂ room : List ℕ} {head new first needOf : ℕ} (held : ℕ) → SumTable start part table →
@@ -142,7 +129,7 @@ module _ {p : Programme} {layers start : ℕ} {part : List ℕ} {left : ℕ → 
         chunks-in = all-map (Within 1 (p .chunks)) (Within 1 500) (drop first ids₂) (λ x w. record { low = w .low; high = omega (arith, w .high, o .fine .few) }) (b .ids-in);
         sums = sums-small s;
         due-slots = b .slots;
-        release-slots = subst (All Slot) (sym r) (all-take Slot (500 - first) (ones held ++ drop first dues₂) (all-ones Slot (record { low = omega arith; high = omega arith }) held (drop first dues₂) (b .slots)));
+        release-slots = subst (All Slot) (sym r) (release-slots held (500 - first) (drop first dues₂) (b .slots));
         within = b .within;
         carried = b .light;
         long = (s .long, b .long .0, b .long .1, lr, b .long .2, lm, b .long .3);
@@ -170,34 +157,6 @@ unfolding back
 back-cong size size′ A n hs [] a = refl
 back-cong size size′ A n hs (k ∷ ks) a = rw (back-cong size size′ A n (drop 1 hs) ks (a .1), a .0)
 
--- ---- a release for each chunk is enough
-
-rooms-take : (A : ℕ → ℕ) (room : ℕ) (ws rs : List ℕ) → rooms A room ws (take (length ws) rs) ≡ rooms A room ws rs
-rooms-take A room [] rs = refl
-rooms-take A room (w ∷ ws) [] = refl
-rooms-take A room (w ∷ ws) (r ∷ rs) = rw (rooms-take A (min room (A (r - 1)) - w) ws rs)
-
-module _ (size : ℕ → ℕ → ℕ) (A : ℕ → ℕ) where
-  back-long : (n : ℕ) (hs : List ℕ) (ks : List Kept) → length (back size A n hs ks .kept) ≡ length ks
-  unfolding back
-  back-long n hs [] = refl
-  back-long n hs (k ∷ ks) =
-      let o = back size A n (drop 1 hs) ks in
-      by-cond (λ (t : Tried). length (t .kept) ≡ suc (length ks)) (bit (k .mark) (n - 1) && leb (k .bytes + max (A (k .due)) (o .need) + size (k .chunk) n) (getD hs 0 0)) (λ t. ap suc (back-long n (drop 1 hs) ks)) (λ t. ap suc (back-long n (drop 1 hs) ks))
-
-  on-layers-long : (room : ℕ) (rs : List ℕ) (n : ℕ) (ks : List Kept) → length (onLayers size A room rs n ks) ≡ length ks
-  on-layers-long room rs zero ks = refl
-  on-layers-long room rs (suc n) ks = back-long (suc n) _ (onLayers size A room rs n ks) ∙ on-layers-long room rs n ks
-
-  on-layers-take : (room : ℕ) (rs : List ℕ) (n : ℕ) (ks : List Kept) → onLayers size A room (take (length ks) rs) n ks ≡ onLayers size A room rs n ks
-  on-layers-take room rs zero ks = refl
-  on-layers-take room rs (suc n) ks =
-      let o = onLayers size A room rs n ks in
-      let e : length ks ≡ length (map bytesKept o) = sym (length-map o bytesKept ∙ on-layers-long room rs n ks) in
-      ap (onLayer size A room (take (length ks) rs) (suc n)) (on-layers-take room rs n ks)
-      ∙ ap (λ (m : ℕ). back size A (suc n) (rooms A room (map bytesKept o) (take m rs)) o .kept) e
-      ∙ ap (λ (hs : List ℕ). back size A (suc n) hs o .kept) (rooms-take A room (map bytesKept o) rs)
-
 -- ---- lists
 
 picked-front : (f : ℕ → Bool) (lo n m : ℕ) → ((i : ℕ) → n + lo < i → i ≤ n + lo + m → f i ≡ false) → picked f lo (n + m) ≡ picked f lo n
@@ -209,10 +168,6 @@ picked-front f lo zero m edge = let e : 0 + m ≡ m = omega arith in rw e (none 
 picked-front f lo (suc n) m edge =
     let e : suc n + m ≡ suc (n + m) = omega arith in
     rw e (ap (λ (l : List ℕ). cond (f (suc lo)) (suc lo ∷ l) l) (picked-front f (suc lo) n m (λ i u v. edge i (omega arith) (omega arith))))
-
-map-cong : (f edge : ℕ → ℕ) (ks : List ℕ) → All (λ k. f k ≡ edge k) ks → map f ks ≡ map edge ks
-map-cong f edge [] a = refl
-map-cong f edge (k ∷ ks) a = rw (a .0, map-cong f edge ks (a .1))
 
 asc-join : (lo mid hi : ℕ) (a b : List ℕ) → lo ≤ suc mid → mid ≤ hi → Asc lo mid a → Asc (suc mid) hi b → Asc lo hi (a ++ b)
 asc-join lo mid hi [] b u v x y = asc-lower lo (suc mid) hi b u y
@@ -350,10 +305,6 @@ module _
         ids-are =
             sym (chunks-of (drop first ids₂) (drop first dues₂) (drop first bytes₂) (drop first mark₂) (same dues₂ (b .long .1)) (same bytes₂ (b .long .2)) (same mark₂ (b .long .3)))
             ∙ ap (map chunkOf) based-is ∙ map-map chunkOf (keptRest j fetched b1) cs ∙ map-id cs
-          where
-            map-id : (l : List ℕ) → map (λ k. k) l ≡ l
-            map-id [] = refl
-            map-id (x ∷ l) = rw (map-id l)
 
         dues-are : drop first dues₂ ≡ map (due j) cs
         dues-are =
@@ -365,7 +316,7 @@ module _
           rs = releases (due j) (heldMost j) cs
 
           released : drop first ready ≡ take (500 - first) rs
-          released = r ∙ ap (λ (m : ℕ). take (500 - first) (ones m ++ drop first dues₂)) h ∙ ap (λ (l : List ℕ). take (500 - first) (ones (heldMost j) ++ l)) (dues-are ∙ sym (each-is (due j) cs))
+          released = r ∙ ap (λ (m : ℕ). take (500 - first) (ones m ++ drop first dues₂)) h ∙ ap (λ (l : List ℕ). take (500 - first) (ones (heldMost j) ++ l)) dues-are
 
           -- Layer by layer, by the table of what is left.
           layers-left : (m : ℕ) → m < layers j → onLayers (left) A (A 0) rs m (map (keptRest j fetched b1) cs) ≡ map (keptRest j fetched (below j fetched plan (suc m))) cs

@@ -8,10 +8,10 @@ use mathlib.Core.Logic.{_⊎_, inl, inr, ⊎-elim}
 use native.Mathlib.Omega.{arith}
 use native.Mathlib.Numerals.{add-one}
 use lib.ListN.{length, getD, set, length-set}
-use lib.Dec.{eqb, ltb, ltb→lt, nltb→le}
+use lib.Dec.{eqb, ltb}
 use Rattle.theory_basics.specs.Tests.{allBelow}
-use Rattle.theory_basics.specs.lemmas.Tables.{at-set, below-next}
-use Rattle.theory_basics.specs.lemmas.Tests.{allTo-more, last, test}
+use Rattle.theory_basics.specs.lemmas.Tables.{at-set, below-next, ne-lt}
+use Rattle.theory_basics.specs.lemmas.Tests.{allTo-more, last, flag-says}
 use Rattle.fetch.specs.Rows.{markByte}
 use Rattle.core_rules.specs.declared.Seen.{Seen}
 use Rattle.core_rules.specs.lemmas.Tables.{SeeChunkPost, carriedBy, lowerBy}
@@ -44,10 +44,6 @@ leaving-end l h = record { is = λ m u. l .is m (omega (arith, l .within)); long
 
 -- ---- flags and marks
 
-flag-says : (b : Bool) → eqb (cond b 1 0) 1 ≡ b
-flag-says true = refl
-flag-says false = refl
-
 module _ {size : ℕ → ℕ → ℕ} {sums first : List ℕ} {depth : ℕ} where
   pub flagged-none : {begun whole : List ℕ} → length begun ≡ 500 → length whole ≡ 500 → SetFlagsPost size sums first depth 0 (record { lower = true; few = true }) begun whole
   flagged-none lb lw =
@@ -64,7 +60,7 @@ module _ {size : ℕ → ℕ → ℕ} {sums first : List ℕ} {depth : ℕ} wher
       SetFlagsPost size sums first depth (i + 1) (record { lower = m .lower && r .lower; few = b && r .few }) (set begun i f) (set whole i (m .mark))
   flagged-more {i} {r} {begun} {whole} a h {m} s {f} e {b} q =
       let g = a .flags in
-      let back : (k : ℕ) → 1 ≤ k → k ≤ i + 1 → (k - 1 ≡ i → ⊥) → k ≤ i = λ k u v o. ⊎-elim (λ t. omega (arith, ltb→lt (k - 1) i t)) (λ t. absurd (o (omega (arith, nltb→le (k - 1) i t)))) (test (ltb (k - 1) i)) in
+      let back : (k : ℕ) → 1 ≤ k → k ≤ i + 1 → (k - 1 ≡ i → ⊥) → k ≤ i = λ k u v o. omega (arith, ne-lt (k - 1) i (omega arith) o) in
       record {
         lower = rw (s .lower, a .lower) (sym (allTo-more i (λ k. allBelow depth (lowerBy (carriedBy size sums k)))));
         few = rw (q, a .few) (sym (allTo-more i (λ k. allBelow depth (fewBy size sums k))));

@@ -2,7 +2,7 @@
 -- nothing.
 use Prim.Native.Nat.{ℕ, suc, _+_, _*_, _-_, _≤_, _<_}
 use mathlib.Core.Path.{_≡_, refl, sym, ap, _∙_}
-use mathlib.Core.Bool.{Bool, true, false, not, cond, _&&_, _||_}
+use mathlib.Core.Bool.{Bool, true, false, not, cond, _&&_, _||_, or-true, or-false}
 use mathlib.Core.List.{List}
 use native.Mathlib.Omega.{arith}
 use native.Mathlib.Numerals.{add-one}
@@ -22,14 +22,6 @@ use Rattle.theory_basics.specs.lemmas.Tests.{allTo-more}
 mark-more : (c : ℕ → Bool) (n : ℕ) → n < 8 → (b : Bool) → c n ≡ b → cond b (withLayer (markByte c n) n) (markByte c n) ≡ markByte c (suc n)
 mark-more c n h true e = with-next c n h e
 mark-more c n h false e = rw e (omega arith)
-
-or-true : (b : Bool) → b || true ≡ true
-or-true true = refl
-or-true false = refl
-
-or-false : (b : Bool) → b || false ≡ b
-or-false true = refl
-or-false false = refl
 
 -- The layers of chunk i below n, as seen so far.
 pub record Seeing (size : ℕ → ℕ → ℕ) (sums : List ℕ) (depth i mark : ℕ) (whole lower below : Bool) (n : ℕ) : Type 0 where

@@ -9,7 +9,7 @@ use borrow.Author.Tests.{le-ltb, lt-ltb, le-leb, lt-leb}
 use lib.ListN.{length, getD, set, drop, length-set, length-drop, drop-of-length-le}
 use lib.Seq.{drop-drop, drop-set-lt, getD-drop, getD-set-same}
 use lib.Dec.{T, leb, ltb, leb→le}
-use Rattle.theory_basics.specs.lemmas.Tables.{drop-before, set-before}
+use Rattle.theory_basics.specs.lemmas.Tables.{drop-before, set-before, written-before}
 use Rattle.theory_basics.specs.lemmas.Tests.{and-T, true-T}
 use Rattle.theory_plan.specs.lemmas.Parts.{at}
 use Rattle.theory_plan.specs.lemmas.Trials.{Stack, candidate, keeps}
@@ -84,9 +84,7 @@ module _ {i first held : ℕ} {size : ℕ → ℕ → ℕ} {dues after needs : L
 
   -- The need H places on, once the candidate is written in front.
   pub held-is : getD (set needs (first - 1) cand) (first - 1 + held) 0 ≡ getD (cand ∷ drop first needs) held 0
-  held-is =
-      sym (getD-drop (first - 1) (set needs (first - 1) cand) held 0)
-      ∙ ap (λ (l : List ℕ). getD l held 0) (set-before needs first cand (omega (arith, f .some, f .room)) (omega (arith, f .within, f .long)))
+  held-is = written-before needs first cand held (omega (arith, f .some, f .room)) (omega (arith, f .within, f .long))
 
   pub tested-not-all : at after 0 < cand → CanKeepPost i first held size dues after needs (set needs (first - 1) cand) false
   tested-not-all g = record { is = rw (lt-leb cand (at after 0) g); wrote = refl }

@@ -1,5 +1,5 @@
 -- The table of sizes one write at a time, over plain lists. Assumes nothing.
-use Prim.Native.Nat.{ℕ, suc, _+_, _%_, _≤_, _<_, min}
+use Prim.Native.Nat.{ℕ, _+_, _≤_, _<_, min}
 use mathlib.Core.Path.{_≡_, sym, ap, _∙_}
 use mathlib.Core.List.{List}
 use native.Mathlib.Omega.{arith}
@@ -8,23 +8,7 @@ use lib.Seq.{set-out}
 use borrow.Author.Tests.{lt-ltb, le-ltb}
 use Rattle.job.specs.lemmas.Run.{from, from-end, from-more}
 use Rattle.core_sizes.specs.Table.{spot, overriddenBy, tableAt}
-use Rattle.core_sizes.specs.lemmas.Table.{storedTo, length-overridden}
-
--- ---- the table
-
--- Four places more.
-pub four-stored :
-    (sizes : List ℕ) (k : ℕ) (t : List ℕ) (a b c d : ℕ) → k % 4 ≡ 0 → a ≡ getD sizes 0 0 → b ≡ getD sizes 1 0 → c ≡ getD sizes 2 0 → d ≡ getD sizes 3 0 →
-    set (set (set (set (storedTo (λ n. getD sizes (n % 4) 0) k t) k a) (k + 1) b) (k + 2) c) (k + 3) d ≡ storedTo (λ n. getD sizes (n % 4) 0) (k + 4) t
-four-stored sizes k t a b c d m ea eb ec ed =
-    let k1 : k + 1 ≡ suc k = omega arith in
-    let k2 : k + 2 ≡ suc (suc k) = omega arith in
-    let k3 : k + 3 ≡ suc (suc (suc k)) = omega arith in
-    let k4 : k + 4 ≡ suc (suc (suc (suc k))) = omega arith in
-    let m1 : suc k % 4 ≡ 1 = omega arith in
-    let m2 : suc (suc k) % 4 ≡ 2 = omega arith in
-    let m3 : suc (suc (suc k)) % 4 ≡ 3 = omega arith in
-    rw (k1, k2, k3, k4, m, m1, m2, m3, ea, eb, ec, ed)
+use Rattle.core_sizes.specs.lemmas.Table.{length-overridden}
 
 module _ (cs ls bs t₀ t : List ℕ) (i k at : ℕ) (h : i < min (length cs) (min (length ls) (length bs))) (next : k ≡ i + 1) (e : t ≡ overriddenBy (from k cs ls bs) t₀) (s : at ≡ spot (getD cs i 0) (getD ls i 0)) where
   write : overriddenBy (from i cs ls bs) t₀ ≡ set t at (getD bs i 0)

@@ -10,6 +10,7 @@ ghost use lib.ListN.{length};
 ghost use Rattle.job.specs.Job.{Within};
 ghost use Rattle.job.specs.Input.{overridesOf};
 ghost use Rattle.core_sizes.specs.Table.{spot, ownSizes, overriddenBy, sizesTable, tableAt};
+ghost use Rattle.core_sizes.specs.lemmas.Table.{FillFirstPost};
 
 // Where layer n of chunk i stands in the table of sizes.
 fn spot_of(i: u16, n: usize) -> usize
@@ -22,24 +23,27 @@ fn spot_of(i: u16, n: usize) -> usize
     (i as usize - 1) * LAYERS + n
 }
 
-// The layers' own sizes, for 500 chunks.
+// The layers' own sizes of chunk 1.
+fn fill_first(sizes: &[u32], table: &mut SizeTable)
+    ensures { λ _. ⌜ FillFirstPost (now (sizes .entry)) (now (table .entry)) (now (table .exit)) ⌝ }
+{
+    table[0] = job::own_size(sizes, 0);
+    table[1] = job::own_size(sizes, 1);
+    table[2] = job::own_size(sizes, 2);
+    table[3] = job::own_size(sizes, 3);
+}
+
+// The layers' own sizes, for 500 chunks: each chunk's are copied from those of the one before it,
+// which takes a word of four numbers at a time.
 fn fill_own(sizes: &[u32], table: &mut SizeTable)
     ensures { λ _. ⌜ (length (now (table .entry)) ≡ 2000 → now (table .exit) ≡ ownSizes (now (sizes .entry))) ⌝ }
 {
-    let a = job::own_size(sizes, 0);
-    let b = job::own_size(sizes, 1);
-    let c = job::own_size(sizes, 2);
-    let d = job::own_size(sizes, 3);
-    let mut k: usize = 0;
+    fill_first(sizes, table);
+    let mut k: usize = LAYERS;
     while k < SIZES {
-        let k1 = k + 1;
-        let k2 = k + 2;
-        let k3 = k + 3;
-        table[k] = a;
-        table[k1] = b;
-        table[k2] = c;
-        table[k3] = d;
-        k = k + LAYERS;
+        let before = k - LAYERS;
+        table[k] = table[before];
+        k = k + 1;
     }
 }
 

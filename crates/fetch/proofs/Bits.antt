@@ -7,7 +7,7 @@ use native.Mathlib.Omega.{arith}
 use lib.Bits.{bitAnd, bitOr, or-shr, or-mod, or-lt, and-shr, and-mod, and-lt}
 use lib.Dec.{T, eqb, eqb→eq}
 use Rattle.theory_basics.specs.Tests.{allBelow}
-use Rattle.theory_basics.specs.lemmas.Tests.{allBelow-iff}
+use Rattle.theory_basics.specs.lemmas.Tests.{allBelow-iff, flag-says}
 use Rattle.fetch.specs.Marks.{bit, withLayer, withoutLayer}
 use Rattle.fetch.specs.lemmas.Marks.{with-bit, without-bit, with-lt, without-lt, same-bits}
 
@@ -36,16 +36,12 @@ and-bit a b k =
 
 -- ---- a byte with one bit, and a byte without one
 
-bit-of : (b : Bool) → eqb (cond b 1 0) 1 ≡ b
-bit-of true = refl
-bit-of false = refl
-
 -- Every bit of eight bytes, by one computed test.
 eight : (f : ℕ → ℕ) (q : Bool → Bool) → T (allBelow 8 (λ n. allBelow 8 (λ k. eqb (f n / 2 ^ k % 2) (cond (q (eqb k n)) 1 0)))) → (n k : ℕ) → n < 8 → k < 8 → bit (f n) k ≡ q (eqb k n)
 eight f q t n k h l =
     let test : ℕ → ℕ → Bool = λ n k. eqb (f n / 2 ^ k % 2) (cond (q (eqb k n)) 1 0) in
     let e = eqb→eq (f n / 2 ^ k % 2) (cond (q (eqb k n)) 1 0) (allBelow-iff 8 (test n) .0 (allBelow-iff 8 (λ m. allBelow 8 (test m)) .0 t n h) k l) in
-    ap (λ (y : ℕ). eqb y 1) e ∙ bit-of (q (eqb k n))
+    ap (λ (y : ℕ). eqb y 1) e ∙ flag-says (q (eqb k n))
 
 -- 1 << n, as the code computes it.
 abbrev one : ℕ → ℕ

@@ -11,8 +11,8 @@ use lib.Seq.{drop-cons}
 use Rattle.theory_basics.specs.Sums.{sum}
 use Rattle.theory_basics.specs.lemmas.Tables.{drop-next}
 use Rattle.fetch.specs.Marks.{bit}
-use Rattle.fetch.specs.Counts.{markCount, wordBytes, wordCount, wordOf, wordAt, overWords, overRest}
-use Rattle.fetch.specs.Words.{word-length, word-count}
+use Rattle.fetch.specs.Counts.{markCount, wordCount, wordOf, wordAt, overWords, overRest}
+use Rattle.fetch.specs.Words.{word-few}
 use Rattle.fetch.specs.lemmas.Counts.{count-le, eight}
 
 -- ---- eight marks as a word
@@ -34,10 +34,6 @@ eight-at l at h =
       from l 0 (suc (suc (suc (suc (suc (suc (suc at))))))) (omega arith),
     ))
 
--- A word has eight bytes, so its count is at most 8.
-pub word-le : (w n : ℕ) → wordCount w n ≤ 8
-word-le w n = omega (arith, word-count w n, count-le n (wordBytes w), word-length w)
-
 -- ---- by words
 
 pub record ByWords (marks : List ℕ) (n sum' k : ℕ) : Type 0 where
@@ -53,7 +49,7 @@ module _ {l : List ℕ} {n s k : ℕ} (b : ByWords l n s k) where
       record {
         within = omega arith;
         says = rw add-one (omega (arith, b .says, one));
-        small = omega (arith, b .small, c, word-le w n);
+        small = omega (arith, b .small, c, word-few w n);
       }
 
   pub words-end : length l / 8 ≤ k → s ≡ overWords n l

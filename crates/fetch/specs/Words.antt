@@ -13,7 +13,7 @@ use Rattle.theory_basics.specs.Sums.{sum}
 use Rattle.theory_basics.specs.lemmas.Tests.{test}
 use Rattle.theory_basics.specs.lemmas.Tables.{all-take, all-drop}
 use Rattle.fetch.specs.Counts.{markCount, lowBytes, wordBytes, wordCount, wordOf, wordAt, overWords, overRest}
-use Rattle.fetch.specs.lemmas.Counts.{Byte, bytes-small, number-of-bytes, bytes-of-number, count-none, eight-more}
+use Rattle.fetch.specs.lemmas.Counts.{Byte, bytes-small, number-of-bytes, bytes-of-number, count-none, eight-more, count-le}
 
 -- ---- a word is its bytes, and its bytes are it
 
@@ -41,6 +41,10 @@ word-count w n =
     (λ t. rw (lt-ltb n 8 (ltb→lt n 8 t)))
     (λ t. let h = nltb→le n 8 t in rw (le-ltb n 8 h, count-none n (wordBytes w) h (word-small w)))
     (test (ltb n 8))
+
+-- A word has eight bytes, so its count is at most 8.
+pub word-few : (w n : ℕ) → wordCount w n ≤ 8
+word-few w n = omega (arith, word-count w n, count-le n (wordBytes w), word-length w)
 
 -- ---- marks of any length
 

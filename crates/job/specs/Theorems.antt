@@ -167,3 +167,7 @@ input-iff h =
           (full, accepted-iff (jobIn h) .0 (sym (whole-refused h full) ∙ e)),
       λ x. whole-refused h (x .0) ∙ accepted-iff (jobIn h) .1 (x .1),
     )
+
+-- What the calls take from it.
+pub input-accepted : (h : JobInput) → jobRefusal h ≡ 0 → Accepted (jobIn h)
+input-accepted h z = input-iff h .0 z .1

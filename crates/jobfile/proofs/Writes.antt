@@ -1,14 +1,14 @@
 -- Lemmas. The answer of the writer and the lent buffer afterwards. Assumes nothing.
-use Prim.Native.Nat.{ℕ, suc, _+_, _*_, _≤_, _<_}
-use mathlib.Core.Path.{_≡_, refl, sym, ap, _∙_}
-use mathlib.Core.List.{List, [], _∷_, _++_, map, append-assoc}
+use Prim.Native.Nat.{ℕ, _+_, _*_, _≤_, _<_}
+use mathlib.Core.Path.{_≡_, sym, ap, _∙_}
+use mathlib.Core.List.{List, _++_, map, append-assoc}
 use native.Mathlib.Omega.{arith}
 use lib.ListN.{length, length-append}
 use borrow.Author.Tests.{ne-eqb, le-leb, lt-leb}
 use Rattle.theory_basics.specs.Refusals.{_orElse_}
 use Rattle.theory_basics.specs.lemmas.Refusals.{orElse-none, orElse-some}
 use Rattle.job.specs.Job.{Job, Accepted}
-use Rattle.job.specs.Input.{JobInput, WholeSizes, jobIn, jobRefusal, overridesOf}
+use Rattle.job.specs.Input.{JobInput, WholeSizes, jobIn, jobRefusal}
 use Rattle.job.specs.Theorems.{input-iff}
 use Rattle.jobrecords.specs.declared.Record.the-variants.{Pg}
 use Rattle.records.specs.declared.Written.the-variants.{Bytes, Refused}
@@ -17,13 +17,7 @@ use Rattle.jobfile.specs.Writer.{runs, layerRecord, overrideRecord, runR
 use Rattle.jobfile.specs.lemmas.Puts.{Puts, recordsBytes, bytes-append, puts-then, length-puts}
 use Rattle.records.specs.lemmas.Puts.{written-fits}
 use Rattle.jobfile.specs.lemmas.FileLength.{file-length, short-file}
-
--- As many SZs as each slice has.
-pub overrides-long : (cs ls bs : List ℕ) → length ls ≡ length cs → length bs ≡ length cs → length (overridesOf cs ls bs) ≡ length cs
-overrides-long [] ls bs e f = refl
-overrides-long (c ∷ cs) [] bs e f = absurd (omega arith)
-overrides-long (c ∷ cs) (l ∷ ls) [] e f = absurd (omega arith)
-overrides-long (c ∷ cs) (l ∷ ls) (b ∷ bs) e f = ap suc (overrides-long cs ls bs (omega arith) (omega arith))
+use Rattle.jobfile.specs.lemmas.Slices.{overrides-many}
 
 module _ (h : JobInput) (out : List ℕ) where
   abbrev j : Job
@@ -43,7 +37,7 @@ module _ (h : JobInput) (out : List ℕ) where
 
     -- As many bytes as the lengths of the slices and the number of runs say.
     pub bytes-count : length (jobFile j) ≡ 12 + 6 * length (h .sizes) + 9 * length (h .size-chunks) + 8 * length (runs (h .forecast))
-    bytes-count = omega (arith, file-length j, overrides-long (h .size-chunks) (h .size-layers) (h .size-bytes) (whole .layer-each) (whole .bytes-each))
+    bytes-count = omega (arith, file-length j, overrides-many (h .size-chunks) (h .size-layers) (h .size-bytes) (whole .layer-each) (whole .bytes-each))
 
     pub good : Accepted j
     good = input-iff h .0 none .1

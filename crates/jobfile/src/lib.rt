@@ -5,10 +5,9 @@ ghost use mathlib.Core.Path.{_≡_};
 ghost use Prim.Native.Nat.{_+_, _≤_, _<_};
 ghost use mathlib.Core.List.{[], map};
 ghost use lib.ListN.{length};
-ghost use Rattle.records.specs.Fields.{h, w};
 ghost use Rattle.job.specs.Input.{WholeSizes, jobInput, jobIn, overridesOf};
 ghost use Rattle.jobrecords.specs.declared.Record.the-variants.{Pg, Ly, Sz, Bw};
-ghost use Rattle.jobrecords.specs.Records.{b, encode};
+ghost use Rattle.jobrecords.specs.Records.{encode};
 ghost use Rattle.jobrecords.specs.Refusal.{mixed, oneSequence};
 ghost use Rattle.jobrecords.specs.Reader.{buffers, JobReadPromise};
 ghost use Rattle.jobfile.specs.lemmas.Puts.{Puts, recordsBytes};
@@ -65,40 +64,8 @@ fn put_bytes(out: &mut [u8], at: usize, bytes: &[u8]) -> usize
     requires { ⌜ at + length (now bytes) ≤ length (now out) ⌝ }
     ensures { λ r. ⌜ Puts (now (out .entry)) at (now (bytes .entry)) (now (out .exit)) r ⌝ }
 {
-    records::put(out, at, bytes);
+    core_bytes::put(out, at, bytes);
     at + bytes.len()
-}
-
-// A field h.
-fn put_h(out: &mut [u8], at: usize, x: u16) -> usize
-    requires { ⌜ at + 2 ≤ length (now out) ⌝ }
-    ensures { λ r. ⌜ Puts (now (out .entry)) at (h x) (now (out .exit)) r ⌝ }
-{
-    let field = [(x % 256) as u8, (x / 256 % 256) as u8];
-    put_bytes(out, at, &field)
-}
-
-// A field w.
-fn put_w(out: &mut [u8], at: usize, x: u32) -> usize
-    requires { ⌜ at + 4 ≤ length (now out) ⌝ }
-    ensures { λ r. ⌜ Puts (now (out .entry)) at (w x) (now (out .exit)) r ⌝ }
-{
-    let field = [
-        (x % 256) as u8,
-        (x / 256 % 256) as u8,
-        (x / 65536 % 256) as u8,
-        (x / 16777216 % 256) as u8,
-    ];
-    put_bytes(out, at, &field)
-}
-
-// A field b.
-fn put_b(out: &mut [u8], at: usize, x: u8) -> usize
-    requires { ⌜ at + 1 ≤ length (now out) ⌝ }
-    ensures { λ r. ⌜ Puts (now (out .entry)) at (b x) (now (out .exit)) r ⌝ }
-{
-    let field = [x];
-    put_bytes(out, at, &field)
 }
 
 // A PG record: its mark, then its fields.
@@ -106,11 +73,20 @@ fn put_programme(out: &mut [u8], at: usize, p: Programme) -> usize
     requires { ⌜ at + 10 ≤ length (now out) ⌝ }
     ensures { λ r. ⌜ Puts (now (out .entry)) at (encode (Pg p)) (now (out .exit)) r ⌝ }
 {
-    let chunks = put_bytes(out, at, b"PG");
-    let span = put_h(out, chunks, p.chunks);
-    let delay = put_h(out, span, p.span);
-    let limit = put_h(out, delay, p.delay);
-    put_h(out, limit, p.limit)
+    let mark = b"PG";
+    let fields = [
+        mark[0],
+        mark[1],
+        (p.chunks % 256) as u8,
+        (p.chunks / 256 % 256) as u8,
+        (p.span % 256) as u8,
+        (p.span / 256 % 256) as u8,
+        (p.delay % 256) as u8,
+        (p.delay / 256 % 256) as u8,
+        (p.limit % 256) as u8,
+        (p.limit / 256 % 256) as u8,
+    ];
+    put_bytes(out, at, &fields)
 }
 
 // An LY record.
@@ -118,8 +94,16 @@ fn put_layer(out: &mut [u8], at: usize, size: u32) -> usize
     requires { ⌜ at + 6 ≤ length (now out) ⌝ }
     ensures { λ r. ⌜ Puts (now (out .entry)) at (encode (Ly size)) (now (out .exit)) r ⌝ }
 {
-    let field = put_bytes(out, at, b"LY");
-    put_w(out, field, size)
+    let mark = b"LY";
+    let fields = [
+        mark[0],
+        mark[1],
+        (size % 256) as u8,
+        (size / 256 % 256) as u8,
+        (size / 65536 % 256) as u8,
+        (size / 16777216 % 256) as u8,
+    ];
+    put_bytes(out, at, &fields)
 }
 
 // An SZ record.
@@ -127,10 +111,19 @@ fn put_override(out: &mut [u8], at: usize, chunk: u16, layer: u8, size: u32) -> 
     requires { ⌜ at + 9 ≤ length (now out) ⌝ }
     ensures { λ r. ⌜ Puts (now (out .entry)) at (encode (Sz chunk layer size)) (now (out .exit)) r ⌝ }
 {
-    let field = put_bytes(out, at, b"SZ");
-    let second = put_h(out, field, chunk);
-    let last = put_b(out, second, layer);
-    put_w(out, last, size)
+    let mark = b"SZ";
+    let fields = [
+        mark[0],
+        mark[1],
+        (chunk % 256) as u8,
+        (chunk / 256 % 256) as u8,
+        layer,
+        (size % 256) as u8,
+        (size / 256 % 256) as u8,
+        (size / 65536 % 256) as u8,
+        (size / 16777216 % 256) as u8,
+    ];
+    put_bytes(out, at, &fields)
 }
 
 // A BW record.
@@ -138,9 +131,18 @@ fn put_run(out: &mut [u8], at: usize, count: u16, bytes: u32) -> usize
     requires { ⌜ at + 8 ≤ length (now out) ⌝ }
     ensures { λ r. ⌜ Puts (now (out .entry)) at (encode (Bw count bytes)) (now (out .exit)) r ⌝ }
 {
-    let field = put_bytes(out, at, b"BW");
-    let last = put_h(out, field, count);
-    put_w(out, last, bytes)
+    let mark = b"BW";
+    let fields = [
+        mark[0],
+        mark[1],
+        (count % 256) as u8,
+        (count / 256 % 256) as u8,
+        (bytes % 256) as u8,
+        (bytes / 256 % 256) as u8,
+        (bytes / 65536 % 256) as u8,
+        (bytes / 16777216 % 256) as u8,
+    ];
+    put_bytes(out, at, &fields)
 }
 
 // The slot after the run that starts at a slot.
@@ -159,15 +161,22 @@ fn run_end(forecast: &[u32], from: usize) -> usize
     end
 }
 
-// How many longest runs a forecast has.
+// How many longest runs a forecast has: each slot but the last ends one, if the next differs.
 fn count_runs(forecast: &[u32]) -> usize
     ensures { λ r. ⌜ r ≡ length (runs (now (forecast .entry))) ⌝ }
 {
-    let mut n: usize = 0;
+    if forecast.len() == 0 {
+        return 0;
+    }
+    let last = forecast.len() - 1;
+    let mut n: usize = 1;
     let mut i: usize = 0;
-    while i < forecast.len() {
-        i = run_end(forecast, i);
-        n += 1;
+    while i < last {
+        let x = forecast[i];
+        i += 1;
+        if forecast[i] != x {
+            n += 1;
+        }
     }
     n
 }

@@ -8,7 +8,6 @@ use mathlib.Core.Logic.{_⊎_, inl, inr, ⊎-elim}
 use native.Mathlib.Omega.{arith}
 use native.Mathlib.Numerals.{add-one}
 use lib.ListN.{length, getD, drop}
-use lib.Seq.{getD-drop}
 use lib.Dec.{T, leb, eqb→eq}
 use Rattle.theory_basics.specs.Lists.{upTo}
 use Rattle.theory_basics.specs.lemmas.Lists.{length-upTo}
@@ -28,6 +27,7 @@ use Rattle.jobrecords.specs.Refusal.{mixed, previous, place, follows, se
 use Rattle.jobrecords.specs.lemmas.Joined.{overrides-append}
 use Rattle.jobrecords.specs.lemmas.Sequence.{previous-snoc, parts}
 use Rattle.jobrecords.specs.lemmas.Mixed.{none-mixed}
+use Rattle.jobrecords.proofs.Fronts.{byte-on, h-on, w-on}
 use Rattle.jobrecords.specs.lemmas.Reading.{noRecords, overrideOn, overridesOn, counted, Counts, moreOverrides, endsAfter}
 
 -- ---- an SZ in front has 9 bytes, which say it
@@ -52,9 +52,7 @@ front-says q s =
     (λ t. tt)
 
 override-on : (s : List ℕ) (at : ℕ) → overrideOn s at ≡ record { chunk = hAt (drop at s) 2; layer = getD (drop at s) 4 0; bytes = wAt (drop at s) 5 }
-override-on s at = rw (byte-on 2 (at + 2) (omega arith), byte-on 3 (at + 2 + 1) (omega arith), byte-on 4 (at + 4) (omega arith), byte-on 5 (at + 5) (omega arith), byte-on 6 (at + 5 + 1) (omega arith), byte-on 7 (at + 5 + 2) (omega arith), byte-on 8 (at + 5 + 2 + 1) (omega arith)) where
-  byte-on : (k m : ℕ) → m ≡ at + k → getD s m 0 ≡ getD (drop at s) k 0
-  byte-on k m e = ap (λ (i : ℕ). getD s i 0) e ∙ sym (getD-drop at s k 0)
+override-on s at = rw (h-on s at 2 (at + 2) refl, byte-on s at 4 (at + 4) refl, w-on s at 5 (at + 5) refl)
 
 -- ---- none so far
 

@@ -2,6 +2,7 @@ mod Fronts
 mod Records
 mod Counting
 mod Steps
+mod Likes
 mod Copies
 mod Uneven
 mod Answers

@@ -11,34 +11,20 @@ use Rattle.job.specs.declared.Programme.{Programme}
 use Rattle.jobrecords.specs.declared.Record.{Record}
 use Rattle.jobrecords.specs.declared.Record.the-variants.{Pg, Ly, Sz, Bw, En}
 use Rattle.jobrecords.specs.declared.Progress.{Progress}
-use Rattle.jobrecords.specs.Says.{hasProgramme, noProgramme, programmeIn, sizesIn, forecastIn}
+use Rattle.jobrecords.specs.Says.{hasProgramme, programmeIn, sizesIn, forecastIn}
+use Rattle.jobrecords.specs.Records.{isEnd}
 use Rattle.jobrecords.specs.Refusal.{place}
-use Rattle.jobrecords.specs.lemmas.Reading.{runBytes, Fine, Sized, Room, StandsFor, TakeRecordPost}
+use Rattle.jobrecords.specs.lemmas.Reading.{runBytes, withProgramme, withLayers, withOverrides, withRuns, Fine, Sized, Room, StandsFor, TakeRecordPost}
 use Rattle.jobrecords.specs.lemmas.Clean.{first-programme, programme-in, layer-in, run-in}
 use Rattle.jobrecords.specs.lemmas.Sequence.{previous-snoc}
 use Rattle.jobrecords.specs.lemmas.Joined.{has-append, has-same, programme-same, programme-new, sizes-append, forecast-append}
-
--- ---- the state with a record more
-
-abbrev afterProgramme : Progress → Programme → Progress
-afterProgramme j p = record { place = 1; bytes = 0; seen = true; programme = p; layers = j .layers; overrides = j .overrides; ends = j .ends; slots = j .slots }
-
-abbrev afterLayer : Progress → Progress
-afterLayer j = record { place = 2; bytes = 0; seen = j .seen; programme = j .programme; layers = j .layers + 1; overrides = j .overrides; ends = j .ends; slots = j .slots }
-
-abbrev afterRun : Progress → ℕ → ℕ → Progress
-afterRun j count bytes = record { place = 4; bytes = bytes; seen = j .seen; programme = j .programme; layers = j .layers; overrides = j .overrides; ends = j .ends; slots = j .slots + count }
-
--- A record that says nothing of programme, sizes and forecast.
-abbrev afterOther : Progress → Record → ℕ → ℕ → Progress
-afterOther j r overrides ends = record { place = place r; bytes = runBytes r; seen = j .seen; programme = j .programme; layers = j .layers; overrides = overrides; ends = ends; slots = j .slots }
 
 -- Of the table of sizes only programme and layers matter.
 same-sized : (j j′ : Progress) (z : List ℕ) → j′ .programme ≡ j .programme → j′ .layers ≡ j .layers → Sized j z → Sized j′ z
 same-sized j j′ z p n s = record { chunks-in = rw p (s .chunks-in); layers-in = rw n (s .layers-in); sizes-room = s .sizes-room }
 
 module _ (j : Progress) (z f : List ℕ) (rs : List Record) (i : StandsFor j z f rs) where
-  stands-programme : (p : Programme) → Fine j (Pg p) → StandsFor (afterProgramme j p) z f (rs ++ (Pg p ∷ []))
+  stands-programme : (p : Programme) → Fine j (Pg p) → StandsFor (withProgramme j p) z f (rs ++ (Pg p ∷ []))
   stands-programme p e =
       let new : hasProgramme rs ≡ false = sym (i .seen-is) ∙ first-programme (j .seen) p (e .first) in
       let sized = i .room .sized in
@@ -52,7 +38,7 @@ module _ (j : Progress) (z f : List ℕ) (rs : List Record) (i : StandsFor j z f
         forecast-is = i .forecast-is ∙ sym (forecast-append rs (Pg p ∷ []) ∙ append-nil (forecastIn rs));
       }
 
-  stands-layer : (size : ℕ) → Fine j (Ly size) → StandsFor (afterLayer j) (set z (j .layers) size) f (rs ++ (Ly size ∷ []))
+  stands-layer : (size : ℕ) → Fine j (Ly size) → StandsFor (withLayers j (j .layers + 1)) (set z (j .layers) size) f (rs ++ (Ly size ∷ []))
   stands-layer size e =
       let few = layer-in (j .layers) size (e .in-range) .0 in
       let sized = i .room .sized in
@@ -67,14 +53,14 @@ module _ (j : Progress) (z f : List ℕ) (rs : List Record) (i : StandsFor j z f
         forecast-is = i .forecast-is ∙ sym (forecast-append rs (Ly size ∷ []) ∙ append-nil (forecastIn rs));
       }
 
-  stands-run : (count bytes : ℕ) → Fine j (Bw count bytes) → StandsFor (afterRun j count bytes) z (paste f (j .slots) (replicate count bytes) count) (rs ++ (Bw count bytes ∷ []))
+  stands-run : (count bytes : ℕ) → Fine j (Bw count bytes) → StandsFor (withRuns j (j .slots + count) bytes) z (paste f (j .slots) (replicate count bytes) count) (rs ++ (Bw count bytes ∷ []))
   stands-run count bytes e =
       let few = run-in (j .slots) count bytes (e .in-range) .0 in
       let long : count ≤ length (replicate count bytes) = rw length-replicate (omega arith) in
       let inside : j .slots + count ≤ length f = omega (arith, i .room .slots-room) in
       let spread : take (j .slots + count) (paste f (j .slots) (replicate count bytes) count) ≡ take (j .slots) f ++ replicate count bytes = take-paste f (j .slots) (replicate count bytes) count (omega arith) long ∙ ap (λ (l : List ℕ). take (j .slots) f ++ l) (take-all count (replicate count bytes) (rw length-replicate (omega arith))) in
       record {
-        room = record { sized = same-sized j (afterRun j count bytes) z refl refl (i .room .sized); slots-in = few; slots-room = length-paste f (j .slots) (replicate count bytes) count inside long ∙ i .room .slots-room };
+        room = record { sized = same-sized j (withRuns j (j .slots + count) bytes) z refl refl (i .room .sized); slots-in = few; slots-room = length-paste f (j .slots) (replicate count bytes) count inside long ∙ i .room .slots-room };
         place-is = sym (ap place (previous-snoc rs (Bw count bytes)));
         bytes-is = sym (ap runBytes (previous-snoc rs (Bw count bytes)));
         seen-is = i .seen-is ∙ sym (has-same rs (Bw count bytes ∷ []) refl);
@@ -83,16 +69,17 @@ module _ (j : Progress) (z f : List ℕ) (rs : List Record) (i : StandsFor j z f
         forecast-is = rw (spread, i .forecast-is) (sym (forecast-append rs (Bw count bytes ∷ []) ∙ ap (λ (l : List ℕ). forecastIn rs ++ l) (append-nil (replicate count bytes))));
       }
 
-  stands-other : (r : Record) (overrides ends : ℕ) → hasProgramme (r ∷ []) ≡ false → programmeIn (r ∷ []) ≡ noProgramme → sizesIn (r ∷ []) ≡ [] → forecastIn (r ∷ []) ≡ [] → StandsFor (afterOther j r overrides ends) z f (rs ++ (r ∷ []))
-  stands-other r overrides ends a b c d =
+  stands-override : (chunk layer bytes ends : ℕ) → StandsFor (withOverrides j 1 ends) z f (rs ++ (Sz chunk layer bytes ∷ []))
+  stands-override chunk layer bytes ends =
+      let r : Record = Sz chunk layer bytes in
       record {
-        room = record { sized = same-sized j (afterOther j r overrides ends) z refl refl (i .room .sized); slots-in = i .room .slots-in; slots-room = i .room .slots-room };
+        room = record { sized = same-sized j (withOverrides j 1 ends) z refl refl (i .room .sized); slots-in = i .room .slots-in; slots-room = i .room .slots-room };
         place-is = sym (ap place (previous-snoc rs r));
         bytes-is = sym (ap runBytes (previous-snoc rs r));
-        seen-is = i .seen-is ∙ sym (has-same rs (r ∷ []) a);
-        programme-is = i .programme-is ∙ sym (programme-same rs (r ∷ []) b);
-        sizes-are = i .sizes-are ∙ sym (sizes-append rs (r ∷ []) ∙ rw c (append-nil (sizesIn rs)));
-        forecast-is = i .forecast-is ∙ sym (forecast-append rs (r ∷ []) ∙ rw d (append-nil (forecastIn rs)));
+        seen-is = i .seen-is ∙ sym (has-same rs (r ∷ []) refl);
+        programme-is = i .programme-is ∙ sym (programme-same rs (r ∷ []) refl);
+        sizes-are = i .sizes-are ∙ sym (sizes-append rs (r ∷ []) ∙ append-nil (sizesIn rs));
+        forecast-is = i .forecast-is ∙ sym (forecast-append rs (r ∷ []) ∙ append-nil (forecastIn rs));
       }
 
 -- ---- a record goes into the state and the tables
@@ -101,20 +88,20 @@ module _ (j : Progress) (z f : List ℕ) (r : Record) (next : ℕ) (fine : Fine 
   now-fine : (k : Record) → r ≡ k → Fine j k
   now-fine k e = subst (Fine j) e fine
 
-  pub takes-programme : (p : Programme) → r ≡ Pg p → TakeRecordPost j z f r next (afterProgramme j p) z f
-  takes-programme p e = record { stands = λ rs i. rw e (stands-programme j z f rs i p (now-fine (Pg p) e)); overrides-are = rw e; ends-are = rw e }
+  pub takes-programme : (p : Programme) (k : Progress) → r ≡ Pg p → k ≡ withProgramme j p → TakeRecordPost j z f r next k z f
+  takes-programme p k e w = record { stands = λ rs i. rw (e, w) (stands-programme j z f rs i p (now-fine (Pg p) e)); overrides-are = rw (e, w); ends-are = rw (e, w) }
 
-  pub takes-layer : (size : ℕ) → r ≡ Ly size → TakeRecordPost j z f r next (afterLayer j) (set z (j .layers) size) f
-  takes-layer size e = record { stands = λ rs i. rw e (stands-layer j z f rs i size (now-fine (Ly size) e)); overrides-are = rw e; ends-are = rw e }
+  pub takes-layer : (size : ℕ) (k : Progress) → r ≡ Ly size → k ≡ withLayers j (j .layers + 1) → TakeRecordPost j z f r next k (set z (j .layers) size) f
+  takes-layer size k e w = record { stands = λ rs i. rw (e, w) (stands-layer j z f rs i size (now-fine (Ly size) e)); overrides-are = rw (e, w); ends-are = rw (e, w) }
 
-  pub takes-override : (chunk layer bytes : ℕ) → r ≡ Sz chunk layer bytes → TakeRecordPost j z f r next (afterOther j (Sz chunk layer bytes) (j .overrides + 1) next) z f
-  takes-override chunk layer bytes e = record { stands = λ rs i. rw e (stands-other j z f rs i (Sz chunk layer bytes) (j .overrides + 1) next refl refl refl refl); overrides-are = rw e; ends-are = rw e }
+  pub takes-override : (chunk layer bytes : ℕ) (k : Progress) → r ≡ Sz chunk layer bytes → k ≡ withOverrides j 1 next → TakeRecordPost j z f r next k z f
+  takes-override chunk layer bytes k e w = record { stands = λ rs i. rw (e, w) (stands-override j z f rs i chunk layer bytes next); overrides-are = rw (e, w); ends-are = rw (e, w) }
 
-  pub takes-run : (count bytes : ℕ) (g : List ℕ) → r ≡ Bw count bytes → g ≡ paste f (j .slots) (replicate count bytes) count → TakeRecordPost j z f r next (afterRun j count bytes) z g
-  takes-run count bytes g e w = record { stands = λ rs i. rw (e, w) (stands-run j z f rs i count bytes (now-fine (Bw count bytes) e)); overrides-are = rw e; ends-are = rw e }
+  pub takes-run : (count bytes : ℕ) (k : Progress) (g : List ℕ) → r ≡ Bw count bytes → k ≡ withRuns j (j .slots + count) bytes → g ≡ paste f (j .slots) (replicate count bytes) count → TakeRecordPost j z f r next k z g
+  takes-run count bytes k g e v w = record { stands = λ rs i. rw (e, v, w) (stands-run j z f rs i count bytes (now-fine (Bw count bytes) e)); overrides-are = rw (e, v); ends-are = rw (e, v) }
 
-  pub takes-end : r ≡ En → TakeRecordPost j z f r next (afterOther j En (j .overrides) (j .ends)) z f
-  takes-end e = record { stands = λ rs i. rw e (stands-other j z f rs i En (j .overrides) (j .ends) refl refl refl refl); overrides-are = rw e; ends-are = rw e }
+  pub takes-no-end : (k : Progress) (z′ f′ : List ℕ) → r ≡ En → TakeRecordPost j z f r next k z′ f′
+  takes-no-end k z′ f′ e = let b : true ≡ false = sym (ap isEnd e) ∙ fine .no-end in absurd (let z : _≡_ {A = ℕ} 0 1 = cc in omega arith)
 
   -- Where the record's values go lies inside the tables.
   pub layer-inside : (size : ℕ) → Room j z f → r ≡ Ly size → j .layers < length z

@@ -1,6 +1,6 @@
 -- Lemmas. A turn of the loop that reads a job file: a record read, judged and taken. Assumes
 -- nothing.
-use Prim.Native.Nat.{ℕ, _+_, _-_, _≤_, _<_}
+use Prim.Native.Nat.{ℕ, _+_, _*_, _-_, _≤_, _<_}
 use mathlib.Core.Path.{_≡_, refl, sym, ap, _∙_}
 use mathlib.Core.Bool.{Bool, true, false, cond}
 use mathlib.Core.List.{List, [], _∷_, _++_}
@@ -25,7 +25,7 @@ use Rattle.jobrecords.specs.lemmas.Sound.{front-sound}
 use Rattle.jobrecords.specs.Says.{programmeIn, sizesIn, overridesIn, forecastIn, jobIn}
 use Rattle.jobrecords.specs.Refusal.{mixed, secondRefusal, previous, rangeFault, fault, lacking, format}
 use Rattle.jobrecords.specs.Reader.{readFront, readAt}
-use Rattle.jobrecords.specs.lemmas.Reading.{noRecords, sequenceAt, sequence-at, faultAfter, counted, jobFrom, endRefusal, endCode, endedBy, Inside, Fine, StandsFor, Counts, endsAfter, TakeRecordPost, OneStepPre, Complete, Refuses, OneStepPost}
+use Rattle.jobrecords.specs.lemmas.Reading.{noRecords, sequenceAt, sequence-at, faultAfter, counted, jobFrom, endRefusal, endCode, endedBy, Inside, Fine, StandsFor, Counts, endsAfter, TakeRecordPost, OneStepPre, Complete, Refuses, OneStepPost, Reached}
 use Rattle.jobrecords.proofs.Counting.{counts-start, counts-more, mixed-free}
 
 -- ---- what stands in front
@@ -133,7 +133,7 @@ module _ (q : Bool) (s : List ℕ) (at : ℕ) (j : Progress) (z f : List ℕ) (g
       pub turn-fine : faultAfter q j r ≡ 0 → Fine j r
       turn-fine clean =
           let u = orElse-iff (secondRefusal (j .seen) r) (sequenceAt q (j .place) (j .bytes) r orElse rangeFault (j .layers) (j .slots) r) .0 clean in
-          record { first = u .0; in-range = orElse-iff (sequenceAt q (j .place) (j .bytes) r) (rangeFault (j .layers) (j .slots) r) .0 (u .1) .1 }
+          record { no-end = b; first = u .0; in-range = orElse-iff (sequenceAt q (j .place) (j .bytes) r) (rangeFault (j .layers) (j .slots) r) .0 (u .1) .1 }
 
       pub turn-more : faultAfter q j r ≡ 0 → (j′ : Progress) (z′ f′ : List ℕ) → TakeRecordPost j z f r next j′ z′ f′ → (at < next) × OneStepPre q s next j′ z′ f′
       turn-more clean j′ z′ f′ t =
@@ -148,6 +148,11 @@ module _ (q : Bool) (s : List ℕ) (at : ℕ) (j : Progress) (z f : List ℕ) (g
               counts = rw (h .next-is) (counts-more s at j (g .before) (g .counts) q free r (h .size) j′ (h .front-is) b zero-fault (t .overrides-are) (t .ends-are ∙ ap (λ (m : ℕ). endsAfter (j .ends) m r) (h .next-is)));
             },
           )
+
+-- What is left of a record that was taken.
+pub reached : (q : Bool) (s : List ℕ) (at : ℕ) (j : Progress) (z f : List ℕ) → OneStepPre q s at j z f → Reached s at j
+reached q s at j z f g =
+    record { inside = g .reads .inside; overrides-in = omega (arith, g .counts .room, g .counts .inside); slots-in = g .stands .room .slots-in }
 
 -- ---- what a turn left, by its answer
 

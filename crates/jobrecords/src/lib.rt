@@ -1,23 +1,27 @@
 // Records of job files, and the reading of a file of either form into lent buffers that a refusal
 // leaves as they are: document 02's files, in one sequence, and document 01's mixed ones. A record
-// is read, judged and taken a turn; sizes and slots stand in tables until every refusal has been
-// ruled out. The SZs stand in the file one after the other, so only their number and the place
-// after them are kept.
+// is read, judged and taken a turn, with the sound runs or SZs that follow it; sizes and slots stand
+// in tables until every refusal has been ruled out. The SZs stand in the file one after the other,
+// so only their number and the place after them are kept.
 ghost use mathlib.Core.Path.{_≡_};
 ghost use Prim.Native.Nat.{_+_, _*_, _≤_, _<_};
-ghost use lib.ListN.{length, replicate, take};
+ghost use lib.ListN.{length, replicate, take, drop};
 ghost use lib.Seq.{paste};
-ghost use mathlib.Core.Bool.{not, _||_};
+ghost use lib.Dec.{leb};
+ghost use mathlib.Core.Bool.{not, _&&_, _||_};
 ghost use Rattle.theory_basics.specs.Lent.{over};
 ghost use Rattle.theory_basics.specs.Refusals.{unless};
 ghost use Rattle.job.specs.Refusal.{within, overridesRefusal};
 ghost use Rattle.job.specs.Input.{overrideChunks, overrideLayers, overrideBytes};
-ghost use Rattle.jobrecords.specs.Records.{front, isEnd};
+ghost use Rattle.records.specs.Fields.{marked};
+ghost use Rattle.jobrecords.specs.Records.{SZ, front, isEnd};
 ghost use Rattle.jobrecords.specs.Refusal.{layerFault, runFault};
 ghost use Rattle.jobrecords.specs.lemmas.Reading.{noRecords, readWhole, lastMark, runFollows, faultAfter};
 ghost use Rattle.jobrecords.specs.lemmas.Reading.{overridesOn, endRefusal, endedBy, readRefusalOf, endRefusalOf};
 ghost use Rattle.jobrecords.specs.lemmas.Reading.{Inside, Sized, Room, Fine, TakeRecordPost, OneStepPre};
 ghost use Rattle.jobrecords.specs.lemmas.Reading.{OneStepPost, ReadAllPost, roomBy};
+ghost use Rattle.jobrecords.specs.lemmas.Reading.{withProgramme, withLayers, withOverrides, withRuns};
+ghost use Rattle.jobrecords.specs.lemmas.Reading.{Reached, GoesOn, SoundRunPost, TakeRunsPost, TakeOverridesPost};
 ghost use Rattle.jobrecords.specs.Reader.{readFront, readAt, buffers, JobReadPromise};
 use job::MOST_BYTES;
 use job::OVERRIDES;
@@ -77,6 +81,12 @@ enum Step {
     On(Progress, usize),
     Done(Progress),
     Stop(u8),
+}
+
+// A run that can be taken, slots and bytes, or anything else.
+enum Run {
+    Sound(u16, u32),
+    Other,
 }
 
 // The record of n bytes, where so many are left from at.
@@ -216,15 +226,13 @@ fn layer_fault(layers: usize, size: u32) -> u8
 
 // 7 of a BW after so many slots.
 fn run_fault(slots: usize, count: u16, bytes: u32) -> u8
+    requires { ⌜ slots ≤ 3600 ⌝ }
     ensures { λ r. ⌜ r ≡ runFault slots count bytes ⌝ }
 {
     if count < 1 {
         return 7;
     }
-    if SLOTS < slots {
-        return 7;
-    }
-    if SLOTS - slots < (count as usize) {
+    if SLOTS < slots + (count as usize) {
         return 7;
     }
     if MOST_BYTES < bytes {
@@ -250,9 +258,9 @@ fn gather(file: &[u8], from: usize, n: usize, cs: &mut [u16], ls: &mut [u8], bs:
         let chunk = at + 2;
         let layer = at + 4;
         let bytes = at + 5;
-        cs[i] = records::h_at(file, chunk);
-        ls[i] = records::byte_at(file, layer);
-        bs[i] = records::w_at(file, bytes);
+        cs[i] = core_bytes::h_at(file, chunk);
+        ls[i] = file[layer];
+        bs[i] = core_bytes::w_at(file, bytes);
         i += 1;
     }
 }
@@ -320,9 +328,9 @@ fn override_refusal(sequenced: bool, j: Progress) -> u8
     out_of_sequence(sequenced, override_follows(j.place))
 }
 
-// 17, 7 of a BW. By branches and not by `or_else`, which costs 20 instructions more for each of up
-// to 3,600 runs.
+// 17, 7 of a BW.
 fn run_refusal(sequenced: bool, j: Progress, count: u16, bytes: u32) -> u8
+    requires { ⌜ j .slots ≤ 3600 ⌝ }
     ensures { λ r. ⌜ r ≡ faultAfter sequenced j (Record.Bw count bytes) ⌝ }
 {
     let sequence = out_of_sequence(sequenced, run_follows(j.place, j.bytes, bytes));
@@ -334,6 +342,7 @@ fn run_refusal(sequenced: bool, j: Progress, count: u16, bytes: u32) -> u8
 
 // The fault of a record after those that the state stands for.
 fn fault_of(sequenced: bool, j: Progress, record: Record) -> u8
+    requires { ⌜ j .slots ≤ 3600 ⌝ }
     ensures { λ r. ⌜ r ≡ faultAfter sequenced j «record» ⌝ }
 {
     match record {
@@ -391,7 +400,66 @@ fn fill(slots: &mut [u32], from: usize, count: usize, v: u32)
     }
 }
 
-// A record without a fault that ends at a place goes into the state and the tables.
+// The same; most runs have one slot, which needs no loop.
+fn put_run(slots: &mut [u32], from: usize, count: usize, v: u32)
+    requires { ⌜ from + count ≤ length (now slots) ⌝ }
+    ensures { λ _. ⌜ now (slots .exit) ≡ paste (now (slots .entry)) from (replicate count v) count ⌝ }
+{
+    if count == 1 {
+        slots[from] = v;
+        return;
+    }
+    fill(slots, from, count, v);
+}
+
+// The state after a PG.
+fn with_programme(j: Progress, programme: Programme) -> Progress
+    ensures { λ r. ⌜ r ≡ withProgramme j programme ⌝ }
+{
+    let mut k = j;
+    k.place = 1;
+    k.bytes = 0;
+    k.seen = true;
+    k.programme = programme;
+    k
+}
+
+// The state after an LY, with so many layers in all.
+fn with_layers(j: Progress, layers: usize) -> Progress
+    ensures { λ r. ⌜ r ≡ withLayers j layers ⌝ }
+{
+    let mut k = j;
+    k.place = 2;
+    k.bytes = 0;
+    k.layers = layers;
+    k
+}
+
+// The state after n SZs more, the last of which ends at a place.
+fn with_overrides(j: Progress, n: usize, ends: usize) -> Progress
+    requires { ⌜ j .overrides + n < 18446744073709551616 ⌝ }
+    ensures { λ r. ⌜ r ≡ withOverrides j n ends ⌝ }
+{
+    let mut k = j;
+    k.place = 3;
+    k.bytes = 0;
+    k.overrides = j.overrides + n;
+    k.ends = ends;
+    k
+}
+
+// The state after runs, the last one of so many bytes, with so many slots in all.
+fn with_runs(j: Progress, slots: usize, bytes: u32) -> Progress
+    ensures { λ r. ⌜ r ≡ withRuns j slots bytes ⌝ }
+{
+    let mut k = j;
+    k.place = 4;
+    k.bytes = bytes;
+    k.slots = slots;
+    k
+}
+
+// A record without a fault, not EN, that ends at a place goes into the state and the tables.
 fn take_record(
     j: Progress,
     record: Record,
@@ -405,79 +473,26 @@ fn take_record(
     ensures { λ r. ⌜ TakeRecordPost j (now (sizes .entry)) (now (slots .entry)) «record» next
         r (now (sizes .exit)) (now (slots .exit)) ⌝ }
 {
-    let n = j.layers;
-    let overrides = j.overrides;
-    let ends = j.ends;
-    let from = j.slots;
-    let seen = j.seen;
-    let p = j.programme;
     match record {
-        Record::Pg(programme) => Progress {
-            place: 1,
-            bytes: 0,
-            seen: true,
-            programme,
-            layers: n,
-            overrides,
-            ends,
-            slots: from,
-        },
+        Record::Pg(programme) => with_programme(j, programme),
         Record::Ly(size) => {
-            let layers = n + 1;
+            let n = j.layers;
             sizes[n] = size;
-            Progress {
-                place: 2,
-                bytes: 0,
-                seen,
-                programme: p,
-                layers,
-                overrides,
-                ends,
-                slots: from,
-            }
+            with_layers(j, n + 1)
         }
         Record::Sz {
             chunk: _,
             layer: _,
             bytes: _,
-        } => {
-            let counted = overrides + 1;
-            Progress {
-                place: 3,
-                bytes: 0,
-                seen,
-                programme: p,
-                layers: n,
-                overrides: counted,
-                ends: next,
-                slots: from,
-            }
-        }
+        } => with_overrides(j, 1, next),
         Record::Bw { count, bytes } => {
+            let from = j.slots;
             let more = count as usize;
             let end = from + more;
-            fill(slots, from, more, bytes);
-            Progress {
-                place: 4,
-                bytes,
-                seen,
-                programme: p,
-                layers: n,
-                overrides,
-                ends,
-                slots: end,
-            }
+            put_run(slots, from, more, bytes);
+            with_runs(j, end, bytes)
         }
-        Record::En => Progress {
-            place: 0,
-            bytes: 0,
-            seen,
-            programme: p,
-            layers: n,
-            overrides,
-            ends,
-            slots: from,
-        },
+        Record::En => j,
     }
 }
 
@@ -491,7 +506,96 @@ fn refusal_of(read: Read) -> u8
     }
 }
 
-// One record read, judged and taken.
+// The run at a place, after another of the bytes `last` and so many slots: one that has its mark, its
+// whole body and no fault. What else stands there is judged by `one_step`.
+fn sound_run(file: &[u8], at: usize, slots: usize, last: u32) -> Run
+    requires { ⌜ (at ≤ length (now file)) × (slots ≤ 3600) ⌝ }
+    ensures { λ r. ⌜ SoundRunPost (now (file .entry)) at slots last r ⌝ }
+{
+    if file.len() - at < 8 {
+        return Run::Other;
+    }
+    if !core_bytes::is_mark(file, at, b"BW") {
+        return Run::Other;
+    }
+    let count = core_bytes::h_at(file, at + 2);
+    let bytes = core_bytes::w_at(file, at + 4);
+    if !run_follows(4, last, bytes) {
+        return Run::Other;
+    }
+    if run_fault(slots, count, bytes) != 0 {
+        return Run::Other;
+    }
+    Run::Sound(count, bytes)
+}
+
+// After a run: every sound run that follows. A loop on three numbers, since a file can have 3,600 of
+// them.
+fn take_runs(file: &[u8], from: usize, j: Progress, slots: &mut [u32]) -> Step
+    requires { ⌜ Reached (now file) from j × (length (now slots) ≡ 3600) × (j .place ≡ 4) ⌝ }
+    ensures { λ r. ⌜ TakeRunsPost (now (file .entry)) from j (now (slots .entry)) r (now (slots .exit)) ⌝ }
+{
+    let mut at = from;
+    let mut so_far = j.slots;
+    let mut last = j.bytes;
+    loop {
+        let run = sound_run(file, at, so_far, last);
+        let Run::Sound(count, bytes) = run else {
+            return Step::On(with_runs(j, so_far, last), at);
+        };
+        let more = count as usize;
+        let end = so_far + more;
+        put_run(slots, so_far, more, bytes);
+        so_far = end;
+        last = bytes;
+        at += 8;
+    }
+}
+
+// Whether a whole SZ stands at a place.
+fn override_at(file: &[u8], at: usize) -> bool
+    requires { ⌜ at ≤ length (now file) ⌝ }
+    ensures { λ r. ⌜ r ≡ leb (at + 9) (length (now (file .entry))) && marked SZ (drop at (now (file .entry))) ⌝ }
+{
+    if file.len() - at < 9 {
+        return false;
+    }
+    core_bytes::is_mark(file, at, b"SZ")
+}
+
+// After an SZ, where one sequence is asked: every SZ that follows.
+fn take_overrides(file: &[u8], from: usize, j: Progress) -> Step
+    requires { ⌜ Reached (now file) from j × (j .place ≡ 3) ⌝ }
+    ensures { λ r. ⌜ TakeOverridesPost (now (file .entry)) from j r ⌝ }
+{
+    let mut n: usize = 0;
+    let mut at = from;
+    while override_at(file, at) {
+        n += 1;
+        at += 9;
+    }
+    Step::On(with_overrides(j, n, at), at)
+}
+
+// On from a place after a record that was taken: with the sound runs after a run, with the SZs after
+// an SZ.
+fn go_on(sequenced: bool, file: &[u8], from: usize, j: Progress, slots: &mut [u32]) -> Step
+    requires { ⌜ Reached (now file) from j × (length (now slots) ≡ 3600) ⌝ }
+    ensures { λ r. ⌜ GoesOn sequenced (now (file .entry)) from j (now (slots .entry)) r (now (slots .exit)) ⌝ }
+{
+    let place = j.place;
+    if place == 4 {
+        return take_runs(file, from, j, slots);
+    }
+    if sequenced {
+        if place == 3 {
+            return take_overrides(file, from, j);
+        }
+    }
+    Step::On(j, from)
+}
+
+// A record read, judged and taken, with those of its kind that follow a run or an SZ.
 fn one_step(
     sequenced: bool,
     file: &[u8],
@@ -515,7 +619,8 @@ fn one_step(
     if n != 0 {
         return Step::Stop(n);
     }
-    Step::On(take_record(j, record, next, sizes, slots), next)
+    let taken = take_record(j, record, next, sizes, slots);
+    go_on(sequenced, file, next, taken, slots)
 }
 
 // The state before any record.
@@ -540,7 +645,7 @@ fn nothing() -> Progress
     }
 }
 
-// Every record, one a turn.
+// Every record, turn by turn.
 fn read_all(sequenced: bool, file: &[u8], sizes: &mut [u32], slots: &mut [u32]) -> Ending
     requires { ⌜ (length (now sizes) ≡ 4) × (length (now slots) ≡ 3600) ⌝ }
     ensures { λ r. ⌜ ReadAllPost sequenced (now (file .entry)) (now (sizes .exit)) (now (slots .exit)) r ⌝ }

@@ -4,13 +4,13 @@ use Prim.Native.Nat.{ℕ, suc, _-_, _≤_, _<_}
 use mathlib.Core.Path.{_≡_, sym, _∙_, ap, ap₂}
 use mathlib.Core.List.{List, [], _++_}
 use mathlib.Core.Logic.{⊎-elim}
-use lib.Dec.{T-not, eqb, eqb-refl, eqb→eq}
+use lib.Dec.{eqb, eqb→eq}
 use lib.ListN.{length}
 use Rattle.theory_basics.specs.Refusals.{_orElse_}
 use Rattle.theory_basics.specs.lemmas.Refusals.{orElse-iff, orElse-none, orElse-some}
-use Rattle.theory_basics.specs.lemmas.Tests.{test}
+use Rattle.theory_basics.specs.lemmas.Tests.{test, neqb→ne}
 use Rattle.job.specs.Input.{jobIn, jobRefusal}
-use Rattle.job.specs.Theorems.{input-iff}
+use Rattle.job.specs.Theorems.{input-accepted}
 use Rattle.job.specs.Job.{Accepted, forecast, lastSlot}
 use Rattle.fetch.specs.Input.{listRefusal}
 use Rattle.fetch.specs.Rows.{Row}
@@ -33,10 +33,10 @@ module _ (i : LiveInput) where
       let ours = liveRefusal (jobIn (i .job)) (i .slot) (fetched i) in
       ⊎-elim
       (λ t.
-      let accepted = input-iff (i .job) .0 (eqb→eq job 0 t) .1 in
+      let accepted = input-accepted (i .job) (eqb→eq job 0 t) in
       ap (λ (n : ℕ). job orElse list orElse n) (as-planning-afresh (jobIn (i .job)) accepted (i .slot) (fetched i)))
       (λ t.
-      let n : job ≡ 0 → ⊥ = λ z. T-not (eqb job 0) t (rw z (eqb-refl 0)) in
+      let n : job ≡ 0 → ⊥ = neqb→ne job 0 t in
       orElse-some job (list orElse theirs) n ∙ sym (orElse-some job (list orElse ours) n))
       (test (eqb job 0))
 
@@ -50,7 +50,7 @@ module _ (i : LiveInput) where
         (a .0, orElse-iff list own .0 (a .1) .1)
 
     pub accepted : Accepted (jobIn (i .job))
-    accepted = input-iff (i .job) .0 (parts .0) .1
+    accepted = input-accepted (i .job) (parts .0)
 
     pub acceptable : Acceptable (jobIn (i .job)) (i .slot) (fetched i)
     acceptable = live-refusal-iff (jobIn (i .job)) accepted (i .slot) (fetched i) .0 (parts .1)
@@ -80,4 +80,4 @@ act-not-refused i a b rate got t e f h g =
     let own = liveRefusal (jobIn (i .job)) (i .slot) (fetched i) in
     orElse-none job (list orElse own) a ∙ orElse-none list own b
     ∙ ap₂ (λ (p : ℕ) (rows : List Row). liveRefusal (jobIn (i .job)) p rows) e f
-    ∙ act-never-refused (jobIn (i .job)) (input-iff (i .job) .0 a .1) rate got t h g
+    ∙ act-never-refused (jobIn (i .job)) (input-accepted (i .job) a) rate got t h g

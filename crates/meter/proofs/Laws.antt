@@ -10,7 +10,7 @@ use lib.ListN.{length, getD, take, drop, length-append, length-drop, drop-of-len
 use lib.Seq.{drop-cons, take-suc, set-split}
 use lib.Dec.{T-not, ltb, ltb→lt, nltb→le}
 use borrow.Author.Tests.{lt-ltb, le-ltb}
-use Rattle.theory_basics.specs.lemmas.Tests.{by-cond, true-T}
+use Rattle.theory_basics.specs.lemmas.Tests.{by-cond, true-T, answer-true, answer-false}
 use Rattle.theory_basics.specs.Lists.{upTo}
 use Rattle.theory_basics.specs.lemmas.Lists.{length-upTo}
 use Rattle.meter.specs.declared.Meter.{Meter}
@@ -23,16 +23,6 @@ use Rattle.meter.specs.lemmas.Order.{in-order-iff, in-range-iff, test-fa
 -- The sample in cell k.
 abbrev pub cell : Meter → ℕ → Sample
 cell m k = sample (getD (m .slots) k 0) (getD (m .bytes) k 0)
-
--- ---- a test's answer, negated in the code
-
-pub answer-true : (r b : Bool) → r ≡ b → not r ≡ false → b ≡ true
-answer-true true b e f = sym e
-answer-true false b e f = let z : _≡_ {A = ℕ} 0 1 = cc in absurd (omega arith)
-
-pub answer-false : (r b : Bool) → r ≡ b → not r ≡ true → b ≡ false
-answer-false true b e f = let z : _≡_ {A = ℕ} 0 1 = cc in absurd (omega arith)
-answer-false false b e f = sym e
 
 -- ---- a look at each sample
 

@@ -1,8 +1,8 @@
 -- Laws of the forecast's loop: the shares of the first samples summed, none of which is 0. Assumes
 -- nothing.
 use Prim.Native.Nat.{ℕ, zero, suc, _+_, _*_, _/_, _^_, _≤_, _<_}
-use mathlib.Core.Path.{_≡_, refl, _∙_}
-use mathlib.Core.Bool.{Bool, true, false, _||_}
+use mathlib.Core.Path.{_≡_, refl, _∙_, ap}
+use mathlib.Core.Bool.{Bool, true, false, _||_, or-false}
 use mathlib.Core.List.{List, [], _∷_, _++_, map, map-append}
 use mathlib.Core.Logic.{inl, inr, ⊎-elim}
 use native.Mathlib.Omega.{arith}
@@ -11,7 +11,7 @@ use lib.ListN.{length, getD, length-map}
 use lib.Dec.{T}
 use borrow.Author.Tests.{ne-eqb, le-ltb, lt-ltb}
 use Rattle.theory_basics.specs.Tests.{All, any}
-use Rattle.theory_basics.specs.lemmas.Tests.{last, T-true, T-or-iff}
+use Rattle.theory_basics.specs.lemmas.Tests.{last, T-true, T-or-iff, any-append}
 use Rattle.theory_basics.specs.Lists.{upTo}
 use Rattle.theory_basics.specs.lemmas.Lists.{length-upTo}
 use Rattle.meter.specs.declared.Meter.{Meter}
@@ -24,17 +24,8 @@ use Rattle.meter.proofs.Laws.{cell}
 bytes-snoc : (l : List Sample) (x : Sample) → bytesOf (l ++ (x ∷ [])) ≡ bytesOf l ++ (x .bytes ∷ [])
 bytes-snoc l x = map-append (λ (x : Sample). x .bytes) l (x ∷ [])
 
-or-none : (a : Bool) → a || false ≡ a
-or-none true = refl
-or-none false = refl
-
-or-both : (a b c : Bool) → a || (b || c) ≡ (a || b) || c
-or-both true b c = refl
-or-both false b c = refl
-
 any-snoc : (p : ℕ → Bool) (l : List ℕ) (b : ℕ) → any p (l ++ (b ∷ [])) ≡ (any p l || p b)
-any-snoc p [] b = or-none (p b)
-any-snoc p (a ∷ l) b = rw (any-snoc p l b) (or-both (p a) (any p l) (p b))
+any-snoc p l b = any-append p l (b ∷ []) ∙ ap (λ (c : Bool). any p l || c) (or-false (p b))
 
 total-snoc : (l : List ℕ) (b : ℕ) → total (map share (l ++ (b ∷ []))) ≡ total (map share l) + share b
 total-snoc [] b = omega arith

@@ -9,7 +9,7 @@ use native.Mathlib.Omega.{arith}
 use lib.ListN.{length, replicate, length-append, length-drop, length-map}
 use lib.Dec.{T-not, ltb, eqb, eqb→eq}
 use borrow.Author.Tests.{eq-eqb, ne-eqb}
-use Rattle.theory_basics.specs.lemmas.Tests.{T-true, not-T-false, eqb-iff, test, ltb-iff, by-cond, any-row}
+use Rattle.theory_basics.specs.lemmas.Tests.{T-true, not-T-false, test, ltb-iff, by-cond, any-row, neqb→ne}
 use Rattle.theory_basics.specs.Tests.{In, any}
 use Rattle.theory_basics.specs.Refusals.{unless, _orElse_}
 use Rattle.theory_basics.specs.lemmas.Refusals.{unless-as, orElse-as}
@@ -102,7 +102,7 @@ module _ (m : Meter) (slot bytes : ℕ) where
       let n = takeRefusal (samplesOf m) (sample slot bytes) in
       ⊎-elim
       (λ t. taken-in-order (eqb→eq n 0 t))
-      (λ t. subst (λ (k : Meter). InOrder (samplesOf k)) (sym (refused-unchanged (λ e. T-not (eqb n 0) t (eqb-iff n 0 .1 e)))) o)
+      (λ t. subst (λ (k : Meter). InOrder (samplesOf k)) (sym (refused-unchanged (neqb→ne n 0 t))) o)
       (test (eqb n 0))
 
   -- .. so that a meter that took a sample has a forecast.

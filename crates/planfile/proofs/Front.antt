@@ -1,16 +1,18 @@
--- Lemmas. What the record reader answers at a place of a file, by the mark that stands there.
--- Assumes nothing.
+-- Lemmas. What the record reader answers at a place of a file, by the mark that stands there, and
+-- what the tests for a KP and an FT say. Assumes nothing.
 use Prim.Native.Nat.{ℕ, _+_, _-_, _≤_, _<_}
-use mathlib.Core.Path.{_≡_, sym, ap, _∙_}
-use mathlib.Core.Bool.{Bool, true, false}
+use mathlib.Core.Path.{_≡_, refl, sym, ap, _∙_}
+use mathlib.Core.Bool.{Bool, true, false, _&&_}
 use mathlib.Core.List.{List}
 use native.Mathlib.Omega.{arith}
 use lib.ListN.{length, getD, take, drop, length-drop}
 use lib.Seq.{take-all}
-use lib.Dec.{leb}
+use lib.Dec.{leb, eqb}
 use borrow.Author.Tests.{le-leb, lt-leb}
 use Rattle.records.specs.Fields.{hAt, wAt, marked}
+use Rattle.records.specs.lemmas.Places.{h-on, mark-on}
 use Rattle.planfile.specs.Records.{kp, ft, en, front, readAt}
+use Rattle.planfile.specs.lemmas.Scan.{kpStands, ftStands}
 use Rattle.planfile.specs.declared.Record.the-variants.{Kp, Ft, En}
 use Rattle.planfile.specs.declared.Read.the-variants.{Got, Refused}
 
@@ -69,3 +71,31 @@ module _ (file : List ℕ) (at : ℕ) where
         pub unknown : marked en rest ≡ false → Refused 2 ≡ readAt file at
         unfolding front
         unknown e = rw (there 2 l, rw rest-is at k, rw rest-is at f, rw rest-is at e)
+
+-- ---- whether a KP or an FT stands at a place
+
+module _ (file : List ℕ) (at : ℕ) where
+  long : (n : ℕ) → n ≤ length file - at → leb n (length (drop at file)) ≡ true
+  long n l = le-leb n (length (drop at file)) (omega (arith, length-drop at file))
+
+  short : (n : ℕ) → length file - at < n → leb n (length (drop at file)) ≡ false
+  short n l = lt-leb n (length (drop at file)) (omega (arith, length-drop at file))
+
+  -- The mark m at a place.
+  abbrev markAt : List ℕ → Bool
+  markAt m = eqb (getD file at 0) (getD m 0 0) && eqb (getD file (at + 1) 0) (getD m 1 0)
+
+  pub kp-short : (chunk : ℕ) → length file - at < 5 → false ≡ kpStands file at chunk
+  kp-short chunk l = rw (short 5 l)
+
+  pub kp-unmarked : (chunk : ℕ) → 5 ≤ length file - at → markAt kp ≡ false → false ≡ kpStands file at chunk
+  kp-unmarked chunk l m = rw (long 5 l, mark-on file at kp, m)
+
+  pub kp-marked : (chunk : ℕ) → 5 ≤ length file - at → markAt kp ≡ true → (x : ℕ) → x ≡ hAt file (at + 2) → eqb x chunk ≡ kpStands file at chunk
+  kp-marked chunk l m x e = rw (long 5 l, mark-on file at kp, m, e, h-on file at 2 (at + 2) refl)
+
+  pub ft-short : length file - at < 11 → false ≡ ftStands file at
+  ft-short l = rw (short 11 l)
+
+  pub ft-whole : 11 ≤ length file - at → (r : Bool) → r ≡ markAt ft → r ≡ ftStands file at
+  ft-whole l r e = rw (long 11 l, mark-on file at ft) e

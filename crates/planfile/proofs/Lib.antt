@@ -1,4 +1,4 @@
+mod Ends
 mod Front
-mod Steps
 mod Reader
 mod Writer

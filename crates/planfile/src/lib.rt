@@ -15,7 +15,8 @@ ghost use Rattle.planfile.specs.Records.{encode, readAt};
 ghost use Rattle.planfile.specs.PlanFile.{format, kps, ftOf, fileOf};
 ghost use Rattle.planfile.specs.Calls.{PlanReadPromise, PlanWritePromise, planOf, writeRest, writtenBy};
 ghost use Rattle.planfile.specs.lemmas.Writing.{planRecordsBytes};
-ghost use Rattle.planfile.specs.lemmas.Scan.{refusalOf, inTurn, FileRowsPost, markOn, rowOn, filled};
+ghost use Rattle.planfile.specs.lemmas.Scan.{kpStands, ftStands, refusalOf, endOf};
+ghost use Rattle.planfile.specs.lemmas.Scan.{KpsTaken, FtsTaken, FileRowsPost, markOn, rowOn, filled};
 use job::Programme;
 use records::FILE_BYTES;
 use records::Written;
@@ -101,20 +102,86 @@ fn refusal_of(read: Read) -> u8
     }
 }
 
-// Whether a KP is for the next chunk, up to C, and before every FT.
-fn in_turn(count: u16, kept: u16, rows: usize, chunk: u16) -> bool
-    ensures { λ r. ⌜ r ≡ inTurn count kept rows chunk ⌝ }
+// Whether a KP for a chunk stands whole at a place.
+fn is_kp(file: &[u8], at: usize, chunk: usize) -> bool
+    requires { ⌜ at ≤ length (now file) ⌝ }
+    ensures { λ r. ⌜ r ≡ kpStands (now (file .entry)) at chunk ⌝ }
 {
-    if chunk == 0 {
+    if file.len() - at < 5 {
         return false;
     }
-    if chunk - 1 != kept {
+    if core_bytes::is_mark(file, at, b"KP") {
+        let field = at + 2;
+        return core_bytes::h_at(file, field) as usize == chunk;
+    }
+    false
+}
+
+// Whether an FT stands whole at a place.
+fn is_ft(file: &[u8], at: usize) -> bool
+    requires { ⌜ at ≤ length (now file) ⌝ }
+    ensures { λ r. ⌜ r ≡ ftStands (now (file .entry)) at ⌝ }
+{
+    if file.len() - at < 11 {
         return false;
     }
-    if count < chunk {
-        return false;
+    core_bytes::is_mark(file, at, b"FT")
+}
+
+// How many KPs stand in turn at a file's start, up to C.
+fn count_kps(count: usize, file: &[u8]) -> usize
+    ensures { λ r. ⌜ KpsTaken count (now (file .entry)) r ⌝ }
+{
+    let mut kept: usize = 0;
+    let mut at: usize = 0;
+    while kept < count {
+        let chunk = kept + 1;
+        if is_kp(file, at, chunk) {
+            kept = chunk;
+            at += 5;
+        } else {
+            return kept;
+        }
     }
-    rows == 0
+    kept
+}
+
+// How many FTs stand from a place on.
+fn count_fts(file: &[u8], from: usize) -> usize
+    requires { ⌜ from ≤ length (now file) ⌝ }
+    ensures { λ r. ⌜ FtsTaken (now (file .entry)) from r ⌝ }
+{
+    let mut rows: usize = 0;
+    let mut at = from;
+    while is_ft(file, at) {
+        rows += 1;
+        at += 11;
+    }
+    rows
+}
+
+// The refusal where the KPs in turn and the FTs end, 0 for an EN that ends the file. A KP there is
+// out of turn, and no FT stands there.
+fn end_refusal(count: usize, kept: usize, file: &[u8], at: usize) -> u8
+    ensures { λ r. ⌜ r ≡ endOf count kept (length (now (file .entry))) (readAt (now (file .entry)) at) ⌝ }
+{
+    let read = record_at(file, at);
+    let Read::Got(record, next) = read else {
+        return refusal_of(read);
+    };
+    match record {
+        Record::Kp { chunk: _, marks: _ } => 8,
+        Record::Ft {
+            slot: _,
+            chunk: _,
+            layer: _,
+            bytes: _,
+        } => 1,
+        Record::En => {
+            let over = job::refuse_unless(3, file.len() == next);
+            job::or_else(over, job::refuse_unless(8, kept == count))
+        }
+    }
 }
 
 // The rows of a file, or its refusal: 9 first, then record by record.
@@ -124,43 +191,16 @@ fn file_rows(count: u16, file: &[u8]) -> PlanRead
     if FILE_BYTES < file.len() {
         return PlanRead::Refused(9);
     }
-    let mut at: usize = 0;
-    let mut kept: u16 = 0;
-    let mut rows: usize = 0;
-    loop {
-        let read = record_at(file, at);
-        let Read::Got(record, next) = read else {
-            return PlanRead::Refused(refusal_of(read));
-        };
-        match record {
-            Record::Kp { chunk, marks: _ } => {
-                if in_turn(count, kept, rows, chunk) {
-                    kept = chunk;
-                    at = next;
-                } else {
-                    return PlanRead::Refused(8);
-                }
-            }
-            Record::Ft {
-                slot: _,
-                chunk: _,
-                layer: _,
-                bytes: _,
-            } => {
-                rows = rows + 1;
-                at = next;
-            }
-            Record::En => {
-                if file.len() != next {
-                    return PlanRead::Refused(3);
-                }
-                if kept != count {
-                    return PlanRead::Refused(8);
-                }
-                return PlanRead::Rows(rows);
-            }
-        }
+    let most = count as usize;
+    let kept = count_kps(most, file);
+    let from = 5 * kept;
+    let rows = count_fts(file, from);
+    let end = from + 11 * rows;
+    let refused = end_refusal(most, kept, file, end);
+    if refused != 0 {
+        return PlanRead::Refused(refused);
     }
+    PlanRead::Rows(rows)
 }
 
 // Whether the lent slices hold the marks of count chunks and so many rows.
@@ -199,7 +239,7 @@ fn copy_marks(file: &[u8], count: usize, marks: &mut [u8])
     let mut i: usize = 0;
     while i < count {
         let at = 5 * i + 4;
-        marks[i] = records::byte_at(file, at);
+        marks[i] = file[at];
         i += 1;
     }
 }
@@ -235,10 +275,10 @@ fn copy_rows(
         let chunk = at + 4;
         let layer = at + 6;
         let size = at + 7;
-        slots[i] = records::h_at(file, slot);
-        chunks[i] = records::h_at(file, chunk);
-        layers[i] = records::byte_at(file, layer);
-        bytes[i] = records::w_at(file, size);
+        slots[i] = core_bytes::h_at(file, slot);
+        chunks[i] = core_bytes::h_at(file, chunk);
+        layers[i] = file[layer];
+        bytes[i] = core_bytes::w_at(file, size);
         i += 1;
     }
 }
@@ -298,10 +338,15 @@ fn put_kp(out: &mut [u8], at: usize, chunk: u16, marks: u8)
     requires { ⌜ at + 5 ≤ length (now out) ⌝ }
     ensures { λ _. ⌜ now (out .exit) ≡ written (now (out .entry)) at (encode (Record.Kp chunk marks)) ⌝ }
 {
-    let next = at + 2;
-    let body = [(chunk % 256) as u8, (chunk / 256 % 256) as u8, marks];
-    records::put(out, at, b"KP");
-    records::put(out, next, &body);
+    let mark = b"KP";
+    let bytes = [
+        mark[0],
+        mark[1],
+        (chunk % 256) as u8,
+        (chunk / 256 % 256) as u8,
+        marks,
+    ];
+    core_bytes::put(out, at, &bytes);
 }
 
 // An FT record: slot, chunk, layer and bytes.
@@ -309,8 +354,10 @@ fn put_ft(out: &mut [u8], at: usize, slot: u16, chunk: u16, layer: u8, bytes: u3
     requires { ⌜ at + 11 ≤ length (now out) ⌝ }
     ensures { λ _. ⌜ now (out .exit) ≡ written (now (out .entry)) at (encode (Record.Ft slot chunk layer bytes)) ⌝ }
 {
-    let next = at + 2;
-    let body = [
+    let mark = b"FT";
+    let row = [
+        mark[0],
+        mark[1],
         (slot % 256) as u8,
         (slot / 256 % 256) as u8,
         (chunk % 256) as u8,
@@ -321,8 +368,7 @@ fn put_ft(out: &mut [u8], at: usize, slot: u16, chunk: u16, layer: u8, bytes: u3
         (bytes / 65536 % 256) as u8,
         (bytes / 16777216 % 256) as u8,
     ];
-    records::put(out, at, b"FT");
-    records::put(out, next, &body);
+    core_bytes::put(out, at, &row);
 }
 
 // KP for every chunk.

@@ -13,7 +13,7 @@ use Rattle.theory_basics.specs.lemmas.Refusals.{orElse-none, orElse-some}
 use Rattle.theory_basics.specs.lemmas.Tests.{T-true, not-T-false, test}
 use Rattle.job.specs.Job.{Job, Accepted, chunks, size}
 use Rattle.job.specs.Input.{JobInput, jobIn, jobRefusal}
-use Rattle.job.specs.Theorems.{input-iff}
+use Rattle.job.specs.Theorems.{input-accepted as accepted}
 use Rattle.fetch.specs.Slices.{ListSlices, slicesOf}
 use Rattle.theory_plan.specs.Plan.{plan}
 use Rattle.theory_plan.specs.Own.{ownList}
@@ -118,13 +118,6 @@ module _
 -- What is handed over of it.
 abbrev planned : Job → Result
 planned j = ownResult j (plan j)
-
--- What a refusal's number says.
-pub none : {k refusal : ℕ} → k ≡ refusal → k ≤ 0 → refusal ≡ 0
-none e h = omega arith
-
-accepted : (h : JobInput) → jobRefusal h ≡ 0 → Accepted (jobIn h)
-accepted h z = input-iff h .0 z .1
 
 module _ (h : JobInput) (marks slots cs layers bytes : List ℕ) where
   abbrev j : Job

@@ -23,10 +23,11 @@ use Rattle.planfile.specs.PlanFile.{Plan, fileOf, format, planIn}
 use Rattle.planfile.specs.Theorems.{ReadsBackAs, plan-reads-back}
 use Rattle.theory_plan.specs.Plan.{plan}
 use Rattle.theory_plan.specs.Statement.{marksOf}
+use Rattle.theory_plan.specs.Theorems.{plan-keeps}
 use Rattle.planner.specs.Answer.{planRows}
 use Rattle.whole_files.specs.Files.{filesRefusal, jobFileRefusal, jobSaid, planOfJob, verdictOfFiles, verdictOfPlan}
 use Rattle.programs.specs.Printed.{convertPrinted, planPrinted, reasonsPrinted, refusedText, reportPrinted, verdictPrinted, verdictText}
-use Rattle.whole_files.specs.lemmas.Plans.{plan-file-fits, plan-in-width, plan-keeps, plan-marks-long}
+use Rattle.whole_files.specs.lemmas.Plans.{plan-file-fits, plan-in-width, plan-marks-long}
 
 -- ---- the plan file that is printed
 

@@ -24,16 +24,10 @@ use Rattle.reasons.specs.Answer.{LinesOfPlan, ReasonsPromise, TrueLine, 
 use Rattle.reasons.specs.lemmas.Told.{Told}
 use Rattle.records.specs.declared.Written.{Written}
 use Rattle.records.specs.declared.Written.the-variants.{Bytes, Refused}
-use Rattle.job.specs.Theorems.{input-iff}
-
-pub none : {k refused : ℕ} → k ≡ refused → k ≤ 0 → refused ≡ 0
-none e h = omega arith
-
-pub accepted : (h : JobInput) → jobRefusal h ≡ 0 → Accepted (jobIn h)
-accepted h z = input-iff h .0 z .1
+use Rattle.job.specs.Theorems.{input-accepted}
 
 pub fits : (h : JobInput) → jobRefusal h ≡ 0 → length (planText (jobIn h)) ≤ 94000
-fits h z = text-fits (jobIn h) (accepted h z)
+fits h z = text-fits (jobIn h) (input-accepted h z)
 
 module _ (h : JobInput) (old : List ℕ) where
   pub told-refused : (k : ℕ) → k ≡ jobRefusal h → 0 < k → Told h old old (Refused k)
@@ -92,14 +86,14 @@ unfolding planText
 lines-of-plan h z p d =
     let j = jobIn h in
     let its : List Line = linesOf j (plan j) (against j (plan j)) in
-    let only = plan-reasons j (accepted h z) p d in
+    let only = plan-reasons j (input-accepted h z) p d in
     record {
       lines = its;
       reasons = only;
       text = refl;
-      are-true = under-all (Reason j p (against j p)) (TrueLine j p) (missing j p) its (only its .1 refl) (true-line j (accepted h z) p d);
+      are-true = under-all (Reason j p (against j p)) (TrueLine j p) (missing j p) its (only its .1 refl) (true-line j (input-accepted h z) p d);
     }
 
 pub promised : {h : JobInput} {out out' : List ℕ} {r : Written} → Told h out out' r → ReasonsPromise h out r out'
 promised {h = h} t =
-    record { result = t .result; buffer = t .buffer; lines = lines-of-plan h; forbids = λ z. stretch-forbids (jobIn h) (accepted h z) }
+    record { result = t .result; buffer = t .buffer; lines = lines-of-plan h; forbids = λ z. stretch-forbids (jobIn h) (input-accepted h z) }

@@ -1,14 +1,14 @@
 -- Bytes at a place of a file, and past its end. Assumes nothing.
 use Prim.Native.Nat.{ℕ, _+_, _*_, _≤_, _<_}
 use mathlib.Core.Path.{_≡_, refl, sym, _∙_}
-use mathlib.Core.Bool.{Bool, false, _&&_}
+use mathlib.Core.Bool.{false}
 use mathlib.Core.List.{List}
 use native.Mathlib.Omega.{arith}
 use lib.ListN.{length, getD, drop, List·getD-eq-default}
-use lib.Seq.{getD-drop}
 use lib.Dec.{eqb}
 use borrow.Author.Tests.{eq-eqb, ne-eqb}
 use Rattle.records.specs.Fields.{hAt, wAt, marked}
+use Rattle.records.specs.lemmas.Places.{mark-on}
 
 -- A byte past the end reads as 0.
 pub past : (s : List ℕ) (at : ℕ) → length s ≤ at → getD s at 0 ≡ 0
@@ -22,12 +22,8 @@ pub w-low : (s : List ℕ) (at : ℕ) → length s ≤ at + 2 → hAt s at ≡ w
 w-low s at l = omega (arith, h-past s (at + 2) l)
 
 module _ (m s : List ℕ) (at : ℕ) where
-  -- The mark in front of what follows a place is the mark at that place.
-  mark-at : marked m (drop at s) ≡ eqb (getD s at 0) (getD m 0 0) && eqb (getD s (at + 1) 0) (getD m 1 0)
-  mark-at = let e : at + 0 ≡ at = omega arith in rw (getD-drop at s 0 0, getD-drop at s 1 0, e)
-
   pub mark-first : getD s at 0 ≡ getD m 0 0 → marked m (drop at s) ≡ eqb (getD s (at + 1) 0) (getD m 1 0)
-  mark-first e = mark-at ∙ rw (eq-eqb _ _ e)
+  mark-first e = mark-on s at m ∙ rw (eq-eqb _ _ e)
 
   pub mark-other : (getD s at 0 ≡ getD m 0 0 → ⊥) → marked m (drop at s) ≡ false
-  mark-other e = mark-at ∙ rw (ne-eqb _ _ e)
+  mark-other e = mark-on s at m ∙ rw (ne-eqb _ _ e)

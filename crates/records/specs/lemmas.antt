@@ -1,4 +1,5 @@
 pub mod Exact
+pub mod Places
 pub mod Puts
 pub mod Reading
 pub mod Written

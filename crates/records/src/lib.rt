@@ -1,10 +1,9 @@
 // Marks, little-endian fields and bytes at a place of a file, for any kind of record. Each call is
 // total: past the end a byte reads as 0, and what doesn't fit isn't written.
 ghost use mathlib.Core.Path.{_≡_};
-ghost use Prim.Native.Nat.{_+_, _≤_, _<_};
-ghost use lib.ListN.{length, getD, drop};
-ghost use lib.Seq.{paste};
-ghost use Rattle.records.specs.Fields.{h, w, hAt, wAt, marked, written};
+ghost use Prim.Native.Nat.{_<_};
+ghost use lib.ListN.{getD, drop};
+ghost use Rattle.records.specs.Fields.{hAt, wAt, marked, written};
 
 // The most bytes that a file may have.
 pub const FILE_BYTES: usize = 65536;
@@ -85,18 +84,5 @@ pub fn put(out: &mut [u8], at: usize, bytes: &[u8])
     if out.len() - at < bytes.len() {
         return;
     }
-    put_whole(out, at, bytes);
-}
-
-// Bytes go to a place of a buffer that has room for them.
-fn put_whole(out: &mut [u8], at: usize, bytes: &[u8])
-    requires { ⌜ at + length (now bytes) ≤ length (now out) ⌝ }
-    ensures { λ _. ⌜ now (out .exit) ≡ paste (now (out .entry)) at (now (bytes .entry)) (length (now (bytes .entry)))
-        ⌝ }
-{
-    let mut i: usize = 0;
-    while i < bytes.len() {
-        out[at + i] = bytes[i];
-        i += 1;
-    }
+    core_bytes::put(out, at, bytes);
 }

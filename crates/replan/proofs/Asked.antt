@@ -6,14 +6,14 @@ use mathlib.Core.Bool.{Bool, _&&_}
 use mathlib.Core.List.{List, []}
 use mathlib.Core.Logic.{⊎-elim}
 use native.Mathlib.Omega.{arith}
-use lib.Dec.{T-not, eqb, eqb-refl, eqb→eq, ltb}
+use lib.Dec.{eqb, eqb→eq, ltb}
 use lib.ListN.{getD, length, take}
 use lib.Seq.{take-length, take-suc}
 use Rattle.theory_basics.specs.Lists.{upTo}
 use Rattle.theory_basics.specs.Refusals.{_orElse_, unless}
 use Rattle.theory_basics.specs.Tests.{All, all}
 use Rattle.theory_basics.specs.lemmas.Refusals.{orElse-iff, orElse-none, orElse-some}
-use Rattle.theory_basics.specs.lemmas.Tests.{all-snoc, test}
+use Rattle.theory_basics.specs.lemmas.Tests.{all-snoc, test, neqb→ne}
 use Rattle.job.specs.Input.{JobInput, jobIn, jobRefusal}
 use Rattle.job.specs.Job.{Within, lastDue}
 use Rattle.fetch.specs.Input.{Whole, whole-iff, listRefusal}
@@ -39,7 +39,7 @@ after a b c =
     ⊎-elim
     (λ t. let z = eqb→eq a 0 t in ap (λ (n : ℕ). n orElse c) (orElse-none a b z) ∙ sym (orElse-none a (b orElse c) z))
     (λ t.
-    let n : a ≡ 0 → ⊥ = λ z. T-not (eqb a 0) t (rw z (eqb-refl 0)) in
+    let n : a ≡ 0 → ⊥ = neqb→ne a 0 t in
     ap (λ (m : ℕ). m orElse c) (orElse-some a b n) ∙ orElse-some a c n ∙ sym (orElse-some a (b orElse c) n))
     (test (eqb a 0))
 

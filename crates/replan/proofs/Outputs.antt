@@ -2,7 +2,7 @@
 -- Assumes nothing.
 use Prim.Native.Nat.{ℕ, suc, _-_, _≤_, _<_}
 use mathlib.Core.Path.{_≡_, refl, sym, _∙_, ap, subst}
-use mathlib.Core.Bool.{Bool, true, false, not}
+use mathlib.Core.Bool.{Bool, true, false}
 use mathlib.Core.List.{List}
 use native.Mathlib.Omega.{arith}
 use lib.ListN.{length, take}
@@ -12,7 +12,7 @@ use Rattle.theory_basics.specs.Refusals.{_orElse_, unless}
 use Rattle.theory_basics.specs.Tests.{All}
 use Rattle.theory_basics.specs.lemmas.Refusals.{orElse-none, orElse-some}
 use Rattle.job.specs.Input.{JobInput, jobIn}
-use Rattle.job.specs.Theorems.{input-iff}
+use Rattle.job.specs.Theorems.{input-accepted}
 use Rattle.job.specs.Job.{Accepted, chunks}
 use Rattle.core_sizes.specs.Table.{sizesTable, tableAt}
 use Rattle.core_sizes.specs.Theorems.{table-is}
@@ -31,14 +31,6 @@ use Rattle.replan.specs.lemmas.Afresh.{Each, WriteAfreshPre, madeAfresh,
 use Rattle.replan.specs.lemmas.Asked.{askedRefusal}
 use Rattle.replan.specs.Theorems.{afresh-none, settled-afresh}
 use Rattle.replan.proofs.Asked.{Asked, asked-none, input-is}
-
-pub not-true : (b : Bool) → not b ≡ true → b ≡ false
-not-true true e = sym e
-not-true false e = refl
-
-pub not-false : (b : Bool) → not b ≡ false → b ≡ true
-not-false true e = refl
-not-false false e = sym e
 
 -- ---- what is handed over, by the refusal
 
@@ -101,7 +93,7 @@ module _ (h : JobInput) (o : ReplanInput) (z : askedRefusal h o ≡ 0) where
   earlier = take (o .from - 1) (h .forecast)
 
   accepted : Accepted (jobIn h)
-  accepted = input-iff h .0 (asked .job) .1
+  accepted = input-accepted h (asked .job)
 
   pub some-slot : 1 ≤ o .from
   some-slot = asked .slot-in .low

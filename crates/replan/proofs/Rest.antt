@@ -13,7 +13,7 @@ use borrow.Author.Tests.{eq-eqb, ne-eqb, lt-ltb, le-ltb}
 use Rattle.theory_basics.specs.Lists.{upTo}
 use Rattle.theory_basics.specs.Sums.{sum}
 use Rattle.theory_basics.specs.Tests.{All}
-use Rattle.theory_basics.specs.lemmas.Lists.{upTo-cong}
+use Rattle.theory_basics.specs.lemmas.Lists.{upTo-cong, all-of-map}
 use Rattle.theory_basics.specs.lemmas.Tables.{all-take}
 use Rattle.theory_basics.specs.lemmas.Tests.{not-T-false, T-true, test}
 use Rattle.job.specs.Job.{Accepted, chunks, due, forecast, heldMost, Job, lastSlot, layers, Override, size, Within}
@@ -28,7 +28,7 @@ use Rattle.theory_plan.specs.lemmas.Kept.{picked-asc, picked-each}
 use Rattle.theory_plan.specs.lemmas.Level.{level, level-iff}
 use Rattle.theory_plan.specs.lemmas.Linear.{level-of, mark-level}
 use Rattle.theory_plan.specs.lemmas.Parts.{ForecastPart}
-use Rattle.theory_plan.specs.lemmas.Queue.{all-ones, each, each-is, feas-relok, ones, releases, RelOk}
+use Rattle.theory_plan.specs.lemmas.Queue.{all-ones, feas-relok, releases, RelOk, releases-enough}
 use Rattle.theory_plan.specs.lemmas.Trials.{levelMark}
 use Rattle.theory_plan.specs.lemmas.Words.{accepted-sized, due-by, layer-of}
 use Rattle.theory_replan.specs.Own.{ownRest, unfetched}
@@ -199,10 +199,6 @@ fill-cong B B′ (suc n) t q h =
     let o = take-slot (suc t) (B′ (suc t)) q in
     rw (h (suc t) (omega arith)) (ap (λ (l : List Row). o .rows ++ l) (fill-cong B B′ n (suc t) (o .rest) (λ u v. h u (omega arith))))
 
-all-of : (P : ℕ → Type 0) (g : ℕ → ℕ) (ks : List ℕ) → All (λ k. P (g k)) ks → All P (map g ks)
-all-of P g [] a = tt
-all-of P g (k ∷ ks) a = (a .0, all-of P g ks (a .1))
-
 -- ---- for one job
 
 module _
@@ -285,7 +281,7 @@ module _
         room = record { part-in = part-in; low = omega arith; high = omega (arith, la, ok .p-high); count = omega arith; s = omega arith; c = omega arith; l = omega arith; b = omega arith };
         by = subst (All (λ r. r ≤ lastOf start part)) (sym (x .releases-are)) released;
         chunks-in = in-job 1 (drop first ids) (omega arith) asc;
-        levels = subst (All AnyLevels) (sym (x .marks)) (all-of AnyLevels (λ k. levelMark (plan k)) cs (level-all cs levels));
+        levels = subst (All AnyLevels) (sym (x .marks)) (all-of-map AnyLevels (λ k. levelMark (plan k)) cs (level-all cs levels));
         fed = subst (Fed (leftAt start part)) (sym queued) (subst (λ (B : ℕ → ℕ). Fed B (queueLeft (rest j fetched) plan cs rs)) (sym left-is) (queue-fed .1));
         fits = subst (λ (q : List QueuedPiece). load q ≤ getD part 0 0 + leftAt start part start) (sym queued) fits-first;
         long = (li, lr, lm);
@@ -298,8 +294,8 @@ module _
       released : All (λ r. r ≤ lastOf start part) (take (500 - first) rs)
       released =
           all-take (λ r. r ≤ lastOf start part) (500 - first) rs
-          (all-ones (λ r. r ≤ lastOf start part) (omega (arith, some-slot)) (heldMost j) (each (due j) cs)
-          (subst (All (λ r. r ≤ lastOf start part)) (sym (each-is (due j) cs)) (all-of (λ r. r ≤ lastOf start part) (due j) cs (picked-each member (λ k. due j k ≤ lastOf start part) 0 (chunks j) (λ k u v t. omega (arith, due-by p k (omega arith), last-is))))))
+          (all-ones (λ r. r ≤ lastOf start part) (omega (arith, some-slot)) (heldMost j) (map (due j) cs)
+          (all-of-map (λ r. r ≤ lastOf start part) (due j) cs (picked-each member (λ k. due j k ≤ lastOf start part) 0 (chunks j) (λ k u v t. omega (arith, due-by p k (omega arith), last-is)))))
 
       level-all : (l : List ℕ) → All (λ k. plan k ≤ layers j) l → All (λ k. AnyLevels (levelMark (plan k))) l
       level-all [] y = tt
@@ -378,15 +374,7 @@ module _
   rest-queue : map pc (unfetched fetched (carriedTo j plan (chunks j))) ≡ queueLeft (rest j fetched) plan cs rs
   rest-queue =
       carried-left (chunks j) (omega arith)
-      ∙ sym (queue-all (rest j fetched) plan 1 (chunks j) cs rs (picked-asc member 0 (chunks j) (chunks j) (omega arith)) (enough (heldMost j) cs))
-    where
-      each-long : (l : List ℕ) → length l ≤ length (each (due j) l)
-      each-long [] = omega arith
-      each-long (k ∷ l) = omega (arith, each-long l)
-
-      enough : (h : ℕ) (l : List ℕ) → length l ≤ length (ones h ++ each (due j) l)
-      enough zero l = each-long l
-      enough (suc h) l = omega (arith, enough h l)
+      ∙ sym (queue-all (rest j fetched) plan 1 (chunks j) cs rs (picked-asc member 0 (chunks j) (chunks j) (omega arith)) (releases-enough (due j) (heldMost j) cs))
 
   rows-are : ownRest j start fetched plan ≡ onward start part start (getD part 0 0) (leftQueue left (drop first ids) (drop first ready) (drop first mark))
   unfolding pc

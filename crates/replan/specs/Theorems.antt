@@ -12,7 +12,7 @@ use Rattle.theory_basics.specs.Refusals.{_orElse_, unless}
 use Rattle.theory_basics.specs.lemmas.Refusals.{orElse-iff}
 use Rattle.theory_basics.specs.lemmas.Tests.{not-T-false, test}
 use Rattle.job.specs.Input.{JobInput, jobIn, jobRefusal}
-use Rattle.job.specs.Theorems.{input-iff}
+use Rattle.job.specs.Theorems.{input-accepted}
 use Rattle.job.specs.Job.{Accepted, Job, chunks}
 use Rattle.fetch.specs.Input.{listRefusal}
 use Rattle.fetch.specs.Rows.{Permuted, Row, rowBytes, rowChunk, rowLayer, rowSlot, rowsOf}
@@ -41,13 +41,13 @@ afresh-none h o z =
 pub settled-afresh : (h : JobInput) (o : ReplanInput) → SettledAfresh h o
 settled-afresh h o z =
     let n = afresh-none h o z in
-    let r = replans (jobIn h) (input-iff h .0 (n .0) .1) (o .from) (fetched o) (o .onward) (n .1) in
+    let r = replans (jobIn h) (input-accepted h (n .0)) (o .from) (fetched o) (o .onward) (n .1) in
     record { replans = r; passes = verdict-from-iff (jobOn h o) (o .from) _ _ .1 (r .carries .keeps) }
 
 pub standing-goes-on : (h : JobInput) (o : ReplanInput) → StandingGoesOn h o
 standing-goes-on h o z q is lo hi same unchanged =
     let j = jobIn h in
-    let a : Accepted j = input-iff h .0 z .1 in
+    let a : Accepted j = input-accepted h z in
     let on : Continues j q (o .from) (fetched o) (o .onward) =
     subst (Continues j q (o .from) (fetched o)) (sym unchanged) (standing-continues j a q is (o .from) lo hi (fetched o) same) in
     let d = replans j a (o .from) (fetched o) (o .onward) (on .accepted) .settled in

@@ -6,17 +6,17 @@ use mathlib.Core.Bool.{Bool, true, false, cond}
 use mathlib.Core.List.{List, map}
 use mathlib.Core.Logic.{⊎-elim}
 use native.Mathlib.Omega.{arith}
-use lib.Dec.{T, T-not, eqb, eqb→eq}
+use lib.Dec.{T, eqb, eqb→eq}
 use lib.ListN.{length, getD, take, drop, length-append, length-map, replicate, length-replicate}
 use lib.Seq.{take-at, length-take-le}
 use borrow.Author.Tests.{eq-eqb, le-leb, ne-eqb}
 use Rattle.theory_basics.specs.Lent.{over}
 use Rattle.theory_basics.specs.Sums.{sum}
 use Rattle.theory_basics.specs.lemmas.Refusals.{orElse-some}
-use Rattle.theory_basics.specs.lemmas.Tests.{eqb-iff, test}
+use Rattle.theory_basics.specs.lemmas.Tests.{test, neqb→ne}
 use Rattle.theory_basics.specs.Refusals.{unless}
 use Rattle.job.specs.Input.{JobInput, jobIn, jobRefusal}
-use Rattle.job.specs.Theorems.{input-iff}
+use Rattle.job.specs.Theorems.{input-accepted}
 use Rattle.job.specs.Job.{Accepted, chunks}
 use Rattle.fetch.specs.Rows.{Row, rowsOf, rowSlot, rowChunk, rowLayer, rowBytes}
 use Rattle.fetch.specs.Slices.{ListSlices, slicesOf}
@@ -26,7 +26,8 @@ use Rattle.planner.specs.declared.Planned.{Planned}
 use Rattle.report.specs.declared.table.Spent.the-variants.{Bytes as sent, Refused as unsent}
 use Rattle.report.specs.lemmas.Tables.{Rows, Summed, Tabled}
 use Rattle.report.specs.lemmas.Again.{rows-again}
-use Rattle.report.proofs.Own.{few, own-rows, spent-again}
+use Rattle.report.proofs.Own.{own-rows, spent-again}
+use Rattle.theory_plan.specs.Theorems.{plan-rows-few}
 
 -- The slices that the report lends: zeros.
 abbrev pub zeros : ℕ → List ℕ
@@ -41,9 +42,9 @@ module _ (h : JobInput) where
   -- They have room for any plan.
   is-given : jobRefusal h ≡ 0 → given h room ≡ true
   is-given ok =
-      let a : Accepted (jobIn h) = input-iff h .0 ok .1 in
+      let a : Accepted (jobIn h) = input-accepted h ok in
       let n = length (planRows (jobIn h)) in
-      let rows = le-leb n (length (zeros 5599)) (omega (arith, few a, length-replicate {A = ℕ} 5599 0)) in
+      let rows = le-leb n (length (zeros 5599)) (omega (arith, plan-rows-few (jobIn h) a, length-replicate {A = ℕ} 5599 0)) in
       rw (ok, le-leb (chunks (jobIn h)) (length (zeros 500)) (omega (arith, a .chunks-in .high, length-replicate {A = ℕ} 500 0)), rows)
 
   answers : answerOf h room ≡ cond (eqb (jobRefusal h) 0) (made (length (planRows (jobIn h)))) (refused (jobRefusal h))
@@ -51,7 +52,7 @@ module _ (h : JobInput) where
       ⊎-elim
       (λ t. let z : jobRefusal h ≡ 0 = eqb→eq (jobRefusal h) 0 t in rw (is-given z, z))
       (λ t.
-      let n : jobRefusal h ≡ 0 → ⊥ = λ z. T-not (eqb (jobRefusal h) 0) t (eqb-iff (jobRefusal h) 0 .1 z) in
+      let n : jobRefusal h ≡ 0 → ⊥ = neqb→ne (jobRefusal h) 0 t in
       let e : planRefusal h room ≡ jobRefusal h = orElse-some (jobRefusal h) (unless 11 (holds (jobIn h) room)) n in
       rw (e, ne-eqb (jobRefusal h) 0 n))
       (test (eqb (jobRefusal h) 0))
@@ -117,7 +118,7 @@ made-columns {h} p {n} e =
 
 module _ {h : JobInput} {n : ℕ} {ss cs ls bs : List ℕ} (c : Made h n ss cs ls bs) where
   pub made-rows : Rows (take n ss) (take n cs) (take n ls) (take n bs)
-  made-rows = rw (c .slots-are .is, c .chunks-are .is, c .layers-are .is, c .bytes-are .is) (own-rows (input-iff h .0 (c .none) .1))
+  made-rows = rw (c .slots-are .is, c .chunks-are .is, c .layers-are .is, c .bytes-are .is) (own-rows (input-accepted h (c .none)))
 
   pub made-few : length (take n bs) ≤ 5599
   made-few = omega (arith, made-rows .few, made-rows .bytes-each)

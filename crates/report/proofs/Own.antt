@@ -1,6 +1,6 @@
 -- The plan's own list as four slices: its rows again, their bytes, and that each row has a place in
 -- the table. Assumes nothing.
-use Prim.Native.Nat.{ℕ, zero, suc, _≤_, _<_}
+use Prim.Native.Nat.{ℕ, zero, suc, _<_}
 use mathlib.Core.Path.{_≡_, sym, ap, _∙_}
 use mathlib.Core.List.{List, [], _∷_, map}
 use native.Mathlib.Omega.{arith}
@@ -9,11 +9,8 @@ use Rattle.theory_basics.specs.Tests.{All}
 use Rattle.theory_basics.specs.Sums.{sum}
 use Rattle.job.specs.Job.{Job, Accepted}
 use Rattle.fetch.specs.Rows.{Row, rowSlot, rowChunk, rowLayer, rowBytes}
-use Rattle.fetch.specs.Rules.{RowInRange, Keeps}
-use Rattle.theory_plan.specs.Plan.{plan}
-use Rattle.theory_plan.specs.Theorems.{own-list-rows, plan-exists, plan-carried}
-use Rattle.theory_plan.specs.Statement.{marksOf}
-use Rattle.theory_plan.specs.lemmas.Words.{accepted-sized}
+use Rattle.fetch.specs.Rules.{RowInRange}
+use Rattle.theory_plan.specs.Theorems.{plan-keeps, plan-rows-few}
 use Rattle.planner.specs.Answer.{planRows}
 use Rattle.report.specs.Report.{bytesInRows}
 use Rattle.report.specs.lemmas.Again.{rows-again}
@@ -35,22 +32,16 @@ spent-again l =
     ∙ ap bytesInRows (rows-again l)
 
 module _ {j : Job} (a : Accepted j) where
-  pub keeps : Keeps j (marksOf j (plan j)) (planRows j)
-  keeps = plan-carried j (accepted-sized j a) (plan j) (plan-exists j a) .0
-
-  pub few : length (planRows j) ≤ 5599
-  few = own-list-rows j a (plan j) (plan-exists j a .choice)
-
   -- Each of its rows has a place in the table.
   pub own-rows : Rows (map rowSlot (planRows j)) (map rowChunk (planRows j)) (map rowLayer (planRows j)) (map rowBytes (planRows j))
   own-rows =
       let l = planRows j in
-      let at : (k : ℕ) → k < length (map rowSlot l) → RowInRange j (getD l k none) = λ k h. row-at (RowInRange j) l k (keeps .in-range) (omega (arith, length-map l rowSlot)) in
+      let at : (k : ℕ) → k < length (map rowSlot l) → RowInRange j (getD l k none) = λ k h. row-at (RowInRange j) l k (plan-keeps j a .in-range) (omega (arith, length-map l rowSlot)) in
       record {
         chunk-each = length-map l rowSlot ∙ sym (length-map l rowChunk);
         layer-each = length-map l rowSlot ∙ sym (length-map l rowLayer);
         bytes-each = length-map l rowSlot ∙ sym (length-map l rowBytes);
-        few = omega (arith, length-map l rowSlot, few);
+        few = omega (arith, length-map l rowSlot, plan-rows-few j a);
         chunk-low = λ k h. rw (List·getD-map rowChunk l k none) (at k h .chunk-low);
         chunk-high = λ k h. rw (List·getD-map rowChunk l k none) (omega (arith, at k h .chunk-high, a .chunks-in .high));
         layer-in = λ k h. rw (List·getD-map rowLayer l k none) (omega (arith, at k h .layer-in, a .layers-in .high));

@@ -10,7 +10,7 @@ use lib.ListN.{length, getD}
 use Rattle.theory_basics.specs.Sums.{sum}
 use Rattle.theory_basics.specs.lemmas.Refusals.{orElse-none, orElse-some}
 use Rattle.job.specs.Input.{JobInput, jobIn, jobRefusal}
-use Rattle.job.specs.Theorems.{input-iff}
+use Rattle.job.specs.Theorems.{input-accepted}
 use Rattle.job.specs.Job.{Accepted}
 use Rattle.core_sizes.specs.Table.{sizesTable}
 use Rattle.core_sizes.specs.lemmas.Table.{table-says}
@@ -49,7 +49,7 @@ module _ {h : JobInput} {table : List ℕ} {r : Spent} (t : Tabled h table r) wh
     none = eqb→eq (jobRefusal h) 0 (subst T (sym (case .0)) tt)
 
     accepted : Accepted (jobIn h)
-    accepted = input-iff h .0 none .1
+    accepted = input-accepted h none
 
     pub forecast-few : length (h .forecast) ≤ 5599
     forecast-few = omega (arith, accepted .slots-in, accepted .last-in)

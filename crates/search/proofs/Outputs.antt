@@ -18,8 +18,8 @@ use Rattle.fetch.specs.Marks.{bit}
 use Rattle.fetch.specs.Rows.{markByte, rowSlot, rowChunk, rowLayer, rowBytes}
 use Rattle.fetch.specs.lemmas.Marks.{mark-bit}
 use Rattle.job.specs.Input.{JobInput, jobIn, jobRefusal}
-use Rattle.job.specs.Theorems.{input-iff}
-use Rattle.job.specs.Job.{Accepted, Job, chunks, layers, size}
+use Rattle.job.specs.Theorems.{input-accepted}
+use Rattle.job.specs.Job.{Job, chunks, layers, size}
 use Rattle.fetch.specs.Slices.{ListSlices, slicesOf}
 use Rattle.theory_plan.specs.Statement.{countsOf, marksOf}
 use Rattle.core_decide.specs.lemmas.Decision.{Decides}
@@ -36,13 +36,6 @@ use Rattle.search.specs.lemmas.Deciding.{AllOf, AnsweredPost, OnlyNumber
 use Rattle.search.proofs.Deciding.{plan-found-fits}
 
 -- ---- what is handed
-
--- What a refusal's number says.
-pub none : {k refusal : ℕ} → k ≡ refusal → k ≤ 0 → refusal ≡ 0
-none e h = omega arith
-
-pub accepted : (h : JobInput) → jobRefusal h ≡ 0 → Accepted (jobIn h)
-accepted h z = input-iff h .0 z .1
 
 module _ (h : JobInput) (budget : ℕ) (marks slots cs layers bytes : List ℕ) where
   abbrev j : Job
@@ -124,7 +117,7 @@ pub decided :
     Decides (jobIn h) (planFound (jobIn h) budget) first ids ready mark →
     Decided (chunks (jobIn h)) (jobIn h .forecast) own first ids ready mark (jobIn h) (planFound (jobIn h) budget)
 decided h budget z own says d =
-    let ok = accepted h z in
+    let ok = input-accepted h z in
     record { accepted = ok; counted = refl; forecast-is = refl; sizes-are = says; choice = over-exists (jobIn h) ok (found (jobIn h) budget .kept) .choice; fits = plan-found-fits (jobIn h) ok budget; tables = d }
 
 -- ---- what holds of it
@@ -143,7 +136,7 @@ set-in-marks j some ks x over i u v =
 found-by-walk : (h : JobInput) (budget : ℕ) → FoundByWalk h budget
 found-by-walk h budget z =
     let j = jobIn h in
-    let ok = accepted h z in
+    let ok = input-accepted h z in
     let is = found-is-found j ok budget in
     let over = over-exists j ok (found j budget .kept) in
     record {
@@ -157,13 +150,13 @@ found-by-walk h budget z =
 good-enough-found : (h : JobInput) (budget : ℕ) → GoodEnoughFound h budget
 good-enough-found h budget z =
     let j = jobIn h in
-    let ok = accepted h z in
+    let ok = input-accepted h z in
     good-enough j ok budget (found j budget) (found-is-found j ok budget) (planFound j budget) (over-exists j ok (found j budget .kept))
 
 more-steps : (h : JobInput) (budget : ℕ) → MoreSteps h budget
 more-steps h budget z =
     let j = jobIn h in
-    let ok = accepted h z in
+    let ok = input-accepted h z in
     let is = found-is-found j ok budget in
     record {
       larger = λ more l. larger-budget j budget more (found j budget) (found j more) is (found-is-found j ok more) l;

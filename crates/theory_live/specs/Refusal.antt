@@ -6,12 +6,12 @@ use mathlib.Core.Path.{_≡_, sym, _∙_, ap, subst}
 use mathlib.Core.List.{List}
 use mathlib.Core.Logic.{_↔_, ⊎-elim}
 use native.Mathlib.Omega.{arith}
-use lib.Dec.{T-not, eqb, eqb-refl, eqb→eq}
+use lib.Dec.{eqb, eqb→eq}
 use lib.ListN.{drop, length-drop}
 use Rattle.theory_basics.specs.Refusals.{_orElse_, unless}
 use Rattle.theory_basics.specs.lemmas.Refusals.{orElse-none, orElse-some}
 use Rattle.theory_basics.specs.lemmas.Tables.{all-drop}
-use Rattle.theory_basics.specs.lemmas.Tests.{test}
+use Rattle.theory_basics.specs.lemmas.Tests.{test, neqb→ne}
 use Rattle.job.specs.Job.{Accepted, Job, Within, forecast, lastSlot}
 use Rattle.fetch.specs.Rows.{Row}
 use Rattle.fetch.specs.VerdictFrom.{slotRefusal}
@@ -56,7 +56,7 @@ as-planning-afresh j ok p rows =
     ap (λ (n : ℕ). slot orElse before orElse n)
     (orElse-none (onwardRefusal j p onward) (unless 22 (fetchedKept (joined j p onward) rows)) (onward-none j ok p (eqb→eq slot 0 t)) ∙ same))
     (λ t.
-    let n : slot ≡ 0 → ⊥ = λ z. T-not (eqb slot 0) t (rw z (eqb-refl 0)) in
+    let n : slot ≡ 0 → ⊥ = neqb→ne slot 0 t in
     orElse-some slot (before orElse onwardRefusal j p onward orElse unless 22 (fetchedKept (joined j p onward) rows)) n
     ∙ sym (orElse-some slot (before orElse unless 22 (fetchedKept j rows)) n))
     (test (eqb slot 0))

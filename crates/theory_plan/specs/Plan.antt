@@ -55,24 +55,29 @@ tried plan n i k = cond (eqb k i) (suc n) (settled plan n i k)
 abbrev pub raise : (ℕ → ℕ) → ℕ → ℕ → ℕ
 raise p i k = cond (eqb k i) (suc (p k)) (p k)
 
--- Layer n of chunk i is taken: the layers below are carried, and the choice with it fits.
-abbrev pub takes : Job → ℕ → (ℕ → ℕ) → ℕ → Bool
-takes j n p i = eqb (p i) n && fits j (raise p i)
+-- Trials in general: ok i says of the choice that is tried whether chunk i may have the layer. Of
+-- the plan, whether it fits; a plan made afresh (theory_replan) asks more.
+abbrev pub fitting : Job → ℕ → (ℕ → ℕ) → Bool
+fitting j i choice = fits j choice
+
+-- Layer n of chunk i is taken: the layers below are carried, and the choice with it passes.
+abbrev pub takes : (ℕ → (ℕ → ℕ) → Bool) → ℕ → (ℕ → ℕ) → ℕ → Bool
+takes ok n p i = eqb (p i) n && ok i (raise p i)
 
 -- The choice after the trial of layer n of chunk i.
-abbrev pub try : Job → ℕ → (ℕ → ℕ) → ℕ → ℕ → ℕ
-try j n p i = cond (takes j n p i) (raise p i) p
+abbrev pub try : (ℕ → (ℕ → ℕ) → Bool) → ℕ → (ℕ → ℕ) → ℕ → ℕ → ℕ
+try ok n p i = cond (takes ok n p i) (raise p i) p
 
 -- Layer n is tried for the chunks lo + m down to lo + 1.
-abbrev pub sweep : Job → ℕ → ℕ → ℕ → (ℕ → ℕ) → ℕ → ℕ
-sweep j n lo zero p = p
-sweep j n lo (suc m) p = try j n (sweep j n (suc lo) m p) (suc lo)
+abbrev pub sweep : (ℕ → (ℕ → ℕ) → Bool) → ℕ → ℕ → ℕ → (ℕ → ℕ) → ℕ → ℕ
+sweep ok n lo zero p = p
+sweep ok n lo (suc m) p = try ok n (sweep ok n (suc lo) m p) (suc lo)
 
 -- On settled bases, layers 1 .. n - 1 are tried for all chunks.
 abbrev pub planTo : Job → (ℕ → ℕ) → ℕ → ℕ → ℕ
 planTo j bases zero = λ k. 0
 planTo j bases (suc zero) = bases
-planTo j bases (suc (suc n)) = sweep j (suc n) 0 (chunks j) (planTo j bases (suc n))
+planTo j bases (suc (suc n)) = sweep (fitting j) (suc n) 0 (chunks j) (planTo j bases (suc n))
 
 -- All layers.
 abbrev pub planOn : Job → (ℕ → ℕ) → ℕ → ℕ
@@ -82,7 +87,7 @@ planOn j bases = planTo j bases (layers j)
 
 -- The base is tried for all chunks.
 abbrev pub basesTried : Job → ℕ → ℕ
-basesTried j = sweep j 0 0 (chunks j) (λ k. 0)
+basesTried j = sweep (fitting j) 0 0 (chunks j) (λ k. 0)
 
 unfoldable pub planByTrials : Job → ℕ → ℕ
 unfolding fits

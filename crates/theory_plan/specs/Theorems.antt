@@ -8,7 +8,7 @@ use mathlib.Core.Logic.{⊎-elim, _↔_}
 use native.Mathlib.Omega.{arith}
 use lib.ListN.{length}
 use lib.Dec.{T, not-T, ltb, ltb→lt, nltb→le}
-use Rattle.theory_basics.specs.lemmas.Lists.{upTo-cong}
+use Rattle.theory_basics.specs.lemmas.Lists.{upTo-cong, length-upTo}
 use Rattle.theory_basics.specs.lemmas.Tests.{test}
 use Rattle.fetch.specs.Rows.{Row, layerCount, markByte, marksGiven}
 use Rattle.fetch.specs.Rules.{Keeps, Passes, PlayingOrder}
@@ -100,6 +100,10 @@ pub absent-count : (j : Job) (choice : ℕ → ℕ) → Choice j choice → (n :
 absent-count j lv c n h =
     count-none (λ i. ltb n (lv i)) (chunks j) (λ i u v. not-T (ltb n (lv i)) (λ t. omega (arith, ltb→lt n (lv i) t, c i u v)))
 
+-- A choice has a mark for each chunk.
+pub marks-long : (j : Job) (choice : ℕ → ℕ) → length (marksOf j choice) ≡ chunks j
+marks-long j choice = length-upTo (λ k. markByte (λ n. ltb n (choice (k + 1))) (layers j)) (chunks j)
+
 -- ---- the own list
 
 -- "One row per slot, chunk and layer", and the rows stand by slot, chunk, layer: of any choice.
@@ -109,6 +113,13 @@ own-list-ascending = own-ascending
 -- "It has at most 5,599 rows."
 pub own-list-rows : (j : Job) → Accepted j → (choice : ℕ → ℕ) → Choice j choice → length (ownList j choice) ≤ 5599
 own-list-rows = own-few-rows
+
+-- Of an accepted job's plan: it keeps rules 1 to 7 and has no more rows.
+pub plan-keeps : (j : Job) → Accepted j → Keeps j (marksOf j (plan j)) (ownList j (plan j))
+plan-keeps j a = plan-carried j (accepted-sized j a) (plan j) (plan-exists j a) .0
+
+pub plan-rows-few : (j : Job) → Accepted j → length (ownList j (plan j)) ≤ 5599
+plan-rows-few j a = own-list-rows j a (plan j) (plan-exists j a .choice)
 
 -- ---- document 01's way by itself
 

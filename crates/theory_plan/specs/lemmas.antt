@@ -10,6 +10,7 @@ pub mod Feasible
 pub mod Fill
 pub mod Kept
 pub mod Level
+pub mod Layers
 pub mod Linear
 pub mod Necessity
 pub mod Need
@@ -24,6 +25,7 @@ pub mod Release
 pub mod Shape
 pub mod Stretches
 pub mod Sufficiency
+pub mod Sweep
 pub mod Totals
 pub mod Trials
 pub mod Tried

@@ -6,11 +6,11 @@ use mathlib.Core.Path.{_≡_, refl, sym, ap, subst, _∙_}
 use mathlib.Core.List.{List}
 use mathlib.Core.Logic.{⊎-elim, _↔_}
 use native.Mathlib.Omega.{arith}
-use borrow.Author.Tests.{eq-eqb, ne-eqb, lt-ltb, le-ltb}
-use lib.Dec.{T-not, eqb, eqb-refl, eqb→eq, lt→ltb, ltb, ltb→lt, nltb→le}
+use borrow.Author.Tests.{eq-eqb, lt-ltb, le-ltb}
+use lib.Dec.{eqb, eqb→eq, lt→ltb, ltb, ltb→lt, nltb→le}
 use lib.ListN.{length}
 use Rattle.theory_basics.specs.Tests.{In}
-use Rattle.theory_basics.specs.lemmas.Tests.{test}
+use Rattle.theory_basics.specs.lemmas.Tests.{test, not-T-false}
 use Rattle.job.specs.Job.{Accepted, EqualBases, HoldsAll, Job, Layer, chunks, due, layers}
 use Rattle.theory_plan.specs.Plan.{plan}
 use Rattle.theory_plan.specs.Statement.{CanCarry, Choice, IsPlan, Same, SettledByTrials}
@@ -172,7 +172,7 @@ module _ (j : Job) (a : Accepted j) (wide : HoldsAll j) (equal : EqualBases j) (
       ⊎-elim
       (λ t. let q = eqb→eq k i t in rw (q, eq-eqb i i refl))
       (λ t.
-      rw (ne-eqb k i (λ q. T-not (eqb k i) t (rw q (eqb-refl i))))
+      rw (not-T-false (eqb k i) t)
       (⊎-elim
       (λ s. rw (lt-ltb i k (ltb→lt i k s)))
       (λ s.

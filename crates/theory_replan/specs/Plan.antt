@@ -11,7 +11,7 @@ use Rattle.theory_basics.specs.Sums.{sum}
 use Rattle.theory_basics.specs.Tests.{all, allTo}
 use Rattle.job.specs.Job.{Job, chunks, due, heldMost, layers, size}
 use Rattle.fetch.specs.Rows.{Row, bytesOfLayer, hasRow, layersCarried}
-use Rattle.theory_plan.specs.Plan.{after, picked, raise, settled}
+use Rattle.theory_plan.specs.Plan.{after, picked, settled, sweep}
 use Rattle.theory_plan.specs.lemmas.Feasible.{feas}
 
 -- ---- whether a choice still fits
@@ -56,22 +56,6 @@ triedFrom j fetched plan n i k = cond (eqb k i) (suc n) (settledFrom j fetched p
 -- Chunk i is due from p on, and the choice fits.
 abbrev pub openTo : Job → ℕ → List Row → ℕ → (ℕ → ℕ) → Bool
 openTo j p fetched i choice = leb p (due j i) && fitsFrom j p fetched choice
-
--- The trials in general, where ok i says of the choice that is tried whether chunk i may have one
--- layer more.
-
--- Layer n of chunk i is taken: the layers below are carried, and the choice with it passes.
-abbrev pub takes : (ℕ → (ℕ → ℕ) → Bool) → ℕ → (ℕ → ℕ) → ℕ → Bool
-takes ok n p i = eqb (p i) n && ok i (raise p i)
-
--- The choice after the trial of layer n of chunk i.
-abbrev pub try : (ℕ → (ℕ → ℕ) → Bool) → ℕ → (ℕ → ℕ) → ℕ → ℕ → ℕ
-try ok n p i = cond (takes ok n p i) (raise p i) p
-
--- Layer n is tried for the chunks lo + m down to lo + 1.
-abbrev pub sweep : (ℕ → (ℕ → ℕ) → Bool) → ℕ → ℕ → ℕ → (ℕ → ℕ) → ℕ → ℕ
-sweep ok n lo zero p = p
-sweep ok n lo (suc m) p = try ok n (sweep ok n (suc lo) m p) (suc lo)
 
 -- Layers 0 .. n - 1 are tried for all of c chunks, of which those of base are carried from the
 -- start.

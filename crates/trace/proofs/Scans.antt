@@ -9,10 +9,10 @@ use native.Mathlib.Omega.{arith}
 use native.Mathlib.Nat.{pow-suc, pow-le-pow-right}
 use native.Mathlib.Numerals.{add-one}
 use lib.ListN.{length, getD, drop, length-set, drop-of-length-le}
-use lib.Dec.{T-not, ltb, eqb, eqb→eq, eqb-refl, ltb→lt, nltb→le}
+use lib.Dec.{ltb, eqb, eqb→eq, ltb→lt, nltb→le}
 use borrow.Author.Tests.{le-leb, lt-leb, ne-eqb, not-true, not-false}
 use Rattle.theory_basics.specs.lemmas.Tables.{drop-next}
-use Rattle.theory_basics.specs.lemmas.Tests.{T-true, not-T-false, test, true-T, tests}
+use Rattle.theory_basics.specs.lemmas.Tests.{T-true, not-T-false, test, true-T, tests, neqb→ne}
 use Rattle.trace.specs.lemmas.Scan.{Scanned, scan, scan-bad, scan-long}
 use Rattle.trace.specs.lemmas.Tally.{bump, tally}
 use Rattle.job.specs.Refusal.{within}
@@ -109,7 +109,7 @@ module _ (trace old counts : List ℕ) (i t : ℕ) (s : Scanning trace old count
         let q = eqb→eq (getD trace next 0) 10 u in
         let f : drop next trace ≡ 10 ∷ drop (next + 1) trace = drop-next trace next (omega arith) ∙ ap (λ (x : ℕ). x ∷ drop (next + 1) trace) q in
         broken (ap (λ (bs : List ℕ). scan n v true t bs .fine) f ∙ rw z))
-        (λ u. no-digit (omega arith) w (λ q. T-not (eqb (getD trace next 0) 10) u (rw q (eqb-refl 10))))
+        (λ u. no-digit (omega arith) w (neqb→ne (getD trace next 0) 10 u))
         (test (eqb (getD trace next 0) 10))
 
     -- No line feed at the end.

@@ -14,7 +14,7 @@ use Rattle.theory_basics.specs.Refusals.{_orElse_, unless}
 use Rattle.theory_basics.specs.Tests.{all}
 use Rattle.theory_basics.specs.lemmas.Refusals.{orElse-as, orElse-none, orElse-some, unless-as}
 use Rattle.theory_basics.specs.lemmas.Tables.{all-take}
-use Rattle.theory_basics.specs.lemmas.Tests.{all-map, allTo-iff, by-cond, eqb-iff, ltb-iff, test}
+use Rattle.theory_basics.specs.lemmas.Tests.{all-map, allTo-iff, by-cond, ltb-iff, test, neqb→ne}
 use Rattle.job.specs.Input.{wholeRefusal}
 use Rattle.job.specs.Theorems.{whole-iff, bytes-iff, film-iff, overrides-iff, sizes-iff, within-iff}
 use Rattle.job.specs.Job.{Accepted, EqualChunks, Named, Within, chunks, lastDue}
@@ -287,7 +287,7 @@ module _ (h : WaitInput) where
             (test (ltb 0 (shortest film))),
       ))
       (λ t.
-      let n : inputRefusal h ≡ 0 → ⊥ = λ z. T-not (eqb (inputRefusal h) 0) t (eqb-iff (inputRefusal h) 0 .1 z) in
+      let n : inputRefusal h ≡ 0 → ⊥ = neqb→ne (inputRefusal h) 0 t in
       absurd (not-sixteen (sym (orElse-some (inputRefusal h) (sixteenRefusal film) n) ∙ e)))
       (test (eqb (inputRefusal h) 0))
 

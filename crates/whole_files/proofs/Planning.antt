@@ -24,6 +24,7 @@ use Rattle.records.specs.declared.Written.{Written}
 use Rattle.records.specs.declared.Written.the-variants as planFile
 use Rattle.theory_plan.specs.Plan.{plan}
 use Rattle.theory_plan.specs.Statement.{marksOf}
+use Rattle.theory_plan.specs.Theorems.{plan-rows-few}
 use Rattle.planner.specs.Answer.{PlanOutput, answerOf, holds, planRefusal, planRows}
 use Rattle.planner.specs.declared.Answer.{Answer}
 use Rattle.planner.specs.declared.Answer.the-variants.{Rows, Refused}
@@ -31,7 +32,7 @@ use Rattle.planner.specs.declared.Planned.{Planned}
 use Rattle.report.specs.lemmas.Again.{rows-again}
 use Rattle.whole_files.specs.Calls.{PlanOfJob, withRoom}
 use Rattle.whole_files.specs.Files.{planOfJob}
-use Rattle.whole_files.specs.lemmas.Plans.{plan-file-fits, plan-marks-long, plan-rows-few}
+use Rattle.whole_files.specs.lemmas.Plans.{plan-file-fits, plan-marks-long}
 use Rattle.whole_files.proofs.Fronts.{filled, fronts, slicesOfPlan, whole-plan}
 use Rattle.whole_files.proofs.Writing.{never-second, wrote-refused}
 

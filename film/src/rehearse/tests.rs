@@ -10,14 +10,14 @@ pub struct Random(pub u64);
 
 impl Random {
     pub fn below(&mut self, n: u32) -> u32 {
-        self.0 = self.0.wrapping_mul(6364136223846793005).wrapping_add(1442695040888963407);
+        self.0 = self.0.wrapping_mul(6_364_136_223_846_793_005).wrapping_add(1_442_695_040_888_963_407);
         ((self.0 >> 33) % u64::from(n.max(1))) as u32
     }
 }
 
 pub fn random_job(r: &mut Random) -> Job {
     let (chunks, span, delay) = (1 + r.below(12) as u16, 1 + r.below(3) as u16, 1 + r.below(6) as u16);
-    let sizes: Vec<u32> = (0..1 + r.below(4)).map(|_| 1 + r.below(9)).collect();
+    let sizes: Vec<u32> = (0..=r.below(4)).map(|_| 1 + r.below(9)).collect();
     let mut overrides = Vec::new();
     for chunk in 2..=chunks {
         for (layer, own) in sizes.iter().enumerate() {

@@ -1,5 +1,7 @@
 //! What the trials share: the program run on files of a folder of its own, and random jobs.
 #![allow(dead_code)]
+// Random numbers are drawn from within the range that they are cut to.
+#![allow(clippy::cast_possible_truncation, clippy::cast_precision_loss, clippy::cast_sign_loss)]
 use film_planner::{Job, Override};
 use std::fs::File;
 use std::path::{Path, PathBuf};
@@ -101,7 +103,7 @@ impl Drop for Folder {
     }
 }
 
-/// Random numbers by a seed (SplitMix64).
+/// Random numbers by a seed (`SplitMix64`).
 pub struct Random(pub u64);
 
 impl Random {

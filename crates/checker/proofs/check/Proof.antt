@@ -9,7 +9,7 @@ use lib.ListN.{length-replicate}
 use denote.Ref.{now}
 use borrow.Author.Tests.{ne-eqb, eq-eqb}
 use Rattle.job.specs.Input.{jobInput, jobIn}
-use Rattle.job.specs.Theorems.{input-iff}
+use Rattle.job.specs.Theorems.{input-accepted}
 use Rattle.fetch.specs.Input as rows
 use Rattle.fetch.specs.Rows.{rowsOf}
 use Rattle.fetch.specs.Theorems.{first-slot}
@@ -38,7 +38,7 @@ verdict-of-requires : tie.Need-verdict-of-requires
 verdict-of-requires c κs =
     let a = c .before .before .before .before .before .before .before .before .before .before .before .before .before .before .before .before .before .before .args in
     let h = jobInput (a .p) (now (a .sizes)) (now (a .size-chunks)) (now (a .size-layers)) (now (a .size-bytes)) (now (a .forecast)) in
-    let ok = input-iff h .0 (sym (c .before .before .before .before .before .before .before .refusal .ensures) ∙ c .before .before .before .before .before .before .if1 .left) .1 in (
+    let ok = input-accepted h (sym (c .before .before .before .before .before .before .before .refusal .ensures) ∙ c .before .before .before .before .before .before .if1 .left) in (
       ok .chunks-in .high,
       ok .last-in,
       ok .layers-in .high,
@@ -54,7 +54,7 @@ returns-3 c =
     let its = c .before .before .fill-sizes .ensures (length-replicate 2000 (a .p .chunks)) in
     let rows = rowsOf (now (a .slots)) (now (a .chunks)) (now (a .layers)) (now (a .bytes)) in
     rw (none, sym (c .before .before .before .before .before .before .list-refusal .ensures), eq-eqb _ _ (c .before .before .before .before .before .if2 .left))
-    (ap Verdict (c .verdict-of .ensures (h .sizes) (jobIn h .overrides) (shown h _ (input-iff h .0 none .1) its) ∙ first-slot (jobIn h) (now (a .marks)) rows))
+    (ap Verdict (c .verdict-of .ensures (h .sizes) (jobIn h .overrides) (shown h _ (input-accepted h none) its) ∙ first-slot (jobIn h) (now (a .marks)) rows))
 
 pub check-spec : {M : Type 1} → statement M
 check-spec =

@@ -8,7 +8,7 @@ use lib.ListN.{length-replicate}
 use denote.Ref.{now}
 use borrow.Author.Tests.{ne-eqb, eq-eqb}
 use Rattle.job.specs.Input.{jobInput, jobIn}
-use Rattle.job.specs.Theorems.{input-iff}
+use Rattle.job.specs.Theorems.{input-accepted}
 use Rattle.fetch.specs.Input as rows
 use Rattle.checker.specs.declared.Checked.the-variants.{Verdict}
 use Rattle.core_rules.proofs.Exact.{shown}
@@ -41,7 +41,7 @@ verdict-of-requires : tie.Need-verdict-of-requires
 verdict-of-requires c κs =
     let a = c .before .before .before .before .before .before .before .before .before .before .before .before .before .before .before .before .before .before .before .before .args in
     let h = jobInput (a .p) (now (a .sizes)) (now (a .size-chunks)) (now (a .size-layers)) (now (a .size-bytes)) (now (a .forecast)) in
-    let ok = input-iff h .0 (sym (c .before .before .before .before .before .before .before .before .before .refusal .ensures) ∙ c .before .before .before .before .before .before .before .before .if1 .left) .1 in (
+    let ok = input-accepted h (sym (c .before .before .before .before .before .before .before .before .before .refusal .ensures) ∙ c .before .before .before .before .before .before .before .before .if1 .left) in (
       ok .chunks-in .high,
       ok .last-in,
       ok .layers-in .high,
@@ -56,7 +56,7 @@ returns-4 c =
     let none = sym (c .before .before .before .before .before .before .before .before .before .before .refusal .ensures) ∙ c .before .before .before .before .before .before .before .before .before .if1 .left in
     let its = c .before .before .fill-sizes .ensures (length-replicate 2000 (a .p .chunks)) in
     rw (none, sym (c .before .before .before .before .before .before .before .before .list-refusal .ensures), eq-eqb _ _ (c .before .before .before .before .before .before .before .if2 .left), sym (c .before .before .before .before .before .before .slot-refusal .ensures), eq-eqb _ _ (c .before .before .before .before .before .if3 .left))
-    (ap Verdict (c .verdict-of .ensures (h .sizes) (jobIn h .overrides) (shown h _ (input-iff h .0 none .1) its)))
+    (ap Verdict (c .verdict-of .ensures (h .sizes) (jobIn h .overrides) (shown h _ (input-accepted h none) its)))
 
 pub check-from-spec : {M : Type 1} → statement M
 check-from-spec =

@@ -1,21 +1,13 @@
--- Lemmas. Verdicts are at most 7, a word has at most eight bytes with a bit, and a choice a mark
--- for each chunk. Assumes nothing.
+-- Lemmas. Verdicts are at most 7. Assumes nothing.
 use Prim.Native.Nat.{ℕ, suc, _+_, _≤_, _<_}
-use mathlib.Core.Path.{_≡_}
 use mathlib.Core.Bool.{Bool, true, false}
 use mathlib.Core.List.{List, [], _∷_}
 use native.Mathlib.Omega.{arith}
-use lib.Dec.{ltb}
 use lib.ListN.{length}
-use Rattle.theory_basics.specs.lemmas.Tests.{by-cond}
-use Rattle.theory_basics.specs.lemmas.Lists.{length-upTo}
-use Rattle.job.specs.Job.{Job, chunks, layers}
-use Rattle.fetch.specs.Counts.{lowBytes, markCount, wordBytes, wordCount}
-use Rattle.fetch.specs.Marks.{bit}
-use Rattle.fetch.specs.Rows.{Row, markByte}
+use Rattle.job.specs.Job.{Job}
+use Rattle.fetch.specs.Rows.{Row}
 use Rattle.fetch.specs.Verdict.{lowest, rule1, rule2, rule3, rule4, rule5, rule6, rule7, verdict}
 use Rattle.fetch.specs.VerdictFrom.{rule2From, verdictFrom}
-use Rattle.theory_plan.specs.Statement.{marksOf}
 
 lowest-few : (n : ℕ) (bs : List Bool) → 0 < n → lowest n bs < n + length bs
 lowest-few n [] h = omega arith
@@ -29,14 +21,3 @@ verdict-few j marks rows = omega (arith, lowest-few 1 (rule1 j rows ∷ rule2 j 
 pub verdict-from-few : (j : Job) (p : ℕ) (marks : List ℕ) (rows : List Row) → verdictFrom j p marks rows ≤ 7
 unfolding verdictFrom
 verdict-from-few j p marks rows = omega (arith, lowest-few 1 (rule1 j rows ∷ rule2From j p rows ∷ rule3 j rows ∷ rule4 j rows ∷ rule5 j rows ∷ rule6 j rows ∷ rule7 j marks rows ∷ []) (omega arith))
-
-marks-counted : (n : ℕ) (marks : List ℕ) → markCount n marks ≤ length marks
-marks-counted n [] = omega arith
-marks-counted n (m ∷ marks) = by-cond (λ (k : ℕ). k + markCount n marks ≤ suc (length marks)) (bit m n) (λ t. omega (arith, marks-counted n marks)) (λ t. omega (arith, marks-counted n marks))
-
-pub word-few : (word n : ℕ) → wordCount word n ≤ 8
-unfolding wordCount wordBytes
-word-few word n = by-cond (λ (k : ℕ). k ≤ 8) (ltb n 8) (λ t. marks-counted n (lowBytes 8 word)) (λ t. omega arith)
-
-pub marks-long : (j : Job) (choice : ℕ → ℕ) → length (marksOf j choice) ≡ chunks j
-marks-long j choice = length-upTo (λ k. markByte (λ n. ltb n (choice (k + 1))) (layers j)) (chunks j)

@@ -10,7 +10,7 @@ use lib.ListN.{length}
 use borrow.Author.Tests.{lt-ltb, ne-eqb}
 use Rattle.theory_basics.specs.Lent.{lentAfter, over}
 use Rattle.theory_basics.specs.Refusals.{_orElse_, unless}
-use Rattle.theory_basics.specs.lemmas.Tests.{T-true, not-T-false, test, tests, true-T}
+use Rattle.theory_basics.specs.lemmas.Tests.{T-true, not-T-false, test, tests, true-T, answer-false, answer-true}
 use Rattle.meter.specs.declared.Answer.{Answer}
 use Rattle.meter.specs.declared.Meter.{Meter}
 use Rattle.meter.specs.declared.Taken.{Taken}
@@ -20,19 +20,19 @@ use Rattle.meter.specs.lemmas.Order.{in-range-iff}
 use Rattle.core_ffi.specs.Convention.{answered}
 use Rattle.core_ffi.specs.Meters.{Begun, Sampled, Storage, cellsRefusal, meanNumber, meterIn, sampledRefusal, storage, storedIn}
 use Rattle.core_ffi.specs.lemmas.Numbers.{forecastNumber, is-answered, refusedNumber}
-use Rattle.core_ffi.specs.lemmas.Slices.{eleven-some, first-twice, refused-keeps, test-false, test-true}
+use Rattle.core_ffi.specs.lemmas.Slices.{eleven-some, first-twice, refused-keeps}
 
 -- ---- room
 
 pub no-cells : (s : Storage) (r : Bool) → r ≡ leb 10 (length (s .slots)) && (leb 10 (length (s .bytes)) && leb 1 (length (s .kept))) → not r ≡ true → cellsRefusal s ≡ 11
-no-cells s r e f = ap (unless 11) (test-false r _ e f)
+no-cells s r e f = ap (unless 11) (answer-false r _ e f)
 
 pub cells : (s : Storage) (r : Bool) → r ≡ leb 10 (length (s .slots)) && (leb 10 (length (s .bytes)) && leb 1 (length (s .kept))) → not r ≡ false → cellsRefusal s ≡ 0
-cells s r e f = ap (unless 11) (test-true r _ e f)
+cells s r e f = ap (unless 11) (answer-true r _ e f)
 
 pub cells-room : (a b k : ℕ) (r : Bool) → r ≡ leb 10 a && (leb 10 b && leb 1 k) → not r ≡ false → (10 ≤ a) × (10 ≤ b) × (1 ≤ k)
 cells-room a b k r e f =
-    let u = simp tests at (true-T (leb 10 a && (leb 10 b && leb 1 k)) (test-true r _ e f)) in
+    let u = simp tests at (true-T (leb 10 a && (leb 10 b && leb 1 k)) (answer-true r _ e f)) in
     (u .0, u .1 .0, u .1 .1)
 
 -- ---- a refusal keeps the storage

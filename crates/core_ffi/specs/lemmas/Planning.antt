@@ -6,11 +6,11 @@ use mathlib.Core.Bool.{Bool, true, false, cond, _&&_}
 use mathlib.Core.List.{List, [], _∷_, map}
 use mathlib.Core.Logic.{⊎-elim}
 use native.Mathlib.Omega.{arith}
-use lib.Dec.{T-not, eqb, eqb→eq, leb}
+use lib.Dec.{eqb, eqb→eq, leb}
 use lib.ListN.{length}
 use borrow.Author.Tests.{le-leb, lt-leb, ne-eqb}
 use Rattle.theory_basics.specs.lemmas.Refusals.{orElse-iff, orElse-none, orElse-some}
-use Rattle.theory_basics.specs.lemmas.Tests.{eqb-iff, test}
+use Rattle.theory_basics.specs.lemmas.Tests.{test, neqb→ne}
 use Rattle.fetch.specs.Input.{listRefusal}
 use Rattle.theory_replan.specs.Refusal.{replanRefusal}
 use Rattle.replan.specs.Answer as afresh
@@ -137,7 +137,7 @@ no-marks h o s c l b =
     ∙ eleven-first (leb (chunks (jobIn h)) 0) (leb n (length s) && (leb n (length c) && (leb n (length l) && leb n (length b)))) (lt-leb (chunks (jobIn h)) 0 some)
     ∙ sym (orElse-none asked 11 none))
     (λ t.
-    let some : asked ≡ 0 → ⊥ = λ e. T-not (eqb asked 0) t (eqb-iff asked 0 .1 e) in
+    let some : asked ≡ 0 → ⊥ = neqb→ne asked 0 t in
     orElse-some asked room some ∙ sym (orElse-some asked 11 some))
     (test (eqb asked 0))
 

@@ -6,13 +6,13 @@ use mathlib.Core.Bool.{Bool, true, false, cond, not, _&&_}
 use mathlib.Core.List.{List, []}
 use native.Mathlib.Omega.{arith}
 use mathlib.Core.Logic.{⊎-elim}
-use lib.Dec.{T-not, eqb, eqb→eq, leb}
+use lib.Dec.{eqb, eqb→eq, leb}
 use lib.ListN.{length}
 use borrow.Author.Tests.{lt-leb, ne-eqb}
 use Rattle.theory_basics.specs.Lent.{lentAfter, over}
 use Rattle.theory_basics.specs.Refusals.{_orElse_, unless}
 use Rattle.theory_basics.specs.lemmas.Refusals.{orElse-none, orElse-some}
-use Rattle.theory_basics.specs.lemmas.Tests.{eqb-iff, test, tests, true-T}
+use Rattle.theory_basics.specs.lemmas.Tests.{test, tests, true-T, answer-false, answer-true, neqb→ne}
 use Rattle.job.specs.Input.{overrideBytes, overrideChunks, overrideLayers}
 use Rattle.job.specs.Job.{Job, layers}
 use Rattle.jobrecords.specs.Reader.{Buffers, JobReadPromise, buffers, jobAnswer, lentBy, lentRead, readAnswer, jobReadRefusal, roomRefusal}
@@ -24,10 +24,10 @@ use Rattle.jobrecords.specs.declared.JobRead.the-variants as jobRead
 use Rattle.core_ffi.specs.Convention.{answered}
 use Rattle.core_ffi.specs.Files.{JobReturned, JobRoom, jobReturnRefusal, lengthsOf, programmeOf}
 use Rattle.core_ffi.specs.lemmas.Numbers.{jobReadNumber, lengthsRead, programmeRead, refusedNumber, through}
-use Rattle.core_ffi.specs.lemmas.Slices.{eleven-first, eleven-once, eleven-some, no-more, refused-keeps, test-false, test-true}
+use Rattle.core_ffi.specs.lemmas.Slices.{eleven-first, eleven-once, eleven-some, no-more, refused-keeps}
 
 pub room-for-job : (a b : ℕ) (r : Bool) → r ≡ leb 4 a && leb 2 b → not r ≡ false → (4 ≤ a) × (2 ≤ b)
-room-for-job a b r e f = let u = simp tests at (true-T (leb 4 a && leb 2 b) (test-true r _ e f)) in (u .0, u .1)
+room-for-job a b r e f = let u = simp tests at (true-T (leb 4 a && leb 2 b) (answer-true r _ e f)) in (u .0, u .1)
 
 abbrev roomFor : Job → Buffers → Bool
 roomFor j lent =
@@ -68,7 +68,7 @@ module _ (sequenced : Bool) (file : List ℕ) where
   read-whole lent lent' held read r t f p ep en er =
       let j = jobOfFile sequenced file in
       let refused : ℕ = jobReadRefusal sequenced file (lent .job) in
-      let w : refused ≡ jobReturnRefusal sequenced file lent = sym (ap (λ (b : Bool). refused orElse unless 11 b) (test-true held _ t f) ∙ no-more refused) in
+      let w : refused ≡ jobReturnRefusal sequenced file lent = sym (ap (λ (b : Bool). refused orElse unless 11 b) (answer-true held _ t f) ∙ no-more refused) in
       record {
         number = number-read (lent .job) read r (p .answer) er ∙ ap (λ (n : ℕ). answered n (length (j .forecast))) w;
         buffers-are = p .after ∙ ap (λ (n : ℕ). lentBy n j (lent .job)) w;
@@ -90,7 +90,7 @@ module _ (sequenced : Bool) (file : List ℕ) where
       ∙ eleven-first (leb (layers j) 0) (leb (length (j .overrides)) (length cs) && (leb (length (j .overrides)) (length ls) && (leb (length (j .overrides)) (length bs) && leb (length (j .forecast)) (length f)))) (lt-leb (layers j) 0 some)
       ∙ sym (orElse-none refused 11 none))
       (λ t.
-      let some : refused ≡ 0 → ⊥ = λ e. T-not (eqb refused 0) t (eqb-iff refused 0 .1 e) in
+      let some : refused ≡ 0 → ⊥ = neqb→ne refused 0 t in
       orElse-some refused room some ∙ sym (orElse-some refused 11 some))
       (test (eqb refused 0))
 
@@ -117,7 +117,7 @@ module _ (sequenced : Bool) (file : List ℕ) where
       let old = lent .job in
       let R : ℕ = jobReturnRefusal sequenced file lent in
       let is : R ≡ refusalOf sequenced file orElse 11 =
-      ap (λ (b : Bool). jobReadRefusal sequenced file old orElse unless 11 b) (test-false held _ t g) ∙ eleven-once (refusalOf sequenced file) (roomFor j old) in
+      ap (λ (b : Bool). jobReadRefusal sequenced file old orElse unless 11 b) (answer-false held _ t g) ∙ eleven-once (refusalOf sequenced file) (roomFor j old) in
       let some : R ≡ 0 → ⊥ = λ z. eleven-some (refusalOf sequenced file) (sym is ∙ z) in
       let keeps : (result before : List ℕ) → before ≡ lentAfter R result before = λ result before. sym (refused-keeps R result before some) in
       record {

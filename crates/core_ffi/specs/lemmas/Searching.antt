@@ -9,7 +9,7 @@ use lib.Dec.{leb, eqb}
 use lib.ListN.{length}
 use Rattle.theory_basics.specs.Lent.{lentAfter, over}
 use Rattle.theory_basics.specs.Refusals.{_orElse_, unless}
-use Rattle.theory_basics.specs.lemmas.Tests.{tests, true-T}
+use Rattle.theory_basics.specs.lemmas.Tests.{tests, true-T, answer-false, answer-true}
 use Rattle.job.specs.Input.{JobInput, jobIn, jobRefusal}
 use Rattle.fetch.specs.Slices.{slicesOf}
 use Rattle.planner.specs.declared.Answer.{Answer}
@@ -21,10 +21,10 @@ use Rattle.search.specs.declared.Searched.{Searched}
 use Rattle.core_ffi.specs.Plans.{SearchReturned, planSlices, walkOf, withWalk}
 use Rattle.core_ffi.specs.lemmas.Numbers.{countsStored, planNumber, refusedNumber, walkStored}
 use Rattle.core_ffi.specs.lemmas.Planning.{short-returned, whole-returned}
-use Rattle.core_ffi.specs.lemmas.Slices.{eleven-once, eleven-some, no-more, refused-keeps, test-false, test-true}
+use Rattle.core_ffi.specs.lemmas.Slices.{eleven-once, eleven-some, no-more, refused-keeps}
 
 pub room-for-walk : (a b : ℕ) (r : Bool) → r ≡ leb 4 a && leb 3 b → not r ≡ false → (4 ≤ a) × (3 ≤ b)
-room-for-walk a b r e f = let u = simp tests at (true-T (leb 4 a && leb 3 b) (test-true r _ e f)) in (u .0, u .1)
+room-for-walk a b r e f = let u = simp tests at (true-T (leb 4 a && leb 3 b) (answer-true r _ e f)) in (u .0, u .1)
 
 walk-after : (b : Bool) (n refused steps shortfall : ℕ) (ended : Bool) (old : List ℕ) → walkStored (cond b (Rows n) (Refused refused)) (cond b steps 0) (cond b ended false) (cond b shortfall 0) old ≡ cond b (over (steps ∷ cond ended 1 0 ∷ shortfall ∷ []) old) old
 walk-after true n refused steps shortfall ended old = refl
@@ -48,7 +48,7 @@ search-whole h budget m s c l b k w m' s' c' l' b' k' w' held p r t f made ek ew
     let j = jobIn h in
     let refused : ℕ = searchRefusal h budget (slicesOf m s c l b) in
     let W : ℕ = withWalk refused k w in
-    let same : W ≡ refused = ap (λ (x : Bool). refused orElse unless 11 x) (test-true held _ t f) ∙ no-more refused in
+    let same : W ≡ refused = ap (λ (x : Bool). refused orElse unless 11 x) (answer-true held _ t f) ∙ no-more refused in
     record {
       plan =
           whole-returned W refused (marksOf j (planFound j budget)) (rowsFound j budget) (countsOf j (planFound j budget)) (0 ∷ 0 ∷ 0 ∷ 0 ∷ [])
@@ -72,7 +72,7 @@ search-short h budget m s c l b k w held before r t f e er =
     let j = jobIn h in
     let refused : ℕ = searchRefusal h budget (slicesOf m s c l b) in
     let W : ℕ = withWalk refused k w in
-    let is : W ≡ jobRefusal h orElse 11 = ap (λ (x : Bool). refused orElse unless 11 x) (test-false held _ t f) ∙ eleven-once (jobRefusal h) (holdsFound j budget (slicesOf m s c l b)) in
+    let is : W ≡ jobRefusal h orElse 11 = ap (λ (x : Bool). refused orElse unless 11 x) (answer-false held _ t f) ∙ eleven-once (jobRefusal h) (holdsFound j budget (slicesOf m s c l b)) in
     let some : W ≡ 0 → ⊥ = λ z. eleven-some (jobRefusal h) (sym is ∙ z) in
     record {
       plan =

@@ -2,12 +2,12 @@
 -- the library's own is too short. Assumes nothing.
 use Prim.Native.Nat.{ℕ, _≤_}
 use mathlib.Core.Path.{_≡_, refl, sym, ap, _∙_}
-use mathlib.Core.Bool.{Bool, true, false, cond, not, _&&_}
+use mathlib.Core.Bool.{Bool, true, false, cond, _&&_}
 use mathlib.Core.List.{List, [], _∷_, _++_, append-nil}
 use native.Mathlib.Omega.{arith}
 use lib.Dec.{T-not, eqb, eqb→eq}
 use lib.ListN.{length, drop, set, take}
-use lib.Seq.{length-take-le, take-all}
+use lib.Seq.{length-take-le, take-all, drop-length}
 use Rattle.theory_basics.specs.Lent.{lentAfter, over}
 use Rattle.theory_basics.specs.Refusals.{_orElse_, unless}
 use Rattle.theory_basics.specs.lemmas.Lent.{over-next}
@@ -30,12 +30,8 @@ two-over (x ∷ (y ∷ l)) a b h = refl
 pub whole-over : (n : ℕ) (from to to' : List ℕ) → length from ≡ n → to' ≡ over (take n from) to → to' ≡ over from to
 whole-over n from to to' e f = f ∙ ap (λ (l : List ℕ). over l to) (take-all n from (omega arith))
 
-drop-whole : (l : List ℕ) → drop (length l) l ≡ []
-drop-whole [] = refl
-drop-whole (x ∷ l) = drop-whole l
-
 none-left : (l : List ℕ) (n : ℕ) → length l ≡ n → drop n l ≡ []
-none-left l n e = ap (λ (k : ℕ). drop k l) (sym e) ∙ drop-whole l
+none-left l n e = ap (λ (k : ℕ). drop k l) (sym e) ∙ drop-length l
 
 -- The first n of a slice, copied into an array of n.
 pub first-of : (n : ℕ) (from to to' : List ℕ) → length to ≡ n → n ≤ length from → to' ≡ over (take n from) to → to' ≡ take n from
@@ -52,14 +48,6 @@ meter-of kept e f = cc
 
 pub refused-keeps : (refused : ℕ) (result old : List ℕ) → (refused ≡ 0 → ⊥) → lentAfter refused result old ≡ old
 refused-keeps refused result old n = rw (ne-eqb refused 0 n)
-
-pub test-false : (r t : Bool) → r ≡ t → not r ≡ true → t ≡ false
-test-false true t e f = let z : _≡_ {A = ℕ} 0 1 = cc in absurd (omega arith)
-test-false false t e f = sym e
-
-pub test-true : (r t : Bool) → r ≡ t → not r ≡ false → t ≡ true
-test-true true t e f = sym e
-test-true false t e f = let z : _≡_ {A = ℕ} 0 1 = cc in absurd (omega arith)
 
 pub eleven-first : (a b : Bool) → a ≡ false → unless 11 (a && b) ≡ 11
 eleven-first a b e = ap (λ (x : Bool). unless 11 (x && b)) e

@@ -1,63 +1,71 @@
--- `spread` meets its contract: the marks of the chunks up to i are stored.
+-- `spread` meets its contract: what stands from place q on, over what is stored, gives every mark.
 use Rattle.core_output.proofs.spread.Statement.{statement}
-use Rattle.core_decide.specs.lemmas.Marks.{kept-place, Spreading, spreading-end, spreading-kept, spreading-skipped, spreading-start}
 use Rattle.core_output.proofs.spread.Tie as tie
-use mathlib.Core.Path.{sym, _∙_}
 use Prim.Native.Nat.{_-_}
 use native.Mathlib.Omega.{arith}
-use borrow.Author.Tests.{eqb-true, eqb-false}
+use lib.ListN.{length-set}
+use borrow.Author.Needs.{needs}
 use denote.Ref.{now}
+use Rattle.core_output.proofs.Spreads.{Spreading, chunk-in, spreading-end, spreading-more, spreading-start}
+use mathlib.Core.Path.{_∙_}
 
 abbrev Inv-loop : tie.InvT-loop
-Inv-loop ids mark first whole count marks₀ q₀ i₀ marks q i = Spreading ids mark first whole count marks₀ marks q i
+Inv-loop ids mark first whole count marks₀ q₀ marks q = Spreading ids mark first whole count marks₀ marks q
 
 abbrev μ-loop : tie.MeasureT-loop
-μ-loop ids mark first whole count marks₀ q₀ i₀ marks q i = count - i
+μ-loop ids mark first whole count marks₀ q₀ marks q = 500 - q
+
+copy8-requires : tie.Need-copy8-requires Inv-loop μ-loop
+copy8-requires c κs = (omega (arith, c .before .before .before .pre .1, c .before .before .before .pre .6), c .before .before .before .pre .2)
 
 loop-holds : tie.Need-loop-holds Inv-loop μ-loop
-loop-holds c = let a = c .before .args in spreading-start (now (a .ids)) (now (a .mark)) (a .first) (now (a .whole)) (a .count) (now (a .marks)) (c .before .pre .0) (c .before .pre .3)
+loop-holds c = let a = c .before .before .before .before .before .before .args in let o = c .before .before .before .before .before .before .pre in spreading-start (now (a .ids)) (now (a .mark)) (a .first) (now (a .whole)) (a .count) _ (now (a .marks)) (o .0) (o .3) (omega (arith, o .1, o .6)) (o .2) (c .before .before .copy8 .ensures)
 
-add-chunk : tie.Need-add-chunk Inv-loop μ-loop
-add-chunk c = omega arith
+mul-wide : tie.Need-mul-wide Inv-loop μ-loop
+mul-wide c = omega arith
 
-is-at-requires : tie.Need-is-at-requires Inv-loop μ-loop
-is-at-requires c κs = (omega arith, c .before .before .before .pre .4)
+element-copy-out-wide : tie.Need-element-copy-out-wide Inv-loop μ-loop
+element-copy-out-wide c = omega (arith, c .before .before .before .before .before .before .before .before .pre .4)
+
+wide-requires : tie.Need-wide-requires Inv-loop μ-loop
+wide-requires c κs = search needs
+
+sub-at : tie.Need-sub-at Inv-loop μ-loop
+sub-at c =
+    let a = c .before .before .before .before .before .before .before .before .before .before .args in
+    let l = c .before .before .before .loop in
+    omega (arith, c .wide .ensures, chunk-in (now (a .ids)) (now (a .mark)) (a .first) (now (a .whole)) (a .count) _ (c .before .before .before .before .before .before .before .before .before .before .pre .4) (c .before .before .before .before .before .before .before .before .before .before .pre .5) (l .marks) (l .q) (l .inv) (c .before .before .loop-test .taken) .0)
 
 element-copy-out-marks : tie.Need-element-copy-out-marks Inv-loop μ-loop
-element-copy-out-marks c = let a = c .before .before .before .before .before .args in let o = c .before .before .before .before .before .pre in let l = c .before .before .before .loop in
-    omega (arith, o .5, kept-place (now (a .ids)) (now (a .mark)) (a .first) (now (a .whole)) (o .4) (o .5) (a .count) (now (a .marks)) (l .marks) (l .q) (l .i) (l .inv) (c .before .before .loop-test .taken) (o .2) (eqb-true _ _ (sym (c .before .is-at .ensures) ∙ c .if1 .taken)))
+element-copy-out-marks c = c .before .before .loop-test .taken
 
 slice-write-marks : tie.Need-slice-write-marks Inv-loop μ-loop
-slice-write-marks c = omega (arith, c .before .before .before .before .loop .inv .long, c .before .before .before .before .before .before .pre .2)
+slice-write-marks c =
+    let a = c .before .before .before .before .before .before .before .before .before .before .before .args in
+    let l = c .before .before .before .before .loop in
+    let k = chunk-in (now (a .ids)) (now (a .mark)) (a .first) (now (a .whole)) (a .count) _ (c .before .before .before .before .before .before .before .before .before .before .before .pre .4) (c .before .before .before .before .before .before .before .before .before .before .before .pre .5) (l .marks) (l .q) (l .inv) (c .before .before .before .loop-test .taken) in
+    omega (arith, c .before .wide .ensures, k .0, k .1, l .inv .fits)
 
 add-q : tie.Need-add-q Inv-loop μ-loop
-add-q c = omega (arith, c .before .before .before .before .loop .inv .to)
+add-q c = omega arith
 
 loop-less : tie.Need-loop-less Inv-loop μ-loop
 loop-less c = omega arith
 
 loop-again : tie.Need-loop-again Inv-loop μ-loop
-loop-again c = let a = c .before .before .before .before .before .before .args in let o = c .before .before .before .before .before .before .pre in let l = c .before .before .before .before .loop in
-    spreading-kept (now (a .ids)) (now (a .mark)) (a .first) (now (a .whole)) (o .4) (o .5) (a .count) (now (a .marks)) (l .marks) (l .q) (l .i) (l .inv) (c .before .before .before .loop-test .taken) (o .2) (eqb-true _ _ (sym (c .before .before .is-at .ensures) ∙ c .before .if1 .taken))
-
-element-copy-out-marks-2 : tie.Need-element-copy-out-marks-2 Inv-loop μ-loop
-element-copy-out-marks-2 c = omega (arith, c .before .before .before .before .before .pre .1, c .before .before .before .before .before .pre .6)
-
-slice-write-marks-2 : tie.Need-slice-write-marks-2 Inv-loop μ-loop
-slice-write-marks-2 c = omega (arith, c .before .before .before .before .loop .inv .long, c .before .before .before .before .before .before .pre .2)
-
-loop-less-2 : tie.Need-loop-less-2 Inv-loop μ-loop
-loop-less-2 c = omega arith
-
-loop-again-2 : tie.Need-loop-again-2 Inv-loop μ-loop
-loop-again-2 c = let a = c .before .before .before .before .before .before .args in let o = c .before .before .before .before .before .before .pre in let l = c .before .before .before .before .loop in
-    spreading-skipped (now (a .ids)) (now (a .mark)) (a .first) (now (a .whole)) (o .4) (o .5) (a .count) (now (a .marks)) (l .marks) (l .q) (l .i) (l .inv) (c .before .before .before .loop-test .taken) (o .2) (eqb-false _ _ (sym (c .before .before .is-at .ensures) ∙ c .before .if1 .left))
+loop-again c =
+    let a = c .before .before .before .before .before .before .before .before .before .before .before .args in
+    let l = c .before .before .before .before .loop in
+    rw (c .before .wide .ensures) (spreading-more (now (a .ids)) (now (a .mark)) (a .first) (now (a .whole)) (a .count) _ (c .before .before .before .before .before .before .before .before .before .before .before .pre .4) (c .before .before .before .before .before .before .before .before .before .before .before .pre .5) (l .marks) (l .q) (l .inv) (c .before .before .before .loop-test .taken))
 
 same-length : tie.Need-same-length Inv-loop μ-loop
-same-length c = c .before .loop .inv .long
+same-length c = c .before .loop .inv .long ∙ c .before .before .before .marks .given
 
 returns : tie.Need-returns Inv-loop μ-loop
-returns c = let a = c .before .before .before .args in let l = c .before .loop in spreading-end (now (a .ids)) (now (a .mark)) (a .first) (now (a .whole)) (a .count) (now (a .marks)) (l .marks) (l .q) (l .i) (l .inv) (c .loop-test .left)
+returns c =
+    let a = c .before .before .before .before .before .before .before .before .args in
+    let l = c .before .loop in
+    spreading-end (now (a .ids)) (now (a .mark)) (a .first) (now (a .whole)) (a .count) _ (now (a .marks)) (c .before .before .before .before .before .before .before .before .pre .4) (omega (arith, c .before .before .before .before .before .before .before .before .pre .1, c .before .before .before .before .before .before .before .before .pre .6)) (c .before .before .before .before .copy8 .ensures) (l .marks) (l .q) (l .inv) (c .loop-test .left)
 
 pub spread-spec : {M : Type 1} → statement M
 spread-spec =
@@ -65,17 +73,16 @@ spread-spec =
     (tie.spec
     Inv-loop
     μ-loop
+    copy8-requires
     loop-holds
-    add-chunk
-    is-at-requires
+    mul-wide
+    element-copy-out-wide
+    wide-requires
+    sub-at
     element-copy-out-marks
     slice-write-marks
     add-q
     loop-less
     loop-again
-    element-copy-out-marks-2
-    slice-write-marks-2
-    loop-less-2
-    loop-again-2
     same-length
     returns)

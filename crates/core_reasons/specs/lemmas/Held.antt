@@ -1,49 +1,26 @@
 -- Lemmas. For tables that hold the kept chunks of a choice that can't be carried, a chunk is late,
 -- and the two passes over the tables give the stretch that is named.
-use Prim.Native.Nat.{ℕ, zero, suc, _+_, _-_, _≤_, _<_}
-use mathlib.Core.Path.{_≡_, refl, sym, ap, _∙_}
+use Prim.Native.Nat.{ℕ, _-_, _≤_, _<_}
+use mathlib.Core.Path.{_≡_, sym, ap, _∙_}
 use mathlib.Core.Bool.{cond}
-use mathlib.Core.List.{List, [], _∷_, _++_, map}
-use mathlib.Core.Logic.{⊎-elim}
+use mathlib.Core.List.{List}
 use native.Mathlib.Omega.{arith}
-use borrow.Author.Tests.{lt-ltb, le-ltb}
-use lib.Dec.{ltb, ltb→lt, nltb→le}
 use lib.ListN.{length, getD, take, drop, length-drop, length-map}
 use lib.Seq.{getD-drop, getD-take}
 use Rattle.theory_basics.specs.lemmas.Ranges.{pre-mono}
-use Rattle.theory_basics.specs.lemmas.Tests.{test}
+use Rattle.theory_basics.specs.lemmas.Lists.{getD-map}
 use Rattle.job.specs.Job.{Accepted, Job, due, forecast, heldMost, lastSlot}
 use Rattle.theory_plan.specs.Plan.{bytes as carriedBytes, kept}
 use Rattle.theory_plan.specs.lemmas.Choice.{fits-can-carry}
-use Rattle.theory_plan.specs.lemmas.Queue.{each, ones}
 use Rattle.theory_plan.specs.Statement.{CanCarry, Choice}
 use Rattle.theory_plan.specs.lemmas.Words.{accepted-sized}
+use Rattle.theory_plan.specs.lemmas.Queue.{releases, release-at}
 use Rattle.theory_reasons.specs.lemmas.Bridge.{begin-low, due-in, keptBytes, keptDue, rising, upToSlot}
 use Rattle.theory_reasons.specs.Lines.{stretchOf}
 use Rattle.theory_reasons.specs.lemmas.Named.{passed, passed-late, stretch-passed}
 use Rattle.theory_reasons.specs.lemmas.Search.{Agrees, forward, forward-agrees, forward-is, search-agrees}
 use Rattle.theory_reasons.specs.lemmas.Kept.{canBegin, keptChunk, keptCount}
 use Rattle.core_reasons.specs.lemmas.Passes.{Holds, lateIn, place, searchIn, upToIn}
-
-nth-map : (f : ℕ → ℕ) (l : List ℕ) (q : ℕ) → q < length l → getD (map f l) q 0 ≡ f (getD l q 0)
-nth-map f [] q h = absurd (omega arith)
-nth-map f (x ∷ l) zero h = refl
-nth-map f (x ∷ l) (suc q) h = nth-map f l q (omega arith)
-
-nth-each : (f : ℕ → ℕ) (l : List ℕ) (q : ℕ) → q < length l → getD (each f l) q 0 ≡ f (getD l q 0)
-nth-each f [] q h = absurd (omega arith)
-nth-each f (x ∷ l) zero h = refl
-nth-each f (x ∷ l) (suc q) h = nth-each f l q (omega arith)
-
-behind-ones : (h : ℕ) (l : List ℕ) (q : ℕ) → h ≤ q → getD (ones h ++ l) q 0 ≡ getD l (q - h) 0
-behind-ones zero l q u = let e : q - 0 ≡ q = omega arith in rw e
-behind-ones (suc h) l zero u = absurd (omega arith)
-behind-ones (suc h) l (suc q) u = let e : suc q - suc h ≡ q - h = omega arith in rw e (behind-ones h l q (omega arith))
-
-at-ones : (h : ℕ) (l : List ℕ) (q : ℕ) → q < h → getD (ones h ++ l) q 0 ≡ 1
-at-ones zero l q u = absurd (omega arith)
-at-ones (suc h) l zero u = refl
-at-ones (suc h) l (suc q) u = at-ones h l q (omega arith)
 
 module _ (j : Job) (a : Accepted j) (choice : ℕ → ℕ) (after dues ready bytes : List ℕ) (first : ℕ) (h : Holds j choice after dues ready bytes first) (long : length dues ≡ 500) where
   abbrev c : ℕ
@@ -53,23 +30,19 @@ module _ (j : Job) (a : Accepted j) (choice : ℕ → ℕ) (after dues ready byt
   count-is = omega (arith, length-drop first dues, ap length (h .due-slots), length-map (kept j choice) (due j))
 
   bytes-at : (q : ℕ) → q < c → place first bytes q ≡ keptBytes j choice q
-  bytes-at q l = sym (getD-drop first bytes q 0) ∙ ap (λ (t : List ℕ). getD t q 0) (h .carried) ∙ nth-map (carriedBytes j choice) (kept j choice) q l
+  bytes-at q l = sym (getD-drop first bytes q 0) ∙ ap (λ (t : List ℕ). getD t q 0) (h .carried) ∙ getD-map (carriedBytes j choice) (kept j choice) q l
 
   due-at : (q : ℕ) → q < c → place first dues q ≡ keptDue j choice q
-  due-at q l = sym (getD-drop first dues q 0) ∙ ap (λ (t : List ℕ). getD t q 0) (h .due-slots) ∙ nth-map (due j) (kept j choice) q l
+  due-at q l = sym (getD-drop first dues q 0) ∙ ap (λ (t : List ℕ). getD t q 0) (h .due-slots) ∙ getD-map (due j) (kept j choice) q l
 
   begin-at : (q : ℕ) → q < c → place first ready q ≡ canBegin j choice q
   begin-at q l =
       let ks = kept j choice in
       let H = heldMost j in
-      let e : getD (ones H ++ each (due j) ks) q 0 ≡ canBegin j choice q = ⊎-elim
-      (λ t. let u = ltb→lt q H t in rw (lt-ltb q H u) (at-ones H (each (due j) ks) q u))
-      (λ t. let u = nltb→le q H t in rw (le-ltb q H u) (behind-ones H (each (due j) ks) q u ∙ nth-each (due j) ks (q - H) (omega arith)))
-      (test (ltb q H)) in
       sym (getD-drop first ready q 0)
       ∙ ap (λ (t : List ℕ). getD t q 0) (h .release-slots)
-      ∙ getD-take (500 - first) (ones H ++ each (due j) ks) q 0 (omega (arith, count-is))
-      ∙ e
+      ∙ getD-take (500 - first) (releases (due j) H ks) q 0 (omega (arith, count-is))
+      ∙ release-at (due j) H ks q l
 
   up-to : (t : ℕ) → t ≤ lastSlot j → upToIn after t ≡ upToSlot j t
   up-to t l = rw (h .sums 0, h .sums t) (omega (arith, pre-mono (forecast j) t (lastSlot j) l))

@@ -4,7 +4,7 @@
 use Prim.Native.Nat.{ℕ, zero, suc, _+_, _-_, _≤_, _<_, max, min}
 use mathlib.Core.Path.{_≡_, refl, sym, ap, _∙_}
 use mathlib.Core.Bool.{Bool, true, false, not, cond, _&&_}
-use mathlib.Core.List.{List, [], _∷_, map}
+use mathlib.Core.List.{List, [], _∷_, map, map-map}
 use mathlib.Core.Logic.{_⊎_, inr, ⊎-elim, _↔_}
 use native.Mathlib.Omega.{arith}
 use lib.Dec.{T, T-not, eqb, leb, ltb, eqb→eq, leb→le, nleb→lt, ltb→lt, nltb→le, le→leb}
@@ -21,7 +21,6 @@ use Rattle.theory_plan.specs.lemmas.Feasible.{needOf}
 use Rattle.theory_plan.specs.lemmas.Count.{some-row}
 use Rattle.theory_plan.specs.lemmas.Kept.{picked-cong, picked-each}
 use Rattle.theory_plan.specs.lemmas.Level.{level}
-use Rattle.theory_plan.specs.lemmas.Linear.{map-map}
 use Rattle.theory_plan.specs.lemmas.Queue.{releases}
 use Rattle.theory_plan.specs.lemmas.Trials.{back, bytesKept, Kept, levelMark, onLayer, onLayers, rooms, Tried}
 use Rattle.theory_plan.specs.lemmas.Words.{accepted-sized, carries, layer-of, Sized}

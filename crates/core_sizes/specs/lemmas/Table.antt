@@ -3,16 +3,17 @@
 use Prim.Native.Nat.{ℕ, zero, suc, _+_, _*_, _-_, _/_, _%_, _≤_, _<_}
 use mathlib.Core.Path.{_≡_, refl, sym, ap, _∙_}
 use mathlib.Core.Bool.{Bool, cond, _&&_}
-use mathlib.Core.List.{List, [], _∷_, _++_, append-nil}
+use mathlib.Core.List.{List, [], _∷_}
 use mathlib.Core.Logic.{_⊎_, inl, inr, ⊎-elim}
 use native.Mathlib.Omega.{arith}
-use lib.ListN.{length, getD, set, drop, length-set, drop-of-length-le, List·getD-eq-default}
-use lib.Seq.{getD-set-same, getD-set-other, drop-cons, set-at, append-snoc}
+use lib.ListN.{length, getD, set, length-set, List·getD-eq-default}
+use lib.Seq.{getD-set-same, getD-set-other, ext-getD}
 use lib.Dec.{T, eqb, ltb, eqb→eq, ltb→lt, nltb→le, T-not}
 use Rattle.theory_basics.specs.Tests.{All}
 use Rattle.theory_basics.specs.lemmas.Tests.{all-map, by-cond, and-T, T-and, eqb-iff, test}
 use Rattle.theory_basics.specs.Lists.{upTo}
 use Rattle.theory_basics.specs.lemmas.Lists.{length-upTo, getD-upTo}
+use Rattle.theory_basics.specs.lemmas.Tables.{at-set, below-next}
 use Rattle.job.specs.Job.{Job, Override, Accepted, chunks, size, sizeIn}
 use Rattle.job.specs.lemmas.Spots.{Spot, spots, Other, own-where}
 use Rattle.core_sizes.specs.Table.{spot, ownTable, overriddenBy, ownSizes, sizesTable, tableAt}
@@ -113,23 +114,49 @@ table-says j a i n =
     first-place j a n m ∙ sym (other-chunk j i n a (inr (omega arith)))))
     (λ many. sym (no-layer j i n a (nltb→le n 4 many)))
 
--- ---- the first n places written, one after the other
+-- ---- own sizes, copied chunk after chunk
 
-abbrev pub storedTo : (ℕ → ℕ) → ℕ → List ℕ → List ℕ
-storedTo f zero t = t
-storedTo f (suc n) t = set (storedTo f n t) n (f n)
+-- The first n places are written.
+pub record Filling (sizes old table : List ℕ) (n : ℕ) : Type 0 where
+  pub long : length table ≡ length old
+  pub says : length old ≡ 2000 → (k : ℕ) → k < n → getD table k 0 ≡ getD sizes (k % 4) 0
 
-stored-front : (f : ℕ → ℕ) (n : ℕ) (t : List ℕ) → n ≤ length t → storedTo f n t ≡ (upTo f n ++ drop n t)
-stored-front f zero t h = refl
-stored-front f (suc n) t h =
-    rw (stored-front f n t (omega arith), drop-cons t n 0 (omega arith)) (set-at (upTo f n) (getD t n 0) (drop (suc n) t) (f n) n (length-upTo f n) ∙ sym (append-snoc (upTo f n) (f n) (drop (suc n) t)))
+abbrev pub FillFirstPost : List ℕ → List ℕ → List ℕ → Type 0
+FillFirstPost sizes old table = Filling sizes old table 4
 
--- For any number of chunks: at 500 itself `rw` would write the table out.
-all-stored : (c : ℕ) (sizes : List ℕ) (n : ℕ) (t : List ℕ) → n ≡ c * 4 → length t ≡ n → storedTo (λ k. getD sizes (k % 4) 0) n t ≡ ownTable sizes c
-all-stored c sizes n t e l =
-    let f : ℕ → ℕ = λ k. getD sizes (k % 4) 0 in
-    stored-front f n t (omega arith) ∙ rw (drop-of-length-le t {i = n} (omega arith)) (append-nil (upTo f n) ∙ ap (λ (k : ℕ). upTo f k) e)
+pub filling-first : (sizes old : List ℕ) → Filling sizes old (set (set (set (set old 0 (getD sizes 0 0)) 1 (getD sizes 1 0)) 2 (getD sizes 2 0)) 3 (getD sizes 3 0)) 4
+filling-first sizes [] = record { long = refl; says = λ l. absurd (omega arith) }
+filling-first sizes (a ∷ []) = record { long = refl; says = λ l. absurd (omega arith) }
+filling-first sizes (a ∷ b ∷ []) = record { long = refl; says = λ l. absurd (omega arith) }
+filling-first sizes (a ∷ b ∷ c ∷ []) = record { long = refl; says = λ l. absurd (omega arith) }
+filling-first sizes (a ∷ b ∷ c ∷ d ∷ t) = record { long = refl; says = λ l. by-four }
+  where
+    by-four : (k : ℕ) → k < 4 → getD (getD sizes 0 0 ∷ getD sizes 1 0 ∷ getD sizes 2 0 ∷ getD sizes 3 0 ∷ t) k 0 ≡ getD sizes (k % 4) 0
+    by-four zero h = refl
+    by-four (suc zero) h = refl
+    by-four (suc (suc zero)) h = refl
+    by-four (suc (suc (suc zero))) h = refl
+    by-four (suc (suc (suc (suc k)))) h = absurd (omega arith)
 
-pub own-stored : (sizes : List ℕ) (n : ℕ) (t : List ℕ) → n ≡ 2000 → length t ≡ 2000 → storedTo (λ k. getD sizes (k % 4) 0) n t ≡ ownSizes sizes
+-- Over what is filled in part already.
+pub filling-from : (sizes old table : List ℕ) (n : ℕ) → Filling sizes old table n → Filling sizes table table n
+filling-from sizes old table n s = record { long = refl; says = λ l. s .says (sym (s .long) ∙ l) }
+
+pub filling-more : (sizes old table : List ℕ) (n : ℕ) → Filling sizes old table n → 4 ≤ n → n < 2000 → Filling sizes old (set table n (getD table (n - 4) 0)) (n + 1)
+filling-more sizes old table n s h u =
+    record {
+      long = length-set table n (getD table (n - 4) 0) ∙ s .long;
+      says = λ l k v.
+          at-set (λ x. x ≡ getD sizes (k % 4) 0) table n (getD table (n - 4) 0) k (omega (arith, s .long))
+          (λ e. let m : (n - 4) % 4 ≡ k % 4 = omega arith in s .says l (n - 4) (omega arith) ∙ ap (λ (i : ℕ). getD sizes i 0) m)
+          (λ o. s .says l k (below-next k n v o));
+    }
+
+-- For any number of chunks: at 500 itself the table would be written out.
+all-filled : (c : ℕ) (sizes table : List ℕ) → length table ≡ c * 4 → ((k : ℕ) → k < c * 4 → getD table k 0 ≡ getD sizes (k % 4) 0) → table ≡ ownTable sizes c
+all-filled c sizes table l f =
+    ext-getD 0 table (ownTable sizes c) (l ∙ sym (long-own c sizes)) (λ k h. let u : k < c * 4 = omega (arith, l) in f k u ∙ sym (getD-upTo (λ i. getD sizes (i % 4) 0) (c * 4) k 0 u))
+
+pub filling-end : (sizes old table : List ℕ) (n : ℕ) → Filling sizes old table n → n ≡ 2000 → length old ≡ 2000 → table ≡ ownSizes sizes
 unfolding ownSizes
-own-stored sizes n t e l = all-stored 500 sizes n t e (l ∙ sym e)
+filling-end sizes old table n s e l = all-filled 500 sizes table (s .long ∙ l) (λ k h. s .says l k (omega (arith, e, h)))

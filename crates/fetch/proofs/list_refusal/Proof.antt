@@ -1,12 +1,14 @@
--- Each test of `handed_refusal` is a part of the definition.
+-- Each test of `list_refusal` is a part of the definition.
 use Rattle.fetch.proofs.list_refusal.Statement.{statement}
 use Rattle.fetch.proofs.list_refusal.Tie as tie
 use borrow.Author.Tests.{eq-eqb, ne-eqb}
+use denote.Ref.{now}
+use lib.ListN.{length}
 use Rattle.fetch.specs.Input.{listRefusal}
 
 returns : tie.Need-returns
 unfolding listRefusal
-returns c = rw (ne-eqb _ _ (c .if1 .taken))
+returns c = let a = c .before .args in rw (ne-eqb (length (now (a .marks))) (a .count) (c .if1 .taken))
 
 returns-2 : tie.Need-returns-2
 unfolding listRefusal

@@ -6,9 +6,9 @@ use mathlib.Core.Logic.{⊎-elim}
 use native.Mathlib.Omega.{arith}
 use native.Mathlib.Nat.{pow-suc, two-pow-succ, mod-eq-of-lt, div-eq-of-lt, add-mul-div-right, add-mul-mod-self-right, mul-assoc}
 use lib.Pow.{pow-pos, pow-mono, pow-add, high, mod-pow-add}
-use lib.Dec.{eqb, ltb, ltb→lt, nltb→le, eqb→eq, T-not}
+use lib.Dec.{eqb, ltb, ltb→lt, nltb→le, eqb→eq}
 use borrow.Author.Tests.{eq-eqb, ne-eqb}
-use Rattle.theory_basics.specs.lemmas.Tests.{test, eqb-iff}
+use Rattle.theory_basics.specs.lemmas.Tests.{test, neqb→ne}
 use Rattle.fetch.specs.Rows.{markByte}
 use Rattle.fetch.specs.Marks.{bit, withLayer, withoutLayer}
 
@@ -72,7 +72,7 @@ bit-value : (x k : ℕ) → x < 2 → cond (eqb x 1) (2 ^ k) 0 ≡ x * 2 ^ k
 bit-value x k h =
     ⊎-elim
     (λ t. let e = eqb→eq x 1 t in rw e (omega arith))
-    (λ t. let n : x ≡ 1 → ⊥ = λ q. T-not (eqb x 1) t (eqb-iff x 1 .1 q) in let e : x ≡ 0 = omega arith in rw e (omega arith))
+    (λ t. let n : x ≡ 1 → ⊥ = neqb→ne x 1 t in let e : x ≡ 0 = omega arith in rw e (omega arith))
     (test (eqb x 1))
 
 pub bits-mod : (m k : ℕ) → markByte (bit m) k ≡ m % 2 ^ k
@@ -126,7 +126,7 @@ with-next p k h e =
         (λ t. let l = ltb→lt n k t in rw (ne-eqb n k (λ q. omega arith), mark-bit p k n l, mark-bit p (suc k) n (omega arith)))
         (λ t. ⊎-elim
         (λ s. let q = eqb→eq n k s in rw (q, eq-eqb k k refl, mark-bit p (suc k) k (omega arith), e))
-        (λ s. let q : n ≡ k → ⊥ = λ z. T-not (eqb n k) s (eqb-iff n k .1 z) in
+        (λ s. let q : n ≡ k → ⊥ = neqb→ne n k s in
         let l = nltb→le n k t in
         rw (ne-eqb n k q, mark-high p k n l, mark-high p (suc k) n (omega arith)))
         (test (eqb n k)))

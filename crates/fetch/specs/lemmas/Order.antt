@@ -6,9 +6,9 @@ use mathlib.Core.Bool.{_&&_}
 use mathlib.Core.List.{List, [], _∷_}
 use mathlib.Core.Logic.{_⊎_, inl, inr, ⊎-elim, _↔_}
 use native.Mathlib.Omega.{arith}
-use lib.Dec.{T, T-not, eqb, leb, eqb→eq, leb→le, nleb→lt, le→leb}
+use lib.Dec.{T, eqb, leb, eqb→eq, leb→le, nleb→lt, le→leb}
 use Rattle.theory_basics.specs.Tests.{All, In, here, there}
-use Rattle.theory_basics.specs.lemmas.Tests.{and-T, any-row, at-row, eqb-iff, T-and, test}
+use Rattle.theory_basics.specs.lemmas.Tests.{and-T, any-row, at-row, eqb-iff, T-and, test, neqb→ne}
 use Rattle.job.specs.Job.{Job, Layer, size}
 use Rattle.fetch.specs.Rows.{Row, begun, Carried, Permuted}
 use Rattle.fetch.specs.Rules.{BegunIn, PlayingOrder, RowInRange}
@@ -55,7 +55,7 @@ first-of (x ∷ xs) i =
     (λ n. record { row = x; listed = here; chunk-is = e; none-before = (λ q. omega arith, absent xs i (x .slot) n) })
     r))
     (λ t.
-    let o : x .chunk ≡ i → ⊥ = λ q. T-not (eqb (x .chunk) i) t (eqb-iff (x .chunk) i .1 q) in
+    let o : x .chunk ≡ i → ⊥ = neqb→ne (x .chunk) i t in
     ⊎-elim
     (λ f. inl (record { row = f .row; listed = there (f .listed); chunk-is = f .chunk-is; none-before = (λ q. absurd (o q), f .none-before) }))
     (λ n. inr (o, n))

@@ -1,13 +1,34 @@
--- `jobfile::put_override` meets its contract. Assumes nothing.
+-- The layer is a byte, so that it is what `b` writes. Assumes nothing.
 use borrow.Author.Needs.{needs}
 use Rattle.jobfile.proofs.put_override.Statement.{statement}
 use Rattle.jobfile.proofs.put_override.Tie as tie
+use Prim.Native.Nat.{_%_}
+use mathlib.Core.Path.{_≡_}
 use native.Mathlib.Omega.{arith}
-use mathlib.Core.List.{_++_}
-use denote.Ref.{now}
-use Rattle.records.specs.Fields.{h, w}
-use Rattle.jobrecords.specs.Records.{SZ, b}
-use Rattle.jobfile.specs.lemmas.Puts.{puts-then}
+
+element-copy-out-t11 : tie.Need-element-copy-out-t11
+element-copy-out-t11 c = search needs
+
+element-copy-out-t14 : tie.Need-element-copy-out-t14
+element-copy-out-t14 c = search needs
+
+cast-t16 : tie.Need-cast-t16
+cast-t16 c = search needs
+
+cast-t19 : tie.Need-cast-t19
+cast-t19 c = search needs
+
+cast-t21 : tie.Need-cast-t21
+cast-t21 c = search needs
+
+cast-t24 : tie.Need-cast-t24
+cast-t24 c = search needs
+
+cast-t27 : tie.Need-cast-t27
+cast-t27 c = search needs
+
+cast-t30 : tie.Need-cast-t30
+cast-t30 c = search needs
 
 slice-aggregate-put-bytes : tie.Need-slice-aggregate-put-bytes
 slice-aggregate-put-bytes c = search needs
@@ -15,33 +36,25 @@ slice-aggregate-put-bytes c = search needs
 put-bytes-requires : tie.Need-put-bytes-requires
 put-bytes-requires c κs = search needs
 
-put-h-requires : tie.Need-put-h-requires
-put-h-requires c κs = search needs
-
-put-b-requires : tie.Need-put-b-requires
-put-b-requires c κs = search needs
-
-put-w-requires : tie.Need-put-w-requires
-put-w-requires c κs = search needs
-
 same-length : tie.Need-same-length
 same-length c = search needs
 
 returns : tie.Need-returns
-returns c =
-    let a = c .before .before .before .before .before .before .before .before .before .before .before .before .before .before .before .before .before .before .args in
-    let first = puts-then (now (a .out)) (a .at) SZ _ _ (c .before .before .before .before .before .before .before .before .before .before .before .before .before .before .put-bytes .ensures) (h (a .chunk)) _ _ (c .before .before .before .before .before .before .before .before .before .before .put-h .ensures) (omega arith) in
-    let second = puts-then (now (a .out)) (a .at) (SZ ++ h (a .chunk)) _ _ first (b (a .layer)) _ _ (c .before .before .before .before .before .before .put-b .ensures) (omega arith) in
-    puts-then (now (a .out)) (a .at) (SZ ++ h (a .chunk) ++ b (a .layer)) _ _ second (w (a .size)) _ _ (c .before .before .put-w .ensures) (omega arith)
+returns c = let byte : c .before .before .before .before .before .before .before .before .before .args .layer % 256 ≡ c .before .before .before .before .before .before .before .before .before .args .layer = omega arith in rw byte (c .before .before .put-bytes .ensures)
 
 pub put-override-spec : {M : Type 1} → statement M
 put-override-spec =
     tie.close
     (tie.spec
+    element-copy-out-t11
+    element-copy-out-t14
+    cast-t16
+    cast-t19
+    cast-t21
+    cast-t24
+    cast-t27
+    cast-t30
     slice-aggregate-put-bytes
     put-bytes-requires
-    put-h-requires
-    put-b-requires
-    put-w-requires
     same-length
     returns)

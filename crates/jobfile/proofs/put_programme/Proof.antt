@@ -1,13 +1,37 @@
--- `jobfile::put_programme` meets its contract. Assumes nothing.
+-- The fields are written in the order of `encode`. Assumes nothing.
 use borrow.Author.Needs.{needs}
 use Rattle.jobfile.proofs.put_programme.Statement.{statement}
 use Rattle.jobfile.proofs.put_programme.Tie as tie
-use native.Mathlib.Omega.{arith}
-use mathlib.Core.List.{_++_}
-use denote.Ref.{now}
-use Rattle.records.specs.Fields.{h}
-use Rattle.jobrecords.specs.Records.{PG}
-use Rattle.jobfile.specs.lemmas.Puts.{puts-then}
+
+element-copy-out-t9 : tie.Need-element-copy-out-t9
+element-copy-out-t9 c = search needs
+
+element-copy-out-t12 : tie.Need-element-copy-out-t12
+element-copy-out-t12 c = search needs
+
+cast-t14 : tie.Need-cast-t14
+cast-t14 c = search needs
+
+cast-t17 : tie.Need-cast-t17
+cast-t17 c = search needs
+
+cast-t19 : tie.Need-cast-t19
+cast-t19 c = search needs
+
+cast-t22 : tie.Need-cast-t22
+cast-t22 c = search needs
+
+cast-t24 : tie.Need-cast-t24
+cast-t24 c = search needs
+
+cast-t27 : tie.Need-cast-t27
+cast-t27 c = search needs
+
+cast-t29 : tie.Need-cast-t29
+cast-t29 c = search needs
+
+cast-t32 : tie.Need-cast-t32
+cast-t32 c = search needs
 
 slice-aggregate-put-bytes : tie.Need-slice-aggregate-put-bytes
 slice-aggregate-put-bytes c = search needs
@@ -15,39 +39,27 @@ slice-aggregate-put-bytes c = search needs
 put-bytes-requires : tie.Need-put-bytes-requires
 put-bytes-requires c κs = search needs
 
-put-h-requires : tie.Need-put-h-requires
-put-h-requires c κs = search needs
-
-put-h-requires-2 : tie.Need-put-h-requires-2
-put-h-requires-2 c κs = search needs
-
-put-h-requires-3 : tie.Need-put-h-requires-3
-put-h-requires-3 c κs = search needs
-
-put-h-requires-4 : tie.Need-put-h-requires-4
-put-h-requires-4 c κs = search needs
-
 same-length : tie.Need-same-length
 same-length c = search needs
 
 returns : tie.Need-returns
-returns c =
-    let a = c .before .before .before .before .before .before .before .before .before .before .before .before .before .before .before .before .before .before .before .before .before .before .args in
-    let p = a .p in
-    let chunks = puts-then (now (a .out)) (a .at) PG _ _ (c .before .before .before .before .before .before .before .before .before .before .before .before .before .before .before .before .before .before .put-bytes .ensures) (h (p .chunks)) _ _ (c .before .before .before .before .before .before .before .before .before .before .before .before .before .before .put-h .ensures) (omega arith) in
-    let span = puts-then (now (a .out)) (a .at) (PG ++ h (p .chunks)) _ _ chunks (h (p .span)) _ _ (c .before .before .before .before .before .before .before .before .before .before .put-h2 .ensures) (omega arith) in
-    let delay = puts-then (now (a .out)) (a .at) (PG ++ h (p .chunks) ++ h (p .span)) _ _ span (h (p .delay)) _ _ (c .before .before .before .before .before .before .put-h3 .ensures) (omega arith) in
-    puts-then (now (a .out)) (a .at) (PG ++ h (p .chunks) ++ h (p .span) ++ h (p .delay)) _ _ delay (h (p .limit)) _ _ (c .before .before .put-h4 .ensures) (omega arith)
+returns c = c .before .before .put-bytes .ensures
 
 pub put-programme-spec : {M : Type 1} → statement M
 put-programme-spec =
     tie.close
     (tie.spec
+    element-copy-out-t9
+    element-copy-out-t12
+    cast-t14
+    cast-t17
+    cast-t19
+    cast-t22
+    cast-t24
+    cast-t27
+    cast-t29
+    cast-t32
     slice-aggregate-put-bytes
     put-bytes-requires
-    put-h-requires
-    put-h-requires-2
-    put-h-requires-3
-    put-h-requires-4
     same-length
     returns)

@@ -51,6 +51,31 @@ module _ (f : List ℕ) (i : ℕ) (h : i < length f) where
       let many : suc (lead x (drop (suc i) f)) ≡ runEnd f i - i = rw (add-one i) (omega arith) in
       rw (drop-cons f i 0 h) (first-run x (drop (suc i) f) ∙ rw (rest, many))
 
+-- ---- a loop that counts the runs by the slots where the bytes change
+
+same-front : (x y : ℕ) (ys : List ℕ) → eqb x y ≡ true → length (runs (x ∷ y ∷ ys)) ≡ length (runs (y ∷ ys))
+same-front x y ys e = rw (first-run y ys, e)
+
+other-front : (x y : ℕ) (ys : List ℕ) → eqb x y ≡ false → length (runs (x ∷ y ∷ ys)) ≡ suc (length (runs (y ∷ ys)))
+other-front x y ys e = rw (first-run y ys, e)
+
+module _ (f : List ℕ) (i : ℕ) where
+  pub count-last : i + 1 ≡ length f → length (runs (drop i f)) ≡ 1
+  count-last h = rw (drop-cons f i 0 (omega arith), drop-of-length-le f {i = suc i} (omega arith))
+
+  module _ (h : i + 1 < length f) where
+    two : drop i f ≡ getD f i 0 ∷ getD f (i + 1) 0 ∷ drop (suc (i + 1)) f
+    two = drop-cons f i 0 (omega arith) ∙ ap (λ (l : List ℕ). getD f i 0 ∷ l) (rw (← add-one i) (drop-cons f (i + 1) 0 h))
+
+    next : drop (i + 1) f ≡ getD f (i + 1) 0 ∷ drop (suc (i + 1)) f
+    next = drop-cons f (i + 1) 0 h
+
+    pub count-same : getD f (i + 1) 0 ≡ getD f i 0 → length (runs (drop i f)) ≡ length (runs (drop (i + 1) f))
+    count-same e = rw (two, next) (same-front (getD f i 0) (getD f (i + 1) 0) (drop (suc (i + 1)) f) (eq-eqb (getD f i 0) (getD f (i + 1) 0) (sym e)))
+
+    pub count-other : (getD f (i + 1) 0 ≡ getD f i 0 → ⊥) → length (runs (drop i f)) ≡ suc (length (runs (drop (i + 1) f)))
+    count-other n = rw (two, next) (other-front (getD f i 0) (getD f (i + 1) 0) (drop (suc (i + 1)) f) (ne-eqb (getD f i 0) (getD f (i + 1) 0) (λ e. n (sym e))))
+
 -- ---- a loop that looks for the end of a run
 
 module _ (x : ℕ) (f : List ℕ) (e : ℕ) where

@@ -2,11 +2,12 @@
 use Rattle.jobrecords.proofs.gather.Statement.{statement}
 use Rattle.jobrecords.proofs.gather.Tie as tie
 use borrow.Author.Needs.{needs}
-use Prim.Native.Nat.{_-_, _≤_}
+use Prim.Native.Nat.{_+_, _*_, _-_, _≤_}
 use native.Mathlib.Omega.{arith}
-use mathlib.Core.Path.{_≡_}
+use mathlib.Core.Path.{_≡_, refl, _∙_}
 use denote.Ref.{now}
 use Rattle.job.specs.Job.{Override}
+use Rattle.jobrecords.proofs.Fronts.{w-says}
 use Rattle.jobrecords.proofs.Copies.{Column, column-start, column-more}
 
 abbrev Inv-loop : tie.InvT-loop
@@ -34,7 +35,7 @@ add-bytes : tie.Need-add-bytes Inv-loop μ-loop
 add-bytes c = omega arith
 
 h-at-requires : tie.Need-h-at-requires Inv-loop μ-loop
-h-at-requires c κs = search needs
+h-at-requires c κs = omega arith
 
 mul-cs : tie.Need-mul-cs Inv-loop μ-loop
 mul-cs c = omega arith
@@ -42,14 +43,14 @@ mul-cs c = omega arith
 slice-write-cs : tie.Need-slice-write-cs Inv-loop μ-loop
 slice-write-cs c = omega (arith, c .before .before .loop .inv .1 .long)
 
-byte-at-requires : tie.Need-byte-at-requires Inv-loop μ-loop
-byte-at-requires c κs = search needs
+shared-slice-read-ls : tie.Need-shared-slice-read-ls Inv-loop μ-loop
+shared-slice-read-ls c = omega arith
 
 slice-write-ls : tie.Need-slice-write-ls Inv-loop μ-loop
 slice-write-ls c = omega (arith, c .before .before .before .loop .inv .2 .long)
 
 w-at-requires : tie.Need-w-at-requires Inv-loop μ-loop
-w-at-requires c κs = search needs
+w-at-requires c κs = omega arith
 
 mul-bs : tie.Need-mul-bs Inv-loop μ-loop
 mul-bs c = omega arith
@@ -69,8 +70,8 @@ loop-again c =
     let l = c .before .before .before .before .loop in (
       omega arith,
       column-more (λ (o : Override). o .chunk) (now (a .file)) (a .from) (now (a .cs)) (l .cs) (l .i) _ (l .inv .1) (omega (arith, l .inv .1 .long)) (c .before .before .h-at .ensures),
-      column-more (λ (o : Override). o .layer) (now (a .file)) (a .from) (now (a .ls)) (l .ls) (l .i) _ (l .inv .2) (omega (arith, l .inv .2 .long)) (c .before .byte-at .ensures),
-      column-more (λ (o : Override). o .bytes) (now (a .file)) (a .from) (now (a .bs)) (l .bs) (l .i) _ (l .inv .3) (omega (arith, l .inv .3 .long)) (c .w-at .ensures),
+      column-more (λ (o : Override). o .layer) (now (a .file)) (a .from) (now (a .ls)) (l .ls) (l .i) _ (l .inv .2) (omega (arith, l .inv .2 .long)) refl,
+      column-more (λ (o : Override). o .bytes) (now (a .file)) (a .from) (now (a .bs)) (l .bs) (l .i) _ (l .inv .3) (omega (arith, l .inv .3 .long)) (c .w-at .ensures ∙ w-says (now (a .file)) (a .from + 9 * l .i + 5)),
     )
 
 same-length : tie.Need-same-length Inv-loop μ-loop
@@ -102,7 +103,7 @@ gather-spec =
     h-at-requires
     mul-cs
     slice-write-cs
-    byte-at-requires
+    shared-slice-read-ls
     slice-write-ls
     w-at-requires
     mul-bs

@@ -8,7 +8,7 @@ use denote.Ref.{now}
 use Rattle.jobrecords.specs.declared.Read.the-variants.{Refused}
 use Rattle.jobrecords.specs.lemmas.Reading.{readRefusalOf}
 use Rattle.jobrecords.proofs.Fronts.{known}
-use Rattle.jobrecords.proofs.Steps.{turn-none, turn-counted, turn-inside, turn-end, turn-fault, turn-fine, turn-more}
+use Rattle.jobrecords.proofs.Steps.{turn-none, turn-counted, turn-inside, turn-end, turn-fault, turn-fine, turn-more, reached}
 
 record-at-requires : tie.Need-record-at-requires
 record-at-requires c κs = search needs
@@ -54,7 +54,7 @@ returns-2 c =
     turn-end (a .sequenced) (now (a .file)) (a .at) (a .j) (now (a .sizes)) (now (a .slots)) (c .before .before .before .before .before .before .before .before .before .before .before .pre) (v .0 .0) (v .0 .1 .0) (sym (c .before .before .before .before .before .before .before .record-at .ensures) ∙ v .1) (c .ended .result) (known (c .before .before .before .is-end .ensures) (c .before .before .if1 .taken)) (c .ended .ensures)
 
 fault-of-requires : tie.Need-fault-of-requires
-fault-of-requires c κs = search needs
+fault-of-requires c κs = c .before .before .before .before .before .before .before .before .before .pre .stands .room .slots-in
 
 returns-3 : tie.Need-returns-3
 returns-3 c =
@@ -69,6 +69,13 @@ take-record-requires c κs =
     let v = c .before .before .before .before .before .before .before .read .given in
     (g .stands .room, (g .counts .room, turn-fine (a .sequenced) (now (a .file)) (a .at) (a .j) (now (a .sizes)) (now (a .slots)) g (v .0 .0) (v .0 .1 .0) (sym (c .before .before .before .before .before .before .before .before .before .record-at .ensures) ∙ v .1) (known (c .before .before .before .before .before .is-end .ensures) (c .before .before .before .before .if1 .left)) (sym (c .before .before .before .fault-of .ensures) ∙ c .before .before .if2 .left)))
 
+go-on-requires : tie.Need-go-on-requires
+go-on-requires c κs =
+    let a = c .before .before .before .before .before .before .before .before .before .before .before .before .before .before .before .before .before .before .before .args in
+    let v = c .before .before .before .before .before .before .before .before .before .before .before .before .before .read .given in
+    let t = turn-more (a .sequenced) (now (a .file)) (a .at) (a .j) (now (a .sizes)) (now (a .slots)) (c .before .before .before .before .before .before .before .before .before .before .before .before .before .before .before .before .before .before .before .pre) (v .0 .0) (v .0 .1 .0) (sym (c .before .before .before .before .before .before .before .before .before .before .before .before .before .before .before .record-at .ensures) ∙ v .1) (known (c .before .before .before .before .before .before .before .before .before .before .before .is-end .ensures) (c .before .before .before .before .before .before .before .before .before .before .if1 .left)) (sym (c .before .before .before .before .before .before .before .before .before .fault-of .ensures) ∙ c .before .before .before .before .before .before .before .before .if2 .left) (c .before .before .before .before .before .take-record .result) _ _ (c .before .before .before .before .before .take-record .ensures) .1 in
+    (reached _ _ _ _ _ _ t, t .stands .room .slots-room)
+
 same-length-2 : tie.Need-same-length-2
 same-length-2 c = search needs
 
@@ -77,9 +84,10 @@ same-length-3 c = search needs
 
 returns-4 : tie.Need-returns-4
 returns-4 c =
-    let a = c .before .before .before .before .before .before .before .before .before .before .before .before .before .before .before .before .before .before .args in
-    let v = c .before .before .before .before .before .before .before .before .before .before .before .before .read .given in
-    turn-more (a .sequenced) (now (a .file)) (a .at) (a .j) (now (a .sizes)) (now (a .slots)) (c .before .before .before .before .before .before .before .before .before .before .before .before .before .before .before .before .before .before .pre) (v .0 .0) (v .0 .1 .0) (sym (c .before .before .before .before .before .before .before .before .before .before .before .before .before .before .record-at .ensures) ∙ v .1) (known (c .before .before .before .before .before .before .before .before .before .before .is-end .ensures) (c .before .before .before .before .before .before .before .before .before .if1 .left)) (sym (c .before .before .before .before .before .before .before .before .fault-of .ensures) ∙ c .before .before .before .before .before .before .before .if2 .left) (c .before .before .before .before .take-record .result) _ _ (c .before .before .before .before .take-record .ensures)
+    let a = c .before .before .before .before .before .before .before .before .before .before .before .before .before .before .before .before .before .before .before .before .before .before .args in
+    let v = c .before .before .before .before .before .before .before .before .before .before .before .before .before .before .before .before .read .given in
+    let t = turn-more (a .sequenced) (now (a .file)) (a .at) (a .j) (now (a .sizes)) (now (a .slots)) (c .before .before .before .before .before .before .before .before .before .before .before .before .before .before .before .before .before .before .before .before .before .before .pre) (v .0 .0) (v .0 .1 .0) (sym (c .before .before .before .before .before .before .before .before .before .before .before .before .before .before .before .before .before .before .record-at .ensures) ∙ v .1) (known (c .before .before .before .before .before .before .before .before .before .before .before .before .before .before .is-end .ensures) (c .before .before .before .before .before .before .before .before .before .before .before .before .before .if1 .left)) (sym (c .before .before .before .before .before .before .before .before .before .before .before .before .fault-of .ensures) ∙ c .before .before .before .before .before .before .before .before .before .before .before .if2 .left) (c .before .before .before .before .before .before .before .before .take-record .result) _ _ (c .before .before .before .before .before .before .before .before .take-record .ensures) in
+    c .before .before .go-on .ensures .turned _ (a .at) (t .0) (t .1)
 
 pub one-step-spec : {M : Type 1} → statement M
 one-step-spec =
@@ -98,6 +106,7 @@ one-step-spec =
     fault-of-requires
     returns-3
     take-record-requires
+    go-on-requires
     same-length-2
     same-length-3
     returns-4)

@@ -1,6 +1,6 @@
 -- Lemmas. A record of a job file that stands in front of a string of bytes has just its own bytes
 -- there. Assumes nothing.
-use Prim.Native.Nat.{ℕ, zero, suc, _%_, _≤_, _<_}
+use Prim.Native.Nat.{ℕ, _%_, _≤_}
 use mathlib.Core.Path.{_≡_, refl, ap, _∙_}
 use mathlib.Core.Bool.{Bool, true, _&&_}
 use mathlib.Core.List.{List, [], _∷_, _++_}
@@ -11,7 +11,7 @@ use lib.Dec.{T, leb, leb→le}
 use Rattle.theory_basics.specs.lemmas.Tests.{by-cond, and-T}
 use Rattle.records.specs.Fields.{Bytes, h, w, hAt, marked}
 use Rattle.records.specs.File.{Front, got, none, encodeAll}
-use Rattle.records.specs.lemmas.Exact.{h-bytes, w-bytes, bytes-append, h-exact, w-exact, mark-exact, Exact}
+use Rattle.records.specs.lemmas.Exact.{h-bytes, w-bytes, bytes-append, h-exact, w-exact, mark-exact, Exact, byte-at}
 use Rattle.jobrecords.specs.declared.Record.{Record}
 use Rattle.jobrecords.specs.declared.Record.the-variants.{Pg, Ly, Sz, Bw, En}
 use Rattle.jobrecords.specs.Records.{PG, LY, SZ, BW, EN, b, encode, whole, programmeAt, layerAt, overrideAt, runAt, front, isEnd}
@@ -43,12 +43,6 @@ file-bytes rs = bytes-append (encodeAll encode rs) (encode En) (all-bytes rs) (e
   all-bytes (r ∷ l) = bytes-append (encode r) (encodeAll encode l) (encode-bytes r) (all-bytes l)
 
 -- ---- a record
-
-byte-at : (s : List ℕ) (i : ℕ) → Bytes s → getD s i 0 < 256
-byte-at [] zero k = omega arith
-byte-at [] (suc i) k = omega arith
-byte-at (x ∷ s) zero k = k .0
-byte-at (x ∷ s) (suc i) k = byte-at s i (k .1)
 
 module _ (s : List ℕ) (k : Bytes s) where
   programme-exact : 10 ≤ length s → T (marked PG s) → s ≡ encode (programmeAt s) ++ drop 10 s

@@ -1,7 +1,7 @@
 -- Lemmas. What records one after the other say, from what each part says. Assumes nothing.
 use Prim.Native.Nat.{ℕ}
 use mathlib.Core.Path.{_≡_, refl, sym, ap, _∙_}
-use mathlib.Core.Bool.{Bool, true, false, cond, _||_}
+use mathlib.Core.Bool.{false, cond, _||_, or-false}
 use mathlib.Core.List.{List, [], _∷_, _++_, append-assoc}
 use lib.ListN.{replicate}
 use Rattle.job.specs.Job.{Override}
@@ -57,10 +57,6 @@ forecast-append (Ly size ∷ a) b = forecast-append a b
 forecast-append (Sz chunk layer bytes ∷ a) b = forecast-append a b
 forecast-append (Bw count bytes ∷ a) b = ap (λ (l : List ℕ). replicate count bytes ++ l) (forecast-append a b) ∙ sym (append-assoc (replicate count bytes) (forecastIn a) (forecastIn b))
 forecast-append (En ∷ a) b = forecast-append a b
-
-or-false : (b : Bool) → b || false ≡ b
-or-false true = refl
-or-false false = refl
 
 -- Records that name no programme leave it as it is.
 pub has-same : (a b : List Record) → hasProgramme b ≡ false → hasProgramme (a ++ b) ≡ hasProgramme a

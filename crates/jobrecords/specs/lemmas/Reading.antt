@@ -24,9 +24,12 @@ use Rattle.jobrecords.specs.declared.Ending.{Ending}
 use Rattle.jobrecords.specs.declared.Ending.the-variants.{Whole, Broken}
 use Rattle.jobrecords.specs.declared.Step.{Step}
 use Rattle.jobrecords.specs.declared.Step.the-variants.{On, Done, Stop}
-use Rattle.jobrecords.specs.Records.{SZ, whole, overrideAt}
+use Rattle.jobrecords.specs.declared.Run.{Run}
+use Rattle.jobrecords.specs.declared.Run.the-variants.{Sound, Other}
+use Rattle.jobrecords.specs.Records.{SZ, whole, overrideAt, isEnd}
+use Rattle.jobrecords.specs.Reader.{readAt}
 use Rattle.jobrecords.specs.Says.{hasProgramme, noProgramme, programmeIn, sizesIn, overridesIn, forecastIn}
-use Rattle.jobrecords.specs.Refusal.{secondRefusal, previous, place, isRunOf, follows, sequenceRefusal, rangeFault, format, jobOfFile}
+use Rattle.jobrecords.specs.Refusal.{secondRefusal, previous, place, isRunOf, follows, sequenceRefusal, rangeFault, runFault, format, jobOfFile}
 
 abbrev pub noRecords : Progress
 noRecords = record { place = 0; bytes = 0; seen = false; programme = noProgramme; layers = 0; overrides = 0; ends = 0; slots = 0 }
@@ -100,8 +103,9 @@ pub end-after : (sequenced : Bool) (j : Progress) → faultAfter sequenced j En 
 end-after true j = refl
 end-after false j = refl
 
--- A record that is no second PG and in range can be taken.
+-- A record that is not EN, no second PG and in range can be taken.
 pub record Fine (j : Progress) (r : Record) : Type 0 where
+  pub no-end : isEnd r ≡ false
   pub first : secondRefusal (j .seen) r ≡ 0
   pub in-range : rangeFault (j .layers) (j .slots) r ≡ 0
 
@@ -205,6 +209,52 @@ module _ (sequenced : Bool) where
   OneStepPost s at z f (On j next) = (at < next) × OneStepPre s next j z f
   OneStepPost s at z f (Done j) = Complete s j z f
   OneStepPost s at z f (Stop n) = Refuses s n
+
+-- ---- the state with a record more
+
+-- The state after a PG; after an LY, with so many layers in all; after n SZs more, the last of which
+-- ends at a place; after runs, the last one of so many bytes, with so many slots in all.
+abbrev pub withProgramme : Progress → Programme → Progress
+withProgramme j p = record { place = 1; bytes = 0; seen = true; programme = p; layers = j .layers; overrides = j .overrides; ends = j .ends; slots = j .slots }
+
+abbrev pub withLayers : Progress → ℕ → Progress
+withLayers j layers = record { place = 2; bytes = 0; seen = j .seen; programme = j .programme; layers = layers; overrides = j .overrides; ends = j .ends; slots = j .slots }
+
+abbrev pub withOverrides : Progress → ℕ → ℕ → Progress
+withOverrides j n ends = record { place = 3; bytes = 0; seen = j .seen; programme = j .programme; layers = j .layers; overrides = j .overrides + n; ends = ends; slots = j .slots }
+
+abbrev pub withRuns : Progress → ℕ → ℕ → Progress
+withRuns j slots bytes = record { place = 4; bytes = bytes; seen = j .seen; programme = j .programme; layers = j .layers; overrides = j .overrides; ends = j .ends; slots = slots }
+
+-- ---- runs and SZs that follow one of their kind
+
+-- A run stands at a place and has no fault after another of the bytes `last` and so many slots.
+pub record SoundAt (s : List ℕ) (at slots last count bytes : ℕ) : Type 0 where
+  pub inside : at + 8 ≤ length s
+  pub reads : (sequenced : Bool) → readAt sequenced s at ≡ Got (Bw count bytes) (at + 8)
+  pub turn : runFollows 4 last bytes ≡ true
+  pub in-range : runFault slots count bytes ≡ 0
+
+abbrev pub SoundRunPost : List ℕ → ℕ → ℕ → ℕ → Run → Type 0
+SoundRunPost s at slots last (Sound count bytes) = SoundAt s at slots last count bytes
+SoundRunPost s at slots last Other = Unit {0}
+
+-- A record was taken that ends at a place.
+pub record Reached (s : List ℕ) (from : ℕ) (j : Progress) : Type 0 where
+  pub inside : from ≤ length s
+  pub overrides-in : 9 * j .overrides ≤ from
+  pub slots-in : j .slots ≤ 3600
+
+-- On from that place: what was left of a turn is left of one with some records more.
+pub record GoesOn (q : Bool) (s : List ℕ) (from : ℕ) (j : Progress) (f : List ℕ) (r : Step) (f′ : List ℕ) : Type 0 where
+  pub turned : (z : List ℕ) (at : ℕ) → at < from → OneStepPre q s from j z f → OneStepPost q s at z f′ r
+
+-- Runs are the same to both readers, and SZs change no slot.
+pub record TakeRunsPost (s : List ℕ) (from : ℕ) (j : Progress) (f : List ℕ) (r : Step) (f′ : List ℕ) : Type 0 where
+  pub goes-on : (q : Bool) → GoesOn q s from j f r f′
+
+pub record TakeOverridesPost (s : List ℕ) (from : ℕ) (j : Progress) (r : Step) : Type 0 where
+  pub goes-on : (f : List ℕ) → GoesOn true s from j f r f
 
 -- How many SZs there are, and the place after the last, with a record more that ends at a place.
 abbrev pub moreOverrides : ℕ → Record → ℕ

@@ -1,12 +1,13 @@
 -- `live` meets its contract: the refusals in their order, then the asks.
 use borrow.Author.Needs.{needs}
+use borrow.Author.Tests.{not-true, not-false}
 use Prim.Native.Nat.{ℕ}
 use native.Mathlib.Omega.{arith}
 use denote.Ref.{now}
 use lib.ListN.{length-replicate}
 use Rattle.job.specs.Input.{jobInput}
-use Rattle.planner.proofs.Outputs.{none}
-use Rattle.replan.proofs.Outputs.{earlier-long, gather-from, not-false, not-true, some-slot}
+use Rattle.theory_basics.specs.lemmas.Refusals.{found-none}
+use Rattle.replan.proofs.Outputs.{earlier-long, gather-from, some-slot}
 use Rattle.live.specs.Answer.{liveInput, pieceSlices}
 use Rattle.live.specs.lemmas.Writing.{asReplan}
 use Rattle.live.proofs.Writing.{hand-from, promised-pieces, refused-asked, refused-kept}
@@ -40,7 +41,7 @@ sub-gather c =
     let h = jobInput (a .p) (now (a .sizes)) (now (a .size-chunks)) (now (a .size-layers)) (now (a .size-bytes)) (now (a .forecast)) in
     let i = liveInput h (a .from) (rowSlices (now (a .fetched-slots)) (now (a .fetched-chunks)) (now (a .fetched-layers)) (now (a .fetched-bytes))) (a .rate) in
     let l = pieceSlices (now (a .chunks)) (now (a .layers)) (now (a .bytes)) in
-    let z = none (rw (c .before .before .before .before .before .before .onward .ensures) at (c .before .before .before .before .before .asked-refusal .ensures)) (c .before .before .before .before .if1 .left) in
+    let z = found-none (rw (c .before .before .before .before .before .before .onward .ensures) at (c .before .before .before .before .before .asked-refusal .ensures)) (c .before .before .before .before .if1 .left) in
     some-slot h (asReplan i) z
 
 slice-aggregate-gather : tie.Need-slice-aggregate-gather
@@ -49,7 +50,7 @@ slice-aggregate-gather c =
     let h = jobInput (a .p) (now (a .sizes)) (now (a .size-chunks)) (now (a .size-layers)) (now (a .size-bytes)) (now (a .forecast)) in
     let i = liveInput h (a .from) (rowSlices (now (a .fetched-slots)) (now (a .fetched-chunks)) (now (a .fetched-layers)) (now (a .fetched-bytes))) (a .rate) in
     let l = pieceSlices (now (a .chunks)) (now (a .layers)) (now (a .bytes)) in
-    let z = none (rw (c .before .before .before .before .before .before .before .onward .ensures) at (c .before .before .before .before .before .before .asked-refusal .ensures)) (c .before .before .before .before .before .if1 .left) in
+    let z = found-none (rw (c .before .before .before .before .before .before .before .onward .ensures) at (c .before .before .before .before .before .before .asked-refusal .ensures)) (c .before .before .before .before .before .if1 .left) in
     earlier-long h (asReplan i) z
 
 gather-requires : tie.Need-gather-requires
@@ -58,7 +59,7 @@ gather-requires c κs =
     let h = jobInput (a .p) (now (a .sizes)) (now (a .size-chunks)) (now (a .size-layers)) (now (a .size-bytes)) (now (a .forecast)) in
     let i = liveInput h (a .from) (rowSlices (now (a .fetched-slots)) (now (a .fetched-chunks)) (now (a .fetched-layers)) (now (a .fetched-bytes))) (a .rate) in
     let l = pieceSlices (now (a .chunks)) (now (a .layers)) (now (a .bytes)) in
-    let z = none (rw (c .before .before .before .before .before .before .before .before .before .before .onward .ensures) at (c .before .before .before .before .before .before .before .before .before .asked-refusal .ensures)) (c .before .before .before .before .before .before .before .before .if1 .left) in
+    let z = found-none (rw (c .before .before .before .before .before .before .before .before .before .before .onward .ensures) at (c .before .before .before .before .before .before .before .before .before .asked-refusal .ensures)) (c .before .before .before .before .before .before .before .before .if1 .left) in
     gather-from h (asReplan i) z (length-replicate {A = ℕ} 2000 (a .p .chunks)) (length-replicate {A = ℕ} 500 0) (length-replicate {A = ℕ} 500 0)
 
 returns-2 : tie.Need-returns-2
@@ -67,7 +68,7 @@ returns-2 c =
     let h = jobInput (a .p) (now (a .sizes)) (now (a .size-chunks)) (now (a .size-layers)) (now (a .size-bytes)) (now (a .forecast)) in
     let i = liveInput h (a .from) (rowSlices (now (a .fetched-slots)) (now (a .fetched-chunks)) (now (a .fetched-layers)) (now (a .fetched-bytes))) (a .rate) in
     let l = pieceSlices (now (a .chunks)) (now (a .layers)) (now (a .bytes)) in
-    let z = none (rw (c .before .before .before .before .before .before .before .before .before .before .before .before .onward .ensures) at (c .before .before .before .before .before .before .before .before .before .before .before .asked-refusal .ensures)) (c .before .before .before .before .before .before .before .before .before .before .if1 .left) in
+    let z = found-none (rw (c .before .before .before .before .before .before .before .before .before .before .before .before .onward .ensures) at (c .before .before .before .before .before .before .before .before .before .before .before .asked-refusal .ensures)) (c .before .before .before .before .before .before .before .before .before .before .if1 .left) in
     let its = c .before .before .before .before .before .before .before .fill-sizes .ensures (length-replicate {A = ℕ} 2000 (a .p .chunks)) in
     refused-kept i l z its (c .before .gather .ensures) (not-true _ (c .if2 .taken))
 
@@ -77,7 +78,7 @@ cast-hand-over c =
     let h = jobInput (a .p) (now (a .sizes)) (now (a .size-chunks)) (now (a .size-layers)) (now (a .size-bytes)) (now (a .forecast)) in
     let i = liveInput h (a .from) (rowSlices (now (a .fetched-slots)) (now (a .fetched-chunks)) (now (a .fetched-layers)) (now (a .fetched-bytes))) (a .rate) in
     let l = pieceSlices (now (a .chunks)) (now (a .layers)) (now (a .bytes)) in
-    let z = none (rw (c .before .before .before .before .before .before .before .before .before .before .before .before .onward .ensures) at (c .before .before .before .before .before .before .before .before .before .before .before .asked-refusal .ensures)) (c .before .before .before .before .before .before .before .before .before .before .if1 .left) in
+    let z = found-none (rw (c .before .before .before .before .before .before .before .before .before .before .before .before .onward .ensures) at (c .before .before .before .before .before .before .before .before .before .before .before .asked-refusal .ensures)) (c .before .before .before .before .before .before .before .before .before .before .if1 .left) in
     let its = c .before .before .before .before .before .before .before .fill-sizes .ensures (length-replicate {A = ℕ} 2000 (a .p .chunks)) in
     omega (arith, hand-from i l z its (c .before .gather .ensures) (not-false _ (c .if2 .left)) .few-layers)
 
@@ -87,7 +88,7 @@ write-pieces-requires c κs =
     let h = jobInput (a .p) (now (a .sizes)) (now (a .size-chunks)) (now (a .size-layers)) (now (a .size-bytes)) (now (a .forecast)) in
     let i = liveInput h (a .from) (rowSlices (now (a .fetched-slots)) (now (a .fetched-chunks)) (now (a .fetched-layers)) (now (a .fetched-bytes))) (a .rate) in
     let l = pieceSlices (now (a .chunks)) (now (a .layers)) (now (a .bytes)) in
-    let z = none (rw (c .before .before .before .before .before .before .before .before .before .before .before .before .before .before .before .before .before .onward .ensures) at (c .before .before .before .before .before .before .before .before .before .before .before .before .before .before .before .before .asked-refusal .ensures)) (c .before .before .before .before .before .before .before .before .before .before .before .before .before .before .before .if1 .left) in
+    let z = found-none (rw (c .before .before .before .before .before .before .before .before .before .before .before .before .before .before .before .before .before .onward .ensures) at (c .before .before .before .before .before .before .before .before .before .before .before .before .before .before .before .before .asked-refusal .ensures)) (c .before .before .before .before .before .before .before .before .before .before .before .before .before .before .before .if1 .left) in
     let its = c .before .before .before .before .before .before .before .before .before .before .before .before .fill-sizes .ensures (length-replicate {A = ℕ} 2000 (a .p .chunks)) in
     hand-from i l z its (c .before .before .before .before .before .before .gather .ensures) (not-false _ (c .before .before .before .before .before .if2 .left))
 
@@ -106,7 +107,7 @@ returns-3 c =
     let h = jobInput (a .p) (now (a .sizes)) (now (a .size-chunks)) (now (a .size-layers)) (now (a .size-bytes)) (now (a .forecast)) in
     let i = liveInput h (a .from) (rowSlices (now (a .fetched-slots)) (now (a .fetched-chunks)) (now (a .fetched-layers)) (now (a .fetched-bytes))) (a .rate) in
     let l = pieceSlices (now (a .chunks)) (now (a .layers)) (now (a .bytes)) in
-    let z = none (rw (c .before .before .before .before .before .before .before .before .before .before .before .before .before .before .before .before .before .before .before .before .before .before .before .before .onward .ensures) at (c .before .before .before .before .before .before .before .before .before .before .before .before .before .before .before .before .before .before .before .before .before .before .before .asked-refusal .ensures)) (c .before .before .before .before .before .before .before .before .before .before .before .before .before .before .before .before .before .before .before .before .before .before .if1 .left) in
+    let z = found-none (rw (c .before .before .before .before .before .before .before .before .before .before .before .before .before .before .before .before .before .before .before .before .before .before .before .before .onward .ensures) at (c .before .before .before .before .before .before .before .before .before .before .before .before .before .before .before .before .before .before .before .before .before .before .before .asked-refusal .ensures)) (c .before .before .before .before .before .before .before .before .before .before .before .before .before .before .before .before .before .before .before .before .before .before .if1 .left) in
     let its = c .before .before .before .before .before .before .before .before .before .before .before .before .before .before .before .before .before .before .before .fill-sizes .ensures (length-replicate {A = ℕ} 2000 (a .p .chunks)) in
     promised-pieces i l z its (c .before .before .before .before .before .before .before .before .before .before .before .before .before .gather .ensures) (not-false _ (c .before .before .before .before .before .before .before .before .before .before .before .before .if2 .left)) (c .before .before .before .before .before .before .write-pieces .ensures)
 

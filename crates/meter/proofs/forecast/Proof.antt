@@ -3,10 +3,9 @@ use borrow.Author.Needs.{needs}
 use Rattle.meter.proofs.forecast.Statement.{statement}
 use Rattle.meter.proofs.forecast.Tie as tie
 use native.Mathlib.Omega.{arith}
-use Rattle.theory_basics.specs.lemmas.Tests.{true-T}
+use Rattle.theory_basics.specs.lemmas.Tests.{true-T, answer-true, answer-false}
 use Rattle.meter.specs.lemmas.Order.{in-order-iff}
 use Rattle.meter.specs.Meter.{samplesOf}
-use Rattle.meter.proofs.Laws.{answer-true, answer-false}
 use Rattle.meter.proofs.Sums.{forecasts-disorder, forecasts-none, forecasts-bytes}
 
 in-order-requires : tie.Need-in-order-requires

@@ -3,7 +3,8 @@ use native.Mathlib.Omega.{arith}
 use borrow.Author.Needs.{needs}
 use Rattle.meter.proofs.take.Statement.{statement}
 use Rattle.meter.proofs.take.Tie as tie
-use Rattle.meter.proofs.Laws.{answer-true, answer-false, passed-kept, answers-out, answers-disorder, answers-late, answers-taken}
+use Rattle.meter.proofs.Laws.{passed-kept, answers-out, answers-disorder, answers-late, answers-taken}
+use Rattle.theory_basics.specs.lemmas.Tests.{answer-true, answer-false}
 
 in-range-requires : tie.Need-in-range-requires
 in-range-requires c κs = search needs

@@ -2,9 +2,9 @@
 use Rattle.planfile.proofs.copy_marks.Statement.{statement}
 use Rattle.planfile.proofs.copy_marks.Tie as tie
 use Prim.Native.Nat.{_-_, _≤_}
+use mathlib.Core.Path.{refl}
 use native.Mathlib.Omega.{arith}
 use denote.Ref.{now}
-use borrow.Author.Needs.{needs}
 use Rattle.planfile.specs.lemmas.Scan.{markOn, Filled, filled-start, filled-more, filled-end}
 
 abbrev Inv-loop : tie.InvT-loop
@@ -14,7 +14,7 @@ abbrev μ-loop : tie.MeasureT-loop
 μ-loop file count marks₀ i₀ marks i = count - i
 
 loop-holds : tie.Need-loop-holds Inv-loop μ-loop
-loop-holds c = let a = c .before .before .args in (omega arith, filled-start (markOn (now (a .file))) (now (a .marks)))
+loop-holds c = let a = c .args in (omega arith, filled-start (markOn (now (a .file))) (now (a .marks)))
 
 mul-at : tie.Need-mul-at Inv-loop μ-loop
 mul-at c = omega arith
@@ -22,8 +22,8 @@ mul-at c = omega arith
 add-at : tie.Need-add-at Inv-loop μ-loop
 add-at c = omega arith
 
-byte-at-requires : tie.Need-byte-at-requires Inv-loop μ-loop
-byte-at-requires c κs = search needs
+shared-slice-read-marks : tie.Need-shared-slice-read-marks Inv-loop μ-loop
+shared-slice-read-marks c = omega arith
 
 slice-write-marks : tie.Need-slice-write-marks Inv-loop μ-loop
 slice-write-marks c = omega (arith, c .before .before .loop .inv .1 .long)
@@ -36,10 +36,10 @@ loop-less c = omega arith
 
 loop-again : tie.Need-loop-again Inv-loop μ-loop
 loop-again c =
-    let a = c .before .before .before .before .before .args in
+    let a = c .before .before .before .args in
     let l = c .before .before .loop in (
       omega arith,
-      filled-more (markOn (now (a .file))) (l .i) (now (a .marks)) (l .marks) (l .inv .1) (omega arith) (c .byte-at .result) (c .byte-at .ensures),
+      filled-more (markOn (now (a .file))) (l .i) (now (a .marks)) (l .marks) (l .inv .1) (omega arith) _ refl,
     )
 
 same-length : tie.Need-same-length Inv-loop μ-loop
@@ -47,7 +47,7 @@ same-length c = c .before .loop .inv .1 .long
 
 returns : tie.Need-returns Inv-loop μ-loop
 returns c =
-    let a = c .before .before .before .before .args in
+    let a = c .before .before .args in
     let l = c .before .loop in
     filled-end (markOn (now (a .file))) (l .i) (a .count) (now (a .marks)) (l .marks) (l .inv .1) (omega arith)
 
@@ -60,7 +60,7 @@ copy-marks-spec =
     loop-holds
     mul-at
     add-at
-    byte-at-requires
+    shared-slice-read-marks
     slice-write-marks
     add-i
     loop-less

@@ -1,13 +1,13 @@
 -- The four slices are filled row by row (`Filled`). Assumes nothing.
 use Rattle.planfile.proofs.copy_rows.Statement.{statement}
 use Rattle.planfile.proofs.copy_rows.Tie as tie
-use Prim.Native.Nat.{ℕ, _-_, _≤_, _<_}
+use Prim.Native.Nat.{ℕ, _+_, _*_, _-_, _≤_, _<_}
 use mathlib.Core.List.{List}
-use mathlib.Core.Path.{_≡_}
+use mathlib.Core.Path.{_≡_, refl, _∙_}
 use native.Mathlib.Nat.{le-trans}
 use native.Mathlib.Omega.{arith}
 use denote.Ref.{now}
-use borrow.Author.Needs.{needs}
+use Rattle.records.specs.lemmas.Places.{w-four}
 use Rattle.planfile.specs.lemmas.Scan.{rowOn, Filled, filled-start, filled-more, filled-end}
 
 -- The four fields of the rows on file.
@@ -63,7 +63,7 @@ add-size : tie.Need-add-size Inv-loop μ-loop
 add-size c = omega arith
 
 h-at-requires : tie.Need-h-at-requires Inv-loop μ-loop
-h-at-requires c κs = search needs
+h-at-requires c κs = omega arith
 
 mul-slots : tie.Need-mul-slots Inv-loop μ-loop
 mul-slots c = omega (arith, c .before .before .loop .inv .1 .long)
@@ -72,7 +72,7 @@ slice-write-slots : tie.Need-slice-write-slots Inv-loop μ-loop
 slice-write-slots c = omega (arith, c .before .before .loop .inv .1 .long)
 
 h-at-requires-2 : tie.Need-h-at-requires-2 Inv-loop μ-loop
-h-at-requires-2 c κs = search needs
+h-at-requires-2 c κs = omega arith
 
 mul-chunks : tie.Need-mul-chunks Inv-loop μ-loop
 mul-chunks c = omega (arith, c .before .before .before .loop .inv .2 .long)
@@ -80,14 +80,14 @@ mul-chunks c = omega (arith, c .before .before .before .loop .inv .2 .long)
 slice-write-chunks : tie.Need-slice-write-chunks Inv-loop μ-loop
 slice-write-chunks c = omega (arith, c .before .before .before .loop .inv .2 .long)
 
-byte-at-requires : tie.Need-byte-at-requires Inv-loop μ-loop
-byte-at-requires c κs = search needs
+shared-slice-read-layers : tie.Need-shared-slice-read-layers Inv-loop μ-loop
+shared-slice-read-layers c = omega arith
 
 slice-write-layers : tie.Need-slice-write-layers Inv-loop μ-loop
 slice-write-layers c = omega (arith, c .before .before .before .before .loop .inv .3 .long)
 
 w-at-requires : tie.Need-w-at-requires Inv-loop μ-loop
-w-at-requires c κs = search needs
+w-at-requires c κs = omega arith
 
 mul-bytes : tie.Need-mul-bytes Inv-loop μ-loop
 mul-bytes c = omega (arith, c .before .before .before .before .before .loop .inv .4 .long)
@@ -111,8 +111,8 @@ loop-again c =
       omega arith,
       filled-more (slotOn file (a .count)) (l .i) (now (a .slots)) (l .slots) (l .inv .1) (le-trans t (pre .0)) (c .before .before .before .h-at .result) (c .before .before .before .h-at .ensures),
       filled-more (chunkOn file (a .count)) (l .i) (now (a .chunks)) (l .chunks) (l .inv .2) (le-trans t (pre .1)) (c .before .before .h-at2 .result) (c .before .before .h-at2 .ensures),
-      filled-more (layerOn file (a .count)) (l .i) (now (a .layers)) (l .layers) (l .inv .3) (le-trans t (pre .2)) (c .before .byte-at .result) (c .before .byte-at .ensures),
-      filled-more (bytesOn file (a .count)) (l .i) (now (a .bytes)) (l .bytes) (l .inv .4) (le-trans t (pre .3)) (c .w-at .result) (c .w-at .ensures),
+      filled-more (layerOn file (a .count)) (l .i) (now (a .layers)) (l .layers) (l .inv .3) (le-trans t (pre .2)) _ refl,
+      filled-more (bytesOn file (a .count)) (l .i) (now (a .bytes)) (l .bytes) (l .inv .4) (le-trans t (pre .3)) (c .w-at .result) (c .w-at .ensures ∙ w-four file (5 * a .count + 11 * l .i + 7)),
     )
 
 same-length : tie.Need-same-length Inv-loop μ-loop
@@ -163,7 +163,7 @@ copy-rows-spec =
     h-at-requires-2
     mul-chunks
     slice-write-chunks
-    byte-at-requires
+    shared-slice-read-layers
     slice-write-layers
     w-at-requires
     mul-bytes

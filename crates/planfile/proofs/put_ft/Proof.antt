@@ -1,33 +1,30 @@
--- The mark and the body are one run of bytes. Assumes nothing.
+-- The row's bytes go over those of out, and they fit. Assumes nothing.
 use borrow.Author.Needs.{needs}
 use Rattle.planfile.proofs.put_ft.Statement.{statement}
 use Rattle.planfile.proofs.put_ft.Tie as tie
-use Prim.Native.Nat.{_%_, _/_}
-use mathlib.Core.List.{[], _∷_}
+use mathlib.Core.Path.{sym, _∙_}
 use native.Mathlib.Omega.{arith}
-use Rattle.planfile.specs.Records.{ft}
-use Rattle.planfile.specs.lemmas.Writing.{two-puts}
+use Rattle.records.specs.lemmas.Puts.{written-fits}
+use Rattle.planfile.specs.Records.{encode}
+use Rattle.planfile.specs.declared.Record.{Record}
 
-add-next : tie.Need-add-next
-add-next c = search needs
+element-copy-out-t12 : tie.Need-element-copy-out-t12
+element-copy-out-t12 c = search needs
 
-cast-t11 : tie.Need-cast-t11
-cast-t11 c = search needs
+element-copy-out-t15 : tie.Need-element-copy-out-t15
+element-copy-out-t15 c = search needs
 
-cast-t14 : tie.Need-cast-t14
-cast-t14 c = search needs
+cast-t17 : tie.Need-cast-t17
+cast-t17 c = search needs
 
-cast-t16 : tie.Need-cast-t16
-cast-t16 c = search needs
+cast-t20 : tie.Need-cast-t20
+cast-t20 c = search needs
 
-cast-t19 : tie.Need-cast-t19
-cast-t19 c = search needs
+cast-t22 : tie.Need-cast-t22
+cast-t22 c = search needs
 
-cast-t21 : tie.Need-cast-t21
-cast-t21 c = search needs
-
-cast-t24 : tie.Need-cast-t24
-cast-t24 c = search needs
+cast-t25 : tie.Need-cast-t25
+cast-t25 c = search needs
 
 cast-t27 : tie.Need-cast-t27
 cast-t27 c = search needs
@@ -35,42 +32,39 @@ cast-t27 c = search needs
 cast-t30 : tie.Need-cast-t30
 cast-t30 c = search needs
 
+cast-t33 : tie.Need-cast-t33
+cast-t33 c = search needs
+
+cast-t36 : tie.Need-cast-t36
+cast-t36 c = search needs
+
 slice-aggregate-put : tie.Need-slice-aggregate-put
 slice-aggregate-put c = search needs
 
 put-requires : tie.Need-put-requires
 put-requires c κs = search needs
 
-slice-aggregate-put-2 : tie.Need-slice-aggregate-put-2
-slice-aggregate-put-2 c = search needs
-
-put-requires-2 : tie.Need-put-requires-2
-put-requires-2 c κs = search needs
-
 same-length : tie.Need-same-length
 same-length c = search needs
 
 returns : tie.Need-returns
-returns c =
-    let a = c .before .before .before .before .before .before .before .before .before .before .before .args in
-    two-puts (a .out .now) (a .at) ft (a .slot % 256 ∷ a .slot / 256 % 256 ∷ a .chunk % 256 ∷ a .chunk / 256 % 256 ∷ a .layer ∷ a .bytes % 256 ∷ a .bytes / 256 % 256 ∷ a .bytes / 65536 % 256 ∷ a .bytes / 16777216 % 256 ∷ []) (c .before .before .before .before .before .before .before .put .ensures) (c .before .before .put2 .ensures) (omega arith)
+returns c = let a = c .before .before .before .before .before .before .before .before .before .args in c .before .before .put .ensures ∙ sym (written-fits (a .out .now) (a .at) (encode (Record.Ft (a .slot) (a .chunk) (a .layer) (a .bytes))) (omega arith))
 
 pub put-ft-spec : {M : Type 1} → statement M
 put-ft-spec =
     tie.close
     (tie.spec
-    add-next
-    cast-t11
-    cast-t14
-    cast-t16
-    cast-t19
-    cast-t21
-    cast-t24
+    element-copy-out-t12
+    element-copy-out-t15
+    cast-t17
+    cast-t20
+    cast-t22
+    cast-t25
     cast-t27
     cast-t30
+    cast-t33
+    cast-t36
     slice-aggregate-put
     put-requires
-    slice-aggregate-put-2
-    put-requires-2
     same-length
     returns)

@@ -49,7 +49,7 @@ returns-3 c =
 returns-4 : tie.Need-returns-4
 returns-4 c =
     let a = c .before .before .before .before .before .before .before .before .before .before .before .args in
-    short (a .count) (slicesOf (now (a .marks)) (now (a .slots)) (now (a .chunks)) (now (a .layers)) (now (a .bytes))) (now (a .out)) (c .before .before .before .before .list-refusal .result) (c .before .before .before .before .list-refusal .ensures) (c .before .before .before .if1 .left) (c .before .if3 .left) (c .if4 .taken)
+    short (a .count) (slicesOf (now (a .marks)) (now (a .slots)) (now (a .chunks)) (now (a .layers)) (now (a .bytes))) (now (a .out)) (c .before .before .before .before .list-refusal .result) (c .before .before .before .before .list-refusal .ensures) (c .before .before .before .if1 .left) (c .before .if3 .left) (omega (arith, c .if4 .taken))
 
 put-kps-requires : tie.Need-put-kps-requires
 put-kps-requires c κs = (omega (arith, c .before .if4 .left), omega (arith, c .before .before .if3 .left))
@@ -72,7 +72,7 @@ same-length c = search needs
 returns-5 : tie.Need-returns-5
 returns-5 c =
     let a = c .before .before .before .before .before .before .before .before .before .before .before .before .before .before .before .before .before .before .before .before .before .before .before .before .args in
-    wrote (a .count) (slicesOf (now (a .marks)) (now (a .slots)) (now (a .chunks)) (now (a .layers)) (now (a .bytes))) (now (a .out)) (c .before .before .before .before .before .before .before .before .before .before .before .before .before .before .before .before .before .list-refusal .result) (c .before .before .before .before .before .before .before .before .before .before .before .before .before .before .before .before .before .list-refusal .ensures) (c .before .before .before .before .before .before .before .before .before .before .before .before .before .before .before .before .if1 .left) (c .before .before .before .before .before .before .before .before .before .before .before .before .before .before .if3 .left) (c .before .before .before .before .before .before .before .before .before .before .before .before .before .if4 .left) _ _ _ (c .before .before .before .before .before .before .before .before .before .before .before .put-kps .ensures) (c .before .before .before .before .before .before .before .put-fts .ensures) (c .before .before .put .ensures)
+    wrote (a .count) (slicesOf (now (a .marks)) (now (a .slots)) (now (a .chunks)) (now (a .layers)) (now (a .bytes))) (now (a .out)) (c .before .before .before .before .before .before .before .before .before .before .before .before .before .before .before .before .before .list-refusal .result) (c .before .before .before .before .before .before .before .before .before .before .before .before .before .before .before .before .before .list-refusal .ensures) (c .before .before .before .before .before .before .before .before .before .before .before .before .before .before .before .before .if1 .left) (c .before .before .before .before .before .before .before .before .before .before .before .before .before .before .if3 .left) (omega (arith, c .before .before .before .before .before .before .before .before .before .before .before .before .before .if4 .left)) _ _ _ (c .before .before .before .before .before .before .before .before .before .before .before .put-kps .ensures) (c .before .before .before .before .before .before .before .put-fts .ensures) (c .before .before .put .ensures)
 
 pub write-file-spec : {M : Type 1} → statement M
 write-file-spec =

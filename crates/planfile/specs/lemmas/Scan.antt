@@ -1,22 +1,23 @@
--- Lemmas. Going through a plan file a record a turn: how many KPs and FTs are taken, and where each
--- stands in an accepted file. Assumes nothing.
+-- Lemmas. Going through a plan file: the KPs in turn, the FTs after them, and what stands where they
+-- end; and where each record stands in an accepted file. Assumes nothing.
 use Prim.Native.Nat.{ℕ, suc, _+_, _*_, _-_, _≤_, _<_}
 use mathlib.Core.Path.{_≡_, refl, sym, ap, subst, _∙_}
-use mathlib.Core.Bool.{Bool, not, cond, _&&_}
+use mathlib.Core.Bool.{Bool, false, cond, _&&_}
 use mathlib.Core.List.{List, [], _∷_, _++_, append-nil, append-assoc}
 use native.Mathlib.Omega.{arith}
 use native.Mathlib.Numerals.{add-one}
 use lib.ListN.{length, getD, set, drop, length-drop, length-append, length-set}
-use lib.Seq.{getD-drop, drop-cons, set-at}
-use lib.Dec.{T, leb, eqb, leb→le, eqb→eq}
-use borrow.Author.Tests.{ne-eqb, le-leb, lt-leb}
-use Rattle.theory_basics.specs.lemmas.Tests.{by-cond, T-true, not-T-false, same-test, eqb-iff, tests}
+use lib.Seq.{drop-cons, set-at}
+use lib.Dec.{T, not-T, leb, eqb, leb→le, eqb→eq}
+use borrow.Author.Tests.{eq-eqb, ne-eqb, le-leb, lt-leb}
+use Rattle.theory_basics.specs.lemmas.Tests.{by-cond, and-T, T-and, T-true, not-T-false, same-test, eqb-iff, leb-iff, tests}
 use Rattle.theory_basics.specs.Lists.{upTo}
 use Rattle.theory_basics.specs.lemmas.Lists.{length-upTo}
 use Rattle.theory_basics.specs.Refusals.{unless, _orElse_}
 use Rattle.theory_basics.specs.lemmas.Refusals.{unless-iff, orElse-iff}
 use Rattle.records.specs.Fields.{hAt, wAt, marked}
 use Rattle.records.specs.File.{Front, got, none, recordsRefusal, fileRefusal}
+use Rattle.records.specs.lemmas.Places.{byte-on, h-on, w-on}
 use Rattle.records.specs.lemmas.Reading.{Reads, reads-start, reads-none, reads-fault, reads-more, reads-end}
 use Rattle.fetch.specs.Rows.{Row}
 use Rattle.planfile.specs.Records.{kp, ft, en, front, readOf, readAt}
@@ -28,27 +29,14 @@ use Rattle.planfile.specs.declared.Read.the-variants as read
 use Rattle.planfile.specs.declared.PlanRead.{PlanRead}
 use Rattle.planfile.specs.declared.PlanRead.the-variants.{Rows, Refused}
 
--- ---- places
-
-module _ (s : List ℕ) (at : ℕ) where
-  -- A byte and a field of what follows a place stand that much further on.
-  pub byte-on : (k m : ℕ) → m ≡ at + k → getD s m 0 ≡ getD (drop at s) k 0
-  byte-on k m e = rw e (sym (getD-drop at s k 0))
-
-  pub h-on : (k m : ℕ) → m ≡ at + k → hAt s m ≡ hAt (drop at s) k
-  h-on k m e = rw (byte-on k m e, byte-on (k + 1) (m + 1) (omega arith))
-
-  pub w-on : (k m : ℕ) → m ≡ at + k → wAt s m ≡ wAt (drop at s) k
-  w-on k m e = rw (h-on k m e, h-on (k + 2) (m + 2) (omega arith))
-
 -- ---- what stands in front
 
--- What is known of a record in front: it is as long as its kind, its bytes are there, and its
--- fields are theirs.
+-- What is known of a record in front: it is as long as its kind, its mark and its bytes are there,
+-- and its fields are theirs.
 abbrev Stands : List ℕ → Front Record → Type 0
 Stands s (none n) = 0 < n
-Stands s (got (Kp chunk marks) n) = (n ≡ 5) × (n ≤ length s) × (marks ≡ getD s 4 0)
-Stands s (got (Ft slot chunk layer bytes) n) = (n ≡ 11) × (n ≤ length s) × (slot ≡ hAt s 2) × (chunk ≡ hAt s 4) × (layer ≡ getD s 6 0) × (bytes ≡ wAt s 7)
+Stands s (got (Kp chunk marks) n) = (n ≡ 5) × (n ≤ length s) × T (marked kp s) × (chunk ≡ hAt s 2) × (marks ≡ getD s 4 0)
+Stands s (got (Ft slot chunk layer bytes) n) = (n ≡ 11) × (n ≤ length s) × T (marked ft s)
 Stands s (got En n) = (n ≡ 2) × (n ≤ length s)
 
 stands : (s : List ℕ) → Stands s (front s)
@@ -57,20 +45,47 @@ stands s =
     let one : 0 < 1 = omega arith in
     by-cond (Stands s) (leb 2 (length s))
     (λ t. by-cond (Stands s) (marked kp s)
-    (λ _. by-cond (Stands s) (leb 5 (length s)) (λ u. (refl, leb→le 5 (length s) u, refl)) (λ _. one))
+    (λ m. by-cond (Stands s) (leb 5 (length s)) (λ u. (refl, leb→le 5 (length s) u, m, refl, refl)) (λ _. one))
     (λ _. by-cond (Stands s) (marked ft s)
-    (λ _. by-cond (Stands s) (leb 11 (length s)) (λ u. (refl, leb→le 11 (length s) u, refl, refl, refl, refl)) (λ _. one))
+    (λ m. by-cond (Stands s) (leb 11 (length s)) (λ u. (refl, leb→le 11 (length s) u, m)) (λ _. one))
     (λ _. by-cond (Stands s) (marked en s)
     (λ _. by-cond (Stands s) (leb 2 (length s)) (λ u. (refl, leb→le 2 (length s) u)) (λ _. one))
     (λ _. omega arith))))
     (λ _. one)
 
--- ---- a turn
+-- A KP of a chunk, or an FT, stands whole at a place.
+abbrev pub kpStands : List ℕ → ℕ → ℕ → Bool
+kpStands file at chunk = leb 5 (length (drop at file)) && (marked kp (drop at file) && eqb (hAt (drop at file) 2) chunk)
 
--- What a turn makes of a record: the next place with the KPs and FTs taken so far, or the end.
-pub data Turn : Type 0 where
-  More : ℕ → ℕ → ℕ → Turn
-  End : PlanRead → Turn
+abbrev pub ftStands : List ℕ → ℕ → Bool
+ftStands file at = leb 11 (length (drop at file)) && marked ft (drop at file)
+
+-- Where they stand, the file goes on to their end.
+pub kp-inside : (file : List ℕ) (at chunk : ℕ) → at ≤ length file → T (kpStands file at chunk) → at + 5 ≤ length file
+kp-inside file at chunk l t =
+    let s = drop at file in
+    omega (arith, leb→le 5 (length s) (and-T (leb 5 (length s)) (marked kp s && eqb (hAt s 2) chunk) t .0), length-drop at file)
+
+pub ft-inside : (file : List ℕ) (at : ℕ) → at ≤ length file → T (ftStands file at) → at + 11 ≤ length file
+ft-inside file at l t =
+    let s = drop at file in
+    omega (arith, leb→le 11 (length s) (and-T (leb 11 (length s)) (marked ft s) t .0), length-drop at file)
+
+-- No mark FT is a mark KP.
+not-kp : (s : List ℕ) → T (marked ft s) → marked kp s ≡ false
+not-kp s t =
+    let e = eqb→eq (getD s 0 0) 70 (and-T (eqb (getD s 0 0) 70) (eqb (getD s 1 0) 84) t .0) in
+    rw (ne-eqb (getD s 0 0) 75 (λ z. omega arith))
+
+kp-front : (s : List ℕ) → 5 ≤ length s → T (marked kp s) → front s ≡ got (Kp (hAt s 2) (getD s 4 0)) 5
+unfolding front
+kp-front s l m = rw (le-leb 2 (length s) (omega arith), T-true (marked kp s) m, le-leb 5 (length s) l)
+
+ft-front : (s : List ℕ) → 11 ≤ length s → T (marked ft s) → front s ≡ got (Ft (hAt s 2) (hAt s 4) (getD s 6 0) (wAt s 7)) 11
+unfolding front
+ft-front s l m = rw (le-leb 2 (length s) (omega arith), not-kp s m, T-true (marked ft s) m, le-leb 11 (length s) l)
+
+-- ---- answers
 
 -- The number of rows, or a refusal.
 abbrev pub answerOf : ℕ → ℕ → PlanRead
@@ -81,19 +96,13 @@ abbrev pub refusalOf : Read → ℕ
 refusalOf (read.Got r n) = 0
 refusalOf (read.Refused n) = n
 
--- A KP for the next chunk, up to C, before every FT.
-abbrev pub inTurn : ℕ → ℕ → ℕ → ℕ → Bool
-inTurn count kept rows chunk = eqb chunk (kept + 1) && (leb chunk count && eqb rows 0)
-
--- What a turn makes of a record read, after so many KPs and FTs.
-abbrev pub turnBy : ℕ → List ℕ → ℕ → ℕ → Read → Turn
-turnBy count file kept rows (read.Refused n) = End (Refused n)
-turnBy count file kept rows (read.Got (Kp chunk marks) next) = cond (inTurn count kept rows chunk) (More next chunk rows) (End (Refused 8))
-turnBy count file kept rows (read.Got (Ft slot chunk layer bytes) next) = More next kept (rows + 1)
-turnBy count file kept rows (read.Got En next) = End (answerOf (unless 3 (eqb (length file) next) orElse unless 8 (eqb kept count)) rows)
-
-abbrev pub turnOf : ℕ → List ℕ → ℕ → ℕ → ℕ → Turn
-turnOf count file at kept rows = turnBy count file kept rows (readAt file at)
+-- The refusal where the KPs in turn and the FTs end, by what is read there, in a file of so many
+-- bytes; 0 for EN.
+abbrev pub endOf : ℕ → ℕ → ℕ → Read → ℕ
+endOf count kept size (read.Refused n) = n
+endOf count kept size (read.Got (Kp chunk marks) next) = 8
+endOf count kept size (read.Got (Ft slot chunk layer bytes) next) = 1
+endOf count kept size (read.Got En next) = unless 3 (eqb size next) orElse unless 8 (eqb kept count)
 
 -- ---- where the records of an accepted file stand
 
@@ -145,110 +154,171 @@ pub scanned-start : (count : ℕ) (file : List ℕ) → Scanned count file 0 0 0
 scanned-start count file =
     record { before = []; reads = reads-start (format count) file; kept-is = refl; rows-is = refl; place = refl; marks-are = refl; rows-are = refl }
 
--- What holds after a turn.
-abbrev Next : ℕ → List ℕ → ℕ → Turn → Type 0
-Next count file at (More next kept rows) = Scanned count file next kept rows × (at < next) × (next ≤ length file)
-Next count file at (End a) = FileRowsPost count file (recordsRefusal (format count) file) a
+-- ---- a record more
+
+module _ (count : ℕ) (file : List ℕ) (at kept : ℕ) (i : Scanned count file at kept 0) (l : kept < count) (t : T (kpStands file at (kept + 1))) where
+  pub kp-next : Scanned count file (at + 5) (kept + 1) 0
+  kp-next =
+      let s = drop at file in
+      let u = and-T (leb 5 (length s)) (marked kp s && eqb (hAt s 2) (kept + 1)) t in
+      let v = and-T (marked kp s) (eqb (hAt s 2) (kept + 1)) (u .1) in
+      let long : 5 ≤ length s = leb→le 5 (length s) (u .0) in
+      let chunk : hAt s 2 ≡ kept + 1 = eqb→eq (hAt s 2) (kept + 1) (v .1) in
+      let r = Kp (hAt s 2) (getD s 4 0) in
+      let no-fault : fault count (i .before) r ≡ 0 = rw (chunk, ← i .kept-is, ← i .rows-is, eq-eqb (kept + 1) (kept + 1) refl, le-leb (kept + 1) count (omega arith)) in
+      let m : getD s 4 0 ≡ markOn file kept = sym (byte-on file at 4 (5 * kept + 4) (omega (arith, i .place))) in
+      record {
+        before = i .before ++ (r ∷ []);
+        reads = reads-more (format count) file at (i .before) (i .reads) r 5 (kp-front s long (v .0)) refl (omega arith) long no-fault;
+        kept-is = omega (arith, i .kept-is, ap length (marks-append (i .before) (r ∷ [])), length-append (marksIn (i .before)) (getD s 4 0 ∷ []));
+        rows-is = i .rows-is ∙ sym (ap length (rows-append (i .before) (r ∷ []) ∙ append-nil (rowsIn (i .before))));
+        place = omega (arith, i .place);
+        marks-are = marks-append (i .before) (r ∷ []) ∙ rw (i .marks-are, m, add-one kept);
+        rows-are = rows-append (i .before) (r ∷ []) ∙ append-nil (rowsIn (i .before)) ∙ i .rows-are;
+      }
+
+module _ (count : ℕ) (file : List ℕ) (at kept rows : ℕ) (i : Scanned count file at kept rows) (t : T (ftStands file at)) where
+  ft-next : Scanned count file (at + 11) kept (rows + 1)
+  ft-next =
+      let s = drop at file in
+      let u = and-T (leb 11 (length s)) (marked ft s) t in
+      let long : 11 ≤ length s = leb→le 11 (length s) (u .0) in
+      let r = Ft (hAt s 2) (hAt s 4) (getD s 6 0) (wAt s 7) in
+      let x : Row = record { slot = hAt s 2; chunk = hAt s 4; layer = getD s 6 0; bytes = wAt s 7 } in
+      let row : x ≡ rowOn file kept rows = rw (
+        sym (h-on file at 2 (5 * kept + 11 * rows + 2) (omega (arith, i .place))),
+        sym (h-on file at 4 (5 * kept + 11 * rows + 4) (omega (arith, i .place))),
+        sym (byte-on file at 6 (5 * kept + 11 * rows + 6) (omega (arith, i .place))),
+        sym (w-on file at 7 (5 * kept + 11 * rows + 7) (omega (arith, i .place))),
+      ) in
+      record {
+        before = i .before ++ (r ∷ []);
+        reads = reads-more (format count) file at (i .before) (i .reads) r 11 (ft-front s long (u .1)) refl (omega arith) long refl;
+        kept-is = i .kept-is ∙ sym (ap length (marks-append (i .before) (r ∷ []) ∙ append-nil (marksIn (i .before))));
+        rows-is = omega (arith, i .rows-is, ap length (rows-append (i .before) (r ∷ [])), length-append (rowsIn (i .before)) (x ∷ []));
+        place = omega (arith, i .place);
+        marks-are = marks-append (i .before) (r ∷ []) ∙ append-nil (marksIn (i .before)) ∙ i .marks-are;
+        rows-are = rows-append (i .before) (r ∷ []) ∙ rw (i .rows-are, row, add-one rows);
+      }
+
+-- ---- the KPs in turn, and the FTs after them
+
+-- So many KPs in turn stand in front, and no further one.
+pub record KpsTaken (count : ℕ) (file : List ℕ) (kept : ℕ) : Type 0 where
+  pub scanned : Scanned count file (5 * kept) kept 0
+  pub last : kept < count → kpStands file (5 * kept) (kept + 1) ≡ false
+
+pub kps-end : (count : ℕ) (file : List ℕ) (at kept : ℕ) → Scanned count file at kept 0 → (kept < count → kpStands file at (kept + 1) ≡ false) → KpsTaken count file kept
+kps-end count file at kept i n =
+    let e : at ≡ 5 * kept = omega (arith, i .place) in
+    record { scanned = subst (λ (x : ℕ). Scanned count file x kept 0) e i; last = subst (λ (x : ℕ). kept < count → kpStands file x (kept + 1) ≡ false) e n }
+
+-- So many FTs are read from a place on to another, whatever was read before.
+pub record FtsRead (file : List ℕ) (from rows at : ℕ) : Type 0 where
+  pub place : at ≡ from + 11 * rows
+  pub inside : at ≤ length file
+  pub scanned : (count kept : ℕ) → Scanned count file from kept 0 → Scanned count file at kept rows
+
+pub fts-start : (file : List ℕ) (from : ℕ) → from ≤ length file → FtsRead file from 0 from
+fts-start file from l = record { place = omega arith; inside = l; scanned = λ count kept i. i }
+
+pub fts-more : (file : List ℕ) (from rows at : ℕ) → FtsRead file from rows at → T (ftStands file at) → FtsRead file from (rows + 1) (at + 11)
+fts-more file from rows at i t =
+    record {
+      place = omega (arith, i .place);
+      inside = ft-inside file at (i .inside) t;
+      scanned = λ count kept s. ft-next count file at kept rows (i .scanned count kept s) t;
+    }
+
+-- So many FTs stand from a place on, and no further one.
+pub record FtsTaken (file : List ℕ) (from rows : ℕ) : Type 0 where
+  pub read : FtsRead file from rows (from + 11 * rows)
+  pub last : ftStands file (from + 11 * rows) ≡ false
+
+pub fts-end : (file : List ℕ) (from rows at : ℕ) → FtsRead file from rows at → ftStands file at ≡ false → FtsTaken file from rows
+fts-end file from rows at i n =
+    record { read = subst (λ (x : ℕ). FtsRead file from rows x) (i .place) i; last = subst (λ (x : ℕ). ftStands file x ≡ false) (i .place) n }
+
+-- ---- where they end, the file's refusal is known
 
 -- A file that is refused.
-refused : (count : ℕ) (file : List ℕ) (r n : ℕ) → 0 < n → r ≡ n → FileRowsPost count file r (Refused n)
-refused count file r n p e = record { answer = rw (e, ne-eqb n 0 (λ z. omega arith)); laid = λ z. absurd (omega arith) }
+refused : (count : ℕ) (file : List ℕ) (r n rows : ℕ) → 0 < n → r ≡ n → FileRowsPost count file r (answerOf n rows)
+refused count file r n rows p e = record { answer = rw (e, ne-eqb n 0 (λ z. omega arith)); laid = λ z. absurd (omega arith) }
 
-module _ (count : ℕ) (file : List ℕ) (at kept rows : ℕ) (i : Scanned count file at kept rows) where
-  module _ (chunk marks n : ℕ) (e : front (drop at file) ≡ got (Kp chunk marks) n) (k : Stands (drop at file) (got (Kp chunk marks) n)) where
-    turns : inTurn count kept rows chunk ≡ eqb chunk (length (marksIn (i .before)) + 1) && (leb chunk count && eqb (length (rowsIn (i .before))) 0)
-    turns = rw (← i .kept-is, ← i .rows-is)
+module _ (count : ℕ) (file : List ℕ) (kept : ℕ) (k : KpsTaken count file kept) (rows : ℕ) (f : FtsTaken file (5 * kept) rows) where
+  abbrev end : ℕ
+  end = 5 * kept + 11 * rows
 
-    kp-next : T (inTurn count kept rows chunk) → Next count file at (More (at + n) chunk rows)
-    kp-next t =
-        let u = simp tests at t in
-        let no-fault : fault count (i .before) (Kp chunk marks) ≡ 0 = rw (← turns, T-true (inTurn count kept rows chunk) t) in
-        let s : chunk ≡ suc kept = omega (arith, u .0) in
-        let r : rows ≡ 0 = u .1 .1 in
-        let m : marks ≡ markOn file kept = k .2 ∙ sym (byte-on file at 4 (5 * kept + 4) (omega (arith, i .place))) in (
-          record {
-            before = i .before ++ (Kp chunk marks ∷ []);
-            reads = reads-more (format count) file at (i .before) (i .reads) (Kp chunk marks) n e refl (omega arith) (k .1) no-fault;
-            kept-is = omega (arith, i .kept-is, ap length (marks-append (i .before) (Kp chunk marks ∷ [])), length-append (marksIn (i .before)) (marks ∷ []));
-            rows-is = i .rows-is ∙ sym (ap length (rows-append (i .before) (Kp chunk marks ∷ []) ∙ append-nil (rowsIn (i .before))));
-            place = omega (arith, i .place);
-            marks-are = marks-append (i .before) (Kp chunk marks ∷ []) ∙ rw (i .marks-are, s, m);
-            rows-are = rows-append (i .before) (Kp chunk marks ∷ []) ∙ append-nil (rowsIn (i .before)) ∙ i .rows-are ∙ rw r;
-          },
-          omega arith,
-          omega (arith, length-drop at file, i .reads .inside),
-        )
+  abbrev s : List ℕ
+  s = drop end file
 
-    kp-fault : T (not (inTurn count kept rows chunk)) → Next count file at (End (Refused 8))
-    kp-fault t =
-        let f : fault count (i .before) (Kp chunk marks) ≡ 8 = rw (← turns, not-T-false (inTurn count kept rows chunk) t) in
-        refused count file (recordsRefusal (format count) file) 8 (omega arith) (reads-fault (format count) file at (i .before) (i .reads) (Kp chunk marks) n e refl (λ z. omega (arith, f, z)) ∙ f)
+  i : Scanned count file end kept rows
+  i = f .read .scanned count kept (k .scanned)
 
-  ft-next : (slot chunk layer bytes n : ℕ) → front (drop at file) ≡ got (Ft slot chunk layer bytes) n → Stands (drop at file) (got (Ft slot chunk layer bytes) n) → Next count file at (More (at + n) kept (rows + 1))
-  ft-next slot chunk layer bytes n e k =
-      let r = Ft slot chunk layer bytes in
-      let row : record { slot = slot; chunk = chunk; layer = layer; bytes = bytes } ≡ rowOn file kept rows = rw (
-        k .2 ∙ sym (h-on file at 2 (5 * kept + 11 * rows + 2) (omega (arith, i .place))),
-        k .3 ∙ sym (h-on file at 4 (5 * kept + 11 * rows + 4) (omega (arith, i .place))),
-        k .4 ∙ sym (byte-on file at 6 (5 * kept + 11 * rows + 6) (omega (arith, i .place))),
-        k .5 ∙ sym (w-on file at 7 (5 * kept + 11 * rows + 7) (omega (arith, i .place))),
-      ) in (
-        record {
-          before = i .before ++ (r ∷ []);
-          reads = reads-more (format count) file at (i .before) (i .reads) r n e refl (omega arith) (k .1) refl;
-          kept-is = i .kept-is ∙ sym (ap length (marks-append (i .before) (r ∷ []) ∙ append-nil (marksIn (i .before))));
-          rows-is = omega (arith, i .rows-is, ap length (rows-append (i .before) (r ∷ [])), length-append (rowsIn (i .before)) (record { slot = slot; chunk = chunk; layer = layer; bytes = bytes } ∷ []));
-          place = omega (arith, i .place);
-          marks-are = marks-append (i .before) (r ∷ []) ∙ append-nil (marksIn (i .before)) ∙ i .marks-are;
-          rows-are = rows-append (i .before) (r ∷ []) ∙ rw (i .rows-are, row, add-one rows);
-        },
-        omega arith,
-        omega (arith, length-drop at file, i .reads .inside),
-      )
+  abbrev Ends : Front Record → Type 0
+  Ends x = FileRowsPost count file (recordsRefusal (format count) file) (answerOf (endOf count kept (length file) (readOf end x)) rows)
 
-  en-next : (n : ℕ) → front (drop at file) ≡ got En n → Stands (drop at file) (got En n) → Next count file at (End (answerOf (unless 3 (eqb (length file) (at + n)) orElse unless 8 (eqb kept count)) rows))
+  -- A KP here is for another chunk, or for one above C, or it is after an FT.
+  late : (chunk : ℕ) → 5 ≤ length s → T (marked kp s) → chunk ≡ hAt s 2 → T (eqb chunk (kept + 1) && (leb chunk count && eqb rows 0)) → ⊥
+  late chunk l m e t =
+      let u = simp tests at t in
+      let here : end ≡ 5 * kept = omega (arith, u .1 .1) in
+      let next = T-and (marked kp s) (eqb (hAt s 2) (kept + 1)) m (eqb-iff (hAt s 2) (kept + 1) .1 (sym e ∙ u .0)) in
+      let there : T (kpStands file end (kept + 1)) = T-and (leb 5 (length s)) (marked kp s && eqb (hAt s 2) (kept + 1)) (leb-iff 5 (length s) .1 l) next in
+      subst T (ap (λ (x : ℕ). kpStands file x (kept + 1)) here ∙ k .last (omega (arith, u .0, u .1 .0))) there
+
+  -- EN: bytes after it, then a KP that is lacking.
+  en-end : (n : ℕ) → front s ≡ got En n → n ≤ length s → Ends (got En n)
   unfolding planIn
-  en-next n e k =
-      let d = reads-end (format count) file at (i .before) (i .reads) En n e refl in
-      let left : eqb (length (drop at file) - n) 0 ≡ eqb (length file) (at + n) = same-test (eqb (length (drop at file) - n) 0) (eqb (length file) (at + n)) (λ t. eqb-iff (length file) (at + n) .1 (omega (arith, eqb→eq (length (drop at file) - n) 0 t, length-drop at file, i .reads .inside))) (λ t. eqb-iff (length (drop at file) - n) 0 .1 (omega (arith, eqb→eq (length file) (at + n) t, length-drop at file))) in
-      let whole : recordsRefusal (format count) file ≡ unless 3 (eqb (length file) (at + n)) orElse unless 8 (eqb kept count) = d .refusal-is ∙ rw (left, ← i .kept-is) in
+  en-end n e l =
+      let d = reads-end (format count) file end (i .before) (i .reads) En n e refl in
+      let left : eqb (length s - n) 0 ≡ eqb (length file) (end + n) = same-test (eqb (length s - n) 0) (eqb (length file) (end + n)) (λ t. eqb-iff (length file) (end + n) .1 (omega (arith, eqb→eq (length s - n) 0 t, length-drop end file, i .reads .inside))) (λ t. eqb-iff (length s - n) 0 .1 (omega (arith, eqb→eq (length file) (end + n) t, length-drop end file))) in
+      let whole : recordsRefusal (format count) file ≡ unless 3 (eqb (length file) (end + n)) orElse unless 8 (eqb kept count) = d .refusal-is ∙ rw (left, ← i .kept-is) in
       record {
         answer = rw (whole, d .records-are, ← i .rows-is);
         laid = λ z.
-            let c : kept ≡ count = eqb→eq kept count (unless-iff 8 (eqb kept count) (omega arith) .0 (orElse-iff (unless 3 (eqb (length file) (at + n))) (unless 8 (eqb kept count)) .0 (sym whole ∙ z) .1)) in
+            let c : kept ≡ count = eqb→eq kept count (unless-iff 8 (eqb kept count) (omega arith) .0 (orElse-iff (unless 3 (eqb (length file) (end + n))) (unless 8 (eqb kept count)) .0 (sym whole ∙ z) .1)) in
             record {
               marks-are = ap marksIn (d .records-are) ∙ i .marks-are ∙ rw c;
               rows-are = ap rowsIn (d .records-are) ∙ i .rows-are ∙ rw (c, d .records-are, ← i .rows-is);
-              inside = omega (arith, c, i .place, i .rows-is, i .reads .inside, ap (λ (l : List Record). length (rowsIn l)) (d .records-are));
+              inside = omega (arith, c, i .rows-is, i .reads .inside, ap (λ (l : List Record). length (rowsIn l)) (d .records-are));
             };
       }
 
-  by-front : (x : Front Record) → front (drop at file) ≡ x → Stands (drop at file) x → Next count file at (turnBy count file kept rows (readOf at x))
-  by-front (none n) e k = refused count file (recordsRefusal (format count) file) n k (reads-none (format count) file at (i .before) (i .reads) n e)
-  by-front (got (Kp chunk marks) n) e k = by-cond (Next count file at) (inTurn count kept rows chunk) (kp-next chunk marks n e k) (kp-fault chunk marks n e k)
-  by-front (got (Ft slot chunk layer bytes) n) e k = ft-next slot chunk layer bytes n e k
-  by-front (got En n) e k = en-next n e k
+  by-front : (x : Front Record) → front s ≡ x → Stands s x → Ends x
+  by-front (none n) e t = refused count file (recordsRefusal (format count) file) n rows t (reads-none (format count) file end (i .before) (i .reads) n e)
+  by-front (got (Kp chunk marks) n) e t =
+      let test = eqb chunk (kept + 1) && (leb chunk count && eqb rows 0) in
+      let no = not-T-false test (not-T test (late chunk (omega (arith, t .0, t .1)) (t .2) (t .3))) in
+      let fault-is : fault count (i .before) (Kp chunk marks) ≡ 8 = rw (← i .kept-is, ← i .rows-is, no) in
+      refused count file (recordsRefusal (format count) file) 8 rows (omega arith) (reads-fault (format count) file end (i .before) (i .reads) (Kp chunk marks) n e refl (λ z. omega (arith, fault-is, z)) ∙ fault-is)
+  by-front (got (Ft slot chunk layer bytes) n) e t =
+      absurd (subst T (f .last) (T-and (leb 11 (length s)) (marked ft s) (leb-iff 11 (length s) .1 (omega (arith, t .0, t .1))) (t .2)))
+  by-front (got En n) e t = en-end n e (t .1)
 
-  turned : Next count file at (turnOf count file at kept rows)
-  turned = by-front (front (drop at file)) refl (stands (drop at file))
-
-  -- A turn that goes on, and one that ends.
-  pub scanned-more : (next k n : ℕ) → turnOf count file at kept rows ≡ More next k n → Scanned count file next k n × (at < next) × (next ≤ length file)
-  scanned-more next k n e = subst (Next count file at) e turned
-
-  pub scanned-end : (a : PlanRead) → turnOf count file at kept rows ≡ End a → FileRowsPost count file (recordsRefusal (format count) file) a
-  scanned-end a e = subst (Next count file at) e turned
+  pub file-end : FileRowsPost count file (recordsRefusal (format count) file) (answerOf (endOf count kept (length file) (readAt file end)) rows)
+  file-end = by-front (front s) refl (stands s)
 
 -- ---- 9 first
 
 module _ (count : ℕ) (file : List ℕ) where
   pub too-long : 65536 < length file → FileRowsPost count file (fileRefusal (format count) file) (Refused 9)
   unfolding fileRefusal
-  too-long l = refused count file (fileRefusal (format count) file) 9 (omega arith) (rw (lt-leb (length file) 65536 l))
+  too-long l = refused count file (fileRefusal (format count) file) 9 0 (omega arith) (rw (lt-leb (length file) 65536 l))
 
-  pub not-long : length file ≤ 65536 → (a : PlanRead) → FileRowsPost count file (recordsRefusal (format count) file) a → FileRowsPost count file (fileRefusal (format count) file) a
-  unfolding fileRefusal
-  not-long l a d = rw (le-leb (length file) 65536 l) d
+  abbrev Answers : PlanRead → Type 0
+  Answers a = FileRowsPost count file (fileRefusal (format count) file) a
+
+  module _ (l : length file ≤ 65536) (kept : ℕ) (k : KpsTaken count file kept) (rows : ℕ) (f : FtsTaken file (5 * kept) rows) (r : ℕ) (e : r ≡ endOf count kept (length file) (readAt file (5 * kept + 11 * rows))) where
+    answered : Answers (answerOf r rows)
+    unfolding fileRefusal
+    answered = rw (le-leb (length file) 65536 l, e) (file-end count file kept k rows f)
+
+    pub file-refused : (r ≡ 0 → ⊥) → Answers (Refused r)
+    file-refused n = subst Answers (rw (ne-eqb r 0 n)) answered
+
+    pub file-taken : r ≡ 0 → Answers (Rows rows)
+    file-taken z = subst Answers (rw z) answered
 
 -- ---- filling a lent slice
 

@@ -3,7 +3,8 @@
 use borrow.Author.Needs.{needs}
 use Rattle.planner.proofs.plan.Statement.{statement}
 use Rattle.planner.proofs.plan.Tie as tie
-use Rattle.planner.proofs.Outputs.{none, refused-input, short-marks, promise-of}
+use Rattle.planner.proofs.Outputs.{refused-input, short-marks, promise-of}
+use Rattle.theory_basics.specs.lemmas.Refusals.{found-none as none}
 
 refusal-requires : tie.Need-refusal-requires
 refusal-requires c κs = search needs

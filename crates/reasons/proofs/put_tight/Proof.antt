@@ -5,16 +5,17 @@ use native.Mathlib.Omega.{arith}
 use lib.ListN.{length-replicate}
 use lib.Seq.{length-take-le}
 use Rattle.core_text.specs.lemmas.Places.{put-front}
-use Rattle.reasons.proofs.Answer.{accepted, fits, told-copied, told-short}
+use Rattle.reasons.proofs.Answer.{fits, told-copied, told-short}
 use borrow.Author.Needs.{needs}
 use Rattle.reasons.proofs.put_tight.Statement.{statement}
 use Rattle.reasons.proofs.put_tight.Tie as tie
+use Rattle.job.specs.Theorems.{input-accepted}
 
 slice-aggregate-put-plan : tie.Need-slice-aggregate-put-plan
 slice-aggregate-put-plan c = search needs
 
 put-plan-requires : tie.Need-put-plan-requires
-put-plan-requires c κs = (accepted _ (c .before .before .before .before .before .before .before .pre), omega (arith, fits _ (c .before .before .before .before .before .before .before .pre), length-replicate {A = ℕ} 94000 0))
+put-plan-requires c κs = (input-accepted _ (c .before .before .before .before .before .before .before .pre), omega (arith, fits _ (c .before .before .before .before .before .before .before .pre), length-replicate {A = ℕ} 94000 0))
 
 returns : tie.Need-returns
 returns c = let z = c .before .before .before .before .before .before .before .before .before .before .pre in told-short _ _ z (omega (arith, c .before .before .put-plan .ensures .place, c .if1 .taken))

@@ -1,9 +1,11 @@
 -- `reasons` meets its contract: the refusals in their order, then the text. Assumes nothing.
 use native.Mathlib.Omega.{arith}
-use Rattle.reasons.proofs.Answer.{accepted, fits, none, promised, told-put, told-refused}
+use Rattle.reasons.proofs.Answer.{fits, promised, told-put, told-refused}
 use borrow.Author.Needs.{needs}
 use Rattle.reasons.proofs.reasons.Statement.{statement}
 use Rattle.reasons.proofs.reasons.Tie as tie
+use Rattle.job.specs.Theorems.{input-accepted}
+use Rattle.theory_basics.specs.lemmas.Refusals.{found-none}
 
 refusal-requires : tie.Need-refusal-requires
 refusal-requires c κs = search needs
@@ -21,13 +23,13 @@ returns-2 : tie.Need-returns-2
 returns-2 c = promised (c .before .before .put-tight .ensures)
 
 put-plan-requires : tie.Need-put-plan-requires
-put-plan-requires c κs = let z = none (c .before .before .before .refusal .ensures) (c .before .before .if1 .left) in (accepted _ z, omega (arith, fits _ z))
+put-plan-requires c κs = let z = found-none (c .before .before .before .refusal .ensures) (c .before .before .if1 .left) in (input-accepted _ z, omega (arith, fits _ z))
 
 same-length-2 : tie.Need-same-length-2
 same-length-2 c = search needs
 
 returns-3 : tie.Need-returns-3
-returns-3 c = let z = none (c .before .before .before .before .before .before .refusal .ensures) (c .before .before .before .before .before .if1 .left) in promised (told-put _ _ z _ _ (omega (arith, fits _ z)) (c .before .before .put-plan .ensures))
+returns-3 c = let z = found-none (c .before .before .before .before .before .before .refusal .ensures) (c .before .before .before .before .before .if1 .left) in promised (told-put _ _ z _ _ (omega (arith, fits _ z)) (c .before .before .put-plan .ensures))
 
 pub reasons-spec : {M : Type 1} → statement M
 reasons-spec =

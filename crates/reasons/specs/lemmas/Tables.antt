@@ -8,13 +8,13 @@ use mathlib.Core.List.{List, [], _∷_, map}
 use mathlib.Core.Logic.{⊎-elim}
 use native.Mathlib.Omega.{arith}
 use borrow.Author.Tests.{eq-eqb, ne-eqb, le-leb, lt-ltb}
-use lib.Dec.{T, T-not, eqb, eqb-refl, eqb→eq, leb, leb→le, ltb, nleb→lt}
+use lib.Dec.{T, eqb, eqb→eq, leb, leb→le, ltb, nleb→lt}
 use lib.ListN.{length, getD, set, replicate, length-set}
 use lib.Seq.{getD-set-other, getD-set-same}
 use Rattle.theory_basics.specs.Lists.{has}
 use Rattle.theory_basics.specs.Sums.{sum}
 use Rattle.theory_basics.specs.lemmas.Ranges.{sum-cong}
-use Rattle.theory_basics.specs.lemmas.Tests.{test}
+use Rattle.theory_basics.specs.lemmas.Tests.{test, neqb→ne}
 use Rattle.job.specs.Job.{Accepted, Job, chunks, layers, size}
 use Rattle.core_sizes.specs.Table.{sizesTable, spot, tableAt}
 use Rattle.job.specs.lemmas.Within.{size-most}
@@ -60,7 +60,7 @@ spread-at f lo hi (k ∷ ks) t i l a h u v =
     let none = has-low (suc k) hi ks i (a .2) (omega arith) in
     rest ∙ rw (none, q, eq-eqb i i refl) (getD-set-same t (i - 1) (layersIn (f i)) 0 (omega (arith, a .1))))
     (λ e.
-    let o : k ≡ i → ⊥ = λ q. T-not (eqb k i) e (rw q (eqb-refl i)) in
+    let o : k ≡ i → ⊥ = neqb→ne k i e in
     rest ∙ rw (ne-eqb k i o, getD-set-other t (k - 1) (i - 1) (layersIn (f k)) 0 (λ q. o (omega (arith, a .0)))))
     (test (eqb k i))
 

@@ -18,8 +18,8 @@ sub-if2 c = search needs
 returns-2 : tie.Need-returns-2
 returns-2 c = let a = c .before .before .before .before .args in rw (lt-leb (a .at + length (a .bytes .now)) (length (a .out .now)) (omega arith))
 
-put-whole-requires : tie.Need-put-whole-requires
-put-whole-requires c κs = search needs
+put-requires : tie.Need-put-requires
+put-requires c κs = search needs
 
 same-length : tie.Need-same-length
 same-length c = search needs
@@ -27,7 +27,7 @@ same-length c = search needs
 returns-3 : tie.Need-returns-3
 returns-3 c =
     let a = c .before .before .before .before .before .before .before .before .args in
-    c .before .before .put-whole .ensures ∙ rw (le-leb (a .at + length (a .bytes .now)) (length (a .out .now)) (omega arith), take-length (a .bytes .now))
+    c .before .before .put .ensures ∙ rw (le-leb (a .at + length (a .bytes .now)) (length (a .out .now)) (omega arith), take-length (a .bytes .now))
 
 pub put-spec : {M : Type 1} → statement M
-put-spec = tie.close (tie.spec returns sub-if2 returns-2 put-whole-requires same-length returns-3)
+put-spec = tie.close (tie.spec returns sub-if2 returns-2 put-requires same-length returns-3)

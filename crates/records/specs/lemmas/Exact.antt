@@ -16,7 +16,7 @@ use Rattle.records.specs.File.{Front, got, none, Format, ended, broken, 
 
 -- ---- bytes
 
-byte-at : (s : List ℕ) (i : ℕ) → Bytes s → getD s i 0 < 256
+pub byte-at : (s : List ℕ) (i : ℕ) → Bytes s → getD s i 0 < 256
 byte-at [] zero b = omega arith
 byte-at [] (suc i) b = omega arith
 byte-at (x ∷ s) zero b = b .0

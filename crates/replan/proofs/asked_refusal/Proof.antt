@@ -2,7 +2,7 @@
 -- refuses.
 use mathlib.Core.Path.{sym, _∙_}
 use Rattle.fetch.specs.Theorems.{slot-iff}
-use Rattle.job.specs.Theorems.{input-iff}
+use Rattle.job.specs.Theorems.{input-accepted}
 use Rattle.replan.proofs.Asked.{passes-on, refuses}
 use borrow.Author.Needs.{needs}
 use Rattle.replan.proofs.asked_refusal.Statement.{statement}
@@ -40,7 +40,7 @@ returns-4 c =
 part-refusal-requires : tie.Need-part-refusal-requires
 part-refusal-requires c κs =
     let a = c .before .before .before .before .before .before .before .before .before .before .before .before .before .before .before .before .before .before .before .args in
-    let ok = input-iff _ .0 (sym (c .before .before .before .before .before .before .before .before .refusal .ensures) ∙ c .before .before .before .before .before .before .before .if1 .left) .1 in
+    let ok = input-accepted _ (sym (c .before .before .before .before .before .before .before .before .refusal .ensures) ∙ c .before .before .before .before .before .before .before .if1 .left) in
     let in-job = slot-iff (a .p) (a .from) .0 (sym (c .before .before .before .slot-refusal .ensures) ∙ c .before .before .if3 .left) in
     (ok .last-in, in-job .low, in-job .high)
 

@@ -4,11 +4,12 @@ use Prim.Native.Nat.{ℕ}
 use lib.ListN.{length-replicate}
 use denote.Ref.{now}
 use Rattle.job.specs.Input.{jobInput}
-use Rattle.planner.proofs.Outputs.{none}
+use Rattle.theory_basics.specs.lemmas.Refusals.{found-none}
 use Rattle.replan.specs.Answer.{replanInput}
 use Rattle.replan.specs.Theorems.{settled-afresh, standing-goes-on}
-use Rattle.replan.proofs.Outputs.{earlier-long, gather-from, output-laid, lay-from, none-left, not-false, not-kept, not-true, refused-asked, short-marks, some-slot}
+use Rattle.replan.proofs.Outputs.{earlier-long, gather-from, output-laid, lay-from, none-left, not-kept, refused-asked, short-marks, some-slot}
 use borrow.Author.Needs.{needs}
+use borrow.Author.Tests.{not-true, not-false}
 use Rattle.replan.proofs.replan.Statement.{statement}
 use Rattle.replan.proofs.replan.Tie as tie
 
@@ -36,21 +37,21 @@ sub-gather c =
     let a = c .before .before .before .before .before .before .before .before .before .before .before .before .before .before .before .before .before .before .before .before .before .args in
     let h = jobInput (a .p) (now (a .sizes)) (now (a .size-chunks)) (now (a .size-layers)) (now (a .size-bytes)) (now (a .forecast)) in
     let o = replanInput (a .from) (now (a .fetched-slots)) (now (a .fetched-chunks)) (now (a .fetched-layers)) (now (a .fetched-bytes)) (now (a .onward)) in
-    some-slot h o (none (c .before .before .before .before .before .asked-refusal .ensures) (c .before .before .before .before .if1 .left))
+    some-slot h o (found-none (c .before .before .before .before .before .asked-refusal .ensures) (c .before .before .before .before .if1 .left))
 
 slice-aggregate-gather : tie.Need-slice-aggregate-gather
 slice-aggregate-gather c =
     let a = c .before .before .before .before .before .before .before .before .before .before .before .before .before .before .before .before .before .before .before .before .before .before .args in
     let h = jobInput (a .p) (now (a .sizes)) (now (a .size-chunks)) (now (a .size-layers)) (now (a .size-bytes)) (now (a .forecast)) in
     let o = replanInput (a .from) (now (a .fetched-slots)) (now (a .fetched-chunks)) (now (a .fetched-layers)) (now (a .fetched-bytes)) (now (a .onward)) in
-    earlier-long h o (none (c .before .before .before .before .before .before .asked-refusal .ensures) (c .before .before .before .before .before .if1 .left))
+    earlier-long h o (found-none (c .before .before .before .before .before .before .asked-refusal .ensures) (c .before .before .before .before .before .if1 .left))
 
 gather-requires : tie.Need-gather-requires
 gather-requires c κs =
     let a = c .before .before .before .before .before .before .before .before .before .before .before .before .before .before .before .before .before .before .before .before .before .before .before .before .before .args in
     let h = jobInput (a .p) (now (a .sizes)) (now (a .size-chunks)) (now (a .size-layers)) (now (a .size-bytes)) (now (a .forecast)) in
     let o = replanInput (a .from) (now (a .fetched-slots)) (now (a .fetched-chunks)) (now (a .fetched-layers)) (now (a .fetched-bytes)) (now (a .onward)) in
-    gather-from h o (none (c .before .before .before .before .before .before .before .before .before .asked-refusal .ensures) (c .before .before .before .before .before .before .before .before .if1 .left)) (length-replicate {A = ℕ} 2000 (a .p .chunks)) (length-replicate {A = ℕ} 500 0) (length-replicate {A = ℕ} 500 0)
+    gather-from h o (found-none (c .before .before .before .before .before .before .before .before .before .asked-refusal .ensures) (c .before .before .before .before .before .before .before .before .if1 .left)) (length-replicate {A = ℕ} 2000 (a .p .chunks)) (length-replicate {A = ℕ} 500 0) (length-replicate {A = ℕ} 500 0)
 
 refused-requires-2 : tie.Need-refused-requires-2
 refused-requires-2 c κs = search needs
@@ -60,7 +61,7 @@ returns-2 c =
     let a = c .before .before .before .before .before .before .before .before .before .before .before .before .before .before .before .before .before .before .before .before .before .before .before .before .before .before .before .before .args in
     let h = jobInput (a .p) (now (a .sizes)) (now (a .size-chunks)) (now (a .size-layers)) (now (a .size-bytes)) (now (a .forecast)) in
     let o = replanInput (a .from) (now (a .fetched-slots)) (now (a .fetched-chunks)) (now (a .fetched-layers)) (now (a .fetched-bytes)) (now (a .onward)) in
-    let z = none (c .before .before .before .before .before .before .before .before .before .before .before .before .asked-refusal .ensures) (c .before .before .before .before .before .before .before .before .before .before .before .if1 .left) in
+    let z = found-none (c .before .before .before .before .before .before .before .before .before .before .before .before .asked-refusal .ensures) (c .before .before .before .before .before .before .before .before .before .before .before .if1 .left) in
     let its = c .before .before .before .before .before .before .before .before .fill-sizes .ensures (length-replicate {A = ℕ} 2000 (a .p .chunks)) in
     record { output = not-kept h o z its (c .before .before .gather .ensures) (not-true _ (c .before .if2 .taken)) _ _ _ _ _ _ (c .refused2 .ensures); settled = settled-afresh h o; standing = standing-goes-on h o }
 
@@ -75,7 +76,7 @@ returns-3 c =
     let a = c .before .before .before .before .before .before .before .before .before .before .before .before .before .before .before .before .before .before .before .before .before .before .before .before .before .before .before .before .before .before .args in
     let h = jobInput (a .p) (now (a .sizes)) (now (a .size-chunks)) (now (a .size-layers)) (now (a .size-bytes)) (now (a .forecast)) in
     let o = replanInput (a .from) (now (a .fetched-slots)) (now (a .fetched-chunks)) (now (a .fetched-layers)) (now (a .fetched-bytes)) (now (a .onward)) in
-    let z = none (c .before .before .before .before .before .before .before .before .before .before .before .before .before .before .asked-refusal .ensures) (c .before .before .before .before .before .before .before .before .before .before .before .before .before .if1 .left) in
+    let z = found-none (c .before .before .before .before .before .before .before .before .before .before .before .before .before .before .asked-refusal .ensures) (c .before .before .before .before .before .before .before .before .before .before .before .before .before .if1 .left) in
     let its = c .before .before .before .before .before .before .before .before .before .before .fill-sizes .ensures (length-replicate {A = ℕ} 2000 (a .p .chunks)) in
     let n = none-left h o z its (c .before .before .before .before .gather .ensures) (not-false _ (c .before .before .before .if2 .left)) in
     record { output = short-marks h o _ _ _ _ _ n (c .before .if3 .taken) _ (c .refused3 .ensures); settled = settled-afresh h o; standing = standing-goes-on h o }
@@ -85,7 +86,7 @@ write-afresh-requires c κs =
     let a = c .before .before .before .before .before .before .before .before .before .before .before .before .before .before .before .before .before .before .before .before .before .before .before .before .before .before .before .before .before .before .before .before .before .before .before .before .before .args in
     let h = jobInput (a .p) (now (a .sizes)) (now (a .size-chunks)) (now (a .size-layers)) (now (a .size-bytes)) (now (a .forecast)) in
     let o = replanInput (a .from) (now (a .fetched-slots)) (now (a .fetched-chunks)) (now (a .fetched-layers)) (now (a .fetched-bytes)) (now (a .onward)) in
-    let z = none (c .before .before .before .before .before .before .before .before .before .before .before .before .before .before .before .before .before .before .before .before .before .asked-refusal .ensures) (c .before .before .before .before .before .before .before .before .before .before .before .before .before .before .before .before .before .before .before .before .if1 .left) in
+    let z = found-none (c .before .before .before .before .before .before .before .before .before .before .before .before .before .before .before .before .before .before .before .before .before .asked-refusal .ensures) (c .before .before .before .before .before .before .before .before .before .before .before .before .before .before .before .before .before .before .before .before .if1 .left) in
     let its = c .before .before .before .before .before .before .before .before .before .before .before .before .before .before .before .before .before .fill-sizes .ensures (length-replicate {A = ℕ} 2000 (a .p .chunks)) in
     lay-from h o z its (c .before .before .before .before .before .before .before .before .before .before .before .gather .ensures) (not-false _ (c .before .before .before .before .before .before .before .before .before .before .if2 .left)) (c .before .before .before .before .before .before .before .before .if3 .left)
 
@@ -109,7 +110,7 @@ returns-4 c =
     let a = c .before .before .before .before .before .before .before .before .before .before .before .before .before .before .before .before .before .before .before .before .before .before .before .before .before .before .before .before .before .before .before .before .before .before .before .before .before .before .before .before .before .before .before .before .before .before .before .before .args in
     let h = jobInput (a .p) (now (a .sizes)) (now (a .size-chunks)) (now (a .size-layers)) (now (a .size-bytes)) (now (a .forecast)) in
     let o = replanInput (a .from) (now (a .fetched-slots)) (now (a .fetched-chunks)) (now (a .fetched-layers)) (now (a .fetched-bytes)) (now (a .onward)) in
-    let z = none (c .before .before .before .before .before .before .before .before .before .before .before .before .before .before .before .before .before .before .before .before .before .before .before .before .before .before .before .before .before .before .before .before .asked-refusal .ensures) (c .before .before .before .before .before .before .before .before .before .before .before .before .before .before .before .before .before .before .before .before .before .before .before .before .before .before .before .before .before .before .before .if1 .left) in
+    let z = found-none (c .before .before .before .before .before .before .before .before .before .before .before .before .before .before .before .before .before .before .before .before .before .before .before .before .before .before .before .before .before .before .before .before .asked-refusal .ensures) (c .before .before .before .before .before .before .before .before .before .before .before .before .before .before .before .before .before .before .before .before .before .before .before .before .before .before .before .before .before .before .before .if1 .left) in
     let its = c .before .before .before .before .before .before .before .before .before .before .before .before .before .before .before .before .before .before .before .before .before .before .before .before .before .before .before .before .fill-sizes .ensures (length-replicate {A = ℕ} 2000 (a .p .chunks)) in
     record { output = output-laid h o z its (c .before .before .before .before .before .before .before .before .before .before .before .before .before .before .before .before .before .before .before .before .before .before .gather .ensures) (not-false _ (c .before .before .before .before .before .before .before .before .before .before .before .before .before .before .before .before .before .before .before .before .before .if2 .left)) (c .before .before .before .before .before .before .before .before .before .before .before .before .before .before .before .before .before .before .before .if3 .left) (c .before .before .before .before .before .before .before .before .before .before .write-afresh .ensures); settled = settled-afresh h o; standing = standing-goes-on h o }
 

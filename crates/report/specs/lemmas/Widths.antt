@@ -1,6 +1,6 @@
 -- Lemmas. How many bytes each line of an accepted job's report has at most. Assumes nothing.
-use Prim.Native.Nat.{ℕ, suc, _+_, _-_, _/_, _%_, _≤_}
-use mathlib.Core.Path.{_≡_, refl, ap, _∙_}
+use Prim.Native.Nat.{ℕ, _+_, _-_, _/_, _%_, _≤_}
+use mathlib.Core.Path.{ap}
 use mathlib.Core.List.{List, [], _∷_}
 use native.Mathlib.Omega.{arith}
 use native.Mathlib.Nat.{div-le-self, mod-lt, mul-le-mul, one-le-mul}
@@ -8,26 +8,15 @@ use lib.ListN.{length, length-append}
 use Rattle.theory_basics.specs.Lists.{upTo}
 use Rattle.job.specs.Job.{Job, Accepted, chunks, layers, size, forecast, lastSlot, heldMost}
 use Rattle.fetch.specs.Rows.{Row, bytesOfLayer, carried, layerCount, layersCarried}
-use Rattle.theory_basics.specs.Text.{ascii, digits, ended, line, text}
+use Rattle.theory_basics.specs.Text.{ascii, digits, ended, text}
 use Rattle.theory_basics.specs.lemmas.Digits.{digits-few}
 use Rattle.core_text.specs.lemmas.Texts.{text-most, ended-text}
 use Rattle.theory_basics.specs.lemmas.Ranges.{sum-most, pre-most, cond-most}
+use Rattle.theory_basics.specs.lemmas.Widths.{line-width}
 use Rattle.job.specs.lemmas.Within.{all-most, size-most}
 use Rattle.report.specs.lemmas.Bounds.{equal-most}
 use Rattle.report.specs.lemmas.Switches.{differences-most}
 use Rattle.report.specs.Report.{slotsLine, bytesCarried, chunkLine, chunkLines, layersLine, bytesInRows, forecastSum, left, bytesLine, switchSum, switchLine, filmSlots, rateLine}
-
--- The bytes after a line's first word: a space before each word, and the line feed.
-abbrev width : List (List ℕ) → ℕ
-width [] = 1
-width (x ∷ xs) = suc (length x) + width xs
-
-ended-width : (xs : List (List ℕ)) → length (ended xs) ≡ width xs
-ended-width [] = refl
-ended-width (x ∷ xs) = omega (arith, length-append x (ended xs), ended-width xs)
-
-line-width : (x : List ℕ) (xs : List (List ℕ)) → length (line x xs) ≡ length x + width xs
-line-width x xs = length-append x (ended xs) ∙ ap (λ (n : ℕ). length x + n) (ended-width xs)
 
 pub slots-width : (j : Job) → Accepted j → length (slotsLine j) ≤ 33
 slots-width j ok =

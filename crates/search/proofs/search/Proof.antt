@@ -3,7 +3,8 @@
 use borrow.Author.Needs.{needs}
 use Rattle.search.proofs.search.Statement.{statement}
 use Rattle.search.proofs.search.Tie as tie
-use Rattle.search.proofs.Outputs.{none, promise-of, refused-input, short-marks}
+use Rattle.search.proofs.Outputs.{promise-of, refused-input, short-marks}
+use Rattle.theory_basics.specs.lemmas.Refusals.{found-none}
 
 refusal-requires : tie.Need-refusal-requires
 refusal-requires c κs = search needs
@@ -21,10 +22,10 @@ refused-requires-2 : tie.Need-refused-requires-2
 refused-requires-2 c κs = search needs
 
 returns-2 : tie.Need-returns-2
-returns-2 c = let b = c .before .before .before .before .before .before .before .before .before .before .before .before .before .before .before .args .budget in promise-of (short-marks _ b _ _ _ _ _ (none (c .before .before .before .before .refusal .ensures) (c .before .before .before .if1 .left)) (c .before .if2 .taken) _ (c .refused2 .ensures))
+returns-2 c = let b = c .before .before .before .before .before .before .before .before .before .before .before .before .before .before .before .args .budget in promise-of (short-marks _ b _ _ _ _ _ (found-none (c .before .before .before .before .refusal .ensures) (c .before .before .before .if1 .left)) (c .before .if2 .taken) _ (c .refused2 .ensures))
 
 write-found-requires : tie.Need-write-found-requires
-write-found-requires c κs = (none (c .before .before .before .before .before .before .before .before .refusal .ensures) (c .before .before .before .before .before .before .before .if1 .left), c .before .before .before .before .before .if2 .left)
+write-found-requires c κs = (found-none (c .before .before .before .before .before .before .before .before .refusal .ensures) (c .before .before .before .before .before .before .before .if1 .left), c .before .before .before .before .before .if2 .left)
 
 same-length : tie.Need-same-length
 same-length c = search needs

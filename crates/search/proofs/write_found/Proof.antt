@@ -8,7 +8,8 @@ use native.Mathlib.Omega.{arith}
 use lib.ListN.{getD-replicate, length-replicate, replicate}
 use Rattle.core_decide.specs.lemmas.Accepted.{decide-from, filled}
 use Rattle.core_output.proofs.Rows.{writes-choice, written-choice}
-use Rattle.search.proofs.Outputs.{accepted, decided, output-laid}
+use Rattle.search.proofs.Outputs.{decided, output-laid}
+use Rattle.job.specs.Theorems.{input-accepted}
 
 fill-sizes-requires : tie.Need-fill-sizes-requires
 fill-sizes-requires c κs = search needs
@@ -22,15 +23,15 @@ cast-count c = search needs
 decide-requires : tie.Need-decide-requires
 decide-requires c κs =
     let o = c .before .before .before .before .before .before .before .before .before .before .before .before .before .before .before .before .before .before .pre in
-    let says = filled _ (accepted _ (o .0)) _ (c .before .before .before .before .before .before .fill-sizes .ensures (length-replicate {A = ℕ} 2000 0)) in
-    decide-from _ (accepted _ (o .0)) _ says _ _ (length-replicate {A = ℕ} 500 0) (length-replicate {A = ℕ} 500 0) (c .before .before .before .before .before .with .ensures)
+    let says = filled _ (input-accepted _ (o .0)) _ (c .before .before .before .before .before .before .fill-sizes .ensures (length-replicate {A = ℕ} 2000 0)) in
+    decide-from _ (input-accepted _ (o .0)) _ says _ _ (length-replicate {A = ℕ} 500 0) (length-replicate {A = ℕ} 500 0) (c .before .before .before .before .before .with .ensures)
 
 write-plan-requires : tie.Need-write-plan-requires
 write-plan-requires c κs =
     let a = c .before .before .before .before .before .before .before .before .before .before .before .before .before .before .before .before .before .before .before .before .before .before .before .before .before .before .before .before .before .args in
     let o = c .before .before .before .before .before .before .before .before .before .before .before .before .before .before .before .before .before .before .before .before .before .before .before .before .before .before .before .before .before .pre in
-    let says = filled _ (accepted _ (o .0)) _ (c .before .before .before .before .before .before .before .before .before .before .before .before .before .before .before .before .before .fill-sizes .ensures (length-replicate {A = ℕ} 2000 0)) in
-    writes-choice _ _ _ _ _ _ _ _ _ (decided _ (a .budget) (o .0) _ says (c .before .before .before .before .before .before .before .before .before .before .decide .ensures _ _ refl says (accepted _ (o .0)) .tables)) _ (length-replicate {A = ℕ} 500 0) (o .1)
+    let says = filled _ (input-accepted _ (o .0)) _ (c .before .before .before .before .before .before .before .before .before .before .before .before .before .before .before .before .before .fill-sizes .ensures (length-replicate {A = ℕ} 2000 0)) in
+    writes-choice _ _ _ _ _ _ _ _ _ (decided _ (a .budget) (o .0) _ says (c .before .before .before .before .before .before .before .before .before .before .decide .ensures _ _ refl says (input-accepted _ (o .0)) .tables)) _ (length-replicate {A = ℕ} 500 0) (o .1)
 
 answered-requires : tie.Need-answered-requires
 answered-requires c κs = search needs
@@ -54,8 +55,8 @@ returns : tie.Need-returns
 returns c =
     let a = c .before .before .before .before .before .before .before .before .before .before .before .before .before .before .before .before .before .before .before .before .before .before .before .before .before .before .before .before .before .before .before .before .before .before .before .before .before .before .before .before .before .args in
     let o = c .before .before .before .before .before .before .before .before .before .before .before .before .before .before .before .before .before .before .before .before .before .before .before .before .before .before .before .before .before .before .before .before .before .before .before .before .before .before .before .before .before .pre in
-    let says = filled _ (accepted _ (o .0)) _ (c .before .before .before .before .before .before .before .before .before .before .before .before .before .before .before .before .before .before .before .before .before .before .before .before .before .before .before .before .before .fill-sizes .ensures (length-replicate {A = ℕ} 2000 0)) in
-    let d = c .before .before .before .before .before .before .before .before .before .before .before .before .before .before .before .before .before .before .before .before .before .before .decide .ensures _ _ refl says (accepted _ (o .0)) in
+    let says = filled _ (input-accepted _ (o .0)) _ (c .before .before .before .before .before .before .before .before .before .before .before .before .before .before .before .before .before .before .before .before .before .before .before .before .before .before .before .before .before .fill-sizes .ensures (length-replicate {A = ℕ} 2000 0)) in
+    let d = c .before .before .before .before .before .before .before .before .before .before .before .before .before .before .before .before .before .before .before .before .before .before .decide .ensures _ _ refl says (input-accepted _ (o .0)) in
     output-laid _ (a .budget) _ _ _ _ _ (o .0) (o .1)
     (written-choice _ _ _ _ _ _ _ _ _ (decided _ (a .budget) (o .0) _ says (d .tables)) (replicate 500 0) (λ i l. getD-replicate 500 i 0 0 l) (c .before .before .before .before .before .before .before .before .before .before .before .write-plan .ensures)) (d .steps) (d .ended) (d .shortfall) _ (c .answered .ensures)
 

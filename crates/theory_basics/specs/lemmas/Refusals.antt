@@ -10,6 +10,10 @@ use borrow.Author.Tests.{eq-eqb, ne-eqb}
 use Rattle.theory_basics.specs.lemmas.Tests.{by-cond, T-and, and-T}
 use Rattle.theory_basics.specs.Refusals.{unless, _orElse_}
 
+-- A number that a call answers and the code finds to be none.
+pub found-none : {k refusal : ℕ} → k ≡ refusal → k ≤ 0 → refusal ≡ 0
+found-none e h = omega arith
+
 -- No refusal n exactly if the test holds.
 pub unless-iff : (n : ℕ) (b : Bool) → 0 < n → (unless n b ≡ 0) ↔ T b
 unless-iff n true h = (λ e. tt, λ t. refl)

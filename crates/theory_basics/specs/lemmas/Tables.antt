@@ -1,6 +1,6 @@
 -- Lemmas. Tables: lists that stand at the end of a table, stores, what holds of each place. Assumes
 -- nothing.
-use mathlib.Core.Path.{_≡_, _∙_}
+use mathlib.Core.Path.{_≡_, sym, _∙_, ap}
 use mathlib.Core.List.{List, [], _∷_}
 use mathlib.Core.Logic.{⊎-elim}
 use Prim.Native.Nat.{ℕ, zero, suc, _+_, _-_, _≤_, _<_}
@@ -8,9 +8,9 @@ use native.Mathlib.Omega.{arith}
 use native.Mathlib.Numerals.{add-one}
 use lib.ListN.{length, getD, set, take, drop, length-set, length-drop}
 use lib.Seq.{drop-cons, getD-set-same, getD-set-other, drop-set-lt, getD-drop}
-use lib.Dec.{ltb, eqb, ltb→lt, nltb→le, eqb→eq, eqb-refl, T-not}
+use lib.Dec.{ltb, eqb, ltb→lt, nltb→le, eqb→eq}
 use Rattle.theory_basics.specs.Tests.{All}
-use Rattle.theory_basics.specs.lemmas.Tests.{test}
+use Rattle.theory_basics.specs.lemmas.Tests.{test, neqb→ne}
 
 -- ---- the end of a table
 
@@ -29,6 +29,10 @@ drop-before l q h k = let e : q - 1 + 1 ≡ q = omega arith in drop-next l (q - 
 pub set-before : (l : List ℕ) (q v : ℕ) → 0 < q → q ≤ length l → drop (q - 1) (set l (q - 1) v) ≡ v ∷ drop q l
 set-before l q v h k = let e : q - 1 + 1 ≡ q = omega arith in drop-set l (q - 1) v (omega arith) ∙ rw e
 
+-- A place of the end, once v is written before q.
+pub written-before : (l : List ℕ) (q v k : ℕ) → 0 < q → q ≤ length l → getD (set l (q - 1) v) (q - 1 + k) 0 ≡ getD (v ∷ drop q l) k 0
+written-before l q v k h u = sym (getD-drop (q - 1) (set l (q - 1) v) k 0) ∙ ap (λ (s : List ℕ). getD s k 0) (set-before l q v h u)
+
 -- ---- a store
 
 -- What holds at the place of a store, and elsewhere.
@@ -36,16 +40,19 @@ pub at-set : (P : ℕ → Type 0) (l : List ℕ) (q v k : ℕ) → q < length l 
 at-set P l q v k h f g =
     ⊎-elim
     (λ t. let e = eqb→eq k q t in rw (e, getD-set-same l q v 0 h) (f e))
-    (λ t. let o : k ≡ q → ⊥ = λ e. T-not (eqb k q) t (rw e (eqb-refl q)) in rw (getD-set-other l q k v 0 o) (g o))
+    (λ t. let o : k ≡ q → ⊥ = neqb→ne k q t in rw (getD-set-other l q k v 0 o) (g o))
     (test (eqb k q))
 
 -- ---- neighbours
 
+pub ne-lt : (m n : ℕ) → m ≤ n → (m ≡ n → ⊥) → m < n
+ne-lt m n h o = ⊎-elim (λ t. ltb→lt m n t) (λ t. absurd (o (omega (arith, nltb→le m n t)))) (test (ltb m n))
+
 pub below-next : (k q : ℕ) → k < q + 1 → (k ≡ q → ⊥) → k < q
-below-next k q h o = ⊎-elim (λ t. ltb→lt k q t) (λ t. absurd (o (omega (arith, nltb→le k q t)))) (test (ltb k q))
+below-next k q h o = ne-lt k q (omega arith) o
 
 pub above-next : (k q : ℕ) → q ≤ k → (k ≡ q → ⊥) → q + 1 ≤ k
-above-next k q h o = ⊎-elim (λ t. omega (arith, ltb→lt q k t)) (λ t. absurd (o (omega (arith, nltb→le q k t)))) (test (ltb q k))
+above-next k q h o = omega (arith, ne-lt q k h (λ e. o (sym e)))
 
 -- One place fewer is left of a table.
 pub fewer : (n q : ℕ) → q < n → n - (q + 1) < n - q

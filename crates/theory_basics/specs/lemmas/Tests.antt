@@ -6,7 +6,8 @@ use mathlib.Core.List.{List, [], _∷_, _++_}
 use mathlib.Core.Logic.{_⊎_, inl, inr, ⊎-elim, _↔_}
 use native.Mathlib.Omega.{arith}
 use native.Mathlib.Numerals.{add-one}
-use lib.Dec.{T, leb, ltb, eqb, leb→le, nleb→lt, ltb→lt, nltb→le, eqb→eq, eqb-refl, le→leb, lt→ltb}
+use lib.Dec.{T, T-not, leb, ltb, eqb, leb→le, nleb→lt, ltb→lt, nltb→le, eqb→eq, eqb-refl, le→leb, lt→ltb}
+use borrow.Author.Tests.{not-true, not-false}
 use Rattle.theory_basics.specs.Tests.{allTo, allBelow, All, all, any, In, here, there}
 
 -- ---- by cases
@@ -43,6 +44,21 @@ not-T-false false t = refl
 pub true-T : (b : Bool) → b ≡ true → T b
 true-T true e = tt
 true-T false e = let z : _≡_ {A = ℕ} 0 1 = cc in absurd (omega arith)
+
+pub neqb→ne : (m n : ℕ) → T (not (eqb m n)) → m ≡ n → ⊥
+neqb→ne m n t e = T-not (eqb m n) t (rw e (eqb-refl n))
+
+-- The answer of a test that the code negates.
+pub answer-true : (r b : Bool) → r ≡ b → not r ≡ false → b ≡ true
+answer-true r b e f = sym e ∙ not-false r f
+
+pub answer-false : (r b : Bool) → r ≡ b → not r ≡ true → b ≡ false
+answer-false r b e f = sym e ∙ not-true r f
+
+-- A flag of 1 or 0 says its test.
+pub flag-says : (b : Bool) → eqb (cond b 1 0) 1 ≡ b
+flag-says true = refl
+flag-says false = refl
 
 -- Two tests that say the same are the same.
 pub same-test : (a b : Bool) → (T a → T b) → (T b → T a) → a ≡ b

@@ -2,15 +2,16 @@
 -- whichever chunks are asked. Assumes nothing.
 use Prim.Native.Nat.{ℕ, zero, suc, _+_, _*_, _-_, _≤_, _<_, min}
 use mathlib.Core.Path.{_≡_, refl, sym, ap, subst, _∙_}
-use mathlib.Core.Bool.{Bool, true, false, not, cond, _&&_}
+use mathlib.Core.Bool.{Bool, true, false, cond, _&&_}
 use mathlib.Core.List.{List, [], _∷_, _++_, append-assoc, append-nil}
 use mathlib.Core.Logic.{_⊎_, inl, inr, ⊎-elim}
 use native.Mathlib.Omega.{arith}
 use lib.ListN.{length, length-append}
-use lib.Dec.{T, T-not, leb, ltb, eqb, leb→le, ltb→lt, nltb→le, eqb→eq, eqb-refl, lt→ltb}
+use lib.Dec.{T, leb, ltb, eqb, leb→le, ltb→lt, nltb→le, eqb→eq, lt→ltb}
 use Rattle.theory_basics.specs.Tests.{All, In, here, there}
 use Rattle.theory_basics.specs.lemmas.Ranges.{cond-most}
-use Rattle.theory_basics.specs.lemmas.Tests.{all-append, all-map, and-T, by-cond, in-left, in-right, last, not-T-false, T-and, T-true, test}
+use Rattle.theory_basics.specs.lemmas.Tests.{all-append, all-map, and-T, by-cond, in-left, in-right, last, not-T-false, T-and, T-true, test, neqb→ne}
+use Rattle.theory_basics.specs.lemmas.Tables.{ne-lt}
 use Rattle.job.specs.Job.{Job, chunks}
 use Rattle.fetch.specs.Rows.{Row, bytesIf}
 use Rattle.theory_plan.specs.Own.{Piece, rowOf}
@@ -232,7 +233,7 @@ module _ (j : Job) (rows : List Row) (asks : ℕ → Bool) where
       let y : leftIf (ofLayer i n) (pieceOf j rows asks n (suc c)) ≤ remaining j rows i n =
       subst (λ (k : ℕ). leftIf (ofLayer i n) (pieceOf j rows asks n (suc c)) ≤ remaining j rows k n) e (piece-left i n (suc c)) in
       omega (arith, s, z, y))
-      (λ t. omega (arith, s, layer-left i n c, piece-other i n (suc c) (λ e. T-not (eqb (suc c) i) t (rw e (eqb-refl i)))))
+      (λ t. omega (arith, s, layer-left i n c, piece-other i n (suc c) (neqb→ne (suc c) i t)))
       (test (eqb (suc c) i))
 
   -- "No bytes twice and none beyond a size."
@@ -249,12 +250,9 @@ module _ (j : Job) (rows : List Row) (asks : ℕ → Bool) where
       omega (arith, s, z, y))
       (λ t.
       let d : (n < m) ⊎ (suc m ≤ n) =
-      ⊎-elim (λ u. inl (ltb→lt n m u)) (λ u. inr (⊎-elim (λ v. absurd (T-not (eqb m n) t v)) (λ v. omega (arith, nltb→le n m u, apart m n t)) (test (eqb m n)))) (test (ltb n m)) in
+      ⊎-elim (λ u. inl (ltb→lt n m u)) (λ u. inr (ne-lt m n (nltb→le n m u) (neqb→ne m n t))) (test (ltb n m)) in
       omega (arith, s, below-left i n m, pieces-none m (suc m) (chunks j) (layerAsks j rows asks m (chunks j)) i n (layer-pieces m (chunks j)) (inr d)))
       (test (eqb m n))
-    where
-      apart : (a b : ℕ) → T (not (eqb a b)) → a ≡ b → ⊥
-      apart a b t e = T-not (eqb a b) t (rw e (eqb-refl b))
 
   -- Each asked layer with bytes not yet fetched is a piece.
   in-layer :

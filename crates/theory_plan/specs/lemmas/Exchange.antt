@@ -10,7 +10,7 @@ use native.Mathlib.Omega.{arith}
 use borrow.Author.Tests.{eq-eqb, ne-eqb}
 use lib.Dec.{T, T-not, not-T, eqb, eqb→eq}
 use Rattle.theory_basics.specs.Sums.{count}
-use Rattle.theory_basics.specs.lemmas.Tests.{T-and-iff, T-or-iff, eqb-iff, if-iff, last, test}
+use Rattle.theory_basics.specs.lemmas.Tests.{T-and-iff, T-or-iff, if-iff, last, test, neqb→ne}
 use Rattle.theory_plan.specs.lemmas.Ascending.{Asc}
 use Rattle.theory_basics.specs.lemmas.Ranges.{last-that-fails}
 use Rattle.theory_basics.specs.Lists.{has}
@@ -57,7 +57,7 @@ module _ (s : ℕ → ℕ) (set : ℕ → Bool) (n : ℕ) (ks : List ℕ) (asc :
             (⊎-elim
             (λ v.
             let p = T-and-iff (x .some k) (not (eqb m k)) .0 v in
-            (x .inside k a b (p .0), λ e. T-not (eqb m k) (p .1) (eqb-iff m k .1 e)))
+            (x .inside k a b (p .0), neqb→ne m k (p .1)))
             (λ v. let e = eqb→eq u k v in (rw e at h, λ d. T-not (x .some u) f (rw (e, ← d) t)))
             (T-or-iff (less (x .some) m k) (eqb u k) .0 w));
         as-many = omega (arith, x .as-many, total-less (λ k. 1) (x .some) m n t (m-in .0) (m-in .1), total-more (λ k. 1) (less (x .some) m) u n free (u-in .0) (u-in .1));

@@ -7,7 +7,7 @@ use mathlib.Core.List.{List, [], _∷_, _++_}
 use mathlib.Core.Logic.{_⊎_, inl, inr, ⊎-elim, _↔_}
 use native.Mathlib.Omega.{arith}
 use lib.Dec.{T, T-not, leb, ltb, eqb, leb→le, nleb→lt, ltb→lt, nltb→le, eqb→eq}
-use Rattle.theory_basics.specs.lemmas.Tests.{T-or-iff, T-true, by-cond, eqb-iff, not-T-false, test}
+use Rattle.theory_basics.specs.lemmas.Tests.{T-or-iff, T-true, by-cond, eqb-iff, not-T-false, test, neqb→ne}
 use Rattle.theory_plan.specs.lemmas.Ascending.{asc-lower}
 use Rattle.theory_basics.specs.Lists.{has}
 use Rattle.theory_plan.specs.Bases.{keptBytes, dropLargest, keptAfter, largest, allBut, Asc}
@@ -74,7 +74,7 @@ has-all-but m lo hi (k ∷ ks) i a =
     (λ t.
     let r = has-all-but m (suc k) hi ks i (a .2) in
     let q = has-iff k (allBut m ks) i in
-    let n : k ≡ m → ⊥ = λ e. T-not (eqb k m) t (eqb-iff k m .1 e) in (
+    let n : k ≡ m → ⊥ = neqb→ne k m t in (
       λ u. ⊎-elim (λ e. (o .1 (inl e), λ d. n (omega arith))) (λ v. let w = r .0 v in (o .1 (inr (w .0)), w .1)) (q .0 u),
       λ u. q .1 (⊎-elim (λ e. inl e) (λ v. inr (r .1 (v, u .1))) (o .0 (u .0))),
     ))

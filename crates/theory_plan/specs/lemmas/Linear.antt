@@ -3,18 +3,21 @@
 use Prim.Native.Nat.{ℕ, zero, suc, _+_, _-_, _≤_, _<_, max, min}
 use mathlib.Core.Path.{_≡_, refl, sym, ap, _∙_, subst}
 use mathlib.Core.Bool.{Bool, true, false, cond, _&&_}
-use mathlib.Core.List.{List, [], _∷_, _++_, map}
+use mathlib.Core.List.{List, [], _∷_, _++_, map, map-map}
 use mathlib.Core.Logic.{⊎-elim, _↔_}
 use native.Mathlib.Omega.{arith}
 use native.Mathlib.Numerals.{add-one}
 use borrow.Author.Tests.{eq-eqb, ne-eqb, lt-leb, le-leb, lt-ltb, le-ltb}
 use lib.ListN.{getD, drop}
 use lib.Seq.{drop-drop}
-use lib.Dec.{T, T-not, not-T, leb, ltb, eqb, leb→le, nleb→lt, ltb→lt, nltb→le, lt→ltb, le→leb, eqb→eq, eqb-refl}
+use lib.Dec.{T, not-T, leb, ltb, eqb, leb→le, nleb→lt, ltb→lt, nltb→le, lt→ltb, le→leb, eqb→eq, eqb-refl}
 use Rattle.theory_basics.specs.Lists.{has}
 use Rattle.theory_basics.specs.Sums.{sum}
 use Rattle.theory_basics.specs.lemmas.Ranges.{sum-cong, sum-mono}
-use Rattle.theory_basics.specs.lemmas.Tests.{T-and, T-true, by-cond, not-T-false, same-test, test, tests}
+use Rattle.theory_basics.specs.lemmas.Tests.{T-and, T-true, by-cond, not-T-false, same-test, test, tests, neqb→ne}
+use Rattle.theory_basics.specs.lemmas.Tables.{ne-lt}
+use Rattle.theory_basics.specs.lemmas.Lists.{map-cong}
+use Rattle.theory_basics.specs.Tests.{All}
 use Rattle.job.specs.Job.{Job, chunks, due, heldMost, layers, size}
 use Rattle.fetch.specs.Marks.{bit, withLayer}
 use Rattle.fetch.specs.Rows.{markByte}
@@ -25,14 +28,13 @@ use Rattle.theory_plan.specs.Bases.{Asc, baseSize, forecastBy, mooreHodg
 use Rattle.theory_plan.specs.Plan.{byMooreHodgson, bytes, kept, picked, plan, planByTrials, tried, after}
 use Rattle.theory_plan.specs.lemmas.Feasible.{needOf}
 use Rattle.theory_plan.specs.lemmas.Kept.{picked-cong, picked-each, picked-has}
-use Rattle.theory_plan.specs.lemmas.Necessity.{Each}
 use Rattle.theory_plan.specs.lemmas.Need.{Feas, Tails, feas-mono, need-mono}
 use Rattle.theory_plan.specs.lemmas.Plan.{TakesFitting, by-moore-hodgson-iff, either-way, plan-bases, plan-choice, plan-fits, plan-takes, plan-elsewhere, tried-kept, trials-choice, trials-fit, trials-take}
 use Rattle.theory_plan.specs.Statement.{BasesMooreHodgson, Choice}
 use Rattle.theory_plan.specs.lemmas.Trials.{Stack, candidate, keeps, push, bases, levelMark, Kept, rooms, Tried, tryOne, back, bytesKept, keptAt, onLayer, onLayers, based, stacked, keptBases, decidedOn, decided}
 use Rattle.theory_plan.specs.lemmas.KeepOrDrop.{kept-asc}
 use Rattle.theory_plan.specs.lemmas.Words.{layer-of}
-use Rattle.theory_plan.specs.lemmas.Queue.{RelOk, each, feas-relok, ones, releases}
+use Rattle.theory_plan.specs.lemmas.Queue.{RelOk, feas-relok, ones, releases}
 
 -- ---- the base
 
@@ -108,12 +110,12 @@ relok-uncons : (w d A : ℕ → ℕ) (gs : List ℕ) (r : ℕ) (rs : List ℕ) �
 relok-uncons w d A [] r rs t = (omega arith, tt)
 relok-uncons w d A (g ∷ gs) r rs t = (t .0, t .1)
 
-tails-if : (w d A : ℕ → ℕ) (h : ℕ) (ks : List ℕ) → RelOk w d A (drop h ks) (each d ks) → Tails w d A h ks
+tails-if : (w d A : ℕ → ℕ) (h : ℕ) (ks : List ℕ) → RelOk w d A (drop h ks) (map d ks) → Tails w d A h ks
 tails-if w d A zero [] t = tt
 tails-if w d A (suc h) [] t = tt
 tails-if w d A zero (k ∷ ks) t = (t .0, tails-if w d A zero ks (t .1))
 tails-if w d A (suc h) (k ∷ ks) t =
-    let u = relok-uncons w d A (drop h ks) (d k) (each d ks) t in
+    let u = relok-uncons w d A (drop h ks) (d k) (map d ks) t in
     (u .0, tails-if w d A (suc h) ks (rw (drop-drop, add-one) at (u .1)))
 
 relok-rest : (w d A : ℕ → ℕ) (h : ℕ) (gs rs : List ℕ) → RelOk w d A gs (ones h ++ rs) → RelOk w d A (drop h gs) rs
@@ -129,7 +131,7 @@ pub record Roomy (w d A : ℕ → ℕ) (room : ℕ) (ks rs : List ℕ) : Type 0 
 pub feas-roomy : (w d A : ℕ → ℕ) (h : ℕ) (ks : List ℕ) → Feas w d A h ks ↔ Roomy w d A (A 0) ks (releases d h ks)
 feas-roomy w d A h ks = (
   λ f. record { within = f .whole; released = feas-relok w d A h ks f },
-  λ r. record { whole = r .within; tails = tails-if w d A h ks (relok-rest w d A h ks (each d ks) (r .released)) },
+  λ r. record { whole = r .within; tails = tails-if w d A h ks (relok-rest w d A h ks (map d ks) (r .released)) },
 )
 
 -- A front chunk that has its own room leaves the rest of the room.
@@ -139,7 +141,7 @@ front w d A room k r ks rs h = (
   λ f. record { within = omega (arith, f .within); released = (omega (arith, f .within), f .released) },
 )
 
-pub relok-mono : (v w d A : ℕ → ℕ) (ks rs : List ℕ) → Each (λ k. v k ≤ w k) ks → RelOk w d A ks rs → RelOk v d A ks rs
+pub relok-mono : (v w d A : ℕ → ℕ) (ks rs : List ℕ) → All (λ k. v k ≤ w k) ks → RelOk w d A ks rs → RelOk v d A ks rs
 relok-mono v w d A [] rs a t = tt
 relok-mono v w d A (k ∷ ks) [] a t = t
 relok-mono v w d A (k ∷ ks) (r ∷ rs) a t = (omega (arith, need-mono v w d A (k ∷ ks) a, t .0), relok-mono v w d A ks rs (a .1) (t .1))
@@ -182,11 +184,8 @@ pub level-top : (m n : ℕ) → 1 ≤ n → m ≤ n → ltb (n - 1) m ≡ eqb m 
 level-top m n u h =
     ⊎-elim
     (λ t. let e = eqb→eq m n t in rw (e, eq-eqb n n refl) (lt-ltb (n - 1) n (omega arith)))
-    (λ t. let o : m ≡ n → ⊥ = λ e. T-not (eqb m n) t (rw e (eqb-refl n)) in rw (ne-eqb m n o) (le-ltb (n - 1) m (less m n h o)))
+    (λ t. let o : m ≡ n → ⊥ = neqb→ne m n t in rw (ne-eqb m n o) (le-ltb (n - 1) m (omega (arith, ne-lt m n h o))))
     (test (eqb m n))
-  where
-    less : (m n : ℕ) → m ≤ n → (m ≡ n → ⊥) → m ≤ n - 1
-    less m n h o = ⊎-elim (λ t. omega (arith, ltb→lt m n t)) (λ t. absurd (o (omega (arith, nltb→le m n t)))) (test (ltb m n))
 
 -- ---- a layer above the base
 
@@ -355,14 +354,6 @@ module _ (j : Job) (n : ℕ) (up : 1 ≤ n) (few : n < 8) (p : ℕ → ℕ) (acc
 
 -- ---- the whole plan
 
-map-same : {A : Type 0} (f g : ℕ → A) (ks : List ℕ) → Each (λ k. f k ≡ g k) ks → map f ks ≡ map g ks
-map-same f g [] a = refl
-map-same f g (k ∷ ks) a = rw (a .0, map-same f g ks (a .1))
-
-pub map-map : {A B : Type 0} (f : A → B) (g : ℕ → A) (ks : List ℕ) → map f (map g ks) ≡ map (λ k. f (g k)) ks
-map-map f g [] = refl
-map-map f g (k ∷ ks) = rw (map-map f g ks)
-
 -- On the kept chunks of a choice that fits, whose upper layers are taken as document 01 says, the
 -- passes take its layers.
 module _ (j : Job) (p : ℕ → ℕ) (c : Choice j p) (f : Fits j p) (takes : (n : ℕ) → TakesFitting j p (suc n)) where
@@ -372,7 +363,7 @@ module _ (j : Job) (p : ℕ → ℕ) (c : Choice j p) (f : Fits j p) (takes : (n
 
   same-levels : (a b : ℕ → ℕ) → ((i : ℕ) → 1 ≤ i → i ≤ chunks j → 1 ≤ p i → a i ≡ b i) → map (keptAt j a) (kept j p) ≡ map (keptAt j b) (kept j p)
   same-levels a b e =
-      map-same (keptAt j a) (keptAt j b) (kept j p)
+      map-cong (keptAt j a) (keptAt j b) (kept j p)
       (picked-each (λ i. leb 1 (p i)) (λ k. keptAt j a k ≡ keptAt j b k) 0 (chunks j)
       (λ i u v t. ap (λ (m : ℕ). keptAt j (λ k. m) i) (e i u (omega arith) (leb→le 1 (p i) t))))
 

@@ -26,10 +26,6 @@ pub use Rattle.theory_plan.specs.Plan.{after}
 use Rattle.theory_plan.specs.lemmas.Words.{Sized, bytesOfChunk, due-mono}
 use Rattle.theory_plan.specs.Bases.{Asc}
 
--- P holds of each chunk.
-abbrev pub Each : (ℕ → Type 0) → List ℕ → Type 0
-Each P ks = All P ks
-
 -- A row of the chunks a .. lo - 1.
 abbrev inRun : ℕ → ℕ → Row → Bool
 inRun a lo x = leb a (x .chunk) && ltb (x .chunk) lo

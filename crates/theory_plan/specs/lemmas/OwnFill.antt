@@ -3,11 +3,11 @@
 -- Section 3 of the argument.
 use Prim.Native.Nat.{ℕ, zero, suc, _+_, _-_, _≤_}
 use mathlib.Core.Path.{_≡_, refl, sym, ap, _∙_, subst, fun-ext}
-use mathlib.Core.Bool.{Bool, true, false, not, cond, _&&_, _||_}
+use mathlib.Core.Bool.{Bool, true, false, not, cond, _&&_, _||_, and-true}
 use mathlib.Core.List.{List, [], _∷_, _++_, append-assoc, append-nil}
 use native.Mathlib.Omega.{arith}
 use borrow.Author.Tests.{le-leb}
-use lib.ListN.{length, length-append}
+use lib.ListN.{length}
 use lib.Dec.{T, leb, ltb, eqb, leb→le, nleb→lt}
 use Rattle.theory_plan.specs.lemmas.Words.{carries}
 use Rattle.theory_basics.specs.Sums.{count}
@@ -22,7 +22,7 @@ use Rattle.theory_plan.specs.lemmas.Fill.{Out, QueuedPiece, fill, rest-a
 use Rattle.theory_plan.specs.lemmas.Kept.{picked-each}
 use Rattle.theory_plan.specs.Own.{Fetched, Piece, allowed, carriedTo, fetchedBy, ownList, rowOf, slotTakes, wholeLayer}
 use Rattle.theory_plan.specs.lemmas.Release.{Fair, ReleasedAt, fair-queue, with, with-twice}
-use Rattle.theory_plan.specs.lemmas.Queue.{each, ones, pieces, queue, releases}
+use Rattle.theory_plan.specs.lemmas.Queue.{pieces, queue, releases, releases-enough}
 use Rattle.theory_plan.specs.lemmas.Sufficiency.{fetch}
 
 -- ---- which chunks have begun
@@ -33,10 +33,6 @@ begun-by-slot t rows a = fun-ext (λ i. at i rows a)
     at : (i : ℕ) (rows : List Row) → All (λ x. x .slot ≤ t) rows → begun rows t i ≡ carries rows i
     at i [] a = refl
     at i (x ∷ xs) a = rw (le-leb (x .slot) t (a .0), at i xs (a .1), and-true (eqb (x .chunk) i))
-      where
-        and-true : (b : Bool) → (b && true) ≡ b
-        and-true true = refl
-        and-true false = refl
 
 carries-last : (rows : List Row) (x : Row) → carries (rows ++ (x ∷ [])) ≡ with (x .chunk) (carries rows)
 carries-last rows x = fun-ext (λ i. at i rows)
@@ -181,16 +177,12 @@ carried-more j lv lo (suc n) rs =
         ∙ append-assoc (carriedTo j lv lo) (upTo (wholeLayer j (suc lo)) (lv (suc lo))) (parts q)
         ∙ rw (parts-append (pieces (size j) (suc lo) r 0 (lv (suc lo))) q, p)
 
-length-each : (d : ℕ → ℕ) (ks : List ℕ) → length (each d ks) ≡ length ks
-length-each d [] = refl
-length-each d (k ∷ ks) = ap suc (length-each d ks)
-
 carried-queue :
     (j : Job) (lv : ℕ → ℕ) →
     carriedTo j lv (chunks j) ≡ parts (queue (size j) lv (kept j lv) (releases (due j) (heldMost j) (kept j lv)))
 carried-queue j lv =
     let e : chunks j + 0 ≡ chunks j = omega arith in
-    rw e at (carried-more j lv 0 (chunks j) (releases (due j) (heldMost j) (kept j lv)) (omega (arith, length-append (ones (heldMost j)) (each (due j) (kept j lv)), length-each (due j) (kept j lv))))
+    rw e at (carried-more j lv 0 (chunks j) (releases (due j) (heldMost j) (kept j lv)) (releases-enough (due j) (heldMost j) (kept j lv)))
 
 -- ---- the theorem
 

@@ -2,7 +2,7 @@
 -- chunks held at its end than before or than H; and why it ends. Assumes nothing.
 use Prim.Native.Nat.{ℕ, _+_, _-_, _≤_, _<_}
 use mathlib.Core.Path.{_≡_, refl, sym, ap, subst, _∙_}
-use mathlib.Core.Bool.{Bool, true, false, not, _&&_, _||_}
+use mathlib.Core.Bool.{Bool, false, not, _&&_, and-false, or-false}
 use mathlib.Core.List.{List, [], _∷_, _++_, append-assoc, append-nil}
 use mathlib.Core.Logic.{_⊎_, inl, inr, ⊎-elim}
 use native.Mathlib.Omega.{arith}
@@ -65,14 +65,6 @@ not-begun t u i [] a h = refl
 not-begun t u i (x ∷ more) a h =
     let e : leb (x .slot) u ≡ false = lt-leb (x .slot) u (omega (arith, a .0)) in
     rw (e, and-false (eqb (x .chunk) i)) (not-begun t u i more (a .1) h)
-  where
-    and-false : (b : Bool) → b && false ≡ false
-    and-false true = refl
-    and-false false = refl
-
-or-false : (b : Bool) → b || false ≡ b
-or-false true = refl
-or-false false = refl
 
 pub held-before : (j : Job) (t u : ℕ) (rows more : List Row) → InSlot t more → u < t → heldCount j (rows ++ more) u ≡ heldCount j rows u
 held-before j t u rows more a h =

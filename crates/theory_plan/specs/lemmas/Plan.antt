@@ -5,24 +5,25 @@ use Prim.Native.Nat.{ℕ, zero, suc, _+_, _-_, _≤_, _<_, min}
 use mathlib.Core.Path.{_≡_, refl, sym, ap, _∙_, subst}
 use mathlib.Core.Bool.{Bool, true, false, not, cond}
 use mathlib.Core.List.{List, []}
-use mathlib.Core.Logic.{_⊎_, inl, inr, ⊎-elim, _↔_}
+use mathlib.Core.Logic.{_⊎_, inr, ⊎-elim, _↔_}
 use native.Mathlib.Omega.{arith}
-use borrow.Author.Tests.{eq-eqb, ne-eqb, lt-ltb, le-ltb}
-use lib.Dec.{T, T-not, not-T, leb, ltb, eqb, leb→le, ltb→lt, nltb→le, eqb→eq, eqb-refl, le→leb}
+use borrow.Author.Tests.{eq-eqb}
+use lib.Dec.{T, T-not, not-T, leb, ltb, eqb, leb→le, eqb→eq, le→leb}
 use Rattle.theory_basics.specs.Sums.{sum}
 use Rattle.theory_basics.specs.Tests.{allTo}
-use Rattle.theory_basics.specs.lemmas.Tests.{T-and, T-and-iff, T-true, allTo-iff, and-T, by-cond, eqb-iff, leb-iff, not-T-false, same-test, test}
+use Rattle.theory_basics.specs.lemmas.Tests.{T-and-iff, T-true, allTo-iff, by-cond, eqb-iff, leb-iff, not-T-false, same-test, test}
 use Rattle.job.specs.Job.{EqualBases, Job, Layer, Within, chunks, due, heldMost, layers, size}
 use Rattle.theory_plan.specs.Bases.{baseSize, isKept}
 use Rattle.theory_plan.specs.lemmas.Choice.{Fits, can-carry-iff-fits}
 use Rattle.theory_plan.specs.Statement.{BasesMooreHodgson, ByMooreHodgson, CanCarry, Choice, IsPlan, Same, SettledByTrials, Settles}
-use Rattle.theory_plan.specs.Plan.{after, basesTried, basesMooreHodgson, byMooreHodgson, bytes, equalBases, fits, kept, picked, plan, planByTrials, planOn, planTo, raise, sweep, takes, try}
+use Rattle.theory_plan.specs.Plan.{after, basesTried, basesMooreHodgson, byMooreHodgson, bytes, equalBases, fits, kept, picked, plan, planByTrials, planOn, planTo, sweep, fitting}
 use Rattle.theory_plan.specs.lemmas.Kept.{feas-picked, picked-cong}
 use Rattle.theory_plan.specs.lemmas.Need.{Feas, feas-iff}
 pub use Rattle.theory_plan.specs.Plan.{settled, tried}
 use Rattle.theory_plan.specs.lemmas.Tried.{settles-tried-iff}
 use Rattle.theory_plan.specs.lemmas.MooreHodgson.{moore-hodgson-fits}
 use Rattle.theory_plan.specs.lemmas.Words.{Sized, layer-of}
+use Rattle.theory_plan.specs.lemmas.Sweep.{sweep-grown, sweep-holds, taken-iff, triedOn}
 
 -- ---- how it is computed
 
@@ -39,74 +40,10 @@ fits-cong j p q e f =
     (λ i u v t. omega (arith, ap (sum (size j i)) (e i u (omega arith))))
     (subst (λ (ks : List ℕ). Feas (bytes j p) (due j) (after j) (heldMost j) ks) s f)
 
--- ---- what trials change
+-- ---- the choices that the trials make fit
 
--- y is x, or x is n and y one layer more.
-abbrev SameOrOneMore : ℕ → ℕ → ℕ → Type 0
-SameOrOneMore n x y = (y ≡ x) ⊎ ((x ≡ n) × (y ≡ suc n))
-
-takes-iff : (j : Job) (n : ℕ) (p : ℕ → ℕ) (i : ℕ) → T (takes j n p i) ↔ ((p i ≡ n) × Fits j (raise p i))
-takes-iff j n p i =
-    let f = fits-iff j (raise p i) in (
-      λ t. let u = and-T (eqb (p i) n) (fits j (raise p i)) t in (eqb→eq (p i) n (u .0), f .0 (u .1)),
-      λ u. T-and (eqb (p i) n) (fits j (raise p i)) (rw (u .0) (eqb-refl n)) (f .1 (u .1)),
-    )
-
-try-other : (j : Job) (n : ℕ) (p : ℕ → ℕ) (i k : ℕ) → (k ≡ i → ⊥) → try j n p i k ≡ p k
-try-other j n p i k o = by-cond (λ (q : ℕ → ℕ). q k ≡ p k) (takes j n p i) (λ t. rw (ne-eqb k i o)) (λ t. refl)
-
-try-own : (j : Job) (n : ℕ) (p : ℕ → ℕ) (i : ℕ) → try j n p i i ≡ cond (takes j n p i) (suc (p i)) (p i)
-try-own j n p i = by-test (takes j n p i)
-  where
-    by-test : (b : Bool) → cond b (raise p i) p i ≡ cond b (suc (p i)) (p i)
-    by-test true = rw (eq-eqb i i refl)
-    by-test false = refl
-
-try-grown : (j : Job) (n : ℕ) (p : ℕ → ℕ) (i : ℕ) → SameOrOneMore n (p i) (try j n p i i)
-try-grown j n p i =
-    rw (try-own j n p i)
-    (by-cond (SameOrOneMore n (p i)) (takes j n p i) (λ t. let e = takes-iff j n p i .0 t .0 in inr (e, ap suc e)) (λ t. inl refl))
-
-try-iff : (j : Job) (n : ℕ) (p : ℕ → ℕ) (i : ℕ) → p i ≤ n → (n < try j n p i i) ↔ ((p i ≡ n) × Fits j (raise p i))
-try-iff j n p i h =
-    let r = takes-iff j n p i in
-    ⊎-elim
-    (λ t. (λ l. r .0 t, λ u. rw (try-own j n p i, T-true (takes j n p i) t) (omega arith)))
-    (λ t. (
-      λ l. absurd (let l′ = rw (try-own j n p i, not-T-false (takes j n p i) t) at l in omega arith),
-      λ u. absurd (T-not (takes j n p i) t (r .1 u)),
-    ))
-    (test (takes j n p i))
-
-sweep-below : (j : Job) (n lo m : ℕ) (p : ℕ → ℕ) (k : ℕ) → k ≤ lo → sweep j n lo m p k ≡ p k
-sweep-below j n lo zero p k h = refl
-sweep-below j n lo (suc m) p k h = try-other j n (sweep j n (suc lo) m p) (suc lo) k (λ e. omega arith) ∙ sweep-below j n (suc lo) m p k (omega arith)
-
-sweep-grown : (j : Job) (n lo m : ℕ) (p : ℕ → ℕ) (k : ℕ) → SameOrOneMore n (p k) (sweep j n lo m p k)
-sweep-grown j n lo zero p k = inl refl
-sweep-grown j n lo (suc m) p k =
-    let q = sweep j n (suc lo) m p in
-    ⊎-elim
-    (λ t.
-    let e : k ≡ suc lo = eqb→eq k (suc lo) t in
-    let s : q (suc lo) ≡ p (suc lo) = sweep-below j n (suc lo) m p (suc lo) (omega arith) in
-    rw e (subst (λ (x : ℕ). SameOrOneMore n x (try j n q (suc lo) (suc lo))) s (try-grown j n q (suc lo))))
-    (λ t. rw (try-other j n q (suc lo) k (λ e. T-not (eqb k (suc lo)) t (rw e (eqb-refl (suc lo))))) (sweep-grown j n (suc lo) m p k))
-    (test (eqb k (suc lo)))
-
--- Trials of earlier chunks leave the later ones alone.
-sweep-behind : (j : Job) (n lo a m : ℕ) (p : ℕ → ℕ) (k : ℕ) → a + lo < k → sweep j n lo (a + m) p k ≡ sweep j n (a + lo) m p k
-sweep-behind j n lo zero m p k h = let e : 0 + m ≡ m = omega arith in let e′ : 0 + lo ≡ lo = omega arith in rw (e, e′)
-sweep-behind j n lo (suc a) m p k h =
-    let e : suc a + m ≡ suc (a + m) = omega arith in
-    let e′ : suc a + lo ≡ a + suc lo = omega arith in
-    rw (e, e′) (try-other j n (sweep j n (suc lo) (a + m) p) (suc lo) k (λ e. omega arith) ∙ sweep-behind j n (suc lo) a m p k (omega arith))
-
-sweep-fits : (j : Job) (n lo m : ℕ) (p : ℕ → ℕ) → Fits j p → Fits j (sweep j n lo m p)
-sweep-fits j n lo zero p f = f
-sweep-fits j n lo (suc m) p f =
-    let q = sweep j n (suc lo) m p in
-    by-cond (Fits j) (takes j n q (suc lo)) (λ t. takes-iff j n q (suc lo) .0 t .1) (λ t. sweep-fits j n (suc lo) m p f)
+sweep-fits : (j : Job) (n : ℕ) (p : ℕ → ℕ) → Fits j p → Fits j (sweep (fitting j) n 0 (chunks j) p)
+sweep-fits j n p f = sweep-holds (fitting j) (chunks j) (Fits j) (λ i q u v t. fits-iff j q .0 t) n 0 (chunks j) p (omega arith) f
 
 pub skip-all-fits : (j : Job) → Fits j (λ k. 0)
 skip-all-fits j = rw (empty 0 (chunks j)) (record { whole = omega arith; tails = tt })
@@ -120,27 +57,27 @@ skip-all-fits j = rw (empty 0 (chunks j)) (record { whole = omega arith; tails =
 pub planTo-fits : (j : Job) (bases : ℕ → ℕ) → Fits j bases → (n : ℕ) → Fits j (planTo j bases n)
 planTo-fits j bases f zero = skip-all-fits j
 planTo-fits j bases f (suc zero) = f
-planTo-fits j bases f (suc (suc n)) = sweep-fits j (suc n) 0 (chunks j) (planTo j bases (suc n)) (planTo-fits j bases f (suc n))
+planTo-fits j bases f (suc (suc n)) = sweep-fits j (suc n) (planTo j bases (suc n)) (planTo-fits j bases f (suc n))
 
 tried-fits : (j : Job) → Fits j (basesTried j)
-tried-fits j = sweep-fits j 0 0 (chunks j) (λ k. 0) (skip-all-fits j)
+tried-fits j = sweep-fits j 0 (λ k. 0) (skip-all-fits j)
 
 tried-le : (j : Job) (k : ℕ) → basesTried j k ≤ 1
-tried-le j k = ⊎-elim (λ e. omega arith) (λ e. omega arith) (sweep-grown j 0 0 (chunks j) (λ k. 0) k)
+tried-le j k = ⊎-elim (λ e. omega arith) (λ e. omega arith) (sweep-grown (fitting j) 0 0 (chunks j) (λ k. 0) k)
 
 module _ (j : Job) (bases : ℕ → ℕ) (one : (k : ℕ) → bases k ≤ 1) where
   planTo-le : (n k : ℕ) → planTo j bases n k ≤ n
   planTo-le zero k = omega arith
   planTo-le (suc zero) k = one k
   planTo-le (suc (suc n)) k =
-      ⊎-elim (λ e. omega (arith, planTo-le (suc n) k)) (λ e. omega arith) (sweep-grown j (suc n) 0 (chunks j) (planTo j bases (suc n)) k)
+      ⊎-elim (λ e. omega (arith, planTo-le (suc n) k)) (λ e. omega arith) (sweep-grown (fitting j) (suc n) 0 (chunks j) (planTo j bases (suc n)) k)
 
   -- Trials of a higher layer leave the lower ones alone.
   planTo-next : (n k : ℕ) → min (planTo j bases (suc n) k) n ≡ planTo j bases n k
   planTo-next zero k = omega arith
   planTo-next (suc n) k =
       let l = planTo-le (suc n) k in
-      ⊎-elim (λ e. omega arith) (λ e. omega arith) (sweep-grown j (suc n) 0 (chunks j) (planTo j bases (suc n)) k)
+      ⊎-elim (λ e. omega arith) (λ e. omega arith) (sweep-grown (fitting j) (suc n) 0 (chunks j) (planTo j bases (suc n)) k)
 
   planTo-min : (n a k : ℕ) → min (planTo j bases (a + n) k) n ≡ planTo j bases n k
   planTo-min n zero k = let e : 0 + n ≡ n = omega arith in rw e (omega (arith, planTo-le n k))
@@ -155,53 +92,17 @@ module _ (j : Job) (bases : ℕ → ℕ) (one : (k : ℕ) → bases k ≤ 1) whe
 
 -- ---- the trial of one layer of one chunk
 
--- The choice p carries q below layer n, and of layer n what the trials make on q.
-module _
-    (j : Job) (p q : ℕ → ℕ) (n : ℕ) (below : (k : ℕ) → min (p k) n ≡ q k) (upto : (k : ℕ) → min (p k) (suc n) ≡ sweep j n 0 (chunks j) q k)
-    (i : ℕ) (r : Layer j i n) where
-  -- What the trials before that of chunk i have made.
-  abbrev state : ℕ → ℕ
-  state = sweep j n i (chunks j - i) q
-
-  state-is-settled : (k : ℕ) → state k ≡ settled p n i k
-  state-is-settled k =
-      ⊎-elim
-      (λ t.
-      let e : i + (chunks j - i) ≡ chunks j = omega (arith, r .chunk-high) in
-      let e′ : i + 0 ≡ i = omega arith in
-      let b : sweep j n 0 (chunks j) q k ≡ state k = rw (e, e′) at (sweep-behind j n 0 i (chunks j - i) q k (omega (arith, ltb→lt i k t))) in
-      rw (lt-ltb i k (ltb→lt i k t)) (sym b ∙ sym (upto k)))
-      (λ t. rw (le-ltb i k (nltb→le i k t)) (sweep-below j n i (chunks j - i) q k (nltb→le i k t) ∙ sym (below k)))
-      (test (ltb i k))
-
-  sweep-is-trial : sweep j n 0 (chunks j) q i ≡ try j n state i i
-  sweep-is-trial =
-      let e : (i - 1) + suc (chunks j - i) ≡ chunks j = omega (arith, r .chunk-low, r .chunk-high) in
-      let e′ : (i - 1) + 0 ≡ (i - 1) = omega arith in
-      let e″ : suc (i - 1) ≡ i = omega (arith, r .chunk-low) in
-      rw e″ at (rw (e, e′) at (sweep-behind j n 0 (i - 1) (suc (chunks j - i)) q i (omega (arith, r .chunk-low))))
-
-  state-at-own : state i ≡ min (p i) n
-  state-at-own = rw (le-ltb i i (omega arith)) at (state-is-settled i)
-
-  raise-is-tried : state i ≡ n → (k : ℕ) → raise state i k ≡ tried p n i k
-  raise-is-tried e k =
-      ⊎-elim
-      (λ t. let q = eqb→eq k i t in rw (q, eq-eqb i i refl) (ap suc e))
-      (λ t. rw (ne-eqb k i (λ q. T-not (eqb k i) t (rw q (eqb-refl i)))) (state-is-settled k))
-      (test (eqb k i))
-
-  -- It carries the layer exactly if the layers below are carried and the choice that is tried fits.
-  taken-iff : (n < p i) ↔ ((n ≤ p i) × Fits j (tried p n i))
-  taken-iff =
-      let m = upto i in
-      let t = try-iff j n state i (omega (arith, state-at-own)) in (
-        λ l. let u = t .0 (omega (arith, sweep-is-trial)) in (omega arith, fits-cong j (raise state i) (tried p n i) (λ k x y. raise-is-tried (u .0) k) (u .1)),
-        λ u.
-            let s : state i ≡ n = omega (arith, state-at-own, u .0) in
-            let f = fits-cong j (tried p n i) (raise state i) (λ k x y. sym (raise-is-tried s k)) (u .1) in
-            omega (arith, sweep-is-trial, t .1 (s, f)),
-      )
+-- A choice that carries q below layer n, and of layer n what the trials make on q, carries the
+-- layer exactly if the layers below are carried and the choice that is tried fits.
+layer-taken-iff :
+    (j : Job) (p q : ℕ → ℕ) (n : ℕ) → ((k : ℕ) → min (p k) n ≡ q k) → ((k : ℕ) → min (p k) (suc n) ≡ sweep (fitting j) n 0 (chunks j) q k) →
+    (i : ℕ) → Layer j i n → (n < p i) ↔ ((n ≤ p i) × Fits j (tried p n i))
+layer-taken-iff j p q n below upto i r =
+    let same : (k : ℕ) → triedOn (λ m. 0) p n i k ≡ tried p n i k = λ k. ap (cond (eqb k i) (suc n)) (omega arith) in
+    let t = taken-iff (fitting j) (chunks j) (λ m. 0) (λ i. Fits j) (λ i. fits-iff j) (λ i. fits-cong j) p q n (λ k. omega (arith, below k)) (λ k. omega (arith, upto k)) i (r .chunk-low) (r .chunk-high) (omega arith) in (
+      λ l. ⊎-elim (λ u. absurd (omega arith)) (λ u. (u .0, fits-cong j _ _ (λ k x y. same k) (u .1))) (t .0 l),
+      λ u. t .1 (inr (u .0, fits-cong j _ _ (λ k x y. sym (same k)) (u .1))),
+    )
 
 -- A choice takes layer n exactly where the choice that is tried fits: its decision, without lists.
 abbrev pub TakesFitting : Job → (ℕ → ℕ) → ℕ → Type 0
@@ -210,12 +111,12 @@ TakesFitting j p n = (i : ℕ) → Layer j i n → (n < p i) ↔ ((n ≤ p i) ×
 -- The trials of the upper layers, on any bases,
 pub on-upper : (j : Job) (bases : ℕ → ℕ) → ((k : ℕ) → bases k ≤ 1) → (n : ℕ) → TakesFitting j (planOn j bases) (suc n)
 on-upper j bases one n i r =
-    taken-iff j (planOn j bases) (planTo j bases (suc n)) (suc n) (λ k. on-min j bases one (suc n) k (omega (arith, r .layer-in))) (λ k. on-min j bases one (suc (suc n)) k (r .layer-in)) i r
+    layer-taken-iff j (planOn j bases) (planTo j bases (suc n)) (suc n) (λ k. on-min j bases one (suc n) k (omega (arith, r .layer-in))) (λ k. on-min j bases one (suc (suc n)) k (r .layer-in)) i r
 
 -- and those of the base.
 on-tried : (j : Job) → TakesFitting j (planOn j (basesTried j)) 0
 on-tried j i r =
-    taken-iff j (planOn j (basesTried j)) (λ k. 0) 0 (λ k. omega arith) (λ k. on-min j (basesTried j) (tried-le j) 1 k (r .layer-in)) i r
+    layer-taken-iff j (planOn j (basesTried j)) (λ k. 0) 0 (λ k. omega arith) (λ k. on-min j (basesTried j) (tried-le j) 1 k (r .layer-in)) i r
 
 -- The bases of the chunks that pass a test: a plan on them carries these and no others.
 pub tested-le : (q : ℕ → Bool) (k : ℕ) → cond (q k) 1 0 ≤ 1
@@ -242,7 +143,7 @@ tried-kept j n p i up there =
     same-kept j n p (tried p n i) up (λ k u v.
     ⊎-elim
     (λ w. let e = eqb→eq k i w in rw (e, eq-eqb i i refl) (omega arith))
-    (λ w. rw (ne-eqb k i (λ e. T-not (eqb k i) w (rw e (eqb-refl i)))) (by-cond (λ a. min (min (p k) a) n ≡ min (p k) n) (ltb i k) (λ o. omega arith) (λ o. omega arith)))
+    (λ w. rw (not-T-false (eqb k i) w) (by-cond (λ a. min (min (p k) a) n ≡ min (p k) n) (ltb i k) (λ o. omega arith) (λ o. omega arith)))
     (test (eqb k i)))
 
 -- ---- the computed choices are settled as Statement says

@@ -1,23 +1,26 @@
 -- Lemmas. The queue of the kept chunks with their releases: what it needs, if the chunks fit, and
 -- what it holds of each layer. Sections 1 and 3 of the argument.
 use Prim.Native.Nat.{ℕ, zero, suc, _+_, _-_, _≤_, _<_, max}
-use mathlib.Core.Path.{_≡_, refl, ap}
+use mathlib.Core.Path.{_≡_, refl, ap, _∙_}
 use mathlib.Core.Bool.{Bool, false, cond, _&&_}
 use mathlib.Core.List.{List, [], _∷_, _++_, map}
 use mathlib.Core.Logic.{⊎-elim}
 use native.Mathlib.Omega.{arith}
 use native.Mathlib.Numerals.{add-one}
 use borrow.Author.Tests.{eq-eqb, ne-eqb, lt-ltb, le-ltb}
-use lib.ListN.{drop}
-use lib.Seq.{drop-drop}
-use lib.Dec.{T-not, ltb, eqb, ltb→lt, nltb→le, eqb→eq, eqb-refl}
-use Rattle.theory_basics.specs.lemmas.Tests.{test}
+use lib.ListN.{length, getD, take, drop, replicate, length-append, length-map, length-replicate, getD-replicate, List·getD-append}
+use lib.Seq.{drop-drop, getD-append-add}
+use lib.Dec.{ltb, eqb, eqb→eq, ltb→lt, nltb→le}
+use Rattle.theory_basics.specs.lemmas.Tests.{test, neqb→ne}
 use Rattle.theory_plan.specs.lemmas.Fill.{QueuedPiece, Ready, left-of, needs}
 use Rattle.theory_plan.specs.lemmas.Need.{Feas, Tails}
 use Rattle.theory_plan.specs.lemmas.Feasible.{needOf}
 use Rattle.theory_basics.specs.Lists.{has}
 use Rattle.theory_basics.specs.Tests.{All}
+use Rattle.theory_basics.specs.lemmas.Tables.{ne-lt, all-take}
+use Rattle.theory_basics.specs.lemmas.Lists.{getD-map}
 use Rattle.theory_plan.specs.Bases.{Asc}
+use Rattle.job.specs.Job.{Within}
 
 -- ---- the queue
 
@@ -37,18 +40,12 @@ queue size lv [] rs = []
 queue size lv (k ∷ ks) [] = []
 queue size lv (k ∷ ks) (r ∷ rs) = pieces size k r 0 (lv k) ++ queue size lv ks rs
 
--- d of each; n ones.
-abbrev pub each : (ℕ → ℕ) → List ℕ → List ℕ
-each d [] = []
-each d (k ∷ ks) = d k ∷ each d ks
-
 abbrev pub ones : ℕ → List ℕ
-ones zero = []
-ones (suc n) = 1 ∷ ones n
+ones n = replicate n 1
 
 -- The releases of the chunks ks: 1 for the first h, then the due slot of the chunk h places before.
 abbrev pub releases : (ℕ → ℕ) → ℕ → List ℕ → List ℕ
-releases d h ks = ones h ++ each d ks
+releases d h ks = ones h ++ map d ks
 
 -- Each chunk, with those after it, fits behind its release.
 abbrev pub RelOk : (w d A : ℕ → ℕ) → List ℕ → List ℕ → Type 0
@@ -62,12 +59,12 @@ relok-cons :
 relok-cons w d A [] r rs m t = tt
 relok-cons w d A (g ∷ gs) r rs m t = (m, t)
 
-relok-later : (w d A : ℕ → ℕ) (h : ℕ) (ks : List ℕ) → Tails w d A h ks → RelOk w d A (drop h ks) (each d ks)
+relok-later : (w d A : ℕ → ℕ) (h : ℕ) (ks : List ℕ) → Tails w d A h ks → RelOk w d A (drop h ks) (map d ks)
 relok-later w d A zero [] t = tt
 relok-later w d A (suc h) [] t = tt
 relok-later w d A zero (k ∷ ks) t = (t .0, relok-later w d A zero ks (t .1))
 relok-later w d A (suc h) (k ∷ ks) t =
-    relok-cons w d A (drop h ks) (d k) (each d ks) (t .0) (rw (drop-drop, add-one) (relok-later w d A (suc h) ks (t .1)))
+    relok-cons w d A (drop h ks) (d k) (map d ks) (t .0) (rw (drop-drop, add-one) (relok-later w d A (suc h) ks (t .1)))
 
 relok-first :
     (w d A : ℕ → ℕ) (h : ℕ) (gs rs : List ℕ) → needOf w d A gs ≤ A 0 → RelOk w d A (drop h gs) rs → RelOk w d A gs (ones h ++ rs)
@@ -77,7 +74,7 @@ relok-first w d A (suc h) (g ∷ gs) rs m t = (m, relok-first w d A h gs rs (ome
 
 -- Chunks that fit do so behind their releases: `Feas` read at each chunk.
 pub feas-relok : (w d A : ℕ → ℕ) (h : ℕ) (ks : List ℕ) → Feas w d A h ks → RelOk w d A ks (releases d h ks)
-feas-relok w d A h ks f = relok-first w d A h ks (each d ks) (f .whole) (relok-later w d A h ks (f .tails))
+feas-relok w d A h ks f = relok-first w d A h ks (map d ks) (f .whole) (relok-later w d A h ks (f .tails))
 
 -- ---- the queue's need is its chunks'
 
@@ -137,14 +134,11 @@ left-of-layer size i n r m (suc c) h =
     let e : m ≡ n = eqb→eq m n t in
     rw (eq-eqb i i refl, eq-eqb m n e, lt-ltb n (suc c + m) (omega arith)) (omega (arith, ap (size i) e, left-of-lower-layer size i n r (suc m) c (omega arith))))
     (λ t.
-    let o : m ≡ n → ⊥ = λ e. T-not (eqb m n) t (rw e (eqb-refl n)) in
+    let o : m ≡ n → ⊥ = neqb→ne m n t in
     let o′ : m < n = ne-lt m n h o in
     let e : c + suc m ≡ suc c + m = omega arith in
     rw (eq-eqb i i refl, ne-eqb m n o) (omega (arith, rw e at (left-of-layer size i n r (suc m) c (omega arith)))))
     (test (eqb m n))
-  where
-    ne-lt : (m n : ℕ) → m ≤ n → (m ≡ n → ⊥) → m < n
-    ne-lt m n h o = ⊎-elim (λ t. ltb→lt m n t) (λ t. absurd (o (omega (arith, nltb→le m n t)))) (test (ltb m n))
 
 pub has-low : (lo c : ℕ) (ks : List ℕ) (i : ℕ) → Asc lo c ks → i < lo → has ks i ≡ false
 has-low lo c [] i a h = refl
@@ -168,16 +162,35 @@ left-of-queue w d A size lv lo c i n (k ∷ ks) (q ∷ rs) a r =
     let x′ : left-of (at-layer i n) (pieces size k q 0 (lv k)) ≡ cond (ltb n (lv i)) (size i n) 0 = rw e x in
     rw (eq-eqb k i e) (omega (arith, u, v′, x′)))
     (λ t.
-    let o : k ≡ i → ⊥ = λ e. T-not (eqb k i) t (rw e (eqb-refl i)) in
+    let o : k ≡ i → ⊥ = neqb→ne k i t in
     rw (ne-eqb k i o) (omega (arith, u, v, left-of-other-chunk size i n k q 0 (lv k) o)))
     (test (eqb k i))
 
--- ---- due slots and ones
+-- ---- releases
 
-pub each-is : (d : ℕ → ℕ) (ks : List ℕ) → each d ks ≡ map d ks
-each-is d [] = refl
-each-is d (k ∷ ks) = rw (each-is d ks)
+pub ones-at : (h : ℕ) (l : List ℕ) (q : ℕ) → q < h → getD (ones h ++ l) q 0 ≡ 1
+ones-at h l q u = List·getD-append (ones h) l 0 q (omega (arith, length-replicate {A = ℕ} h 1)) ∙ getD-replicate h q 1 0 u
+
+pub behind-ones : (h : ℕ) (l : List ℕ) (q : ℕ) → h ≤ q → getD (ones h ++ l) q 0 ≡ getD l (q - h) 0
+behind-ones h l q u =
+    let e : length (ones h) + (q - h) ≡ q = omega (arith, length-replicate {A = ℕ} h 1) in
+    rw e at (getD-append-add (ones h) l (q - h) 0)
 
 pub all-ones : (P : ℕ → Type 0) → P 1 → (h : ℕ) (l : List ℕ) → All P l → All P (ones h ++ l)
 all-ones P o zero l a = a
 all-ones P o (suc h) l a = (o, all-ones P o h l a)
+
+-- With due slots they are slots.
+pub release-slots : (h n : ℕ) (ds : List ℕ) → All (Within 1 3600) ds → All (Within 1 3600) (take n (ones h ++ ds))
+release-slots h n ds a = all-take (Within 1 3600) n (ones h ++ ds) (all-ones (Within 1 3600) (record { low = omega arith; high = omega arith }) h ds a)
+
+-- The release of the chunk at each place, and that there are enough of them.
+pub release-at : (d : ℕ → ℕ) (h : ℕ) (ks : List ℕ) (q : ℕ) → q < length ks → getD (releases d h ks) q 0 ≡ cond (ltb q h) 1 (d (getD ks (q - h) 0))
+release-at d h ks q l =
+    ⊎-elim
+    (λ t. let u = ltb→lt q h t in rw (lt-ltb q h u) (ones-at h (map d ks) q u))
+    (λ t. let u = nltb→le q h t in rw (le-ltb q h u) (behind-ones h (map d ks) q u ∙ getD-map d ks (q - h) (omega arith)))
+    (test (ltb q h))
+
+pub releases-enough : (d : ℕ → ℕ) (h : ℕ) (ks : List ℕ) → length ks ≤ length (releases d h ks)
+releases-enough d h ks = omega (arith, length-append (ones h) (map d ks), length-map ks d)

@@ -3,20 +3,20 @@
 -- the last begun first. Sections 2 and 3 of the argument.
 use Prim.Native.Nat.{ℕ, zero, suc, _+_, _-_, _≤_, _<_, compare·suc-suc}
 use mathlib.Core.Path.{_≡_, refl, sym, ap, _∙_, subst, fun-ext}
-use mathlib.Core.Bool.{Bool, true, false, cond, _&&_, _||_}
-use mathlib.Core.List.{List, [], _∷_, _++_}
+use mathlib.Core.Bool.{Bool, false, cond, _&&_, _||_, or-self-left}
+use mathlib.Core.List.{List, [], _∷_, _++_, map}
 use mathlib.Core.Logic.{⊎-elim}
 use native.Mathlib.Omega.{arith}
 use borrow.Author.Tests.{eq-eqb, ne-eqb, lt-leb, le-leb, lt-ltb, le-ltb}
 use lib.ListN.{getD}
-use lib.Dec.{T-not, leb, ltb, eqb, ltb→lt, nltb→le, eqb→eq, eqb-refl}
+use lib.Dec.{leb, ltb, eqb, ltb→lt, nltb→le, eqb→eq}
 use Rattle.theory_basics.specs.Sums.{count, pre}
 use Rattle.theory_basics.specs.lemmas.Ranges.{pre-add, count-none, point, point-in}
 use Rattle.theory_basics.specs.Tests.{All}
-use Rattle.theory_basics.specs.lemmas.Tests.{test}
+use Rattle.theory_basics.specs.lemmas.Tests.{test, not-T-false}
 use Rattle.job.specs.Job.{Job, chunks, due, heldMost, size}
 use Rattle.theory_plan.specs.lemmas.Fill.{QueuedPiece}
-use Rattle.theory_plan.specs.lemmas.Queue.{each, ones, pieces, queue, releases}
+use Rattle.theory_plan.specs.lemmas.Queue.{ones, pieces, queue, releases}
 use Rattle.theory_basics.specs.Lists.{has}
 use Rattle.theory_plan.specs.lemmas.Words.{due-mono}
 use Rattle.theory_plan.specs.Bases.{Asc}
@@ -53,14 +53,14 @@ count-has p hi c (k ∷ ks) h a =
     at i =
         ⊎-elim
         (λ t. let e = eqb→eq k i t in rw (eq-eqb k i e, e, desc-lacks k i ks (omega arith) (a .2)) (omega arith))
-        (λ t. rw (ne-eqb k i (λ e. T-not (eqb k i) t (rw e (eqb-refl i)))) (omega arith))
+        (λ t. rw (not-T-false (eqb k i) t) (omega arith))
         (test (eqb k i))
 
 -- ---- the release of the chunk begun last
 
 -- Where h chunks may be held: the due slot of the chunk begun h before it, or 1.
 abbrev releaseOf : (ℕ → ℕ) → ℕ → List ℕ → ℕ
-releaseOf d h ks = getD (each d ks) h 1
+releaseOf d h ks = getD (map d ks) h 1
 
 module _ (d : ℕ → ℕ) (d-mono : (x y : ℕ) → x ≤ y → d x ≤ d y) (t : ℕ) where
   abbrev late : ℕ → Bool
@@ -129,11 +129,7 @@ abbrev pub with : ℕ → (ℕ → Bool) → ℕ → Bool
 with k b i = eqb k i || b i
 
 pub with-twice : (k : ℕ) (b : ℕ → Bool) → with k (with k b) ≡ with k b
-with-twice k b = fun-ext (λ i. or-twice (eqb k i) (b i))
-  where
-    or-twice : (x y : Bool) → (x || (x || y)) ≡ (x || y)
-    or-twice true y = refl
-    or-twice false y = refl
+with-twice k b = fun-ext (λ i. or-self-left (eqb k i) (b i))
 
 -- Where the chunks b have begun: each piece of the queue has the release of its chunk, those before
 -- it begun.
@@ -160,17 +156,17 @@ released j k ks a h t u =
 -- bs have begun, ks are still to come.
 fair-rest :
     (j : Job) (lv : ℕ → ℕ) (size : ℕ → ℕ → ℕ) (lo : ℕ) (bs ks : List ℕ) → 1 ≤ lo → Desc lo bs → Asc lo (chunks j) ks →
-    All (λ k. 1 ≤ lv k) ks → Fair j (has bs) (queue size lv ks (window (due j) (heldMost j) bs (each (due j) ks)))
+    All (λ k. 1 ≤ lv k) ks → Fair j (has bs) (queue size lv ks (window (due j) (heldMost j) bs (map (due j) ks)))
 fair-rest j lv size lo bs [] h a s e = tt
 fair-rest j lv size lo bs (k ∷ ks) h a s e =
     let below : Desc (suc k) (k ∷ bs) = (omega arith, omega arith, desc-raise lo k bs (s .0) a) in
     let r = releaseOf (due j) (heldMost j) (k ∷ bs) in
-    let q = queue size lv ks (window (due j) (heldMost j) (k ∷ bs) (each (due j) ks)) in
+    let q = queue size lv ks (window (due j) (heldMost j) (k ∷ bs) (map (due j) ks)) in
     let f = fair-rest j lv size (suc k) (k ∷ bs) ks (omega arith) below (s .2) (e .1) in
     let n : suc (lv k - 1) ≡ lv k = omega (arith, e .0) in
     subst
     (λ (rs : List ℕ). Fair j (has bs) (queue size lv (k ∷ ks) rs))
-    (sym (window-first (due j) (heldMost j) (k ∷ bs) (each (due j) ks)))
+    (sym (window-first (due j) (heldMost j) (k ∷ bs) (map (due j) ks)))
     (subst (λ (m : ℕ). Fair j (has bs) (pieces size k r 0 m ++ q)) n (fair-pieces j size k r 0 (lv k - 1) (has bs) q (released j k bs below (s .1)) f))
 
 pub fair-queue :
@@ -179,5 +175,5 @@ pub fair-queue :
 fair-queue j lv ks s e =
     subst
     (λ (rs : List ℕ). Fair j (λ i. false) (queue (size j) lv ks rs))
-    (window-none (due j) (heldMost j) (each (due j) ks))
+    (window-none (due j) (heldMost j) (map (due j) ks))
     (fair-rest j lv (size j) 1 [] ks (omega arith) tt s e)

@@ -1,18 +1,18 @@
 -- Lemmas. A choice that fits has a list: the fill of the kept chunks with their releases passes,
 -- rules 1 to 6 one by one. Section 3 of the argument.
 use Prim.Native.Nat.{ℕ, zero, suc, _+_, _≤_, _<_}
-use mathlib.Core.Path.{_≡_, refl, ap}
+use mathlib.Core.Path.{_≡_, refl}
 use mathlib.Core.Bool.{Bool, true, false, not, cond, _&&_, _||_}
-use mathlib.Core.List.{List, [], _∷_, _++_, append-assoc}
+use mathlib.Core.List.{List, [], _∷_, _++_, append-assoc, map}
 use mathlib.Core.Logic.{_⊎_, inl, inr, ⊎-elim}
 use native.Mathlib.Omega.{arith}
-use borrow.Author.Tests.{eq-eqb, ne-eqb, lt-leb, lt-ltb, le-ltb}
-use lib.ListN.{length, length-append}
-use lib.Dec.{T, T-not, leb, ltb, eqb, ltb→lt, nltb→le, le→leb, eqb→eq, eqb-refl}
+use borrow.Author.Tests.{eq-eqb, lt-leb, lt-ltb, le-ltb}
+use lib.ListN.{length, length-append, length-replicate}
+use lib.Dec.{T, leb, ltb, eqb, ltb→lt, nltb→le, le→leb, eqb→eq, eqb-refl}
 use Rattle.theory_basics.specs.Sums.{count}
 use Rattle.theory_basics.specs.lemmas.Ranges.{pre-add, pre-le, count-mono, count-none, point, point-total}
 use Rattle.theory_basics.specs.Tests.{All}
-use Rattle.theory_basics.specs.lemmas.Tests.{T-and, T-or-iff, all-append, and-T, at-row, by-cond, each-row, test, tests}
+use Rattle.theory_basics.specs.lemmas.Tests.{T-and, T-or-iff, all-append, and-T, at-row, by-cond, each-row, test, tests, not-T-false}
 use Rattle.job.specs.Job.{Job, chunks, due, forecast, heldMost, lastSlot, layers, size}
 use Rattle.fetch.specs.Rows.{Row, begun, bytesOfLayer, held}
 use Rattle.fetch.specs.Rules.{RowInRange, Passes}
@@ -22,7 +22,7 @@ use Rattle.theory_plan.specs.lemmas.Fill.{Ready, Sent, Still, fill, fill
 use Rattle.theory_plan.specs.lemmas.Need.{Feas}
 use Rattle.theory_plan.specs.lemmas.Words.{Sized, after-anti, due-mono}
 use Rattle.theory_plan.specs.Plan.{after}
-pub use Rattle.theory_plan.specs.lemmas.Queue.{RelOk, each, feas-relok, has-low, ones, pieces, queue, releases, weight}
+pub use Rattle.theory_plan.specs.lemmas.Queue.{RelOk, feas-relok, has-low, ones, pieces, queue, releases, weight}
 pub use Rattle.theory_basics.specs.Lists.{has}
 use Rattle.theory_plan.specs.lemmas.Queue.{SomeBytes, at-layer, left-of-queue, ready-queue}
 use Rattle.theory_plan.specs.Bases.{Asc}
@@ -50,7 +50,7 @@ counted-at : (X : ℕ → Bool) (b : Bool) (k i : ℕ) → cond ((eqb k i && b) 
 counted-at X b k i =
     ⊎-elim
     (λ t. let e = eqb→eq k i t in rw (eq-eqb k i e, e) (omega arith))
-    (λ t. rw (ne-eqb k i (λ e. T-not (eqb k i) t (rw e (eqb-refl i)))) (omega arith))
+    (λ t. rw (not-T-false (eqb k i) t) (omega arith))
     (test (eqb k i))
 
 count-live : (t c : ℕ) (d : ℕ → ℕ) (ks rs : List ℕ) → count (λ i. live t ks rs i && ltb t (d i)) c ≤ lives t d ks rs
@@ -73,7 +73,7 @@ count-live t c d (k ∷ ks) (r ∷ rs) =
 -- Where all due slots are after t, only the chunks of the first places ps have their release by t.
 only-first-live :
     (t : ℕ) (d : ℕ → ℕ) (ks gs ps : List ℕ) (lo c : ℕ) → ((k : ℕ) → lo ≤ k → t < d k) → Asc lo c gs →
-    lives t d ks (ps ++ each d gs) ≤ length ps
+    lives t d ks (ps ++ map d gs) ≤ length ps
 only-first-live t d [] gs ps lo c f a = omega arith
 only-first-live t d (k ∷ ks) [] [] lo c f a = omega arith
 only-first-live t d (k ∷ ks) (g ∷ gs) [] lo c f a =
@@ -88,7 +88,7 @@ due-not-counted false b u = omega arith
 
 few-live-after-due :
     (t : ℕ) (d : ℕ → ℕ) (k : ℕ) (ks ps : List ℕ) → T (not (ltb t (d k))) →
-    ((qs : List ℕ) → lives t d ks (qs ++ each d ks) ≤ length qs) → lives t d (k ∷ ks) (ps ++ each d (k ∷ ks)) ≤ length ps
+    ((qs : List ℕ) → lives t d ks (qs ++ map d ks) ≤ length qs) → lives t d (k ∷ ks) (ps ++ map d (k ∷ ks)) ≤ length ps
 few-live-after-due t d k ks [] u f = omega (arith, due-not-counted (leb (d k) t) (ltb t (d k)) u, f [])
 few-live-after-due t d k ks (q ∷ qs) u f =
     omega (arith, due-not-counted (leb q t) (ltb t (d k)) u, rw (append-assoc, length-append) at (f (qs ++ d k ∷ [])))
@@ -97,17 +97,13 @@ few-live-after-due t d k ks (q ∷ qs) u f =
 -- h.
 few-live :
     (t : ℕ) (d : ℕ → ℕ) (d-mono : (x y : ℕ) → x ≤ y → d x ≤ d y) (ks ps : List ℕ) (lo c : ℕ) → Asc lo c ks →
-    lives t d ks (ps ++ each d ks) ≤ length ps
+    lives t d ks (ps ++ map d ks) ≤ length ps
 few-live t d d-mono [] ps lo c a = omega arith
 few-live t d d-mono (k ∷ ks) ps lo c a =
     ⊎-elim
     (λ u. only-first-live t d (k ∷ ks) (k ∷ ks) ps k c (λ g h. omega (arith, ltb→lt t (d k) u, d-mono k g h)) (omega arith, a .1, a .2))
     (λ u. few-live-after-due t d k ks ps u (λ qs. few-live t d d-mono ks qs (suc k) c (a .2)))
     (test (ltb t (d k)))
-
-length-ones : (h : ℕ) → length (ones h) ≡ h
-length-ones zero = refl
-length-ones (suc h) = ap suc (length-ones h)
 
 -- ---- what is known of each piece of the queue
 
@@ -230,7 +226,7 @@ module _ (j : Job) (sized : Sized j) (lv : ℕ → ℕ) (lim : (k : ℕ) → 1 �
               count-mono (held j (fetch j lv ks) t) (λ i. live t ks rs i && ltb t (due j i)) (chunks j) (λ i u v. held-live t i),
               count-live t (chunks j) (due j) ks rs,
               few-live t (due j) (due-mono j) ks (ones (heldMost j)) 1 (chunks j) asc,
-              length-ones (heldMost j),
+              length-replicate {A = ℕ} (heldMost j) 1,
             );
         marks-say = refl;
       }

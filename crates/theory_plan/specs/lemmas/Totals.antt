@@ -6,10 +6,10 @@ use mathlib.Core.Bool.{Bool, true, false, not, cond, _&&_, _||_}
 use mathlib.Core.List.{List, [], _∷_}
 use mathlib.Core.Logic.{⊎-elim}
 use native.Mathlib.Omega.{arith}
-use borrow.Author.Tests.{eq-eqb, ne-eqb}
-use lib.Dec.{T, T-not, eqb, eqb→eq}
+use borrow.Author.Tests.{eq-eqb}
+use lib.Dec.{T, eqb, eqb→eq}
 use Rattle.theory_basics.specs.Sums.{pre}
-use Rattle.theory_basics.specs.lemmas.Tests.{eqb-iff, test}
+use Rattle.theory_basics.specs.lemmas.Tests.{test, not-T-false}
 use Rattle.theory_basics.specs.lemmas.Ranges.{point, point-in, pre-add, pre-cong, pre-zero}
 use Rattle.theory_basics.specs.Lists.{has}
 use Rattle.theory_plan.specs.lemmas.Queue.{has-low}
@@ -60,7 +60,7 @@ total-less f p m n t u v =
     one k =
         ⊎-elim
         (λ w. let e = eqb→eq m k w in rw (← e, eq-eqb m m refl) (by (p m) (f m) t))
-        (λ w. rw (ne-eqb m k (λ e. T-not (eqb m k) w (eqb-iff m k .1 e))) (by′ (p k) (f k)))
+        (λ w. rw (not-T-false (eqb m k) w) (by′ (p k) (f k)))
         (test (eqb m k))
 
 pub total-more : (f : ℕ → ℕ) (p : ℕ → Bool) (m n : ℕ) → T (not (p m)) → 1 ≤ m → m ≤ n → total f (more p m) n ≡ total f p n + f m
@@ -84,7 +84,7 @@ total-more f p m n t u v =
     one k =
         ⊎-elim
         (λ w. let e = eqb→eq m k w in rw (← e, eq-eqb m m refl) (by (p m) (f m) t))
-        (λ w. rw (ne-eqb m k (λ e. T-not (eqb m k) w (eqb-iff m k .1 e))) (by′ (p k) (f k)))
+        (λ w. rw (not-T-false (eqb m k) w) (by′ (p k) (f k)))
         (test (eqb m k))
 
 -- Over an ascending list.
@@ -103,5 +103,5 @@ total-list f lo hi (k ∷ ks) h a =
     one i =
         ⊎-elim
         (λ w. let e = eqb→eq k i w in rw (← e, eq-eqb k k refl, has-low (suc k) hi ks k (a .2) (omega arith)) (omega arith))
-        (λ w. rw (ne-eqb k i (λ e. T-not (eqb k i) w (eqb-iff k i .1 e))) (omega arith))
+        (λ w. rw (not-T-false (eqb k i) w) (omega arith))
         (test (eqb k i))

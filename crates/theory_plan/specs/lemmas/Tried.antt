@@ -5,8 +5,8 @@ use mathlib.Core.Path.{_≡_, ap, refl}
 use mathlib.Core.Logic.{_⊎_, inl, inr, ⊎-elim, _↔_}
 use native.Mathlib.Omega.{arith}
 use borrow.Author.Tests.{eq-eqb, ne-eqb, lt-ltb, le-ltb}
-use lib.Dec.{T-not, ltb, eqb, ltb→lt, nltb→le, eqb→eq, eqb-refl}
-use Rattle.theory_basics.specs.lemmas.Tests.{test}
+use lib.Dec.{ltb, eqb, ltb→lt, nltb→le, eqb→eq}
+use Rattle.theory_basics.specs.lemmas.Tests.{test, neqb→ne}
 use Rattle.job.specs.Job.{Job, Layer}
 use Rattle.theory_plan.specs.Plan.{tried}
 use Rattle.theory_plan.specs.Statement.{CanCarry, CanCarryOnly, Settles, SettledBefore, Trial}
@@ -35,7 +35,7 @@ trial-iff plan n i h k m =
       λ x. ⊎-elim (λ u. ⊎-elim (λ l. omega arith) (λ l. omega (arith, l .0)) (u .0)) (λ u. omega (arith, u .0)) x,
     ))
     (λ t.
-    let o : k ≡ i → ⊥ = λ e. T-not (eqb k i) t (rw e (eqb-refl i)) in
+    let o : k ≡ i → ⊥ = neqb→ne k i t in
     rw (ne-eqb k i o)
     (⊎-elim
     (λ a.

@@ -4,16 +4,16 @@
 -- Section 3 of the argument.
 use Prim.Native.Nat.{ℕ, zero, suc, _+_, _≤_, _<_, min}
 use mathlib.Core.Path.{_≡_, refl, sym, ap}
-use mathlib.Core.Bool.{Bool}
+use mathlib.Core.Bool.{Bool, cond}
 use mathlib.Core.Logic.{⊎-elim, _↔_}
 use native.Mathlib.Omega.{arith}
-use borrow.Author.Tests.{eq-eqb, ne-eqb, lt-ltb, le-ltb}
-use lib.Dec.{T, T-not, ltb, eqb, ltb→lt, nltb→le, eqb→eq, eqb-refl}
+use borrow.Author.Tests.{lt-ltb, le-ltb}
+use lib.Dec.{T, ltb, eqb, ltb→lt, nltb→le}
 use Rattle.theory_basics.specs.lemmas.Tests.{test}
 use Rattle.job.specs.Job.{Job, chunks, lastSlot, layers}
 use Rattle.theory_plan.specs.Bases.{isKept}
 use Rattle.theory_plan.specs.Statement.{BasesMooreHodgson, CanCarry, Choice, IsPlan, Same, SettledByTrials, Settles}
-use Rattle.theory_plan.specs.Plan.{tried}
+use Rattle.theory_plan.specs.Plan.{tried, settled}
 use Rattle.theory_plan.specs.Own.{Fetched, carriedTo, fetchedBy, ownList}
 use Rattle.theory_plan.specs.lemmas.Plan.{either-way}
 use Rattle.theory_plan.specs.lemmas.Tried.{settles-tried-iff}
@@ -42,6 +42,13 @@ own-list-cong j p q e = ap (λ (f : Fetched). f .rows) (fetched-cong j p q e (la
 -- The layers below n of a choice.
 abbrev pub below : (ℕ → ℕ) → ℕ → ℕ → ℕ
 below p n k = min (p k) n
+
+-- Where two choices agree below n, and at the later chunks up to it, so does what is settled.
+pub settled-same :
+    (c n i : ℕ) (p q : ℕ → ℕ) → ((k : ℕ) → 1 ≤ k → k ≤ c → below p n k ≡ below q n k) →
+    ((k : ℕ) → i < k → k ≤ c → below p (suc n) k ≡ below q (suc n) k) → (k : ℕ) → 1 ≤ k → k ≤ c → settled p n i k ≡ settled q n i k
+settled-same c n i p q s f k x y =
+    ⊎-elim (λ w. rw (lt-ltb i k (ltb→lt i k w)) (f k (ltb→lt i k w) y)) (λ w. rw (le-ltb i k (nltb→le i k w)) (s k x y)) (test (ltb i k))
 
 -- q has layer n of a chunk where p has it and the later chunks agree up to it.
 abbrev pub Follows : (c n : ℕ) (p q : ℕ → ℕ) → Type 0
@@ -81,13 +88,7 @@ module _ (j : Job) (n : ℕ) (h : n < layers j) where
       let a = settles-tried-iff j p n .0 dp i r .0 l in
       settles-tried-iff j q n .0 dq i r .1 (
         omega (arith, a .0, s i u v),
-        can-carry-cong j (tried p n i) (tried q n i) (λ k x y.
-            ⊎-elim
-            (λ t. rw (eq-eqb k i (eqb→eq k i t)))
-            (λ t.
-            rw (ne-eqb k i (λ e. T-not (eqb k i) t (rw e (eqb-refl i))))
-            (⊎-elim (λ w. rw (lt-ltb i k (ltb→lt i k w)) (f k (ltb→lt i k w) y)) (λ w. rw (le-ltb i k (nltb→le i k w)) (s k x y)) (test (ltb i k))))
-            (test (eqb k i))) (a .1),
+        can-carry-cong j (tried p n i) (tried q n i) (λ k x y. ap (cond (eqb k i) (suc n)) (settled-same (chunks j) n i p q s f k x y)) (a .1),
       )
 
   -- The chunks down to lo + 1.

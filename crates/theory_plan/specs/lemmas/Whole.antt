@@ -8,10 +8,10 @@ use mathlib.Core.Logic.{⊎-elim}
 use native.Mathlib.Omega.{arith}
 use native.Mathlib.Nat.{mul-le-mul-right}
 use borrow.Author.Tests.{eq-eqb, ne-eqb, lt-ltb, le-ltb}
-use lib.Dec.{T-not, not-T, leb, ltb, eqb, leb→le, nleb→lt, ltb→lt, nltb→le, lt→ltb, eqb→eq, eqb-refl}
+use lib.Dec.{not-T, leb, ltb, eqb, leb→le, nleb→lt, ltb→lt, nltb→le, lt→ltb, eqb→eq}
 use Rattle.theory_basics.specs.Sums.{count, pre, sum}
 use Rattle.theory_basics.specs.lemmas.Ranges.{pre-add, pre-step, sum-mono, bit, count-mono, count-none, last-that-fails, point, point-in, point-out, point-total, pre-cong, pre-of-tests, rising-has-fewest-early, sum-below, sum-cong, sum-le, sum-swap}
-use Rattle.theory_basics.specs.lemmas.Tests.{by-cond, test}
+use Rattle.theory_basics.specs.lemmas.Tests.{by-cond, test, neqb→ne}
 use Rattle.fetch.specs.Rows.{Row}
 use Rattle.fetch.specs.Rules.{Passes}
 use Rattle.job.specs.Job.{HoldsAll, Job, Layer, chunks, layers, size}
@@ -66,14 +66,14 @@ module _ (j : Job) (sized : Sized j) (z : ℕ → ℕ) (equal : (i n : ℕ) → 
           let a : min (p x) (suc n) ≡ n = omega arith in
           rw (e, eq-eqb x x refl, ne-eqb y x (omega arith), ne-eqb x y (omega arith), lt-ltb y x yx, a) (omega (arith, equal x n (layer-of j x n (omega arith) rx ln))))
           (λ t.
-          let o : k ≡ x → ⊥ = λ e. T-not (eqb k x) t (rw e (eqb-refl x)) in
+          let o : k ≡ x → ⊥ = neqb→ne k x t in
           ⊎-elim
           (λ v.
           let e = eqb→eq k y v in
           let a : min (p y) n ≡ n = omega arith in
           rw (e, ne-eqb y x (omega arith), ne-eqb x y (omega arith), eq-eqb y y refl, le-ltb x y (omega arith), a) (omega (arith, equal y n (layer-of j y n ry (omega arith) ln))))
           (λ v.
-          let o′ : k ≡ y → ⊥ = λ e. T-not (eqb k y) v (rw e (eqb-refl y)) in
+          let o′ : k ≡ y → ⊥ = neqb→ne k y v in
           rw (ne-eqb k x o, ne-eqb k y o′, ne-eqb y k (λ e. o′ (sym e)), ne-eqb x k (λ e. o (sym e)))
           (omega (arith, sum-mono (size j k) (min (p k) (cond (ltb x k) (suc n) n)) (min (p k) (cond (ltb y k) (suc n) n)) (less k))))
           (test (eqb k y)))
@@ -235,7 +235,7 @@ module _ (j : Job) (sized : Sized j) (z : ℕ → ℕ) (equal : (i n : ℕ) → 
                 ⊎-elim
                 (λ u. let e = eqb→eq i k u in rw (eq-eqb i k e) (by-cond (λ (a : ℕ). a ≤ bit (ltb n (p k)) + 1) (ltb n (tried p n i k)) (λ v. omega arith) (λ v. omega arith)))
                 (λ u.
-                let o : k ≡ i → ⊥ = λ e. T-not (eqb i k) u (rw e (eqb-refl i)) in
+                let o : k ≡ i → ⊥ = λ e. neqb→ne i k u (sym e) in
                 rw (ne-eqb k i o, le-ltb i k (nltb→le i k t), le-ltb n (min (p k) n) (omega arith)) (omega arith))
                 (test (eqb i k)))
                 (test (ltb i k))

@@ -2,15 +2,17 @@
 -- forecasts. Section 1 of the argument.
 use Prim.Native.Nat.{ℕ, suc, _-_, _≤_, _<_}
 use mathlib.Core.Bool.{Bool}
-use mathlib.Core.List.{List}
+use mathlib.Core.List.{List, [], _∷_, map}
 use native.Mathlib.Omega.{arith}
 use native.Mathlib.Nat.{mul-le-mul-right}
 use lib.Dec.{eqb}
 use Rattle.theory_basics.specs.lemmas.Ranges.{pre-mono}
-use Rattle.job.specs.Job.{Accepted, Job, Layer, chunks, due, forecast, layers, size, dueSlot, lastDue}
+use Rattle.theory_basics.specs.Tests.{All}
+use Rattle.job.specs.Job.{Accepted, Job, Layer, chunks, due, forecast, layers, size, dueSlot, lastDue, Within}
 use Rattle.job.specs.lemmas.Within.{size-least}
 use Rattle.fetch.specs.Rows.{Row, bytesIf, hasRow}
 use Rattle.theory_plan.specs.Plan.{after}
+use Rattle.theory_plan.specs.Bases.{Asc}
 use Rattle.job.specs.declared.Programme.{Programme}
 
 -- The bytes of chunk i, all layers.
@@ -31,6 +33,12 @@ due-rises j h x y u v = let m : suc (x - 1) ≤ y - 1 = omega arith in omega (ar
 -- Every chunk is due by the last slot.
 pub due-by : (p : Programme) (i : ℕ) → i ≤ p .chunks → dueSlot p i ≤ lastDue p
 due-by p i h = omega (arith, mul-le-mul-right {m = i - 1} {n = p .chunks - 1} (p .span) (omega arith))
+
+-- Chunks of a job that ends by slot 3,600 are due in slots.
+pub due-slots : (p : Programme) → 1 ≤ p .delay → lastDue p ≤ 3600 → (lo : ℕ) (ks : List ℕ) → Asc lo (p .chunks) ks → All (Within 1 3600) (map (dueSlot p) ks)
+due-slots p late ends lo [] a = tt
+due-slots p late ends lo (k ∷ ks) a =
+    (record { low = omega arith; high = omega (arith, due-by p k (a .1)) }, due-slots p late ends (suc k) ks (a .2))
 
 -- Later, less is left of the forecast.
 pub after-anti : (j : Job) (x y : ℕ) → x ≤ y → after j y ≤ after j x

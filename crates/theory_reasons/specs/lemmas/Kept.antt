@@ -3,17 +3,15 @@
 use Prim.Native.Nat.{ℕ, zero, suc, _+_, _-_, _≤_, _<_}
 use mathlib.Core.Path.{_≡_, refl, ap, _∙_}
 use mathlib.Core.Bool.{Bool, cond, _&&_}
-use mathlib.Core.List.{List, [], _∷_, _++_, map}
-use mathlib.Core.Logic.{⊎-elim}
+use mathlib.Core.List.{List, [], _∷_}
 use native.Mathlib.Omega.{arith}
-use borrow.Author.Tests.{lt-ltb, le-ltb}
-use lib.Dec.{leb, ltb, ltb→lt, nltb→le}
-use lib.ListN.{length, getD, length-append, length-map, length-replicate, replicate}
+use lib.Dec.{leb, ltb}
+use lib.ListN.{length, getD, length-append, length-map, length-replicate}
 use Rattle.theory_basics.specs.Sums.{sum}
 use Rattle.theory_basics.specs.lemmas.Ranges.{sum-cong}
-use Rattle.theory_basics.specs.lemmas.Tests.{test}
 use Rattle.job.specs.Job.{Job, due, heldMost}
 use Rattle.theory_plan.specs.Plan.{bytes, kept}
+use Rattle.theory_plan.specs.lemmas.Queue.{release-at}
 use Rattle.theory_reasons.specs.Statement.{beginSlots, bytesNeeded, need}
 
 -- How many chunks a choice keeps, and the m-th of them in playing order, counted from 0.
@@ -33,28 +31,8 @@ between j choice a b m = leb a (canBegin j choice m) && leb (due j (keptChunk j 
 
 -- ---- the slots from which they can begin, by place
 
-behind : (h : ℕ) (l : List ℕ) (q : ℕ) → h ≤ q → getD (replicate h 1 ++ l) q 0 ≡ getD l (q - h) 0
-behind zero l q u = let e : q - 0 ≡ q = omega arith in rw e
-behind (suc h) l zero u = absurd (omega arith)
-behind (suc h) l (suc q) u = let e : suc q - suc h ≡ q - h = omega arith in rw e (behind h l q (omega arith))
-
-at-one : (h : ℕ) (l : List ℕ) (q : ℕ) → q < h → getD (replicate h 1 ++ l) q 0 ≡ 1
-at-one zero l q u = absurd (omega arith)
-at-one (suc h) l zero u = refl
-at-one (suc h) l (suc q) u = at-one h l q (omega arith)
-
-nth-map : (f : ℕ → ℕ) (l : List ℕ) (q : ℕ) → q < length l → getD (map f l) q 0 ≡ f (getD l q 0)
-nth-map f [] q h = absurd (omega arith)
-nth-map f (x ∷ l) zero h = refl
-nth-map f (x ∷ l) (suc q) h = nth-map f l q (omega arith)
-
 begin-at : (j : Job) (ks : List ℕ) (q : ℕ) → q < length ks → getD (beginSlots j ks) q 0 ≡ cond (ltb q (heldMost j)) 1 (due j (getD ks (q - heldMost j) 0))
-begin-at j ks q l =
-    let H = heldMost j in
-    ⊎-elim
-    (λ t. let u = ltb→lt q H t in rw (lt-ltb q H u) (at-one H (map (due j) ks) q u))
-    (λ t. let u = nltb→le q H t in rw (le-ltb q H u) (behind H (map (due j) ks) q u ∙ nth-map (due j) ks (q - H) (omega arith)))
-    (test (ltb q H))
+begin-at j ks q l = release-at (due j) (heldMost j) ks q l
 
 -- ---- need as a sum
 

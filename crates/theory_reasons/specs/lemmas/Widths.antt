@@ -1,6 +1,6 @@
 -- Lemmas. How large the numbers of a line are, and how many bytes the output has at most.
 use Prim.Native.Nat.{ℕ, zero, suc, _+_, _*_, _-_, _≤_, _<_}
-use mathlib.Core.Path.{_≡_, refl, ap, _∙_}
+use mathlib.Core.Path.{_≡_, refl, _∙_}
 use mathlib.Core.Bool.{cond}
 use mathlib.Core.List.{List, [], _∷_, _++_, map}
 use mathlib.Core.Logic.{⊎-elim}
@@ -23,7 +23,8 @@ use Rattle.theory_reasons.specs.Lines.{lineAt, linesOf, stretchOf}
 use Rattle.theory_basics.specs.lemmas.Digits.{digits-few}
 use Rattle.theory_reasons.specs.lemmas.Kept.{need-sum, between, keptChunk, keptCount}
 use Rattle.theory_reasons.specs.Statement.{Line, Place, Reasons, lower, missingOf, missingTo, need, reasonsText, sentence, short, words}
-use Rattle.theory_basics.specs.Text.{ascii, digits, ended}
+use Rattle.theory_basics.specs.Text.{ascii, digits}
+use Rattle.theory_basics.specs.lemmas.Widths.{line-width, width}
 use Rattle.theory_reasons.specs.lemmas.Refused.{Refuses, lines-hold, lines-unique, refused-stretch}
 
 -- ---- need
@@ -56,18 +57,9 @@ need-most j a choice c x y =
 
 -- ---- one line
 
--- The bytes after a line's first word: a space before each word, and the line feed.
-abbrev width : List (List ℕ) → ℕ
-width [] = 1
-width (x ∷ xs) = suc (length x) + width xs
-
-ended-width : (xs : List (List ℕ)) → length (ended xs) ≡ width xs
-ended-width [] = refl
-ended-width (x ∷ xs) = omega (arith, length-append x (ended xs), ended-width xs)
-
 sentence-width : (l : Line) → length (sentence l) ≡ 5 + width (words l)
 unfolding sentence
-sentence-width l = length-append (ascii "chunk") (ended (words l)) ∙ ap (λ (n : ℕ). 5 + n) (ended-width (words l))
+sentence-width l = line-width (ascii "chunk") (words l)
 
 pub lower-width : (i n k : ℕ) → i < 1000 → n < 10 → k < 10 → length (sentence (lower i n k)) ≤ 38
 lower-width i n k u v w =

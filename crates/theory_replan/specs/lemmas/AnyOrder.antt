@@ -4,11 +4,12 @@
 use Prim.Native.Nat.{ℕ, zero, suc, _+_, _-_, _≤_, _<_, max, min}
 use mathlib.Core.Path.{_≡_, refl, sym, ap, _∙_, subst, fun-ext}
 use mathlib.Core.Bool.{Bool, true, false, cond, _&&_, _||_}
-use mathlib.Core.List.{List, [], _∷_, _++_, append-assoc}
+use mathlib.Core.List.{List, [], _∷_, _++_, append-assoc, append-nil}
 use mathlib.Core.Logic.{_⊎_, inl, inr, ⊎-elim, _↔_}
 use native.Mathlib.Omega.{arith}
 use lib.ListN.{drop, length}
 use lib.Dec.{T, eqb, leb, ltb}
+use lib.Seq.{drop-append-seam}
 use Rattle.theory_basics.specs.Sums.{count}
 use Rattle.theory_basics.specs.Tests.{All, all, any, here, In, there}
 use Rattle.theory_basics.specs.lemmas.Ranges.{bit, sum-cong}
@@ -28,7 +29,6 @@ use Rattle.theory_replan.specs.Own.{fetchedFrom, ownRest, unfetched}
 use Rattle.theory_replan.specs.Refusal.{replanRefusal}
 use Rattle.theory_replan.specs.Statement.{Acceptable, CanCarryOnlyFrom, IsReplan, joined, rowsBefore, rowsFrom, TrialFrom}
 use Rattle.theory_replan.specs.lemmas.Tried.{can-carry-from-same}
-use Rattle.theory_replan.specs.lemmas.Decision.{drop-first}
 use Rattle.theory_replan.specs.lemmas.Standing.{standing-plan}
 
 pub permuted-same : (l : List Row) → Permuted l l
@@ -211,12 +211,8 @@ module _ (j : Job) {a b : List Row} (h : Permuted a b) where
   unfetched-permuted [] = refl
   unfetched-permuted (q ∷ ps) = rw (layer-permuted j h (q .chunk) (q .layer), unfetched-permuted ps)
 
-  append-none : (l : List Row) → l ≡ l ++ []
-  append-none [] = refl
-  append-none (x ∷ l) = ap (λ (y : List Row). x ∷ y) (append-none l)
-
   alike : (p : ℕ) (lv : ℕ → ℕ) (m : ℕ) → Alike a b (fetchedFrom j p a lv m) (fetchedFrom j p b lv m)
-  alike p lv zero = record { added = []; first = append-none a; second = append-none b; left = unfetched-permuted (carriedTo j lv (chunks j)) }
+  alike p lv zero = record { added = []; first = sym (append-nil a); second = sym (append-nil b); left = unfetched-permuted (carriedTo j lv (chunks j)) }
   alike p lv (suc m) =
       let s = alike p lv m in
       let f = fetchedFrom j p a lv m in
@@ -232,7 +228,7 @@ module _ (j : Job) {a b : List Row} (h : Permuted a b) where
   unfolding ownRest
   rest-order-free p lv =
       let s = alike p lv (suc (lastSlot j) - p) in
-      ap (drop (length a)) (s .first) ∙ drop-first a (s .added) ∙ sym (ap (drop (length b)) (s .second) ∙ drop-first b (s .added))
+      ap (drop (length a)) (s .first) ∙ drop-append-seam a (s .added) ∙ sym (ap (drop (length b)) (s .second) ∙ drop-append-seam b (s .added))
 
 -- A standing plan whose own rows before p are fetched in any order: it goes on.
 pub standing-any-order :

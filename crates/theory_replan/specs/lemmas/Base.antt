@@ -5,34 +5,35 @@
 -- the pass.
 use Prim.Native.Nat.{ℕ, zero, suc, _+_, _-_, _≤_, _<_, max, min}
 use mathlib.Core.Path.{_≡_, refl, sym, ap, _∙_, subst}
-use mathlib.Core.Bool.{Bool, true, false, not, cond, _&&_, _||_}
+use mathlib.Core.Bool.{Bool, true, false, cond, _&&_, _||_}
 use mathlib.Core.List.{List, [], _∷_, _++_, append-assoc}
 use mathlib.Core.Logic.{_⊎_, inl, inr, ⊎-elim, _↔_}
 use native.Mathlib.Omega.{arith}
 use native.Mathlib.Numerals.{add-one}
 use borrow.Author.Tests.{eq-eqb, ne-eqb, lt-leb, le-leb, lt-ltb, le-ltb}
 use lib.ListN.{drop, getD, length, length-append}
-use lib.Dec.{T, T-not, not-T, leb, ltb, eqb, leb→le, nleb→lt, ltb→lt, nltb→le, lt→ltb, le→leb, eqb→eq, eqb-refl}
+use lib.Dec.{T, not-T, leb, ltb, eqb, leb→le, nleb→lt, ltb→lt, nltb→le, lt→ltb, le→leb, eqb→eq}
 use Rattle.theory_basics.specs.lemmas.Tables.{all-drop}
 use Rattle.theory_basics.specs.Lists.{has}
 use Rattle.theory_basics.specs.Sums.{sum}
 use Rattle.theory_basics.specs.Tests.{All, any, In}
 use Rattle.theory_basics.specs.lemmas.Ranges.{sum-cong, sum-mono, sum-zero}
-use Rattle.theory_basics.specs.lemmas.Tests.{and-T, any-row, at-row, by-cond, eqb-iff, not-T-false, same-test, T-and, T-or-iff, T-true, test}
+use Rattle.theory_basics.specs.lemmas.Tests.{and-T, any-row, at-row, by-cond, eqb-iff, not-T-false, same-test, T-and, T-or-iff, T-true, test, neqb→ne}
+use Rattle.theory_basics.specs.lemmas.Lists.{drop-past}
 use Rattle.job.specs.Job.{chunks, due, heldMost, Job, Layer, layers, size}
 use Rattle.fetch.specs.Rows.{bytesOfLayer, Carried, Row}
 use Rattle.fetch.specs.lemmas.Rows.{any-some, bytes-none, some-row}
 use Rattle.theory_plan.specs.Plan.{picked}
 use Rattle.theory_plan.specs.lemmas.Feasible.{needOf}
 use Rattle.theory_plan.specs.Statement.{Choice}
-use Rattle.theory_plan.specs.lemmas.Kept.{has-picked, picked-asc, picked-cong, picked-each}
+use Rattle.theory_plan.specs.lemmas.Kept.{picked-asc, picked-cong, picked-each}
 use Rattle.theory_plan.specs.lemmas.Level.{level, level-choice, level-iff}
 use Rattle.theory_plan.specs.lemmas.Linear.{needs-of}
 use Rattle.theory_plan.specs.lemmas.Need.{Feas, need-mono, Tails}
 use Rattle.theory_plan.specs.lemmas.Words.{carries, due-mono, layer-of, Sized}
 use Rattle.theory_replan.specs.Plan.{afterFrom, busy, busyChunks, bytesLeft, triedFrom}
 use Rattle.theory_replan.specs.Statement.{Acceptable}
-use Rattle.theory_replan.specs.lemmas.Criterion.{all-has, begun-few, busyFrom, feas-from-due, front-feas, front-need, FrontOk}
+use Rattle.theory_replan.specs.lemmas.Criterion.{begun-few, busyFrom, feas-from-due, front-feas, front-need, FrontOk, nothing-left}
 use Rattle.theory_replan.specs.lemmas.Fits.{FitsFrom}
 use Rattle.theory_replan.specs.lemmas.Held.{carries-row}
 use Rattle.theory_replan.specs.lemmas.Rest.{from-anti}
@@ -68,11 +69,6 @@ need-cong v w d A (k ∷ ks) a = rw (a .0, need-cong v w d A ks (a .1))
 needs-cong : (v w d A : ℕ → ℕ) (ks : List ℕ) → All (λ k. v k ≡ w k) ks → needs-of v d A ks ≡ needs-of w d A ks
 needs-cong v w d A [] a = refl
 needs-cong v w d A (k ∷ ks) a = rw (need-cong v w d A (k ∷ ks) a, needs-cong v w d A ks (a .1))
-
-drop-past : (a b : List ℕ) (n : ℕ) → length a ≤ n → drop n (a ++ b) ≡ drop (n - length a) b
-drop-past [] b n l = let e : n - 0 ≡ n = omega arith in rw e
-drop-past (x ∷ a) b zero l = absurd (omega arith)
-drop-past (x ∷ a) b (suc n) l = let e : suc n - suc (length a) ≡ n - length a = omega arith in drop-past a b n (omega arith) ∙ ap (λ (m : ℕ). drop m b) (sym e)
 
 -- Tails ask nothing of the first h chunks.
 tails-later : (v w d A : ℕ → ℕ) (h : ℕ) (ks : List ℕ) → All (λ k. v k ≤ w k) (drop h ks) → Tails w d A h ks → Tails v d A h ks
@@ -142,15 +138,6 @@ module _
       omega (arith, level-iff j fetched (ok .lower) k n r .1 h))
       ∙ sum-zero (base k)
 
-  nothing-left : (k : ℕ) → 1 ≤ k → k ≤ chunks j → due j k < p → left q k ≡ 0
-  nothing-left k u v h =
-      ⊎-elim
-      (λ t.
-      all-has (λ k. due j k < p → bytesLeft j fetched q k ≡ 0) (busyChunks j fetched q) k (feas-from-due j p fetched q .0 (fq .feas) .0)
-      (subst T (sym (has-picked (busy fetched q) 0 (chunks j) k u (omega arith))) (T-or-iff (carries fetched k) (leb 1 (q k)) .1 (inr t))) h)
-      (λ t. let e : q k ≡ 0 = omega (arith, nleb→lt 1 (q k) t) in rw e)
-      (test (leb 1 (q k)))
-
   module _ (i m : ℕ) (all : i + m ≡ chunks j) (lo : 1 ≤ i) (due-then : p ≤ due j i) (lacks : base i ≡ 0) (may : T (carries fetched i) ⊎ All (λ x. x .chunk < i) fetched) where
     -- What is tried.
     abbrev z : ℕ → ℕ
@@ -175,21 +162,20 @@ module _
     tried-fits : FitsFrom j p fetched z ↔ Feas (left z) (due j) A H (busyFrom j p fetched z)
     tried-fits =
         let d = feas-from-due j p fetched z in
-        let ne : (k : ℕ) → T (not (eqb k i)) → k ≡ i → ⊥ = λ k t e. T-not (eqb k i) t (rw e (eqb-refl i)) in
         let over : All (λ k. due j k < p → bytesLeft j fetched z k ≡ 0) (busyChunks j fetched z) =
         picked-each (busy fetched z) (λ k. due j k < p → bytesLeft j fetched z k ≡ 0) 0 (chunks j) (λ k x y t l.
         ⊎-elim
         (λ w. absurd (omega (arith, ap (due j) (eqb→eq k i w))))
-        (λ w. omega (arith, sum-mono (rest k) (z k) (q k) (z-le k x (omega arith) (ne k w)), nothing-left k x (omega arith) l))
+        (λ w. omega (arith, sum-mono (rest k) (z k) (q k) (z-le k x (omega arith) (neqb→ne k i w)), nothing-left j p fetched q (fq .feas) k x (omega arith) l))
         (test (eqb k i))) in (
           λ f. d .0 (f .feas) .1,
           λ f.
               record {
-                whole = λ k x y. ⊎-elim (λ w. let o = eqb→eq k i w in rw (o, eq-eqb i i refl) (omega (arith, lacks))) (λ w. rw (ne-eqb k i (ne k w)) (omega arith)) (test (eqb k i));
+                whole = λ k x y. ⊎-elim (λ w. let o = eqb→eq k i w in rw (o, eq-eqb i i refl) (omega (arith, lacks))) (λ w. rw (not-T-false (eqb k i) w) (omega arith)) (test (eqb k i));
                 in-front = λ k x y l.
                     ⊎-elim
                     (λ w. subst (λ (c : ℕ). T (carries fetched c) ⊎ All (λ x. x .chunk < c) fetched) (sym (eqb→eq k i w)) may)
-                    (λ w. fq .in-front k x y (omega (arith, l, z-le k x y (ne k w))))
+                    (λ w. fq .in-front k x y (omega (arith, l, z-le k x y (neqb→ne k i w))))
                     (test (eqb k i));
                 feas = d .1 (over, f);
               },

@@ -16,6 +16,7 @@ use Rattle.theory_basics.specs.Lists.{has}
 use Rattle.theory_basics.specs.Tests.{All}
 use Rattle.theory_basics.specs.lemmas.Ranges.{count-none}
 use Rattle.theory_basics.specs.lemmas.Tests.{and-T, at-row, by-cond, not-T-false, T-and, T-or-iff, T-true, test}
+use Rattle.theory_basics.specs.lemmas.Lists.{drop-past}
 use Rattle.job.specs.Job.{chunks, due, heldMost, Job, lastSlot}
 use Rattle.fetch.specs.Rows.{begun, held, Row}
 use Rattle.fetch.specs.Rules.{RowInRange}
@@ -23,7 +24,7 @@ use Rattle.theory_plan.specs.Plan.{after, picked}
 use Rattle.theory_plan.specs.lemmas.Feasible.{needOf}
 use Rattle.theory_plan.specs.lemmas.Ascending.{count-all}
 use Rattle.theory_plan.specs.lemmas.Count.{some-row}
-use Rattle.theory_plan.specs.lemmas.Kept.{picked-asc, picked-cong, picked-each}
+use Rattle.theory_plan.specs.lemmas.Kept.{picked-asc, picked-cong, picked-each, has-picked}
 use Rattle.theory_plan.specs.lemmas.Linear.{needs-at, needs-of}
 use Rattle.theory_plan.specs.lemmas.Need.{Feas, need-drop, Tails}
 use Rattle.theory_plan.specs.lemmas.Words.{carries, due-mono}
@@ -101,6 +102,18 @@ feas-from-due j p fetched lv =
     (λ t l. let e : max t (p - 1) ≡ max 0 (p - 1) = omega arith in ap (after j) e)
     (busy fetched lv) 0 (chunks j)
 
+-- A chunk due before p has nothing left.
+pub nothing-left :
+    (j : Job) (p : ℕ) (fetched : List Row) (lv : ℕ → ℕ) → Feas (bytesLeft j fetched lv) (due j) (afterFrom j p) (heldMost j) (busyChunks j fetched lv) →
+    (k : ℕ) → 1 ≤ k → k ≤ chunks j → due j k < p → bytesLeft j fetched lv k ≡ 0
+nothing-left j p fetched lv f k u v h =
+    ⊎-elim
+    (λ t.
+    all-has (λ k. due j k < p → bytesLeft j fetched lv k ≡ 0) (busyChunks j fetched lv) k (feas-from-due j p fetched lv .0 f .0)
+    (subst T (sym (has-picked (busy fetched lv) 0 (chunks j) k u (omega arith))) (T-or-iff (carries fetched k) (leb 1 (lv k)) .1 (inr t))) h)
+    (λ t. let e : lv k ≡ 0 = omega (arith, nleb→lt 1 (lv k) t) in rw e)
+    (test (leb 1 (lv k)))
+
 -- ---- the begun chunks that are due from p on are at most H
 
 pub begun-few :
@@ -141,11 +154,6 @@ FrontOk d A h [] ns = Unit {0}
 FrontOk d A h (b ∷ bs) ns = (getD ns (h - length (b ∷ bs)) 0 ≤ A (d b - 1)) × FrontOk d A h bs ns
 
 module _ (w d A : ℕ → ℕ) (h : ℕ) where
-  drop-past : (a b : List ℕ) (n : ℕ) → length a ≤ n → drop n (a ++ b) ≡ drop (n - length a) b
-  drop-past [] b n l = let e : n - 0 ≡ n = omega arith in rw e
-  drop-past (x ∷ a) b zero l = absurd (omega arith)
-  drop-past (x ∷ a) b (suc n) l = let e : suc n - suc (length a) ≡ n - length a = omega arith in drop-past a b n (omega arith) ∙ ap (λ (m : ℕ). drop m b) (sym e)
-
   pub front-tails : (bs ks : List ℕ) → length bs ≤ h → Tails w d A h (bs ++ ks) ↔ (FrontOk d A h bs (needs-of w d A ks) × Tails w d A h ks)
   front-tails [] ks l = (λ t. (tt, t), λ u. u .1)
   front-tails (b ∷ bs) ks l =

@@ -4,11 +4,12 @@
 use Prim.Native.Nat.{ℕ, zero, suc, _+_, _-_, _≤_, _<_}
 use mathlib.Core.Path.{_≡_, refl, sym, ap, _∙_, subst}
 use mathlib.Core.Bool.{Bool, not, _&&_}
-use mathlib.Core.List.{List, [], _∷_, _++_}
+use mathlib.Core.List.{List, _++_}
 use mathlib.Core.Logic.{_⊎_, inl, inr, ⊎-elim, _↔_}
 use native.Mathlib.Omega.{arith}
 use lib.ListN.{length, drop}
 use lib.Dec.{T, ltb, eqb, ltb→lt, nltb→le}
+use lib.Seq.{drop-append-seam}
 use Rattle.theory_basics.specs.Tests.{All, In}
 use Rattle.theory_basics.specs.lemmas.Tests.{at-row, in-append, test, tests}
 use Rattle.job.specs.Job.{chunks, Job, lastSlot, Layer, layers, size}
@@ -26,10 +27,6 @@ use Rattle.theory_replan.specs.Statement.{Acceptable, CanCarryFrom}
 use Rattle.theory_replan.specs.lemmas.Fits.{can-carry-fits-from, FitsFrom}
 use Rattle.theory_replan.specs.lemmas.Rest.{Fetches, fetches, Inv, target, target-in, target-out}
 
-pub drop-first : {A : Type 0} (a b : List A) → drop (length a) (a ++ b) ≡ b
-drop-first [] b = refl
-drop-first (x ∷ xs) b = drop-first xs b
-
 module _ (j : Job) (sized : Sized j) (p : ℕ) (fetched : List Row) (ok : Acceptable j p fetched) (lv : ℕ → ℕ) (choice : Choice j lv) (f : FitsFrom j p fetched lv) where
   abbrev rows : List Row
   rows = fetchedFrom j p fetched lv (suc (lastSlot j) - p) .rows
@@ -39,7 +36,7 @@ module _ (j : Job) (sized : Sized j) (p : ℕ) (fetched : List Row) (ok : Accept
 
   rest-is-made : ownRest j p fetched lv ≡ out .holds .made
   unfolding ownRest
-  rest-is-made = ap (drop (length fetched)) (out .holds .made-is) ∙ drop-first fetched (out .holds .made)
+  rest-is-made = ap (drop (length fetched)) (out .holds .made-is) ∙ drop-append-seam fetched (out .holds .made)
 
   pub rest-later : All (λ x. p ≤ x .slot) (ownRest j p fetched lv)
   rest-later = subst (All (λ x. p ≤ x .slot)) (sym rest-is-made) (out .holds .made-later)

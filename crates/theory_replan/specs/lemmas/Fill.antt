@@ -4,17 +4,18 @@
 use Prim.Native.Nat.{ℕ, zero, suc, _+_, _-_, _≤_, _<_}
 use mathlib.Core.Path.{_≡_, refl, sym, ap, _∙_, subst, fun-ext}
 use mathlib.Core.Bool.{Bool, true, false, not, cond, _&&_, _||_}
-use mathlib.Core.List.{List, [], _∷_, _++_, append-assoc, map}
+use mathlib.Core.List.{List, [], _∷_, _++_, append-assoc, map, append-nil}
 use mathlib.Core.Logic.{_⊎_, inl, inr, ⊎-elim, _↔_}
 use native.Mathlib.Omega.{arith}
 use borrow.Author.Tests.{eq-eqb, le-leb, ne-eqb}
 use lib.ListN.{drop, length}
-use lib.Dec.{T, T-not, leb, ltb, eqb, leb→le, nleb→lt, ltb→lt, nltb→le, le→leb, lt→ltb, eqb→eq, eqb-refl}
+use lib.Dec.{T, T-not, leb, ltb, eqb, leb→le, nleb→lt, ltb→lt, nltb→le, le→leb, lt→ltb, eqb→eq}
+use lib.Seq.{drop-append-seam}
 use Rattle.theory_basics.specs.Lists.{has}
 use Rattle.theory_basics.specs.Sums.{count}
 use Rattle.theory_basics.specs.Tests.{All, here, In}
 use Rattle.theory_basics.specs.lemmas.Ranges.{count-cong, count-mono}
-use Rattle.theory_basics.specs.lemmas.Tests.{and-T, at-row, by-cond-both, in-append, in-left, in-right, not-T-false, same-test, T-and, T-or-iff, T-true, test}
+use Rattle.theory_basics.specs.lemmas.Tests.{and-T, at-row, by-cond-both, in-append, in-left, in-right, not-T-false, same-test, T-and, T-or-iff, T-true, test, neqb→ne}
 use Rattle.job.specs.Job.{chunks, due, forecast, heldMost, Job, lastSlot, size}
 use Rattle.fetch.specs.Rows.{begun, held, heldCount, Row}
 use Rattle.theory_plan.specs.Own.{allowed, carriedTo, Fetched, Piece, rowOf, slotTakes, without}
@@ -23,14 +24,13 @@ use Rattle.theory_plan.specs.Statement.{Choice}
 use Rattle.theory_plan.specs.lemmas.Count.{some-row}
 use Rattle.theory_plan.specs.lemmas.Fill.{after-row, fill, less, Out, QueuedPiece, rest-after, row, take-slot}
 use Rattle.theory_plan.specs.lemmas.Kept.{has-picked, picked-asc, picked-each}
-use Rattle.theory_plan.specs.lemmas.Queue.{each, has-low, ones, queue, releases}
+use Rattle.theory_plan.specs.lemmas.Queue.{has-low, ones, queue, releases, releases-enough}
 use Rattle.theory_plan.specs.lemmas.Release.{Fair, fair-queue, ReleasedAt, with}
 use Rattle.theory_plan.specs.lemmas.Words.{carries, Sized}
 use Rattle.theory_replan.specs.Plan.{busy}
 use Rattle.theory_replan.specs.Own.{fetchedFrom, ownRest, unfetched}
 use Rattle.theory_replan.specs.Statement.{Acceptable}
 use Rattle.theory_replan.specs.lemmas.Criterion.{busyFrom}
-use Rattle.theory_replan.specs.lemmas.Decision.{drop-first}
 use Rattle.theory_replan.specs.lemmas.Fits.{FitsFrom}
 use Rattle.theory_replan.specs.lemmas.Held.{begun-by, begun-row, carries-more, carries-row, held-same, in-last}
 use Rattle.theory_replan.specs.lemmas.Rest.{before-first, due-later, Inv, run, start, step}
@@ -67,7 +67,7 @@ released-at j lo hi b (x ∷ ks) (r ∷ rs) k a l f t =
     ⊎-elim (λ v. inl v) (λ v. absurd (omega (arith, leb→le i k (w .1), later ks i (a .2) v))) (T-or-iff (eqb x i) (has ks i) .0 (w .0))) (T-or-iff (b i) ((eqb x i || has ks i) && leb i k) .0 y)))) in
     rw (T-true (eqb x k) u) (subst (λ (c : ℕ → Bool). ReleasedAt j c r) s (f .0)))
     (λ u.
-    let o : x ≡ k → ⊥ = λ e. T-not (eqb x k) u (rw e (eqb-refl k)) in
+    let o : x ≡ k → ⊥ = neqb→ne x k u in
     let t′ : T (has ks k) = ⊎-elim (λ v. absurd (T-not (eqb x k) u v)) (λ v. v) (T-or-iff (eqb x k) (has ks k) .0 t) in
     let below : x ≤ k = omega (arith, later ks k (a .2) t′) in
     let g = released-at j (suc x) hi (with x b) ks rs k (a .2) (omega arith) (f .1) t′ in
@@ -93,18 +93,6 @@ released-at j lo hi b (x ∷ ks) (r ∷ rs) k a l f t =
         (λ v. absurd (subst T (has-low (suc x) hi l i s (omega (arith, nltb→le x i v))) t))
         (test (ltb x i))
 
-enough : (d : ℕ → ℕ) (h : ℕ) (ks : List ℕ) → length ks ≤ length (releases d h ks)
-enough d zero ks = each-enough ks
-  where
-    each-enough : (ks : List ℕ) → length ks ≤ length (each d ks)
-    each-enough [] = omega arith
-    each-enough (k ∷ ks) = omega (arith, each-enough ks)
-enough d (suc h) ks = omega (arith, enough d h ks)
-
-append-none : (l : List Row) → l ≡ l ++ []
-append-none [] = refl
-append-none (x ∷ l) = ap (λ (y : List Row). x ∷ y) (append-none l)
-
 -- ---- rule 6 allows the first part left exactly if its release has come
 
 module _ (j : Job) (sized : Sized j) (p : ℕ) (fetched : List Row) (ok : Acceptable j p fetched) (lv : ℕ → ℕ) (choice : Choice j lv) (f : FitsFrom j p fetched lv) where
@@ -128,7 +116,7 @@ module _ (j : Job) (sized : Sized j) (p : ℕ) (fetched : List Row) (ok : Accept
   released : (k : ℕ) → T (has chunksFrom k) → ReleasedAt j (λ i. has chunksFrom i && leb i k) (ready k)
   released k t =
       let asc : Asc 1 (chunks j) chunksFrom = picked-asc member 0 (chunks j) (chunks j) (omega arith) in
-      released-at j 1 (chunks j) (λ i. false) chunksFrom (releases (due j) (heldMost j) chunksFrom) k asc (enough (due j) (heldMost j) chunksFrom) (fair-queue j (λ k. 1) chunksFrom asc (picked-each member (λ k. 1 ≤ 1) 0 (chunks j) (λ i u v t. omega arith))) t
+      released-at j 1 (chunks j) (λ i. false) chunksFrom (releases (due j) (heldMost j) chunksFrom) k asc (releases-enough (due j) (heldMost j) chunksFrom) (fair-queue j (λ k. 1) chunksFrom asc (picked-each member (λ k. 1 ≤ 1) 0 (chunks j) (λ i u v t. omega arith))) t
 
   module _ (t : ℕ) (from : p ≤ t) (to : t ≤ lastSlot j) (c : ℕ) (rows : List Row) (q : Piece) (qs : List Piece) (v : I t c rows (q ∷ qs)) where
     abbrev k : ℕ
@@ -217,7 +205,7 @@ module _ (j : Job) (sized : Sized j) (p : ℕ) (fetched : List Row) (ok : Accept
   slot-fill :
       (t : ℕ) → p ≤ t → t ≤ lastSlot j → (c : ℕ) (rows : List Row) (left : List Piece) → I t c rows left →
       Alike rows (slotTakes j t c rows left) (take-slot t c (map piece left))
-  slot-fill t from to c rows [] v = record { rows-are = append-none rows; left-is = refl }
+  slot-fill t from to c rows [] v = record { rows-are = sym (append-nil rows); left-is = refl }
   slot-fill t from to c rows (q ∷ qs) v =
       let x = rowOf t q (q .bytes) in
       rw (allowed-is t from to c rows q qs v)
@@ -234,14 +222,14 @@ module _ (j : Job) (sized : Sized j) (p : ℕ) (fetched : List Row) (ok : Accept
       let more = slot-fill t from to (c - q .bytes) (rows ++ (x ∷ [])) qs next in
       record { rows-are = more .rows-are ∙ append-assoc rows (x ∷ []) (take-slot t (c - q .bytes) (map piece qs) .rows); left-is = more .left-is })
       (λ w. record { rows-are = refl; left-is = refl }))
-      (λ u. record { rows-are = append-none rows; left-is = refl }))
+      (λ u. record { rows-are = sym (append-nil rows); left-is = refl }))
 
   -- ---- all slots
 
   all-slots :
       (n m : ℕ) → n + m ≤ suc (lastSlot j) - p →
       fetchedFrom j p fetched lv (n + m) .rows ≡ fetchedFrom j p fetched lv m .rows ++ fill (forecast j) n (m + (p - 1)) (map piece (fetchedFrom j p fetched lv m .left))
-  all-slots zero m h = let e : 0 + m ≡ m = omega arith in rw e (append-none (fetchedFrom j p fetched lv m .rows))
+  all-slots zero m h = let e : 0 + m ≡ m = omega arith in rw e (sym (append-nil (fetchedFrom j p fetched lv m .rows)))
   all-slots (suc n) m h =
       let g = fetchedFrom j p fetched lv m in
       let e : suc n + m ≡ n + suc m = omega arith in
@@ -272,5 +260,5 @@ module _ (j : Job) (sized : Sized j) (p : ℕ) (fetched : List Row) (ok : Accept
       let q = map piece (unfetched fetched (carriedTo j lv (chunks j))) in
       ap (λ (i : ℕ). drop (length fetched) (fetchedFrom j p fetched lv i .rows)) e
       ∙ ap (drop (length fetched)) (all-slots n 0 (omega arith))
-      ∙ drop-first fetched (fill (forecast j) n (0 + (p - 1)) q)
+      ∙ drop-append-seam fetched (fill (forecast j) n (0 + (p - 1)) q)
       ∙ ap (λ (i : ℕ). fill (forecast j) n i q) z

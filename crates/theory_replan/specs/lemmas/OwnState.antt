@@ -4,7 +4,7 @@
 use Prim.Native.Nat.{ℕ, zero, suc, _+_, _-_, _≤_, _<_}
 use mathlib.Core.Path.{_≡_, refl, sym, ap, _∙_, subst}
 use mathlib.Core.Bool.{Bool, true, false, not, cond, _&&_}
-use mathlib.Core.List.{List, [], _∷_, _++_, append-assoc}
+use mathlib.Core.List.{List, [], _∷_, _++_, append-assoc, append-nil}
 use mathlib.Core.Logic.{_⊎_, inl, inr, ⊎-elim}
 use native.Mathlib.Omega.{arith}
 use borrow.Author.Tests.{eq-eqb, ne-eqb, lt-ltb, le-ltb}
@@ -185,12 +185,8 @@ module _ (j : Job) (sized : Sized j) (lv : ℕ → ℕ) (choice : Choice j lv) w
         later = all-append (λ y. t < y .slot) (g .more) (x ∷ []) (g .later) (h, tt);
       }
 
-  append-none : (l : List Row) → l ++ [] ≡ l
-  append-none [] = refl
-  append-none (x ∷ xs) = ap (λ (l : List Row). x ∷ l) (append-none xs)
-
   pub grown : (t m : ℕ) → Grown t (fetchedBy j lv t .rows) (fetchedBy j lv (m + t) .rows)
-  grown t zero = let e : 0 + t ≡ t = omega arith in rw e (record { more = []; rows-are = sym (append-none (fetchedBy j lv t .rows)); later = tt })
+  grown t zero = let e : 0 + t ≡ t = omega arith in rw e (record { more = []; rows-are = sym (append-nil (fetchedBy j lv t .rows)); later = tt })
   grown t (suc m) =
       let e : suc (m + t) ≡ suc m + t = omega arith in
       let g = fetchedBy j lv (m + t) in

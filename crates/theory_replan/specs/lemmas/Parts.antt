@@ -9,12 +9,13 @@ use mathlib.Core.Logic.{_⊎_, inl, inr, ⊎-elim}
 use native.Mathlib.Omega.{arith}
 use borrow.Author.Tests.{eq-eqb, ne-eqb, lt-ltb, le-ltb, lt-leb, le-leb}
 use lib.ListN.{drop}
-use lib.Dec.{T, T-not, leb, ltb, eqb, leb→le, nleb→lt, ltb→lt, nltb→le, eqb→eq, eqb-refl}
+use lib.Dec.{T, leb, ltb, eqb, leb→le, nleb→lt, ltb→lt, nltb→le, eqb→eq}
 use Rattle.theory_basics.specs.Lists.{has}
 use Rattle.theory_basics.specs.Sums.{count, pre}
 use Rattle.theory_basics.specs.Tests.{All}
 use Rattle.theory_basics.specs.lemmas.Ranges.{bit, bit-le, bit-mono}
-use Rattle.theory_basics.specs.lemmas.Tests.{all-map, and-T, by-cond, T-or-iff, test}
+use Rattle.theory_basics.specs.lemmas.Tests.{all-map, and-T, by-cond, T-or-iff, test, neqb→ne}
+use Rattle.theory_basics.specs.lemmas.Tables.{ne-lt}
 use Rattle.theory_plan.specs.Own.{Piece}
 use Rattle.theory_plan.specs.Plan.{picked}
 use Rattle.theory_plan.specs.lemmas.Feasible.{needOf}
@@ -74,16 +75,13 @@ module _ (w d A : ℕ → ℕ) where
       let more = needs-first k ks f L (r .1) (a .1) (λ g. omega (arith, b g)) in
       rw (eq-eqb k (q .chunk) e) (omega (arith, more, ap (λ (x : ℕ). A (d x)) e)))
       (λ t.
-      let o : k < q .chunk = strict k (q .chunk) (a .0 .0) (λ e. T-not (eqb k (q .chunk)) t (rw e (eqb-refl (q .chunk)))) in
+      let o : k < q .chunk = ne-lt k (q .chunk) (a .0 .0) (neqb→ne k (q .chunk) t) in
       omega (
         arith,
         f (q ∷ L) r (all-both (q ∷ L) o (rising-chunks q L r) a) b,
       ))
       (test (eqb k (q .chunk)))
     where
-      strict : (x y : ℕ) → x ≤ y → (x ≡ y → ⊥) → x < y
-      strict x y h o = ⊎-elim (λ t. ltb→lt x y t) (λ t. absurd (o (omega (arith, nltb→le x y t)))) (test (ltb x y))
-
       all-both :
           (L′ : List Piece) → k < q .chunk → All (λ p. q .chunk ≤ p .chunk) L′ → All (λ q. (k ≤ q .chunk) × T (has (k ∷ ks) (q .chunk))) L′ →
           All (λ q. T (has ks (q .chunk))) L′

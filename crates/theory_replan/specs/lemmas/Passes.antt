@@ -4,7 +4,7 @@
 use Prim.Native.Nat.{ℕ, zero, suc, _+_, _-_, _≤_, _<_, max, min}
 use mathlib.Core.Path.{_≡_, refl, sym, ap, _∙_, subst}
 use mathlib.Core.Bool.{Bool, true, false, not, cond, _&&_}
-use mathlib.Core.List.{List, [], _∷_, _++_}
+use mathlib.Core.List.{List, [], _∷_, _++_, append-nil}
 use mathlib.Core.Logic.{_⊎_, inl, inr, ⊎-elim, _↔_}
 use native.Mathlib.Omega.{arith}
 use borrow.Author.Tests.{le-leb}
@@ -109,10 +109,6 @@ picked-none f lo (suc n) g =
     (λ t. absurd (g (suc lo) (omega arith) (omega arith) t))
     (λ t. picked-none f (suc lo) n (λ k u v. g k (omega arith) (omega arith)))
 
-append-none : (l : List ℕ) → l ++ [] ≡ l
-append-none [] = refl
-append-none (x ∷ l) = ap (λ (y : List ℕ). x ∷ y) (append-none l)
-
 module _
     (j : Job) (sized : Sized j) (p : ℕ) (fetched : List Row) (ok : Acceptable j p fetched) (some : 0 < layers j) (q : ℕ → ℕ)
     (fq : FitsFrom j p fetched q)
@@ -155,7 +151,7 @@ module _
       (ap (picked isBegun 0) e ∙ picked-split isBegun 0 (i - 1) (suc m)
       ∙ ap (λ (x : ℕ). picked isBegun 0 (i - 1) ++ picked isBegun x (suc m)) o
       ∙ ap (λ (l : List ℕ). picked isBegun 0 (i - 1) ++ l) (picked-none isBegun (i - 1) (suc m) (λ k u v. none-begun k (omega arith)))
-      ∙ append-none (picked isBegun 0 (i - 1)))
+      ∙ append-nil (picked isBegun 0 (i - 1)))
 
   abbrev needed : List ℕ → List ℕ
   needed = needs-of one (due j) A

@@ -4,16 +4,16 @@
 use Prim.Native.Nat.{ℕ, zero, suc, _+_, _-_, _≤_, _<_, max}
 use mathlib.Core.Path.{_≡_, refl, sym, ap, _∙_, subst}
 use mathlib.Core.Bool.{Bool, true, false, not, cond, _&&_, _||_}
-use mathlib.Core.List.{List, [], _∷_, _++_, append-assoc}
+use mathlib.Core.List.{List, [], _∷_, _++_, append-assoc, append-nil}
 use mathlib.Core.Logic.{_⊎_, inl, inr, ⊎-elim}
 use native.Mathlib.Omega.{arith}
 use borrow.Author.Tests.{eq-eqb, ne-eqb, lt-ltb, le-ltb}
-use lib.Dec.{T, T-not, leb, ltb, eqb, leb→le, nleb→lt, ltb→lt, nltb→le, le→leb, lt→ltb, eqb→eq, eqb-refl}
+use lib.Dec.{T, leb, ltb, eqb, leb→le, nleb→lt, ltb→lt, nltb→le, le→leb, lt→ltb, eqb→eq}
 use Rattle.theory_basics.specs.Lists.{has}
 use Rattle.theory_basics.specs.Sums.{count, pre}
 use Rattle.theory_basics.specs.Tests.{All, here, In}
 use Rattle.theory_basics.specs.lemmas.Ranges.{count-mono, pre-mono}
-use Rattle.theory_basics.specs.lemmas.Tests.{all-append, all-map, and-T, any-row, at-row, each-row, eqb-iff, in-append, in-left, in-right, T-and, T-or-iff, test, tests}
+use Rattle.theory_basics.specs.lemmas.Tests.{all-append, all-map, and-T, any-row, at-row, each-row, eqb-iff, in-append, in-left, in-right, T-and, T-or-iff, test, tests, neqb→ne}
 use Rattle.job.specs.Job.{chunks, due, forecast, heldMost, Job, lastSlot, Layer, layers, size}
 use Rattle.fetch.specs.Rows.{begun, bytesInSlot, bytesOfLayer, held, heldCount, Row}
 use Rattle.fetch.specs.Rules.{FewHeld, RowInRange, OnTime, WithinForecast}
@@ -34,10 +34,6 @@ use Rattle.theory_replan.specs.lemmas.Parts.{blocked-need, count-picked,
 use Rattle.theory_replan.specs.lemmas.Take.{Ends, slot-ends, Stop, Taken, taken-all, taken-keys, taken-left, taken-needs, taken-paid, taken-rising, taken-some}
 use Rattle.theory_replan.specs.lemmas.Unfetched.{carried-all, carried-rises, Chosen, left-of-chunk, left-of-layer, unfetched-all, unfetched-rising}
 use Rattle.theory_plan.specs.Bases.{Asc}
-
-append-none : {A : Type 0} (l : List A) → l ++ [] ≡ l
-append-none [] = refl
-append-none (x ∷ xs) = ap (λ (l : _). x ∷ l) (append-none xs)
 
 after-step : (j : Job) (t : ℕ) → 1 ≤ t → t ≤ lastSlot j → after j (t - 1) ≡ forecast j t + after j t
 after-step j zero h l = absurd (omega arith)
@@ -157,7 +153,7 @@ module _ (j : Job) (sized : Sized j) (p : ℕ) (fetched : List Row) (ok : Accept
               ⊎-elim
               (λ e. let e′ : t ≡ s = eqb→eq t s e in subst (λ (s : ℕ). bytesInSlot (rows ++ (x ∷ [])) s ≤ forecast j s) e′ (least (bytesInSlot (rows ++ (x ∷ [])) t) c′ (forecast j t) paid′))
               (λ e.
-              let o : t ≡ s → ⊥ = λ z. T-not (eqb t s) e (rw z (eqb-refl s)) in
+              let o : t ≡ s → ⊥ = neqb→ne t s e in
               omega (arith, v .within s u w, rw (ne-eqb t s o) at (bytes-append (λ y. eqb (y .slot) s) rows (x ∷ []))))
               (test (eqb t s));
           slots = all-append (λ y. y .slot ≤ t) rows (x ∷ []) (v .slots) (omega arith, tt);
@@ -328,7 +324,7 @@ module _ (j : Job) (sized : Sized j) (p : ℕ) (fetched : List Row) (ok : Accept
       let e : max 0 (p - 1) ≡ p - 1 = omega arith in ap (after j) e ∙ from-step j p p (ok .p-low) (omega arith) (ok .p-high) in
       record {
         made = [];
-        made-is = sym (append-none fetched);
+        made-is = sym (append-nil fetched);
         made-later = tt;
         rising = rises;
         good = good;

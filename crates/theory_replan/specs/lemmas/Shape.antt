@@ -4,12 +4,13 @@
 use Prim.Native.Nat.{ℕ, zero, suc, _+_, _*_, _-_, _≤_, _<_}
 use mathlib.Core.Path.{_≡_, refl, sym, ap, _∙_, subst}
 use mathlib.Core.Bool.{Bool, cond}
-use mathlib.Core.List.{List, [], _∷_, _++_, append-assoc}
+use mathlib.Core.List.{List, [], _∷_, _++_, append-assoc, append-nil}
 use mathlib.Core.Logic.{_⊎_, inl, inr, ⊎-elim}
 use native.Mathlib.Omega.{arith}
 use native.Mathlib.Nat.{mul-le-mul-right}
 use lib.ListN.{length, drop, length-append}
 use lib.Dec.{T, ltb}
+use lib.Seq.{drop-append-seam}
 use Rattle.theory_basics.specs.Lists.{upTo}
 use Rattle.theory_basics.specs.Tests.{All, In}
 use Rattle.theory_basics.specs.lemmas.Lists.{length-upTo}
@@ -21,7 +22,6 @@ use Rattle.theory_plan.specs.Statement.{Choice}
 use Rattle.theory_plan.specs.lemmas.Words.{accepted-sized, Sized}
 use Rattle.theory_replan.specs.Own.{fetchedFrom, ownRest, unfetched}
 use Rattle.theory_replan.specs.Statement.{Acceptable, IsReplan}
-use Rattle.theory_replan.specs.lemmas.Decision.{drop-first}
 use Rattle.theory_replan.specs.lemmas.Fits.{FitsFrom}
 use Rattle.theory_replan.specs.lemmas.Parts.{PartBefore, Rising}
 use Rattle.theory_replan.specs.lemmas.Plan.{is-replan-fits}
@@ -32,10 +32,6 @@ use Rattle.theory_replan.specs.lemmas.Unfetched.{carried-all, carried-ri
 ascending-last : (a : List Row) (y : Row) → Ascending a → All (λ x. RowBefore x y) a → Ascending (a ++ (y ∷ []))
 ascending-last [] y s b = (tt, tt)
 ascending-last (x ∷ a) y s b = (all-append (RowBefore x) a (y ∷ []) (s .0) (b .0, tt), ascending-last a y (s .1) (b .1))
-
-append-none : (l : List Row) → l ++ [] ≡ l
-append-none [] = refl
-append-none (x ∷ xs) = ap (λ (l : List Row). x ∷ l) (append-none xs)
 
 -- A row of slot t, chunk i, layer n would stand after x.
 abbrev Ahead : ℕ → ℕ → ℕ → Row → Type 0
@@ -124,7 +120,7 @@ module _ (j : Job) (p : ℕ) (fetched : List Row) (lv : ℕ → ℕ) where
   begin c =
       record {
         made = [];
-        made-is = sym (append-none fetched);
+        made-is = sym (append-nil fetched);
         ascending = tt;
         slots = tt;
         rising = unfetched-rising fetched (carriedTo j lv (chunks j)) (carried-rises j lv (chunks j));
@@ -161,7 +157,7 @@ module _ (j : Job) (p : ℕ) (fetched : List Row) (lv : ℕ → ℕ) where
 
   rest-is : (h : p ≤ lastSlot j) → ownRest j p fetched lv ≡ done h .holds .made
   unfolding ownRest
-  rest-is h = ap (drop (length fetched)) (done h .holds .made-is) ∙ drop-first fetched (done h .holds .made)
+  rest-is h = ap (drop (length fetched)) (done h .holds .made-is) ∙ drop-append-seam fetched (done h .holds .made)
 
 -- "One row per slot, chunk and layer", and the rows stand by slot, chunk, layer.
 pub own-rest-ascending : (j : Job) (p : ℕ) (fetched : List Row) (choice : ℕ → ℕ) → p ≤ lastSlot j → Ascending (ownRest j p fetched choice)

@@ -7,14 +7,15 @@ use mathlib.Core.Bool.{Bool, true, false, not, cond, _&&_}
 use mathlib.Core.List.{List, [], _∷_, _++_}
 use mathlib.Core.Logic.{_⊎_, inl, inr, ⊎-elim, _↔_}
 use native.Mathlib.Omega.{arith}
-use borrow.Author.Tests.{eq-eqb, ne-eqb, lt-ltb, le-ltb}
+use borrow.Author.Tests.{eq-eqb, lt-ltb, le-ltb}
 use lib.ListN.{length, drop, take}
 use lib.Dec.{T, T-not, leb, ltb, eqb, leb→le, nleb→lt, ltb→lt, nltb→le, le→leb, eqb→eq, eqb-refl}
+use lib.Seq.{drop-append-seam}
 use Rattle.theory_plan.specs.lemmas.Unique.{carried-cong}
 use Rattle.theory_basics.specs.Sums.{sum}
 use Rattle.theory_basics.specs.Tests.{All, here, In, there}
 use Rattle.theory_basics.specs.lemmas.Ranges.{count-mono, sum-cong, sum-mono}
-use Rattle.theory_basics.specs.lemmas.Tests.{all-map, and-T, any-row, at-row, by-cond, each-row, eqb-iff, in-append, in-left, in-right, T-and, test, tests}
+use Rattle.theory_basics.specs.lemmas.Tests.{all-map, and-T, any-row, at-row, by-cond, each-row, eqb-iff, in-append, in-left, in-right, T-and, test, tests, not-T-false}
 use Rattle.job.specs.Job.{Accepted, chunks, due, forecast, heldMost, Job, lastSlot, Layer, layers, size}
 use Rattle.fetch.specs.Rows.{begun, bytesOfLayer, Carried, carried, held, marksGiven, Row}
 use Rattle.fetch.specs.Rules.{RowInRange, Keeps, OnTime, PlayingOrder}
@@ -39,7 +40,7 @@ use Rattle.theory_replan.specs.Plan.{afterFrom, triedFrom}
 use Rattle.theory_replan.specs.Own.{fetchedFrom, ownRest, unfetched}
 use Rattle.theory_replan.specs.lemmas.Tried.{settles-tried-from-iff}
 use Rattle.theory_replan.specs.Statement.{Acceptable, CanCarryFrom, IsReplan, rowsBefore, rowsFrom}
-use Rattle.theory_replan.specs.lemmas.Decision.{drop-first, fits-can-carry-from}
+use Rattle.theory_replan.specs.lemmas.Decision.{fits-can-carry-from}
 use Rattle.theory_replan.specs.lemmas.Fits.{between-from, can-carry-fits-below, can-carry-fits-from, FitsFrom}
 use Rattle.theory_replan.specs.lemmas.Held.{begun-by, begun-more, begun-row}
 use Rattle.theory_replan.specs.lemmas.OwnState.{Grown, grown, Sofar, sofar}
@@ -260,9 +261,9 @@ module _ (j : Job) (sized : Sized j) (q : ℕ → ℕ) (plan : SettledByTrials j
       ⊎-elim (λ u. absurd (o (level-iff j old old-lower i n r .1 (ltb→lt n (level j old i) u)))) (λ u. nltb→le n (level j old i) u) (test (ltb n (level j old i))) in
       let z = triedFrom j old q n i in
       let from : (k : ℕ) → 1 ≤ k → k ≤ chunks j → level j old k ≤ z k =
-      λ k u v. ⊎-elim (λ e. let e′ = eqb→eq k i e in rw (e′, eq-eqb i i refl) (omega arith)) (λ e. rw (ne-eqb k i (λ w. T-not (eqb k i) e (rw w (eqb-refl i)))) (omega arith)) (test (eqb k i)) in
+      λ k u v. ⊎-elim (λ e. let e′ = eqb→eq k i e in rw (e′, eq-eqb i i refl) (omega arith)) (λ e. rw (not-T-false (eqb k i) e) (omega arith)) (test (eqb k i)) in
       let to : (k : ℕ) → 1 ≤ k → k ≤ chunks j → z k ≤ q k =
-      λ k u v. ⊎-elim (λ e. let e′ = eqb→eq k i e in rw (e′, eq-eqb i i refl) h) (λ e. rw (ne-eqb k i (λ w. T-not (eqb k i) e (rw w (eqb-refl i)))) (omega (arith, low k u v))) (test (eqb k i)) in (
+      λ k u v. ⊎-elim (λ e. let e′ = eqb→eq k i e in rw (e′, eq-eqb i i refl) h) (λ e. rw (not-T-false (eqb k i) e) (omega (arith, low k u v))) (test (eqb k i)) in (
         omega (arith, due-then, at-row (λ x. p ≤ x .slot) (x .listed) later),
         omega arith,
         fits-can-carry-from j sized p old old-acceptable z (tried-from-choice j old q i n (plan .choice) (r .layer-in)) (can-carry-fits-below j sized p old old-acceptable q (plan .choice) own-can-carry z from to),
@@ -308,7 +309,7 @@ module _ (j : Job) (sized : Sized j) (q : ℕ → ℕ) (plan : SettledByTrials j
       let e : suc (lastSlot j) - p + t ≡ lastSlot j - t + t = omega arith in
       ap (λ (g : Fetched). drop (length old) (g .rows)) (same-state (suc (lastSlot j) - p) ∙ ap (fetchedBy j q) e)
       ∙ ap (drop (length old)) (steps .rows-are)
-      ∙ drop-first old more
+      ∙ drop-append-seam old more
 
 -- ---- the theorem
 

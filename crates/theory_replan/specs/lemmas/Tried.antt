@@ -6,9 +6,9 @@ use mathlib.Core.Path.{_≡_, ap}
 use mathlib.Core.List.{List, _++_}
 use mathlib.Core.Logic.{_⊎_, inl, inr, ⊎-elim, _↔_}
 use native.Mathlib.Omega.{arith}
-use borrow.Author.Tests.{eq-eqb, ne-eqb}
-use lib.Dec.{T-not, ltb, eqb, ltb→lt, nltb→le, eqb→eq, eqb-refl}
-use Rattle.theory_basics.specs.lemmas.Tests.{eqb-iff, test}
+use borrow.Author.Tests.{eq-eqb}
+use lib.Dec.{T-not, ltb, eqb, ltb→lt, nltb→le, eqb→eq}
+use Rattle.theory_basics.specs.lemmas.Tests.{eqb-iff, test, not-T-false}
 use Rattle.job.specs.Job.{due, Job, Layer}
 use Rattle.fetch.specs.Rows.{Carried, carried, Row}
 use Rattle.fetch.specs.Rules.{LowerCarried}
@@ -42,7 +42,7 @@ module _ (j : Job) (fetched : List Row) (low : LowerCarried j fetched) (plan : �
   tried-from-is o k =
       ⊎-elim
       (λ t. let e = eqb→eq k i t in rw (eq-eqb k i e) (omega (arith, not-whole o, ap (level j fetched) e)))
-      (λ t. rw (ne-eqb k i (λ e. T-not (eqb k i) t (rw e (eqb-refl i)))) (omega arith))
+      (λ t. rw (not-T-false (eqb k i) t) (omega arith))
       (test (eqb k i))
 
   pub trial-from-iff :

@@ -7,12 +7,13 @@ use mathlib.Core.List.{List, [], _∷_, _++_}
 use mathlib.Core.Logic.{_⊎_, inl, inr, ⊎-elim}
 use native.Mathlib.Omega.{arith}
 use borrow.Author.Tests.{eq-eqb, ne-eqb, lt-ltb, le-ltb}
-use lib.Dec.{T, T-not, ltb, eqb, ltb→lt, nltb→le, eqb→eq, eqb-refl}
+use lib.Dec.{T, ltb, eqb, ltb→lt, nltb→le, eqb→eq}
 use Rattle.theory_basics.specs.Lists.{upTo}
 use Rattle.theory_basics.specs.Sums.{pre, sum}
 use Rattle.theory_basics.specs.Tests.{All}
 use Rattle.theory_basics.specs.lemmas.Ranges.{point, point-in, point-total, pre-cong, pre-le, sum-cong, sum-zero}
-use Rattle.theory_basics.specs.lemmas.Tests.{all-append, all-map, by-cond, by-cond-both, test}
+use Rattle.theory_basics.specs.lemmas.Tests.{all-append, all-map, by-cond, by-cond-both, test, neqb→ne, not-T-false}
+use Rattle.theory_basics.specs.lemmas.Tables.{ne-lt}
 use Rattle.job.specs.Job.{chunks, Job, size}
 use Rattle.fetch.specs.Rows.{bytesOfLayer, Row}
 use Rattle.theory_plan.specs.Own.{carriedTo, Piece, wholeLayer, without}
@@ -105,7 +106,7 @@ module _ (fetched : List Row) where
         at-chunk i =
             ⊎-elim
             (λ t. let e : k ≡ i = eqb→eq k i t in rw (eq-eqb k i e, e) (omega arith))
-            (λ t. rw (ne-eqb k i (λ e. T-not (eqb k i) t (rw e (eqb-refl i)))) (omega (arith, sum-zero (lv i))))
+            (λ t. rw (not-T-false (eqb k i) t) (omega (arith, sum-zero (lv i))))
             (test (eqb k i))
 
     -- Of a layer of the choice what is not fetched, of another nothing.
@@ -124,23 +125,20 @@ module _ (fetched : List Row) where
             ⊎-elim
             (λ t. let e : c ≡ n = eqb→eq c n t in rw (eq-eqb c n e) (rw (lt-ltb n (suc c) (omega arith)) (omega (arith, ap f e, rw (le-ltb n c (omega arith)) at (one f c)))))
             (λ t.
-            let o : c ≡ n → ⊥ = λ e. T-not (eqb c n) t (rw e (eqb-refl n)) in
+            let o : c ≡ n → ⊥ = neqb→ne c n t in
             rw (ne-eqb c n o)
             (⊎-elim
             (λ u. let l = ltb→lt n c u in rw (lt-ltb n (suc c) (omega arith)) (omega (arith, rw (lt-ltb n c l) at (one f c))))
-            (λ u. let l = nltb→le n c u in rw (le-ltb n (suc c) (strict c n l o)) (omega (arith, rw (le-ltb n c l) at (one f c))))
+            (λ u. let l = nltb→le n c u in rw (le-ltb n (suc c) (ne-lt c n l o)) (omega (arith, rw (le-ltb n c l) at (one f c))))
             (test (ltb n c))))
             (test (eqb c n))
-          where
-            strict : (x y : ℕ) → x ≤ y → (x ≡ y → ⊥) → suc x ≤ y
-            strict x y h o = ⊎-elim (λ t. ltb→lt x y t) (λ t. absurd (o (omega (arith, nltb→le x y t)))) (test (ltb x y))
 
         at-layer-of : (k : ℕ) → sum (λ m. cond (at-layer i n k m) (rest k m) 0) (lv k) ≡ point i (cond (ltb n (lv i)) (rest i n) 0) k
         at-layer-of k =
             ⊎-elim
             (λ t. let e : k ≡ i = eqb→eq k i t in rw (e, eq-eqb i i refl) (one (rest i) (lv i)))
             (λ t.
-            let o : k ≡ i → ⊥ = λ e. T-not (eqb k i) t (rw e (eqb-refl i)) in
+            let o : k ≡ i → ⊥ = neqb→ne k i t in
             rw (ne-eqb k i o, ne-eqb i k (λ e. o (sym e))) (sum-zero (lv k)))
             (test (eqb k i))
 

@@ -10,12 +10,12 @@ use mathlib.Core.Logic.{_⊎_, inl, inr, ⊎-elim, _↔_}
 use native.Mathlib.Omega.{arith}
 use borrow.Author.Tests.{eq-eqb, ne-eqb, lt-leb, le-leb, lt-ltb, le-ltb}
 use lib.Pow.{pow-mono}
-use lib.Dec.{T, T-not, leb, ltb, eqb, leb→le, nleb→lt, ltb→lt, nltb→le, lt→ltb, le→leb, eqb→eq, eqb-refl}
+use lib.Dec.{T, leb, ltb, eqb, leb→le, ltb→lt, nltb→le, lt→ltb, le→leb, eqb→eq, eqb-refl}
 use Rattle.theory_basics.specs.Lists.{has}
 use Rattle.theory_basics.specs.Sums.{sum}
 use Rattle.theory_basics.specs.Tests.{All}
 use Rattle.theory_basics.specs.lemmas.Ranges.{sum-mono}
-use Rattle.theory_basics.specs.lemmas.Tests.{and-T, by-cond, not-T-false, same-test, T-and, T-or-iff, T-true, test, tests}
+use Rattle.theory_basics.specs.lemmas.Tests.{and-T, by-cond, not-T-false, same-test, T-and, T-true, test, tests, neqb→ne}
 use Rattle.job.specs.Job.{chunks, due, heldMost, Job, Layer, layers, size}
 use Rattle.fetch.specs.Marks.{bit, withLayer}
 use Rattle.fetch.specs.Rows.{bytesOfLayer, Row}
@@ -23,7 +23,7 @@ use Rattle.fetch.specs.lemmas.Marks.{mark-bit, mark-high, mark-lt, same-bits, w
 use Rattle.theory_plan.specs.Plan.{picked}
 use Rattle.theory_plan.specs.lemmas.Feasible.{needOf}
 use Rattle.theory_plan.specs.Statement.{Choice}
-use Rattle.theory_plan.specs.lemmas.Kept.{feas-picked, has-picked, picked-cong, picked-each}
+use Rattle.theory_plan.specs.lemmas.Kept.{feas-picked, picked-cong, picked-each}
 use Rattle.theory_plan.specs.lemmas.Level.{level, level-iff}
 use Rattle.theory_plan.specs.lemmas.Linear.{feas-roomy, front, level-bit, level-next, level-top, relok-mono, Roomy}
 use Rattle.theory_plan.specs.lemmas.Need.{Feas, need-mono}
@@ -32,7 +32,7 @@ use Rattle.theory_plan.specs.lemmas.Trials.{back, Kept, levelMark, rooms, Tried
 use Rattle.theory_plan.specs.lemmas.Words.{carries, layer-of}
 use Rattle.theory_replan.specs.Plan.{afterFrom, busy, busyChunks, bytesLeft, triedFrom}
 use Rattle.theory_replan.specs.Statement.{Acceptable}
-use Rattle.theory_replan.specs.lemmas.Criterion.{all-has, busyFrom, feas-from-due}
+use Rattle.theory_replan.specs.lemmas.Criterion.{busyFrom, feas-from-due, nothing-left}
 use Rattle.theory_replan.specs.lemmas.Fits.{FitsFrom}
 
 -- ---- in general
@@ -44,7 +44,7 @@ level-set m n h few =
     with-bit (levelMark m) n k u ∙
     ⊎-elim
     (λ t. let e = eqb→eq k n t in rw (e, eq-eqb n n refl) (sym (level-bit m n ∙ lt-ltb n m h)))
-    (λ t. rw (ne-eqb k n (λ e. T-not (eqb k n) t (rw e (eqb-refl n)))))
+    (λ t. rw (not-T-false (eqb k n) t))
     (test (eqb k n)))
 
 -- ---- a layer above the base
@@ -257,7 +257,7 @@ module _
       (⊎-elim
       (λ t. let e = eqb→eq k i t in rw (e, eq-eqb i i refl, le-leb 1 (suc n) (omega arith)) (sym (le-leb 1 (q i) (omega arith))))
       (λ t.
-      let o : k ≡ i → ⊥ = λ e. T-not (eqb k i) t (rw e (eqb-refl i)) in
+      let o : k ≡ i → ⊥ = neqb→ne k i t in
       rw (ne-eqb k i o)
       (by-cond (λ (c : ℕ). leb 1 (max (base k) (min (q k) c)) ≡ leb 1 (q k)) (ltb i k) {x = suc n} {y = n}
       (λ x. kept-or-not (suc n) (omega arith)) (λ x. kept-or-not n up)))
@@ -268,16 +268,6 @@ module _
           same-test (leb 1 (max (base k) (min (q k) c))) (leb 1 (q k))
           (λ t. le→leb 1 (q k) (omega (arith, leb→le 1 (max (base k) (min (q k) c)) t, fq .whole k u v)))
           (λ t. le→leb 1 (max (base k) (min (q k) c)) (omega (arith, leb→le 1 (q k) t)))
-
-  -- A chunk due before p has nothing left.
-  nothing-left : (k : ℕ) → 1 ≤ k → k ≤ chunks j → due j k < p → left q k ≡ 0
-  nothing-left k u v h =
-      ⊎-elim
-      (λ t.
-      all-has (λ k. due j k < p → bytesLeft j fetched q k ≡ 0) (busyChunks j fetched q) k (feas-from-due j p fetched q .0 (fq .feas) .0)
-      (subst T (sym (has-picked (busy fetched q) 0 (chunks j) k u (omega arith))) (T-or-iff (carries fetched k) (leb 1 (q k)) .1 (inr t))) h)
-      (λ t. let e : q k ≡ 0 = omega (arith, nleb→lt 1 (q k) t) in rw e)
-      (test (leb 1 (q k)))
 
   tried-fits :
       (i : ℕ) → 1 ≤ i → i ≤ chunks j → T (member i) → n ≤ q i → base i ≤ n →
@@ -291,15 +281,15 @@ module _
       picked-each (busy fetched z) (λ k. due j k < p → bytesLeft j fetched z k ≡ 0) 0 (chunks j) (λ k x y t l.
       ⊎-elim
       (λ w. absurd (omega (arith, ap (due j) (eqb→eq k i w))))
-      (λ w. let o : k ≡ i → ⊥ = λ e. T-not (eqb k i) w (rw e (eqb-refl i)) in omega (arith, sum-mono (rest k) (z k) (q k) (tried-le i k reached x (omega arith) o), nothing-left k x (omega arith) l))
+      (λ w. let o : k ≡ i → ⊥ = neqb→ne k i w in omega (arith, sum-mono (rest k) (z k) (q k) (tried-le i k reached x (omega arith) o), nothing-left j p fetched q (fq .feas) k x (omega arith) l))
       (test (eqb k i))) in (
         λ f. subst (Feas (trial i) (due j) A (heldMost j)) e (d .0 (f .feas) .1),
         λ f.
             record {
-              whole = λ k x y. ⊎-elim (λ w. let o = eqb→eq k i w in rw (o, eq-eqb i i refl) (omega arith)) (λ w. rw (ne-eqb k i (λ e. T-not (eqb k i) w (rw e (eqb-refl i)))) (omega arith)) (test (eqb k i));
+              whole = λ k x y. ⊎-elim (λ w. let o = eqb→eq k i w in rw (o, eq-eqb i i refl) (omega arith)) (λ w. rw (not-T-false (eqb k i) w) (omega arith)) (test (eqb k i));
               in-front = λ k x y l.
                   fq .in-front k x y
-                  (⊎-elim (λ w. omega (arith, ap q (eqb→eq k i w))) (λ w. omega (arith, l, tried-le i k reached x y (λ e. T-not (eqb k i) w (rw e (eqb-refl i))))) (test (eqb k i)));
+                  (⊎-elim (λ w. omega (arith, ap q (eqb→eq k i w))) (λ w. omega (arith, l, tried-le i k reached x y (neqb→ne k i w))) (test (eqb k i)));
               feas = d .1 (over, subst (Feas (trial i) (due j) A (heldMost j)) (sym e) f);
             },
       )

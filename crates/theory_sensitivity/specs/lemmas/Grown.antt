@@ -6,10 +6,10 @@ use mathlib.Core.List.{List}
 use mathlib.Core.Logic.{⊎-elim}
 use native.Mathlib.Omega.{arith}
 use borrow.Author.Tests.{eq-eqb, ne-eqb}
-use lib.Dec.{T-not, eqb, eqb→eq, eqb-refl, leb, leb→le, nleb→lt}
+use lib.Dec.{eqb, eqb→eq, leb, leb→le, nleb→lt}
 use Rattle.theory_basics.specs.Sums.{pre}
 use Rattle.theory_basics.specs.lemmas.Ranges.{point, point-in, point-out, pre-add, pre-cong, pre-mono}
-use Rattle.theory_basics.specs.lemmas.Tests.{all-map, test}
+use Rattle.theory_basics.specs.lemmas.Tests.{all-map, test, neqb→ne}
 use Rattle.job.specs.Job.{Job, forecast, lastSlot, withForecast}
 use Rattle.fetch.specs.Rows.{Row}
 use Rattle.fetch.specs.Rules.{RowInRange, Passes}
@@ -26,7 +26,7 @@ module _ (j : Job) (f : List ℕ) (t b : ℕ) (more : OneSlotMore j (withForecas
       ⊎-elim
       (λ e. let s = eqb→eq t u e in rw (← s, eq-eqb t t refl) (more .grown))
       (λ e.
-      let o : t ≡ u → ⊥ = λ s. T-not (eqb t u) e (rw s (eqb-refl u)) in
+      let o : t ≡ u → ⊥ = neqb→ne t u e in
       rw (ne-eqb t u o) (omega (arith, more .other-slots u g h (λ s. o (sym s)))))
       (test (eqb t u))
 

@@ -8,11 +8,11 @@ use mathlib.Core.Logic.{⊎-elim}
 use native.Mathlib.Omega.{arith}
 use borrow.Author.Tests.{lt-leb, ne-eqb}
 use lib.ListN.{length, length-append}
-use lib.Dec.{T-not, leb, eqb, eqb→eq, eqb-refl}
+use lib.Dec.{leb, eqb, eqb→eq}
 use Rattle.theory_basics.specs.Tests.{All, all}
 use Rattle.theory_basics.specs.Text.{readOn}
 use Rattle.theory_basics.specs.lemmas.Digits.{read-snoc}
-use Rattle.theory_basics.specs.lemmas.Tests.{by-cond, not-T-false, test, all-append, all-snoc}
+use Rattle.theory_basics.specs.lemmas.Tests.{by-cond, not-T-false, test, all-append, all-snoc, neqb→ne}
 use Rattle.job.specs.Refusal.{within}
 use Rattle.trace.specs.Trace.{Found, found, front, line, notBelow, time}
 use Rattle.trace.specs.lemmas.Lines.{found-line}
@@ -85,7 +85,7 @@ scan-agrees (b ∷ bs) l t a =
     ))
     (λ u.
     let k : List ℕ = l ++ (b ∷ []) in
-    let ne : b ≡ 10 → ⊥ = λ e. T-not (eqb b 10) u (rw e (eqb-refl 10)) in
+    let ne : b ≡ 10 → ⊥ = neqb→ne b 10 u in
     let r = scan-agrees bs k t (all-append (λ b. b ≡ 10 → ⊥) l (b ∷ []) a (ne, tt)) in
     let g : k ++ bs ≡ l ++ (b ∷ bs) = append-assoc l (b ∷ []) bs in
     let n : length k ≡ length l + 1 = length-append l (b ∷ []) in

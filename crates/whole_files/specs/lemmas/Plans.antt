@@ -10,20 +10,18 @@ use lib.ListN.{length, getD}
 use lib.Dec.{eqb, eqb-refl, ltb}
 use Rattle.theory_basics.specs.Tests.{All, In}
 use Rattle.theory_basics.specs.Lists.{upTo}
-use Rattle.theory_basics.specs.lemmas.Lists.{length-upTo}
 use Rattle.theory_basics.specs.lemmas.Tables.{all-at}
 use Rattle.theory_basics.specs.lemmas.Tests.{all-append, at-row, each-row}
 use Rattle.job.specs.Job.{Job, Accepted, Within, chunks, forecast, layers, lastSlot}
 use Rattle.fetch.specs.Rows.{Row, markByte}
-use Rattle.fetch.specs.Rules.{RowInRange, Keeps}
+use Rattle.fetch.specs.Rules.{RowInRange}
 use Rattle.fetch.specs.lemmas.Marks.{mark-lt}
 use Rattle.fetch.specs.lemmas.Rows.{row-counts}
 use Rattle.planfile.specs.PlanFile.{InWidth, Plan, RowInWidth, fileOf}
 use Rattle.planfile.specs.Theorems.{always-fits}
 use Rattle.theory_plan.specs.Plan.{plan}
 use Rattle.theory_plan.specs.Statement.{marksOf}
-use Rattle.theory_plan.specs.Theorems.{own-list-rows, plan-carried, plan-exists}
-use Rattle.theory_plan.specs.lemmas.Words.{accepted-sized}
+use Rattle.theory_plan.specs.Theorems.{marks-long, plan-keeps, plan-rows-few}
 use Rattle.planner.specs.Answer.{planRows}
 use Rattle.whole_files.specs.Files.{planOfJob}
 
@@ -37,19 +35,12 @@ mark-small : (p : ℕ → Bool) (k : ℕ) → k ≤ 4 → markByte p k < 256
 mark-small p k h = let top : 2 ^ k ≤ 2 ^ 4 = pow-le-pow-right (omega arith) h in omega (arith, mark-lt p k)
 
 module _ (j : Job) (a : Accepted j) where
-  -- The plan keeps rules 1 to 7.
-  pub plan-keeps : Keeps j (marksOf j (plan j)) (planRows j)
-  plan-keeps = plan-carried j (accepted-sized j a) (plan j) (plan-exists j a) .0
-
   pub plan-marks-long : length (marksOf j (plan j)) ≡ chunks j
-  plan-marks-long = length-upTo _ (chunks j)
-
-  pub plan-rows-few : length (planRows j) ≤ 5599
-  plan-rows-few = own-list-rows j a (plan j) (plan-exists j a .choice)
+  plan-marks-long = marks-long j (plan j)
 
   -- Its file has at most 64,091 bytes.
   pub plan-file-fits : length (fileOf (planOfJob j)) ≤ 64091
-  plan-file-fits = always-fits j a (planOfJob j) plan-marks-long plan-rows-few
+  plan-file-fits = always-fits j a (planOfJob j) plan-marks-long (plan-rows-few j a)
 
   -- A mark has a bit a layer at most.
   marks-width : All (λ m. m < 256) (marksOf j (plan j))
@@ -58,8 +49,8 @@ module _ (j : Job) (a : Accepted j) where
   -- A row's bytes are at most its slot's forecast.
   row-width : (x : Row) → In x (planRows j) → RowInWidth x
   row-width x i =
-      let r = at-row (RowInRange j) i (plan-keeps .in-range) in
-      let slot = plan-keeps .within (x .slot) (r .slot-low) (r .slot-high) in
+      let r = at-row (RowInRange j) i (plan-keeps j a .in-range) in
+      let slot = plan-keeps j a .within (x .slot) (r .slot-low) (r .slot-high) in
       let bytes = row-counts (λ y. eqb (y .slot) (x .slot)) i (eqb-refl (x .slot)) in
       let most : forecast j (x .slot) ≤ 16777216 = all-at (Within 0 16777216) (j .forecast) (x .slot - 1) (omega (arith, a .slots-in, r .slot-low, r .slot-high)) (a .forecast-in) .high in
       record {
