@@ -1,8 +1,8 @@
--- Lemmas. A layer above the base in linear time, in general: the passes `rooms` and `back` of Trials
--- take layer n of a chunk exactly where the choice q does. The list is that of the chunks that pass
--- `member`; rest k m is what layer m of chunk k costs, base k layers of it are carried from the
--- start and cost nothing, and Ok i says that the choice tried with chunk i may be. Section 4 of the
--- argument.
+-- Lemmas. A layer above the base in linear time, in general: the passes `rooms` and `back` of
+-- Trials take layer n of a chunk exactly where the choice q does. The list is that of the chunks
+-- that pass `member`; rest k m is what layer m of chunk k costs, base k layers of it are carried
+-- from the start and cost nothing, and Ok i says that the choice tried with chunk i may be. Section
+-- 4 of the argument.
 use Prim.Native.Nat.{ℕ, zero, suc, _+_, _-_, _≤_, _<_, max, min}
 use mathlib.Core.Path.{_≡_, refl, sym, ap, _∙_, subst}
 use mathlib.Core.Bool.{Bool, true, false, _&&_}
