@@ -16,7 +16,7 @@ ghost use Rattle.job.specs.Input.{overrideChunks, overrideLayers, overrideBytes
 ghost use Rattle.records.specs.Fields.{marked};
 ghost use Rattle.jobrecords.specs.Records.{SZ, front, isEnd};
 ghost use Rattle.jobrecords.specs.Refusal.{layerFault, runFault};
-ghost use Rattle.jobrecords.specs.lemmas.Reading.{noRecords, readWhole, lastMark, runFollows, faultAfter};
+ghost use Rattle.jobrecords.specs.lemmas.Reading.{noRecords, readWhole, programmeOn, lastMark, runFollows, faultAfter};
 ghost use Rattle.jobrecords.specs.lemmas.Reading.{overridesOn, endRefusal, endedBy, readRefusalOf, endRefusalOf};
 ghost use Rattle.jobrecords.specs.lemmas.Reading.{Inside, Sized, Room, Fine, TakeRecordPost, OneStepPre};
 ghost use Rattle.jobrecords.specs.lemmas.Reading.{OneStepPost, ReadAllPost, roomBy};
@@ -119,6 +119,18 @@ fn override_in(rest: &[u8], at: usize) -> Read
     Read::Refused(2)
 }
 
+// The programme of a PG in front of some bytes.
+fn programme_in(rest: &[u8]) -> Programme
+    ensures { λ r. ⌜ r ≡ programmeOn (now (rest .entry)) ⌝ }
+{
+    Programme {
+        chunks: records::h_at(rest, 2),
+        span: records::h_at(rest, 4),
+        delay: records::h_at(rest, 6),
+        limit: records::h_at(rest, 8),
+    }
+}
+
 // The record in front of the bytes that start at a place.
 fn record_in(sequenced: bool, rest: &[u8], at: usize) -> Read
     requires { ⌜ at + length (now rest) < 18446744073709551616 ⌝ }
@@ -129,12 +141,7 @@ fn record_in(sequenced: bool, rest: &[u8], at: usize) -> Read
         return Read::Refused(1);
     }
     if records::is_mark(rest, 0, b"PG") {
-        let p = Programme {
-            chunks: records::h_at(rest, 2),
-            span: records::h_at(rest, 4),
-            delay: records::h_at(rest, 6),
-            limit: records::h_at(rest, 8),
-        };
+        let p = programme_in(rest);
         return whole(left, 10, Record::Pg(p), at);
     }
     if records::is_mark(rest, 0, b"LY") {
