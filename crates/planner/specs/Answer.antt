@@ -1,7 +1,7 @@
 -- Meaning. What the planner's public calls hand over: the plan of a job as document 01 decides and
 -- lists it, or a refusal's number. The plan itself, its marks, counts and own list, and demand 3,
 -- are stated in theory_plan: Statement, Own.
-use Prim.Native.Nat.{ℕ, _<_}
+use Prim.Native.Nat.{ℕ, _≤_, _<_}
 use mathlib.Core.Path.{_≡_}
 use mathlib.Core.Bool.{Bool, cond}
 use mathlib.Core.List.{List, [], _∷_, map}
@@ -13,9 +13,9 @@ use Rattle.job.specs.Input.{JobInput, jobIn, jobRefusal}
 use Rattle.fetch.specs.Rows.{Row, layerCount, rowSlot, rowChunk, rowLayer, rowBytes}
 use Rattle.fetch.specs.Rules.{Keeps, PlayingOrder}
 use Rattle.fetch.specs.Slices.{ListSlices, room}
-use Rattle.theory_plan.specs.Own.{ownList}
+use Rattle.theory_plan.specs.Own.{Ascending, ownList}
 use Rattle.theory_plan.specs.Plan.{plan}
-use Rattle.theory_plan.specs.Statement.{BasesMooreHodgson, Best, IsPlan, MostPictures, SettledByTrials, countOf, countsOf, marksOf}
+use Rattle.theory_plan.specs.Statement.{BasesMooreHodgson, Best, IsPlan, MostPictures, Same, SettledByTrials, countOf, countsOf, marksOf}
 use Rattle.theory_sensitivity.specs.Statement.{Steady}
 use Rattle.planner.specs.declared.Answer.{Answer}
 use Rattle.planner.specs.declared.Answer.the-variants.{Rows, Refused}
@@ -73,6 +73,10 @@ pub record OwnListCarries (j : Job) (choice : ℕ → ℕ) : Type 0 where
   pub passes : Keeps j (marksOf j choice) (ownList j choice)
   pub in-order : PlayingOrder j (ownList j choice)
   pub counted : (n : ℕ) → n < layers j → layerCount j (ownList j choice) n ≡ countOf j choice n
+  -- "One row per slot, chunk and layer", and "the planner hands them by slot, chunk, layer".
+  pub ascending : Ascending (ownList j choice)
+  -- "It has at most 5,599 rows."
+  pub few-rows : length (ownList j choice) ≤ 5599
 
 -- Request 9: where H is at least C "no passing list, in any order, then carries more bases. For
 -- equal sizes the marks are those of document 01, and that too is to be shown": there the plan is
@@ -91,6 +95,8 @@ pub record PlanPromise (h : JobInput) (lent : ListSlices) (r : Planned) (lent' :
   -- fetch list in playing order still keeps them all"; for bases that request 9 settles, `IsPlan`
   -- has the Moore-Hodgson algorithm instead.
   pub decided : jobRefusal h ≡ 0 → IsPlan (jobIn h) (plan (jobIn h))
+  -- There is no other plan.
+  pub only : jobRefusal h ≡ 0 → (other : ℕ → ℕ) → IsPlan (jobIn h) other → Same (jobIn h) other (plan (jobIn h))
   pub carried : jobRefusal h ≡ 0 → OwnListCarries (jobIn h) (plan (jobIn h))
   pub pictures : jobRefusal h ≡ 0 → Pictures (jobIn h) (plan (jobIn h))
   -- Demand 3: "Take any accepted job of equal chunks, whatever its layer sizes, forecast, deadlines
