@@ -15,7 +15,7 @@ use Rattle.fetch.specs.Rules.{Keeps, PlayingOrder}
 use Rattle.fetch.specs.Slices.{ListSlices, room}
 use Rattle.theory_plan.specs.Own.{Ascending, ownList}
 use Rattle.theory_plan.specs.Plan.{plan}
-use Rattle.theory_plan.specs.Statement.{BasesMooreHodgson, Best, IsPlan, MostPictures, Same, SettledByTrials, countOf, countsOf, marksOf}
+use Rattle.theory_plan.specs.Statement.{BasesMooreHodgson, Best, IsPlan, MostPictures, Same as SameChoice, SettledByTrials, countOf, countsOf, marksOf}
 use Rattle.theory_sensitivity.specs.Statement.{Steady}
 use Rattle.planner.specs.declared.Answer.{Answer}
 use Rattle.planner.specs.declared.Answer.the-variants.{Rows, Refused}
@@ -96,7 +96,7 @@ pub record PlanPromise (h : JobInput) (lent : ListSlices) (r : Planned) (lent' :
   -- has the Moore-Hodgson algorithm instead.
   pub decided : jobRefusal h ≡ 0 → IsPlan (jobIn h) (plan (jobIn h))
   -- There is no other plan.
-  pub only : jobRefusal h ≡ 0 → (other : ℕ → ℕ) → IsPlan (jobIn h) other → Same (jobIn h) other (plan (jobIn h))
+  pub only : jobRefusal h ≡ 0 → (other : ℕ → ℕ) → IsPlan (jobIn h) other → SameChoice (jobIn h) other (plan (jobIn h))
   pub carried : jobRefusal h ≡ 0 → OwnListCarries (jobIn h) (plan (jobIn h))
   pub pictures : jobRefusal h ≡ 0 → Pictures (jobIn h) (plan (jobIn h))
   -- Demand 3: "Take any accepted job of equal chunks, whatever its layer sizes, forecast, deadlines
