@@ -104,7 +104,9 @@ pub record PlanPromise (h : JobInput) (lent : ListSlices) (r : Planned) (lent' :
   pub decided : jobRefusal h ≡ 0 → IsPlan (jobIn h) (plan (jobIn h))
   -- There is no other plan.
   pub only : jobRefusal h ≡ 0 → (other : ℕ → ℕ) → IsPlan (jobIn h) other → SameChoice (jobIn h) other (plan (jobIn h))
+  -- The plan's own list, of uneven film too.
   pub carried : jobRefusal h ≡ 0 → OwnListCarries (jobIn h) (plan (jobIn h))
+  -- Request 9.
   pub pictures : jobRefusal h ≡ 0 → Pictures (jobIn h) (plan (jobIn h))
   -- Demand 3: "Take any accepted job of equal chunks, whatever its layer sizes, forecast, deadlines
   -- and buffer limit."
