@@ -1,6 +1,6 @@
 // The checker: document 01's verdict for any fetch list with its marks, and document 02's from a
 // slot on, whose rule 2 allows a short sum whose rows are all before that slot. At slot 1 the
-// second is the first. The tables and what they say of the rules are those of rules.
+// second is the first. The tables and what they say of the rules are those of core_rules.
 use job::Programme;
 use job::SIZES;
 use job::SUMS;

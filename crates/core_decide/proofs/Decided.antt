@@ -13,7 +13,6 @@ use Rattle.theory_plan.specs.lemmas.Ascending.{asc-within}
 use Rattle.theory_plan.specs.Plan.{byMooreHodgson, kept, plan, after}
 use Rattle.theory_plan.specs.lemmas.MooreHodgson.{kept-by-after}
 use Rattle.core_moore_hodgson.specs.lemmas.Tables.{KeptIn}
-use Rattle.theory_plan.specs.lemmas.Linear.{bases-kept, decided-is}
 use Rattle.theory_plan.specs.lemmas.Trials.{bases, markOf, keptAt, onLayers, based, decidedOn, keptBases, stacked}
 use Rattle.theory_plan.specs.lemmas.Parts.{at, padded, padded-long, part-small}
 use Rattle.core_decide.specs.lemmas.Decision.{keptOf, Sums, Slot, SumTable, basesIn, SettleLayersPre, SettleLayersPost, SettleKeptPre, Decides, SettleKeptPost, jobFrom, DecidePre, DecidePost}
@@ -22,6 +21,7 @@ use Rattle.theory_plan.specs.lemmas.Queue.{ones, releases, release-slots}
 use Rattle.theory_basics.specs.lemmas.Lists.{each-of-map}
 use Rattle.core_decide.proofs.Settle.{same-long, marks-of}
 use Rattle.theory_plan.specs.lemmas.Layers.{on-layers-take}
+use Rattle.theory_plan.specs.lemmas.Decided.{bases-kept, decided-is}
 
 -- ---- the start of the layers
 

@@ -45,8 +45,8 @@ planSlices marks slots chunks layers bytes counts =
 abbrev pub roomOf : PlanSlices → ListSlices
 roomOf lent = slicesOf (lent .marks) (lent .slots) (lent .chunks) (lent .layers) (lent .bytes)
 
--- A plan's marks, rows and counts at the start of the lent planSlices; on a refusal they are as
--- they were.
+-- A plan's marks, rows and counts at the start of the lent slices; on a refusal they are as they
+-- were.
 abbrev pub slicesAfter : ℕ → (marks : List ℕ) (rows : List Row) (counts : List ℕ) → PlanSlices → PlanSlices
 slicesAfter refused marks rows counts lent =
     record {
@@ -58,12 +58,15 @@ slicesAfter refused marks rows counts lent =
       counts = lentAfter refused counts (lent .counts);
     }
 
--- The answer, and the lent planSlices afterwards.
+-- What a call answers that hands over a plan.
 pub record Returned (refused : ℕ) (marks : List ℕ) (rows : List Row) (counts : List ℕ) (lent : PlanSlices) (r : ℕ) (lent' : PlanSlices) : Type 0 where
+  -- How many rows the plan has, or the refusal's number by the convention.
   pub number : r ≡ answered refused (length rows)
+  -- The marks, rows and counts, each then the old contents; on a refusal these alone.
   pub slices-are : lent' ≡ slicesAfter refused marks rows counts lent
 
--- The plan of a job,
+-- The plan of a job: what `film_plan` hands over. What holds of this plan is the promise of the
+-- library's call, planner/Answer.PlanPromise.
 abbrev pub PlanReturned : JobInput → (lent : PlanSlices) (r : ℕ) (lent' : PlanSlices) → Type 0
 PlanReturned h lent r lent' =
     Returned
@@ -75,7 +78,8 @@ PlanReturned h lent r lent' =
     r
     lent'
 
--- and the plan made afresh, its rows from slot p on.
+-- The plan made afresh, its rows from slot p on: what `film_replan` hands over. What holds of this
+-- plan is the promise of the library's call, replan/Answer.ReplanPromise.
 abbrev pub ReplanReturned : JobInput → ReplanInput → (lent : PlanSlices) (r : ℕ) (lent' : PlanSlices) → Type 0
 ReplanReturned h o lent r lent' =
     Returned
@@ -97,7 +101,10 @@ walkOf f = f .steps ∷ cond (f .ended) 1 0 ∷ f .shortfall ∷ []
 unfoldable pub withWalk : ℕ → (counts walk : List ℕ) → ℕ
 withWalk refused counts walk = refused orElse unless 11 (leb 4 (length counts) && leb 3 (length walk))
 
+-- What `film_search` hands over. What holds of this plan and of the walk is the promise of the
+-- library's call, search/Answer.SearchPromise.
 pub record SearchReturned (h : JobInput) (budget : ℕ) (lent : PlanSlices) (walk : List ℕ) (r : ℕ) (lent' : PlanSlices) (walk' : List ℕ) : Type 0 where
+  -- The plan over the set found: its number of rows, its marks, rows and counts.
   pub plan :
       Returned
       (withWalk (searchRefusal h budget (roomOf lent)) (lent .counts) walk)
@@ -107,6 +114,7 @@ pub record SearchReturned (h : JobInput) (budget : ℕ) (lent : PlanSlices) (wal
       lent
       r
       lent'
+  -- "The steps of that fixed walk actually taken, whether the walk ended .., and a shortfall."
   pub walk-is :
       walk' ≡ lentAfter (withWalk (searchRefusal h budget (roomOf lent)) (lent .counts) walk) (walkOf (found (jobIn h) budget)) walk
 

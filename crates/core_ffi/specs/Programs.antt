@@ -1,7 +1,7 @@
 -- Meaning. The programs' work for callers in C or Rust who have files: whole files in, the number
 -- of bytes of the plan file, the report, the reasons or the job file out, and these in front of
 -- what the lent slice held; of two files the verdict. Refusals, texts and their order are those of
--- crate programs: what comes from the files, then 11.
+-- crate whole_files: what comes from the files, then 11.
 use Prim.Native.Nat.{ℕ}
 use mathlib.Core.Path.{_≡_}
 use mathlib.Core.List.{List}
@@ -16,9 +16,11 @@ use Rattle.whole_files.specs.Calls.{withRoom}
 use Rattle.whole_files.specs.Files.{filesRefusal, jobFileRefusal, jobSaid, planOfJob, verdictOfFiles}
 use Rattle.core_ffi.specs.Convention.{answered}
 
--- The answer, and the lent slice afterwards.
+-- What a call answers that hands over a text.
 pub record TextHanded (refused : ℕ) (text old : List ℕ) (r : ℕ) (new : List ℕ) : Type 0 where
+  -- How many bytes the text has, or the refusal's number by the convention.
   pub number : r ≡ answered (withRoom refused text old) (length text)
+  -- The text, then what the slice held; on a refusal that alone.
   pub buffer : new ≡ lentAfter (withRoom refused text old) text old
 
 abbrev pub PlanOfFile : (job old : List ℕ) (r : ℕ) (new : List ℕ) → Type 0

@@ -2,7 +2,7 @@
 -- nothing.
 use Prim.Native.Nat.{ℕ, zero, suc, _*_, _-_, _/_, _%_, _^_, _<_}
 use mathlib.Core.Path.{_≡_, refl, sym, ap, _∙_}
-use mathlib.Core.Bool.{Bool, true, false, not, cond, _&&_, _||_}
+use mathlib.Core.Bool.{Bool, not, cond, _&&_, _||_, or-comm, and-comm}
 use native.Mathlib.Omega.{arith}
 use lib.Bits.{bitAnd, bitOr, or-shr, or-mod, or-lt, and-shr, and-mod, and-lt}
 use lib.Dec.{T, eqb, eqb→eq}
@@ -47,28 +47,16 @@ eight f q t n k h l =
 abbrev one : ℕ → ℕ
 one n = 1 * 2 ^ n % 256
 
-or-swap : (a b : Bool) → a || b ≡ b || a
-or-swap true true = refl
-or-swap true false = refl
-or-swap false true = refl
-or-swap false false = refl
-
-and-swap : (a b : Bool) → a && b ≡ b && a
-and-swap true true = refl
-and-swap true false = refl
-and-swap false true = refl
-and-swap false false = refl
-
 pub with-is : (m n : ℕ) → m < 256 → n < 8 → bitOr m (one n) ≡ withLayer m n
 with-is m n l h =
     same-bits (bitOr m (one n)) (withLayer m n) 8
     (or-lt 8 m (one n) l (omega arith))
     (with-lt m n)
-    (λ k u. or-bit m (one n) k ∙ ap (λ (b : Bool). bit m k || b) (eight one (λ b. b) tt n k h u) ∙ or-swap (bit m k) (eqb k n) ∙ sym (with-bit m n k u))
+    (λ k u. or-bit m (one n) k ∙ ap (λ (b : Bool). bit m k || b) (eight one (λ b. b) tt n k h u) ∙ or-comm (bit m k) (eqb k n) ∙ sym (with-bit m n k u))
 
 pub without-is : (m n : ℕ) → m < 256 → n < 8 → bitAnd m (255 - one n) ≡ withoutLayer m n
 without-is m n l h =
     same-bits (bitAnd m (255 - one n)) (withoutLayer m n) 8
     (and-lt 8 m (255 - one n) l (omega arith))
     (without-lt m n)
-    (λ k u. and-bit m (255 - one n) k ∙ ap (λ (b : Bool). bit m k && b) (eight (λ i. 255 - one i) not tt n k h u) ∙ and-swap (bit m k) (not (eqb k n)) ∙ sym (without-bit m n k u))
+    (λ k u. and-bit m (255 - one n) k ∙ ap (λ (b : Bool). bit m k && b) (eight (λ i. 255 - one i) not tt n k h u) ∙ and-comm (bit m k) (not (eqb k n)) ∙ sym (without-bit m n k u))

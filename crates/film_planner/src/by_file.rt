@@ -2,6 +2,7 @@
 ghost use mathlib.Core.Path.{_≡_};
 ghost use Rattle.core_ffi.specs.Programs.{ConvertedFile, PlanOfFile, ReasonsOfFile, ReportOfFile, verdictAnswer};
 
+// `whole_files::plan_file` for C.
 #[no_mangle]
 pub extern "C" fn film_plan_file(job: &[u8], out: &mut [u8]) -> u64
     ensures { λ r. ⌜ PlanOfFile (now (job .entry)) (now (out .entry)) r (now (out .exit)) ⌝ }
@@ -9,6 +10,7 @@ pub extern "C" fn film_plan_file(job: &[u8], out: &mut [u8]) -> u64
     core_ffi::written_number(whole_files::plan_file(job, out))
 }
 
+// `whole_files::verdict_files` for C.
 #[no_mangle]
 pub extern "C" fn film_verdict_files(job: &[u8], plan: &[u8]) -> u64
     ensures { λ r. ⌜ r ≡ verdictAnswer (now (job .entry)) (now (plan .entry)) ⌝ }
@@ -16,6 +18,7 @@ pub extern "C" fn film_verdict_files(job: &[u8], plan: &[u8]) -> u64
     core_ffi::verdict_number(whole_files::verdict_files(job, plan))
 }
 
+// `whole_files::report_file` for C.
 #[no_mangle]
 pub extern "C" fn film_report_file(job: &[u8], out: &mut [u8]) -> u64
     ensures { λ r. ⌜ ReportOfFile (now (job .entry)) (now (out .entry)) r (now (out .exit)) ⌝ }
@@ -23,6 +26,7 @@ pub extern "C" fn film_report_file(job: &[u8], out: &mut [u8]) -> u64
     core_ffi::written_number(whole_files::report_file(job, out))
 }
 
+// `whole_files::reasons_file` for C.
 #[no_mangle]
 pub extern "C" fn film_reasons_file(job: &[u8], out: &mut [u8]) -> u64
     ensures { λ r. ⌜ ReasonsOfFile (now (job .entry)) (now (out .entry)) r (now (out .exit)) ⌝ }
@@ -30,6 +34,7 @@ pub extern "C" fn film_reasons_file(job: &[u8], out: &mut [u8]) -> u64
     core_ffi::written_number(whole_files::reasons_file(job, out))
 }
 
+// `whole_files::convert_file` for C.
 #[no_mangle]
 pub extern "C" fn film_convert_file(job: &[u8], out: &mut [u8]) -> u64
     ensures { λ r. ⌜ ConvertedFile (now (job .entry)) (now (out .entry)) r (now (out .exit)) ⌝ }

@@ -289,20 +289,29 @@ fn comes_before(c: u16, l: u8, chunk: u16, layer: u8) -> bool
 }
 
 // An SZ that is in order: its chunk after the first and its layer, both in the job, its size in
-// range and not the layer's own, and it comes after layer l of chunk c, the one before it.
+// range and not the layer's own, and it comes after layer l of chunk c, the one before it. By
+// branches: a job can have 1,996 of them.
 fn in_order(p: Programme, sizes: &[u32], c: u16, l: u8, chunk: u16, layer: u8, size: u32) -> bool
     ensures { λ r. ⌜ r ≡ (named p (now (sizes .entry)) (record { chunk = chunk; layer = layer; bytes = size })
         && sized (record { chunk = chunk; layer = layer; bytes = size }))
         && comes c l chunk layer ⌝ }
 {
     let n = layer as usize;
-    let own = own_size(sizes, n);
+    if sizes.len() <= n {
+        return false;
+    }
+    if size == sizes[n] {
+        return false;
+    }
     let film = is_within(2, p.chunks as u32, chunk as u32);
-    let named = both(film, both(n < sizes.len(), size != own));
-    both(
-        both(named, is_within(1, MOST_BYTES, size)),
-        comes_before(c, l, chunk, layer),
-    )
+    if !film {
+        return false;
+    }
+    let fits = is_within(1, MOST_BYTES, size);
+    if !fits {
+        return false;
+    }
+    comes_before(c, l, chunk, layer)
 }
 
 // 18: an SZ's numbers, in one pass over the three slices.

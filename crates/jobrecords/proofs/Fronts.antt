@@ -11,12 +11,13 @@ use lib.Dec.{leb, eqb, eqb→eq}
 use borrow.Author.Tests.{le-leb, lt-leb}
 use Rattle.theory_basics.specs.lemmas.Tests.{and-T}
 use Rattle.records.specs.Fields.{hAt, wAt, marked}
+use Rattle.job.specs.declared.Programme.{Programme}
 use Rattle.jobrecords.specs.declared.Record.{Record}
 use Rattle.jobrecords.specs.declared.Record.the-variants.{Pg, Ly, Sz, Bw, En}
 use Rattle.jobrecords.specs.declared.Read.the-variants.{Got, Refused}
 use Rattle.jobrecords.specs.Records.{PG, LY, SZ, BW, EN, whole, programmeAt, layerAt, overrideAt, runAt, byMark, front}
 use Rattle.jobrecords.specs.Reader.{readFront, readAt}
-use Rattle.jobrecords.specs.lemmas.Reading.{readWhole, lastMark}
+use Rattle.jobrecords.specs.lemmas.Reading.{readWhole, programmeOn, lastMark}
 
 -- What a test on a call's result says of what the call ensures.
 pub known : {r x b : Bool} → r ≡ x → r ≡ b → x ≡ b
@@ -81,8 +82,8 @@ module _ (q : Bool) (s : List ℕ) (at : ℕ) where
     unfolding front
     front-is = rw (le-leb 2 (length s) l)
 
-    pub programme-read : marked PG s ≡ true → (a b d e : ℕ) → a ≡ hAt s 2 → b ≡ hAt s 4 → d ≡ hAt s 6 → e ≡ hAt s 8 → readWhole (length s) 10 (Pg (record { chunks = a; span = b; delay = d; limit = e })) at ≡ readFront at (front q s)
-    programme-read p a b d e u v w x = rw (front-is, p, u, v, w, x) (sym (read-whole s at 10 (programmeAt s) (leb 10 (length s)) refl))
+    pub programme-read : marked PG s ≡ true → (x : Programme) → x ≡ programmeOn s → readWhole (length s) 10 (Pg x) at ≡ readFront at (front q s)
+    programme-read p x u = rw (front-is, p, u) (sym (read-whole s at 10 (programmeAt s) (leb 10 (length s)) refl))
 
     module _ (p : marked PG s ≡ false) where
       pub layer-read : marked LY s ≡ true → (x : ℕ) → x ≡ wAt s 2 → readWhole (length s) 6 (Ly x) at ≡ readFront at (front q s)

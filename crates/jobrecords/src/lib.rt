@@ -1,8 +1,8 @@
 // Records of job files, and the reading of a file of either form into lent buffers that a refusal
 // leaves as they are: document 02's files, in one sequence, and document 01's mixed ones. A record
-// is read, judged and taken a turn, with the sound runs or SZs that follow it; sizes and slots stand
-// in tables until every refusal has been ruled out. The SZs stand in the file one after the other,
-// so only their number and the place after them are kept.
+// is read, judged and taken a turn, with the sound runs or SZs that follow it; sizes and slots
+// stand in tables until every refusal has been ruled out. The SZs stand in the file one after the
+// other, so only their number and the place after them are kept.
 ghost use mathlib.Core.Path.{_≡_};
 ghost use Prim.Native.Nat.{_+_, _*_, _≤_, _<_};
 ghost use lib.ListN.{length, replicate, take, drop};
@@ -16,7 +16,8 @@ ghost use Rattle.job.specs.Input.{overrideChunks, overrideLayers, overrideBytes
 ghost use Rattle.records.specs.Fields.{marked};
 ghost use Rattle.jobrecords.specs.Records.{SZ, front, isEnd};
 ghost use Rattle.jobrecords.specs.Refusal.{layerFault, runFault};
-ghost use Rattle.jobrecords.specs.lemmas.Reading.{noRecords, readWhole, lastMark, runFollows, faultAfter};
+ghost use Rattle.jobrecords.specs.lemmas.Reading.{noRecords, readWhole, programmeOn, lastMark, runFollows};
+ghost use Rattle.jobrecords.specs.lemmas.Reading.{faultAfter};
 ghost use Rattle.jobrecords.specs.lemmas.Reading.{overridesOn, endRefusal, endedBy, readRefusalOf, endRefusalOf};
 ghost use Rattle.jobrecords.specs.lemmas.Reading.{Inside, Sized, Room, Fine, TakeRecordPost, OneStepPre};
 ghost use Rattle.jobrecords.specs.lemmas.Reading.{OneStepPost, ReadAllPost, roomBy};
@@ -119,6 +120,18 @@ fn override_in(rest: &[u8], at: usize) -> Read
     Read::Refused(2)
 }
 
+// The programme of a PG in front of some bytes.
+fn programme_in(rest: &[u8]) -> Programme
+    ensures { λ r. ⌜ r ≡ programmeOn (now (rest .entry)) ⌝ }
+{
+    Programme {
+        chunks: records::h_at(rest, 2),
+        span: records::h_at(rest, 4),
+        delay: records::h_at(rest, 6),
+        limit: records::h_at(rest, 8),
+    }
+}
+
 // The record in front of the bytes that start at a place.
 fn record_in(sequenced: bool, rest: &[u8], at: usize) -> Read
     requires { ⌜ at + length (now rest) < 18446744073709551616 ⌝ }
@@ -129,12 +142,7 @@ fn record_in(sequenced: bool, rest: &[u8], at: usize) -> Read
         return Read::Refused(1);
     }
     if records::is_mark(rest, 0, b"PG") {
-        let p = Programme {
-            chunks: records::h_at(rest, 2),
-            span: records::h_at(rest, 4),
-            delay: records::h_at(rest, 6),
-            limit: records::h_at(rest, 8),
-        };
+        let p = programme_in(rest);
         return whole(left, 10, Record::Pg(p), at);
     }
     if records::is_mark(rest, 0, b"LY") {
@@ -506,8 +514,8 @@ fn refusal_of(read: Read) -> u8
     }
 }
 
-// The run at a place, after another of the bytes `last` and so many slots: one that has its mark, its
-// whole body and no fault. What else stands there is judged by `one_step`.
+// The run at a place, after another of the bytes `last` and so many slots: one that has its mark,
+// its whole body and no fault. What else stands there is judged by `one_step`.
 fn sound_run(file: &[u8], at: usize, slots: usize, last: u32) -> Run
     requires { ⌜ (at ≤ length (now file)) × (slots ≤ 3600) ⌝ }
     ensures { λ r. ⌜ SoundRunPost (now (file .entry)) at slots last r ⌝ }
@@ -529,8 +537,8 @@ fn sound_run(file: &[u8], at: usize, slots: usize, last: u32) -> Run
     Run::Sound(count, bytes)
 }
 
-// After a run: every sound run that follows. A loop on three numbers, since a file can have 3,600 of
-// them.
+// After a run: every sound run that follows. A loop on three numbers, since a file can have 3,600
+// of them.
 fn take_runs(file: &[u8], from: usize, j: Progress, slots: &mut [u32]) -> Step
     requires { ⌜ Reached (now file) from j × (length (now slots) ≡ 3600) × (j .place ≡ 4) ⌝ }
     ensures { λ r. ⌜ TakeRunsPost (now (file .entry)) from j (now (slots .entry)) r (now (slots .exit)) ⌝ }
@@ -577,8 +585,8 @@ fn take_overrides(file: &[u8], from: usize, j: Progress) -> Step
     Step::On(with_overrides(j, n, at), at)
 }
 
-// On from a place after a record that was taken: with the sound runs after a run, with the SZs after
-// an SZ.
+// On from a place after a record that was taken: with the sound runs after a run, with the SZs
+// after an SZ.
 fn go_on(sequenced: bool, file: &[u8], from: usize, j: Progress, slots: &mut [u32]) -> Step
     requires { ⌜ Reached (now file) from j × (length (now slots) ≡ 3600) ⌝ }
     ensures { λ r. ⌜ GoesOn sequenced (now (file .entry)) from j (now (slots .entry)) r (now (slots .exit)) ⌝ }

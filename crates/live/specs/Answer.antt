@@ -71,10 +71,12 @@ refusal i l = inputRefusal i orElse unless 11 (holds (pieces i) l)
 
 -- ---- what is handed over
 
--- How many pieces, or the refusal's number; and what stands in the lent slices: the pieces, then
--- the old contents, on a refusal the old contents alone.
+-- What is answered, and what stands in the lent slices.
 pub record LiveOutput (refused : ℕ) (ps : List Piece) (l : PieceSlices) (r : Answer) (l′ : PieceSlices) : Type 0 where
+  -- How many pieces, or the refusal's number.
   pub answer : r ≡ cond (eqb refused 0) (Pieces (length ps)) (Refused refused)
+  -- The pieces, a slice for each of their three numbers, then the old contents; on a refusal these
+  -- alone.
   pub chunks-are : l′ .chunks ≡ lentAfter refused (map pieceChunk ps) (l .chunks)
   pub layers-are : l′ .layers ≡ lentAfter refused (map pieceLayer ps) (l .layers)
   pub bytes-are : l′ .bytes ≡ lentAfter refused (map pieceBytes ps) (l .bytes)
@@ -85,9 +87,9 @@ pub record LivePromise (i : LiveInput) (l : PieceSlices) (r : Answer) (l′ : Pi
   pub output : LiveOutput (refusal i l) (pieces i) l r l′
   -- "At most 2,000 pieces."
   pub few : inputRefusal i ≡ 0 → length (pieces i) ≤ 2000
-  -- "For every x, the rows fetched and the first x bytes of the asks as rows of slot p keep what
-  -- planning afresh asks of handed rows at p + 1", for any forecast from p on with at least x in
-  -- slot p.
+  -- "Safe whatever comes": for every slot p before d(C), every x, and every forecast from p on with
+  -- at least x in slot p, the rows fetched and the first x bytes of the asks as rows of slot p keep
+  -- what planning afresh asks of handed rows at p + 1.
   pub safe :
       inputRefusal i ≡ 0 → i .slot < lastSlot (jobIn (i .job)) → (onward : List ℕ) (x : ℕ) →
       x ≤ forecast (joined (jobIn (i .job)) (i .slot) onward) (i .slot) →

@@ -1,6 +1,7 @@
 // What to fetch next in a slot of the act, whatever the link brings: from the rows fetched before
 // the slot and a rate, the pieces to ask the link for, one after the other, as far as the slot
-// goes. A desk that asks so from slot 1 on is never refused.
+// goes. A desk that asks so from slot 1 to d(C) on an accepted job is refused neither by 21 nor by
+// 22, as long as the forecast that it hands of each slot gone covers what that slot brought.
 use job::CHUNKS;
 use job::Programme;
 use job::SIZES;

@@ -1,6 +1,7 @@
 pub mod Meter
 pub mod Forecast
 pub mod Harmonic
+pub mod Calls
 pub mod Edges
 pub mod Promises
 pub mod Kept

@@ -1,7 +1,7 @@
 -- Theorems. What the definitions of the meter promise: document 01, "Link meter", refusals 10, 12
 -- and 13.
 use Prim.Native.Nat.{ℕ, _+_, _*_, _-_, _/_, _^_, _≤_, _<_}
-use mathlib.Core.Path.{_≡_, refl, sym, ap, subst}
+use mathlib.Core.Path.{_≡_, refl, sym, ap, subst, _∙_}
 use mathlib.Core.Bool.{true}
 use mathlib.Core.List.{List, [], _∷_, _++_}
 use mathlib.Core.Logic.{_⊎_, ⊎-elim, _↔_}
@@ -14,10 +14,12 @@ use Rattle.theory_basics.specs.Tests.{In, any}
 use Rattle.theory_basics.specs.Refusals.{unless, _orElse_}
 use Rattle.theory_basics.specs.lemmas.Refusals.{unless-as, orElse-as}
 use Rattle.meter.specs.declared.Meter.{Meter}
+use Rattle.meter.specs.declared.Answer.{Answer}
 use Rattle.meter.specs.declared.Answer.the-variants.{Bytes, Refused}
 use Rattle.meter.specs.Meter.{Sample, sample, samplesOf, empty, SampleInRange, inRange, lastSampleSlot, InOrder, inOrder, lastTen, sampleRefusal, meterRefusal, lateRefusal, takeRefusal, with-sample, taken}
 use Rattle.meter.specs.Forecast.{bytesOf, isZero, meanOf, forecastOf, meterForecastRefusal, answerOf}
-use Rattle.meter.specs.Harmonic.{product, NotAbove, WholePart}
+use Rattle.meter.specs.Harmonic.{product, WholePart}
+use Rattle.meter.specs.Calls.{ForecastPromise, Forecasts}
 use Rattle.meter.specs.lemmas.Mean.{others, of-whole, under-not-above, whole-of, mean-high, mean-some, mean-not-above, mean-near, whole-part, others-pos, zero-in, counts, one-less-at-most}
 use Rattle.meter.specs.lemmas.Steady.{power-steady, other-steady}
 use Rattle.meter.specs.lemmas.Order.{in-range-iff, in-order-iff, ten-first, then-after, Fine, fine-snoc, last-ten-in-order, stored-samples}
@@ -120,15 +122,6 @@ module _ (m : Meter) (slot bytes : ℕ) where
 
 -- ---- "the meter's forecast" is that of document 01, rounded as request 3 of document 02 says
 
--- "Its forecast is 0 if one of them is 0." "The meter's promise becomes the whole part of the exact
--- harmonic mean or one less, and never more." A forecast is itself within the range of a job's.
-pub record Forecasts (bs : List ℕ) (f : ℕ) : Type 0 where
-  pub zero-if : In 0 bs → f ≡ 0
-  pub mean-or-one-less : (In 0 bs → ⊥) → (h : ℕ) → WholePart bs h → (f ≡ h) ⊎ (f + 1 ≡ h)
-  pub never-more : NotAbove f bs
-  pub some-if : (In 0 bs → ⊥) → 1 ≤ f
-  pub high : f ≤ 16777216
-
 pub forecast-says : (l : List Sample) → InOrder l → 0 < length l → Forecasts (bytesOf l) (forecastOf (bytesOf l))
 unfolding forecastOf
 forecast-says l o some =
@@ -174,6 +167,10 @@ answer-says m f e =
 
     not-both : (a b : ℕ) → Refused a ≡ Bytes b → ⊥
     not-both a b e = let z : _≡_ {A = ℕ} 0 1 = cc in omega arith
+
+-- So does the call, with the rest of its promise.
+pub forecast-promise : (m : Meter) (r : Answer) → r ≡ answerOf m → ForecastPromise m r
+forecast-promise m r e = record { answer = e; says = λ f b. answer-says m f (sym e ∙ b) }
 
 -- The exact mean has a whole part.
 pub has-whole-part : (l : List Sample) → InOrder l → 0 < length l → (In 0 (bytesOf l) → ⊥) → (h : ℕ) × WholePart (bytesOf l) h

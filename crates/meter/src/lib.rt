@@ -5,7 +5,8 @@ ghost use mathlib.Core.Path.{_≡_};
 ghost use Prim.Native.Nat.{_≤_, _<_};
 ghost use lib.ListN.{length};
 ghost use Rattle.meter.specs.lemmas.Cells.{nextCells};
-ghost use Rattle.meter.specs.Forecast.{share, bytesOf, forecastOf, answerOf};
+ghost use Rattle.meter.specs.Forecast.{share, bytesOf, forecastOf};
+ghost use Rattle.meter.specs.Calls.{ForecastPromise};
 ghost use Rattle.meter.specs.Meter.{sample, samplesOf, storing, empty, inRange, inOrder, lastSampleSlot};
 ghost use Rattle.meter.specs.Meter.{with-sample, taken, InOrder, Updated};
 
@@ -185,7 +186,7 @@ pub fn take(m: Meter, slot: u16, bytes: u32) -> Taken
 
 // The forecast by value: the bytes of a slot, or the refusal, 10 or 12.
 pub fn forecast(m: Meter) -> Answer
-    ensures { λ r. ⌜ r ≡ answerOf m ⌝ }
+    ensures { λ r. ⌜ ForecastPromise m r ⌝ }
 {
     if !in_order(m) {
         return Answer::Refused(10);

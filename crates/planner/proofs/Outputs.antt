@@ -21,7 +21,7 @@ use Rattle.theory_plan.specs.Statement.{IsPlan}
 use Rattle.theory_plan.specs.lemmas.Level.{count-carried}
 use Rattle.theory_plan.specs.lemmas.Plan.{plan-choice, plan-fits}
 use Rattle.theory_plan.specs.lemmas.Words.{accepted-sized}
-use Rattle.theory_plan.specs.Theorems.{best, elsewhere-iff, plan-carried, plan-exists}
+use Rattle.theory_plan.specs.Theorems.{best, elsewhere-iff, own-list-ascending, plan-carried, plan-exists, plan-rows-few, plan-unique}
 use Rattle.theory_plan.specs.Pictures.{most-pictures, plan-moore-hodgson}
 use Rattle.core_decide.specs.lemmas.Decision.{Decides}
 use Rattle.core_slices.specs.lemmas.Slices.{Result, rowsHold, Stands}
@@ -191,7 +191,13 @@ module _ (h : JobInput) (z : jobRefusal h ≡ 0) where
   own-list-carries : OwnListCarries k (plan k)
   own-list-carries =
       let c = plan-carried k (accepted-sized k (accepted h z)) (plan k) is-plan in
-      record { passes = c .0; in-order = c .1; counted = count-carried k (ownList k (plan k)) (plan k) (c .2) }
+      record {
+        passes = c .0;
+        in-order = c .1;
+        counted = count-carried k (ownList k (plan k)) (plan k) (c .2);
+        ascending = own-list-ascending k (plan k);
+        few-rows = plan-rows-few k (accepted h z);
+      }
 
   pictures : Pictures k (plan k)
   pictures =
@@ -208,6 +214,7 @@ promise-of {h} x =
     record {
       output = x;
       decided = is-plan h;
+      only = λ z other p. plan-unique (jobIn h) other (plan (jobIn h)) p (is-plan h z);
       carried = own-list-carries h;
       pictures = pictures h;
       best = λ z equal. best (jobIn h) (accepted h z) equal (plan (jobIn h)) (is-plan h z);

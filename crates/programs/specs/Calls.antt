@@ -7,9 +7,11 @@ use lib.ListN.{length}
 use Rattle.theory_basics.specs.Lent.{over}
 use Rattle.programs.specs.Printed.{planPrinted, verdictPrinted, reportPrinted, reasonsPrinted, convertPrinted}
 
--- The number of bytes of a text, and the text in front of what the buffer held.
+-- What a function answers that prints a text.
 pub record Prints (text old : List ℕ) (count : ℕ) (new : List ℕ) : Type 0 where
+  -- How many bytes are to be printed.
   pub counted : count ≡ length text
+  -- They are the text, in front of what the buffer held.
   pub buffer : new ≡ over text old
 
 -- The two files that `film_verdict` reads.

@@ -1,7 +1,7 @@
 -- Meaning. What the call of request 14 answers, and the lent buffer afterwards: document 01,
--- "Direct calls without files check 5, 6, 7", with document 02's 18 before 7, then 11 where "a lent
--- buffer is shorter than the whole result. In a longer one the bytes past the result stay
--- unchanged." The lines are printed text and no file, so 9 does not apply.
+-- "Direct calls without files check 5, 6, 7", with document 02's 18 before 7, then 11: "A lent
+-- buffer is shorter than the whole result, after all input refusals. In a longer one the bytes past
+-- the result stay unchanged." The lines are printed text and no file, so 9 does not apply.
 use Prim.Native.Nat.{ℕ}
 use mathlib.Core.Path.{_≡_}
 use mathlib.Core.Bool.{cond}
@@ -31,21 +31,27 @@ refusal h out = jobRefusal h orElse unless 11 (leb (length (planText (jobIn h)))
 
 -- ---- what the text says
 
--- A line of the first kind is a true reason: the stretch that it names needs more than it carries,
--- and what it is held against no passing list in playing order carries.
+-- A line of the first kind is a true reason.
 pub record TrueReason (j : Job) (choice : ℕ → ℕ) (first last : ℕ) : Type 0 where
+  -- "Need exceeds carry" in the stretch that it names,
   pub short : Short j choice first last
+  -- and no passing list in playing order carries just this layer and those it is held against.
   pub never : CanCarry j choice → ⊥
 
 abbrev pub TrueLine : Job → (ℕ → ℕ) → Line → Type 0
 TrueLine j p (short i n first last carried needed) = TrueReason j (against j p i n) first last
 TrueLine j p (lower i n below) = Unit {0}
 
--- Of a plan of the job the lines, and they alone; each of the first kind is a true reason.
+-- What holds of a plan of the job.
 pub record OfPlan (j : Job) (p : ℕ → ℕ) : Type 0 where
+  -- There are lines,
   pub lines : List Line
+  -- which alone are those that request 14 asks for: "by chunk and then layer, for each layer of the
+  -- job that its plan doesn't carry (for bases settled by request 9, against all bases kept)";
   pub reasons : (ls : List Line) → Reasons j p (against j p) ls ↔ (ls ≡ lines)
+  -- they are what is printed;
   pub text : planText j ≡ reasonsText lines
+  -- and each of the first kind is a true reason.
   pub are-true : All (TrueLine j p) lines
 
 abbrev pub LinesOfPlan : JobInput → Type 0

@@ -85,9 +85,13 @@ countsOn h o l = cond (eqb (refusalOn h o l) 0) (countsOf (jobOn h o) (planAfres
 -- And what stands in the lent slices: the result, then the old contents; on a refusal the old
 -- contents alone.
 pub record ReplanOutput (h : JobInput) (o : ReplanInput) (lent : ListSlices) (r : Planned) (lent' : ListSlices) : Type 0 where
+  -- "Only the rows from p on": how many, or the refusal's number.
   pub answer : r .answer ≡ answerOn h o lent
+  -- "The counts"; zeros beside a refusal.
   pub counts : r .counts ≡ countsOn h o lent
+  -- "The marks".
   pub marks-are : lent' .marks ≡ lentAfter (refusalOn h o lent) (marksOf (jobOn h o) (planAfresh h o)) (lent .marks)
+  -- The rows from p on, "listed in document 01's way": a slice for each of their four numbers.
   pub slots-are : lent' .slots ≡ lentAfter (refusalOn h o lent) (map rowSlot (rowsOn h o)) (lent .slots)
   pub chunks-are : lent' .chunks ≡ lentAfter (refusalOn h o lent) (map rowChunk (rowsOn h o)) (lent .chunks)
   pub layers-are : lent' .layers ≡ lentAfter (refusalOn h o lent) (map rowLayer (rowsOn h o)) (lent .layers)
@@ -95,10 +99,12 @@ pub record ReplanOutput (h : JobInput) (o : ReplanInput) (lent : ListSlices) (r 
 
 -- ---- what holds of it
 
--- The plan made afresh is settled by lists that begin with the rows fetched, and there is no other
--- (theory_replan, Desk); "together with the handed rows they pass that call".
+-- The plan made afresh is settled as request 12 says, and there is no other (theory_replan, Desk).
 pub record Settled (h : JobInput) (o : ReplanInput) : Type 0 where
+  -- "Layers whole before p are carried. Chunks due before p are settled by what they have. Others
+  -- are settled as in document 01, bases too, over lists that begin with the rows fetched."
   pub replans : Replans (jobOn h o) (o .from) (fetched o) (planAfresh h o)
+  -- The rows from p on: "together with the handed rows they pass that call."
   pub passes : verdictFrom (jobOn h o) (o .from) (marksOf (jobOn h o) (planAfresh h o)) (fetched o ++ rowsOn h o) ≡ 0
 
 abbrev pub SettledAfresh : JobInput → ReplanInput → Type 0
@@ -108,8 +114,11 @@ SettledAfresh h o = inputRefusal h o ≡ 0 → Settled h o
 -- all its own before p and the forecast hasn't changed, the new rows are exactly the rest of that
 -- plan": whoever it is settled by, in whatever order its rows are handed.
 pub record GoesOn (h : JobInput) (o : ReplanInput) (q : ℕ → ℕ) : Type 0 where
+  -- Neither 21, 7 nor 22 refuses what is handed on.
   pub accepted : replanRefusal (jobIn h) (o .from) (fetched o) (o .onward) ≡ 0
+  -- The plan made afresh is the standing one,
   pub same : Same (jobIn h) (planAfresh h o) q
+  -- and "the new rows are exactly the rest of that plan."
   pub rest : rowsOn h o ≡ rowsFrom (o .from) (ownList (jobIn h) q)
 
 abbrev pub StandingGoesOn : JobInput → ReplanInput → Type 0
@@ -122,8 +131,9 @@ pub record ReplanPromise (h : JobInput) (o : ReplanInput) (lent : ListSlices) (r
   -- "The result is the marks, the counts and only the rows from p on", or the refusal's number;
   -- every lent byte, on a refusal too.
   pub output : ReplanOutput h o lent r lent'
-  -- "Layers are settled as in document 01, over lists that begin with the handed rows"; "together
-  -- with the handed rows they pass that call".
+  -- "Layers whole before p are carried. Chunks due before p are settled by what they have. Others
+  -- are settled as in document 01, bases too, over lists that begin with the rows fetched."
+  -- "Together with the handed rows they pass that call."
   pub settled : SettledAfresh h o
   -- "The new rows are exactly the rest of that plan."
   pub standing : StandingGoesOn h o

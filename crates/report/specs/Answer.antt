@@ -1,7 +1,7 @@
 -- Meaning, then its theorems. What the report call answers, and the lent buffer afterwards:
--- document 01, "Direct calls without files check 5, 6, 7", with document 02's 18 before 7, then 11
--- where "a lent buffer is shorter than the whole result. In a longer one the bytes past the result
--- stay unchanged."
+-- document 01, "Direct calls without files check 5, 6, 7", with document 02's 18 before 7, then 11:
+-- "A lent buffer is shorter than the whole result, after all input refusals. In a longer one the
+-- bytes past the result stay unchanged."
 use Prim.Native.Nat.{ℕ, _≤_}
 use mathlib.Core.Path.{_≡_, ap}
 use mathlib.Core.Bool.{cond}

@@ -62,13 +62,22 @@ searchCounts h budget l = cond (given h budget l) (countsOf (jobIn h) (planFound
 abbrev pub sliceAfter : JobInput → ℕ → ListSlices → List ℕ → List ℕ → List ℕ
 sliceAfter h budget l result old = lentAfter (searchRefusal h budget l) result old
 
+-- What is answered, and what stands in the lent slices.
 pub record SearchOutput (h : JobInput) (budget : ℕ) (lent : ListSlices) (r : Searched) (lent' : ListSlices) : Type 0 where
+  -- How many rows "that plan" has, or the refusal's number.
   pub answer : r .answer ≡ answerOf h budget lent
+  -- Its counts, in "document 01's way"; zeros beside a refusal.
   pub counts : r .counts ≡ searchCounts h budget lent
+  -- "The steps of that fixed walk actually taken,
   pub steps : r .steps ≡ cond (given h budget lent) (found (jobIn h) budget .steps) 0
+  -- whether the walk ended (also yes if its last step spends the budget),
   pub ended : r .ended ≡ cond (given h budget lent) (found (jobIn h) budget .ended) false
+  -- and a shortfall."
   pub shortfall : r .shortfall ≡ cond (given h budget lent) (found (jobIn h) budget .shortfall) 0
+  -- "The best set met, that of most chunks, first met among equals", as bit 0 of the marks, and the
+  -- plan's upper layers above it.
   pub marks-are : lent' .marks ≡ sliceAfter h budget lent (marksOf (jobIn h) (planFound (jobIn h) budget)) (lent .marks)
+  -- The plan's rows, a slice for each of their four numbers.
   pub slots-are : lent' .slots ≡ sliceAfter h budget lent (map rowSlot (rowsFound (jobIn h) budget)) (lent .slots)
   pub chunks-are : lent' .chunks ≡ sliceAfter h budget lent (map rowChunk (rowsFound (jobIn h) budget)) (lent .chunks)
   pub layers-are : lent' .layers ≡ sliceAfter h budget lent (map rowLayer (rowsFound (jobIn h) budget)) (lent .layers)
@@ -76,13 +85,17 @@ pub record SearchOutput (h : JobInput) (budget : ℕ) (lent : ListSlices) (r : S
 
 -- ---- what holds of it
 
--- What is found is what the walk cut at the budget says, and nothing else is; the plan is the one
--- over that set, and there is no other; and the set stands in bit 0 of the marks.
+-- What is found, and the plan over it.
 pub record Walks (j : Job) (budget : ℕ) : Type 0 where
+  -- It is what the walk cut at the budget says: set, steps, whether it ended, shortfall;
   pub is-found : IsFound j budget (found j budget)
+  -- and nothing else is.
   pub only-found : (other : Found) → IsFound j budget other → other ≡ found j budget
+  -- "The upper layers, rows and counts then follow document 01's way": a plan over the set found;
   pub is-over : IsPlanOver j (found j budget .kept) (planFound j budget)
+  -- and there is no other.
   pub only-over : (other : ℕ → ℕ) → IsPlanOver j (found j budget .kept) other → Same j other (planFound j budget)
+  -- The set found stands in bit 0 of the marks, chunk by chunk.
   pub in-marks : (i : ℕ) → 1 ≤ i → i ≤ chunks j → bit (getD (marksOf j (planFound j budget)) (i - 1) 0) 0 ≡ has (found j budget .kept) i
 
 abbrev pub FoundByWalk : JobInput → ℕ → Type 0
@@ -93,11 +106,13 @@ abbrev pub GoodEnoughFound : JobInput → ℕ → Type 0
 GoodEnoughFound h budget =
     jobRefusal h ≡ 0 → GoodEnough (jobIn h) budget (found (jobIn h) budget) (planFound (jobIn h) budget) (rowsFound (jobIn h) budget)
 
--- "A larger budget never finds fewer." With two steps a chunk as many bases are found as document
--- 01's way carries, and for equal chunks its own plan is handed over.
+-- What more steps bring.
 pub record Steps (j : Job) (budget : ℕ) : Type 0 where
+  -- "A larger budget never finds fewer."
   pub larger : (more : ℕ) → budget ≤ more → length (found j budget .kept) ≤ length (found j more .kept)
+  -- With two steps a chunk at least as many bases are found as document 01's way carries,
   pub two-a-chunk : 2 * chunks j ≤ budget → (p : ℕ → ℕ) → SettledByTrials j p → countOf j p 0 ≤ length (found j budget .kept)
+  -- and for equal chunks its own plan is handed over. (The papers do not ask for these two.)
   pub equal-chunks : EqualChunks j → 2 * chunks j ≤ budget → (p : ℕ → ℕ) → SettledByTrials j p → Same j p (planFound j budget)
 
 abbrev pub MoreSteps : JobInput → ℕ → Type 0

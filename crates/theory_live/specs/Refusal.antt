@@ -40,7 +40,7 @@ onward-none j ok p z =
       omega (arith, length-drop (p - 1) (j .forecast), ok .slots-in, s .low, s .high),
     )
 
--- "For the same reasons as planning afresh": with the job's forecast unchanged from p on.
+-- For "the reasons of planning afresh": with the job's forecast unchanged from p on.
 pub as-planning-afresh :
     (j : Job) → Accepted j → (p : ℕ) (rows : List Row) →
     replanRefusal j p rows (drop (p - 1) (j .forecast)) ≡ liveRefusal j p rows
@@ -81,8 +81,9 @@ live-refusal-iff j ok p rows =
 
 -- ---- an act
 
--- "A desk that asks so from slot 1 on, with whatever rates and whatever the link brings, is never
--- refused by 22": nor by 21, in any slot to d(C).
+-- A desk that asks so from slot 1 on, with whatever rates and whatever the link brings, is never
+-- refused by 22, nor by 21, in any slot to d(C), if the forecast of the slots gone covers what they
+-- brought.
 pub act-never-refused :
     (j : Job) → Accepted j → (rate got : ℕ → ℕ) (t : ℕ) → t < lastSlot j →
     ((u : ℕ) → 1 ≤ u → u ≤ t → got u ≤ forecast j u) →

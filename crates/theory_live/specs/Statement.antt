@@ -136,7 +136,8 @@ pieceLayer q = q .layer
 abbrev pub pieceBytes : Piece → ℕ
 pieceBytes q = q .bytes
 
--- ---- "The desk asks the link for them one after the other, as far as the slot goes."
+-- ---- "Fetch them one after the other, in their order, until the second is over. The last one may
+-- be cut short."
 
 -- The rows that x bytes of slot p make of the asks.
 abbrev pub takenOf : ℕ → ℕ → List Piece → List Row

@@ -30,8 +30,9 @@ use Rattle.theory_live.specs.lemmas.Safe.{lower-whole}
 
 -- ---- (a) safe whatever comes
 
--- "For every x, the rows fetched and the first x bytes of the asks as rows of slot p keep what
--- planning afresh asks of handed rows at p + 1", for a forecast with at least x in slot p.
+-- For every slot p before d(C) and every x, the rows fetched and the first x bytes of the asks as
+-- rows of slot p keep what planning afresh asks of handed rows at p + 1, for a forecast with at
+-- least x in slot p.
 pub safe-whatever-comes :
     (j : Job) (p : ℕ) (rows : List Row) (r x : ℕ) → Acceptable j p rows → p < lastSlot j → x ≤ forecast j p →
     Acceptable j (suc p) (rows ++ takenOf p x (asks j p rows r))
@@ -151,8 +152,8 @@ nothing-for-nothing j p rows r i t = by (firstLacking j p rows) (nextInTime j p 
               (test (leb i k));
         }
 
--- "While every open base is in time none is passed over": already while the first that lacks bytes
--- is.
+-- "While all bases come in time, none is" passed over: already while the first that lacks bytes
+-- does.
 pub none-passed-over :
     (j : Job) (p : ℕ) (rows : List Row) (r : ℕ) →
     (T (lacks j p rows (firstLacking j p rows)) → T (inTime j p rows r (firstLacking j p rows))) → (i : ℕ) →
@@ -247,8 +248,8 @@ nothing-fetched j ok = record {
   in-turn = λ x y m. absurd (at-row (λ x. ⊥) m tt);
 }
 
--- "A desk that asks so from slot 1 on, with whatever rates and whatever the link brings, is never
--- refused by 22": for any forecast with at least what came.
+-- A desk that asks so from slot 1 on, with whatever rates and whatever the link brings, is never
+-- refused by 22, for any forecast with at least what came.
 pub act-is-safe :
     (j : Job) → Accepted j → (rate got : ℕ → ℕ) (t : ℕ) → t < lastSlot j →
     ((u : ℕ) → 1 ≤ u → u ≤ t → got u ≤ forecast j u) →
@@ -272,9 +273,9 @@ never-refused j ok rate got t h f onward small many =
       acceptable = acceptable-onward j (suc t) (act j rate got t) onward (ok .slots-in) (act-is-safe j ok rate got t h f);
     })
 
--- "Its list passes the second checker call at p = d(C), less the bytes that slot d(C) itself
--- brought of a layer that stays short": the rows fetched before slot t + 1, and the pieces that
--- this slot, the last one too, fetches whole.
+-- Its list passes the second checker call at p = d(C), less the bytes that slot d(C) itself brought
+-- of a layer that stays short: the rows fetched before slot t + 1, and the pieces that this slot,
+-- the last one too, fetches whole.
 pub act-passes :
     (j : Job) → Accepted j → (rate got : ℕ → ℕ) (t : ℕ) → t < lastSlot j →
     ((u : ℕ) → 1 ≤ u → u ≤ suc t → got u ≤ forecast j u) →

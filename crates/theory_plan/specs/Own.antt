@@ -32,7 +32,7 @@ carriedTo j choice (suc i) = carriedTo j choice i ++ upTo (wholeLayer j (suc i))
 
 -- ---- "each slot takes as many next bytes as B(slot) and rule 6 allow"
 
--- The row of b bytes of part p in slot t, and what is left of p without them.
+-- The row of b bytes of piece p in slot t, and what is left of p without them.
 abbrev pub rowOf : ℕ → Piece → ℕ → Row
 rowOf t p b = record { slot = t; chunk = p .chunk; layer = p .layer; bytes = b }
 
@@ -49,7 +49,7 @@ pub record Fetched : Type 0 where
   pub rows : List Row
   pub left : List Piece
 
--- Slot t, with c bytes of its forecast unspent: it takes the next bytes, in one row for each part,
+-- Slot t, with c bytes of its forecast unspent: it takes the next bytes, in one row for each piece,
 -- and ends if its forecast is spent, nothing is left, or rule 6 does not allow the next byte.
 abbrev pub slotTakes : Job → ℕ → ℕ → List Row → List Piece → Fetched
 slotTakes j t c rows [] = record { rows = rows; left = [] }

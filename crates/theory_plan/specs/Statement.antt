@@ -92,12 +92,15 @@ BasesMooreHodgson j plan = (i : ℕ) → 1 ≤ i → i ≤ chunks j → (0 < pla
 abbrev pub ByMooreHodgson : Job → Type 0
 ByMooreHodgson j = HoldsAll j × (EqualBases j → ⊥)
 
--- The plan. There "base layers are then settled so", elsewhere in document 01's way; "upper layers
--- follow as before".
+-- The plan.
 pub record IsPlan (j : Job) (plan : ℕ → ℕ) : Type 0 where
+  -- It says of each chunk how many of the job's layers it carries, from the base up.
   pub choice : Choice j plan
+  -- Where H is at least C and base sizes vary: "Base layers are then settled so", by request 9.
   pub moore-hodgson : ByMooreHodgson j → BasesMooreHodgson j plan
+  -- Elsewhere base layers are settled in document 01's way.
   pub elsewhere : (ByMooreHodgson j → ⊥) → Settles j plan 0
+  -- "Upper layers follow as before": in document 01's way.
   pub upper : (n : ℕ) → Settles j plan (suc n)
 
 -- Two choices agree at the chunks of the job.

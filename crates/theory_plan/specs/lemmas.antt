@@ -5,11 +5,13 @@ pub mod Base
 pub mod Best
 pub mod Choice
 pub mod Count
+pub mod Decided
 pub mod Exchange
 pub mod Feasible
 pub mod Fill
 pub mod Kept
 pub mod Level
+pub mod LayerPass
 pub mod Layers
 pub mod Linear
 pub mod Necessity

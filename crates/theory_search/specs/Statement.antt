@@ -26,9 +26,9 @@ Chunks j ks = Asc 1 (chunks j) ks
 abbrev pub basesOf : List ℕ → ℕ → ℕ
 basesOf ks i = cond (has ks i) 1 0
 
--- The test says which sets "some passing list allows", "over lists in playing order": one that
--- carries exactly these bases. There is one (Theorems, `fits-tells`), and any two agree on all
--- sets.
+-- The test says which sets some passing list allows, "over lists in playing order": one that
+-- carries exactly these bases. There is such a test (Theorems, `fits-tells`), and any two agree on
+-- all sets.
 abbrev pub Tells : Job → (List ℕ → Bool) → Type 0
 Tells j allowed = (ks : List ℕ) → Chunks j ks → T (allowed ks) ↔ CanCarry j (basesOf ks)
 

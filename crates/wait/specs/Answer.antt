@@ -107,12 +107,16 @@ answerOf h = cond (eqb (waitRefusal h) 0) (Delay (shortest (filmIn h))) (Refused
 
 -- ---- what the answer means
 
--- s is the answer: every SZ is handed whole, the input is in range, the job with s is accepted, its
--- plan skips no base, and with no smaller s does it.
+-- s is the answer.
 pub record Answered (h : WaitInput) (s : ℕ) : Type 0 where
+  -- Every SZ is handed whole: no 18 for that.
   pub whole : WholeSizesIn h
+  -- Nothing is out of range: none of "5 without s and d(C), 6, and 7", nor 18.
   pub in-range : FilmInRange (filmIn h)
+  -- "The job for a tried s uses the first d(C) slots", and it is accepted.
   pub accepted : Accepted (jobAt (filmIn h) s)
+  -- "The smallest s for which the plan skips no base layer": "no smaller s works, whatever larger
+  -- ones do."
   pub shortest : ShortestWait (filmIn h) s
 
 -- The call answers s exactly then,

@@ -37,7 +37,7 @@ sub-at c =
     omega (arith, c .wide .ensures, chunk-in (now (a .ids)) (now (a .mark)) (a .first) (now (a .whole)) (a .count) _ (c .before .before .before .before .before .before .before .before .before .before .pre .4) (c .before .before .before .before .before .before .before .before .before .before .pre .5) (l .marks) (l .q) (l .inv) (c .before .before .loop-test .taken) .0)
 
 element-copy-out-marks : tie.Need-element-copy-out-marks Inv-loop μ-loop
-element-copy-out-marks c = c .before .before .loop-test .taken
+element-copy-out-marks c = omega (arith, c .before .before .loop-test .taken)
 
 slice-write-marks : tie.Need-slice-write-marks Inv-loop μ-loop
 slice-write-marks c =

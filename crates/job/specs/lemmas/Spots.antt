@@ -2,7 +2,7 @@
 -- none names it. Assumes nothing.
 use Prim.Native.Nat.{ℕ, _+_, _*_, _≤_, _<_}
 use mathlib.Core.Path.{_≡_, refl}
-use mathlib.Core.Bool.{Bool, true, false, _&&_}
+use mathlib.Core.Bool.{and-false}
 use mathlib.Core.List.{List, [], _∷_}
 use mathlib.Core.Logic.{_⊎_, ⊎-elim}
 use native.Mathlib.Omega.{arith}
@@ -45,16 +45,12 @@ own-size sizes i n = refl
 abbrev pub Other : ℕ → ℕ → Override → Type 0
 Other i n o = (o .chunk ≡ i → ⊥) ⊎ (o .layer ≡ n → ⊥)
 
-never : (b : Bool) → (b && false) ≡ false
-never true = refl
-never false = refl
-
 pub own-where : (sizes : List ℕ) (os : List Override) (i n : ℕ) → All (Other i n) os → sizeIn sizes os i n ≡ getD sizes n 0
 unfolding sizeIn
 own-where sizes [] i n a = refl
 own-where sizes (o ∷ os) i n a =
     let rest = own-where sizes os i n (a .1) in
-    ⊎-elim (λ c. rw (ne-eqb (o .chunk) i c) rest) (λ l. rw (ne-eqb (o .layer) n l, never (eqb (o .chunk) i)) rest) (a .0)
+    ⊎-elim (λ c. rw (ne-eqb (o .chunk) i c) rest) (λ l. rw (ne-eqb (o .layer) n l, and-false (eqb (o .chunk) i)) rest) (a .0)
 
 pub head-size : (sizes : List ℕ) (o : Override) (os : List Override) → sizeIn sizes (o ∷ os) (o .chunk) (o .layer) ≡ o .bytes
 unfolding sizeIn

@@ -11,23 +11,14 @@ returns c = sym (no-mark (c .before .before .args .sequenced) (c .before .before
 is-mark-requires : tie.Need-is-mark-requires
 is-mark-requires c κs = search needs
 
-h-at-requires : tie.Need-h-at-requires
-h-at-requires c κs = search needs
-
-h-at-requires-2 : tie.Need-h-at-requires-2
-h-at-requires-2 c κs = search needs
-
-h-at-requires-3 : tie.Need-h-at-requires-3
-h-at-requires-3 c κs = search needs
-
-h-at-requires-4 : tie.Need-h-at-requires-4
-h-at-requires-4 c κs = search needs
+programme-in-requires : tie.Need-programme-in-requires
+programme-in-requires c κs = search needs
 
 whole-requires : tie.Need-whole-requires
 whole-requires c κs = search needs
 
 returns-2 : tie.Need-returns-2
-returns-2 c = c .whole .ensures ∙ programme-read (c .before .before .before .before .before .before .before .before .before .before .args .sequenced) (c .before .before .before .before .before .before .before .before .before .before .args .rest .now) (c .before .before .before .before .before .before .before .before .before .before .args .at) (c .before .before .before .before .before .before .before .before .if1 .left) (known (c .before .before .before .before .before .before .is-mark .ensures) (c .before .before .before .before .before .if2 .taken)) _ _ _ _ (c .before .before .before .before .h-at .ensures) (c .before .before .before .h-at2 .ensures) (c .before .before .h-at3 .ensures) (c .before .h-at4 .ensures)
+returns-2 c = c .whole .ensures ∙ programme-read (c .before .before .before .before .before .before .before .args .sequenced) (c .before .before .before .before .before .before .before .args .rest .now) (c .before .before .before .before .before .before .before .args .at) (c .before .before .before .before .before .if1 .left) (known (c .before .before .before .is-mark .ensures) (c .before .before .if2 .taken)) (c .before .programme-in .result) (c .before .programme-in .ensures)
 
 is-mark-requires-2 : tie.Need-is-mark-requires-2
 is-mark-requires-2 c κs = search needs
@@ -44,8 +35,8 @@ returns-3 c = c .whole2 .ensures ∙ layer-read (c .before .before .before .befo
 is-mark-requires-3 : tie.Need-is-mark-requires-3
 is-mark-requires-3 c κs = search needs
 
-h-at-requires-5 : tie.Need-h-at-requires-5
-h-at-requires-5 c κs = search needs
+h-at-requires : tie.Need-h-at-requires
+h-at-requires c κs = search needs
 
 w-at-requires-2 : tie.Need-w-at-requires-2
 w-at-requires-2 c κs = search needs
@@ -54,7 +45,7 @@ whole-requires-3 : tie.Need-whole-requires-3
 whole-requires-3 c κs = search needs
 
 returns-4 : tie.Need-returns-4
-returns-4 c = c .whole3 .ensures ∙ run-read (c .before .before .before .before .before .before .before .before .before .before .before .before .before .before .args .sequenced) (c .before .before .before .before .before .before .before .before .before .before .before .before .before .before .args .rest .now) (c .before .before .before .before .before .before .before .before .before .before .before .before .before .before .args .at) (c .before .before .before .before .before .before .before .before .before .before .before .before .if1 .left) (known (c .before .before .before .before .before .before .before .before .before .before .is-mark .ensures) (c .before .before .before .before .before .before .before .before .before .if2 .left)) (known (c .before .before .before .before .before .before .before .is-mark2 .ensures) (c .before .before .before .before .before .before .if3 .left)) (known (c .before .before .before .before .is-mark3 .ensures) (c .before .before .before .if4 .taken)) _ _ (c .before .before .h-at5 .ensures) (c .before .w-at2 .ensures)
+returns-4 c = c .whole3 .ensures ∙ run-read (c .before .before .before .before .before .before .before .before .before .before .before .before .before .before .args .sequenced) (c .before .before .before .before .before .before .before .before .before .before .before .before .before .before .args .rest .now) (c .before .before .before .before .before .before .before .before .before .before .before .before .before .before .args .at) (c .before .before .before .before .before .before .before .before .before .before .before .before .if1 .left) (known (c .before .before .before .before .before .before .before .before .before .before .is-mark .ensures) (c .before .before .before .before .before .before .before .before .before .if2 .left)) (known (c .before .before .before .before .before .before .before .is-mark2 .ensures) (c .before .before .before .before .before .before .if3 .left)) (known (c .before .before .before .before .is-mark3 .ensures) (c .before .before .before .if4 .taken)) _ _ (c .before .before .h-at .ensures) (c .before .w-at2 .ensures)
 
 is-mark-requires-4 : tie.Need-is-mark-requires-4
 is-mark-requires-4 c κs = search needs
@@ -80,10 +71,7 @@ record-in-spec =
     (tie.spec
     returns
     is-mark-requires
-    h-at-requires
-    h-at-requires-2
-    h-at-requires-3
-    h-at-requires-4
+    programme-in-requires
     whole-requires
     returns-2
     is-mark-requires-2
@@ -91,7 +79,7 @@ record-in-spec =
     whole-requires-2
     returns-3
     is-mark-requires-3
-    h-at-requires-5
+    h-at-requires
     w-at-requires-2
     whole-requires-3
     returns-4

@@ -38,6 +38,10 @@ noRecords = record { place = 0; bytes = 0; seen = false; programme = noProgramme
 abbrev pub readWhole : ℕ → ℕ → Record → ℕ → Read
 readWhole left n r at = cond (leb n left) (Got r (at + n)) (Refused 1)
 
+-- The programme of a PG in front.
+abbrev pub programmeOn : List ℕ → Programme
+programmeOn s = record { chunks = hAt s 2; span = hAt s 4; delay = hAt s 6; limit = hAt s 8 }
+
 -- What stands in front of bytes that begin with no mark but perhaps SZ.
 abbrev pub lastMark : List ℕ → Front Record
 lastMark s = cond (marked SZ s) (whole s 9 (overrideAt s)) (none 2)

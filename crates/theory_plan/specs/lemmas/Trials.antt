@@ -1,6 +1,6 @@
 -- Lemmas. The trials in linear time, as definitions over any sizes, due slots and forecast: a stack
--- of needs for the base, rooms forward and trials back for a layer above it. Linear.antt shows that
--- they take what the plan takes. Assumes nothing. Section 4 of the argument.
+-- of needs for the base, rooms forward and trials back for a layer above it. Decided.antt shows
+-- that they take what the plan takes. Assumes nothing. Section 4 of the argument.
 use Prim.Native.Nat.{ℕ, zero, suc, _+_, _-_, max, min}
 use mathlib.Core.Bool.{Bool, true, cond, _&&_}
 use mathlib.Core.List.{List, [], _∷_, map}

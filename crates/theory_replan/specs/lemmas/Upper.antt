@@ -2,50 +2,35 @@
 -- Trials, which the code has, take from slot p on what the plan made afresh takes. The list is that
 -- of the chunks begun or kept and due from p on, each with the bytes still to be fetched; the sizes
 -- are what the fetched rows leave of each layer, so a layer whole before p costs nothing and stays.
-use Prim.Native.Nat.{ℕ, zero, suc, _+_, _-_, _≤_, _<_, max, min}
-use mathlib.Core.Path.{_≡_, refl, sym, ap, _∙_, subst}
-use mathlib.Core.Bool.{Bool, true, false, cond, _&&_, _||_}
-use mathlib.Core.List.{List, [], _∷_, _++_, map}
+use Prim.Native.Nat.{ℕ, suc, _-_, _≤_, _<_, max, min}
+use mathlib.Core.Path.{_≡_, refl, sym, ap, subst}
+use mathlib.Core.Bool.{Bool, cond, _&&_, _||_}
+use mathlib.Core.List.{List, _++_, map}
 use mathlib.Core.Logic.{_⊎_, inl, inr, ⊎-elim, _↔_}
 use native.Mathlib.Omega.{arith}
-use borrow.Author.Tests.{eq-eqb, ne-eqb, lt-leb, le-leb, lt-ltb, le-ltb}
-use lib.Pow.{pow-mono}
-use lib.Dec.{T, leb, ltb, eqb, leb→le, ltb→lt, nltb→le, lt→ltb, le→leb, eqb→eq, eqb-refl}
+use borrow.Author.Tests.{eq-eqb, ne-eqb, lt-leb, le-leb}
+use lib.Dec.{T, leb, ltb, eqb, leb→le, le→leb, eqb→eq}
 use Rattle.theory_basics.specs.Lists.{has}
-use Rattle.theory_basics.specs.Sums.{sum}
 use Rattle.theory_basics.specs.Tests.{All}
 use Rattle.theory_basics.specs.lemmas.Ranges.{sum-mono}
-use Rattle.theory_basics.specs.lemmas.Tests.{and-T, by-cond, not-T-false, same-test, T-and, T-true, test, tests, neqb→ne}
+use Rattle.theory_basics.specs.lemmas.Tests.{and-T, by-cond, not-T-false, same-test, test, neqb→ne}
 use Rattle.job.specs.Job.{chunks, due, heldMost, Job, Layer, layers, size}
-use Rattle.fetch.specs.Marks.{bit, withLayer}
 use Rattle.fetch.specs.Rows.{bytesOfLayer, Row}
-use Rattle.fetch.specs.lemmas.Marks.{mark-bit, mark-high, mark-lt, same-bits, with-bit, with-lt}
-use Rattle.theory_plan.specs.Plan.{picked}
+use Rattle.fetch.specs.lemmas.Marks.{mark-bit, mark-high}
 use Rattle.theory_plan.specs.lemmas.Feasible.{needOf}
 use Rattle.theory_plan.specs.Statement.{Choice}
 use Rattle.theory_plan.specs.lemmas.Kept.{feas-picked, picked-cong, picked-each}
 use Rattle.theory_plan.specs.lemmas.Level.{level, level-iff}
-use Rattle.theory_plan.specs.lemmas.Linear.{feas-roomy, front, level-bit, level-next, level-top, relok-mono, Roomy}
-use Rattle.theory_plan.specs.lemmas.Need.{Feas, need-mono}
+use Rattle.theory_plan.specs.lemmas.Linear.{feas-roomy, Roomy}
+use Rattle.theory_plan.specs.lemmas.Need.{Feas}
 use Rattle.theory_plan.specs.lemmas.Queue.{releases, RelOk}
-use Rattle.theory_plan.specs.lemmas.Trials.{back, Kept, levelMark, rooms, Tried, tryOne}
+use Rattle.theory_plan.specs.lemmas.Trials.{back, Kept, levelMark, rooms, Tried}
 use Rattle.theory_plan.specs.lemmas.Words.{carries, layer-of}
+use Rattle.theory_plan.specs.lemmas.LayerPass.{scan}
 use Rattle.theory_replan.specs.Plan.{afterFrom, busy, busyChunks, bytesLeft, triedFrom}
 use Rattle.theory_replan.specs.Statement.{Acceptable}
 use Rattle.theory_replan.specs.lemmas.Criterion.{busyFrom, feas-from-due, nothing-left}
 use Rattle.theory_replan.specs.lemmas.Fits.{FitsFrom}
-
--- ---- in general
-
--- A layer that is set stays set.
-level-set : (m n : ℕ) → n < m → m ≤ 8 → withLayer (levelMark m) n ≡ levelMark m
-level-set m n h few =
-    same-bits (withLayer (levelMark m) n) (levelMark m) 8 (with-lt (levelMark m) n) (omega (arith, mark-lt (λ i. true) m, pow-mono {i = m} {j = 8} few)) (λ k u.
-    with-bit (levelMark m) n k u ∙
-    ⊎-elim
-    (λ t. let e = eqb→eq k n t in rw (e, eq-eqb n n refl) (sym (level-bit m n ∙ lt-ltb n m h)))
-    (λ t. rw (not-T-false (eqb k n) t))
-    (test (eqb k n)))
 
 -- ---- a layer above the base
 
@@ -94,157 +79,6 @@ module _
 
   abbrev run : ℕ → List ℕ → List ℕ → Tried
   run room ks rs = back rest A n (rooms A room (map (left lower) ks) rs) (map (keptRest lower) ks)
-
-  abbrev InRoom : (ℕ → ℕ) → ℕ → List ℕ → List ℕ → Type 0
-  InRoom w room ks rs = Roomy w (due j) A room ks rs
-
-  -- What is known of the room before the chunks ks, which stand behind lo.
-  record Ready (room lo : ℕ) (ks rs : List ℕ) : Type 0 where
-    trials : (i : ℕ) → lo < i → i ≤ chunks j → T (member i) → n ≤ q i → base i ≤ n → FitsFrom j p fetched (triedFrom j fetched q n i) ↔ InRoom (trial i) room ks rs
-    plan-in : InRoom upto room ks rs
-
-  below : (k : ℕ) → left lower k ≤ upto k
-  below k = sum-mono (rest k) (lower k) (upper k) (omega arith)
-
-  behind : (i k : ℕ) → i < k → trial i k ≡ upto k
-  behind i k h = rw (ne-eqb k i (omega arith), lt-ltb i k h)
-
-  before : (i k : ℕ) → k < i → trial i k ≡ left lower k
-  before i k h = rw (ne-eqb k i (omega arith), le-ltb i k (omega arith))
-
-  at-own : (i : ℕ) → lower i ≡ n → trial i i ≡ left lower i + rest i n
-  at-own i e = rw (eq-eqb i i refl, e)
-
-  module _ (room lo m r : ℕ) (rs : List ℕ) (all : lo + suc m ≡ chunks j) (mem : T (member (suc lo))) (known : Ready room lo (suc lo ∷ picked member (suc lo) m) (r ∷ rs)) where
-    abbrev i : ℕ
-    i = suc lo
-
-    abbrev here : ℕ
-    here = min room (A (r - 1))
-
-    abbrev ks : List ℕ
-    ks = picked member i m
-
-    abbrev want : ℕ
-    want = left lower i + max (A (due j i)) (needOf upto (due j) A ks)
-
-    own-base : base i ≤ q i
-    own-base = fq .whole i (omega arith) (omega arith)
-
-    ready-front : Ready (here - left lower i) i ks rs
-    ready-front =
-        let b = below i in
-        let f = known .plan-in in
-        record {
-          trials = λ e u v me w x₀.
-              let t = trial e in
-              let o : t i ≡ left lower i = before e i u in
-              let g = front t (due j) A room i r ks rs (omega (arith, f .within, f .released .0, o, b)) in
-              let a = known .trials e (omega arith) v me w x₀ in
-              let s : here - t i ≡ here - left lower i = ap (λ (y : ℕ). here - y) o in
-              (λ x. subst (λ (y : ℕ). InRoom t y ks rs) s (g .0 (a .0 x)), λ x. a .1 (g .1 (subst (λ (y : ℕ). InRoom t y ks rs) (sym s) x)));
-          plan-in = record { within = omega (arith, f .within, f .released .0, b); released = f .released .1 };
-        }
-
-    module _ (lacks : base i ≤ n) where
-      abbrev test-here : Bool
-      test-here = eqb (lower i) n && leb (want + rest i n) here
-
-      accepts-if : T test-here → T (ltb n (q i))
-      accepts-if x =
-          let t = trial i in
-          let a = accepts i (omega arith) (omega arith) in
-          let le = picked-each member (λ k. t k ≤ upto k) i m (λ k u v w. omega (arith, behind i k u)) in
-          let nle = need-mono t upto (due j) A ks le in
-          let y = simp tests at x in
-          let o = at-own i (y .0) in
-          let reached : n ≤ q i = omega (arith, y .0, lacks, own-base) in
-          let due-then = leb→le p (due j i) (and-T (busy fetched q i) (leb p (due j i)) mem .1) in
-          lt→ltb n (q i) (a .1 (inr (due-then, reached, known .trials i (omega arith) (omega arith) mem reached lacks .1 (record { within = omega (arith, y .1, o, nle); released = (omega (arith, y .1, o, nle), relok-mono t upto (due j) A ks rs le (known .plan-in .released .1)) }))))
-
-      only-if : T (ltb n (q i)) → T test-here
-      only-if x =
-          let t = trial i in
-          let a = accepts i (omega arith) (omega arith) in
-          let ge = picked-each member (λ k. upto k ≤ t k) i m (λ k u v w. omega (arith, behind i k u)) in
-          let nge = need-mono upto t (due j) A ks ge in
-          let more = ltb→lt n (q i) x in
-          let z : lower i ≡ n = omega (arith, lacks) in
-          let o = at-own i z in
-          ⊎-elim
-          (λ u. absurd (omega (arith, u, lacks)))
-          (λ u.
-          let f = known .trials i (omega arith) (omega arith) mem (u .1) lacks .0 (u .2) in
-          T-and (eqb (lower i) n) (leb (want + rest i n) here) (rw z (eqb-refl n)) (le→leb (want + rest i n) here (omega (arith, f .within, f .released .0, o, nge))))
-          (a .0 more)
-
-      -- The trial of i, after those behind it.
-      open-trial : tryOne rest A n here (keptRest lower i) (result ks) ≡ result (i ∷ ks)
-      open-trial =
-          let small : lower i ≤ n = omega (arith, lacks) in
-          let b = same-test test-here (ltb n (q i)) accepts-if only-if in
-          let c : bit (levelMark (lower i)) (n - 1) ≡ eqb (lower i) n = level-bit (lower i) (n - 1) ∙ level-top (lower i) n up small in
-          rw (c, b)
-          (⊎-elim
-          (λ t.
-          let l = ltb→lt n (q i) t in
-          let e : upper i ≡ suc n = omega (arith, lacks) in
-          let e′ : lower i ≡ n = omega (arith, lacks) in
-          let s : want + rest i n ≡ upto i + max (A (due j i)) (needOf upto (due j) A ks) = rw (e, e′) (omega arith) in
-          let k : record { chunk = i; due = due j i; bytes = left lower i + rest i n; mark = withLayer (levelMark (lower i)) n } ≡ keptRest upper i = rw (e, e′, level-next n (omega arith)) in
-          rw (lt-ltb n (q i) l, s, k))
-          (λ t.
-          let l = nltb→le n (q i) t in
-          let e : upper i ≡ lower i = omega arith in
-          let s : want ≡ upto i + max (A (due j i)) (needOf upto (due j) A ks) = rw e in
-          let k : keptRest lower i ≡ keptRest upper i = ap (λ (m : ℕ). keptRest (λ k. m) i) (sym e) in
-          rw (le-ltb n (q i) l, s, k))
-          (test (ltb n (q i))))
-
-    -- A layer that is whole before p stays.
-    whole-trial : n < base i → tryOne rest A n here (keptRest lower i) (result ks) ≡ result (i ∷ ks)
-    whole-trial h =
-        let r′ = layer-of j i n (omega arith) (omega arith) in-job in
-        let z : rest i n ≡ 0 = omega (arith, level-iff j fetched (ok .lower) i n r′ .1 h) in
-        let e : lower i ≡ base i = omega arith in
-        let e′ : upper i ≡ base i = omega arith in
-        let f = known .plan-in in
-        let same : left lower i ≡ upto i = ap (sum (rest i)) (e ∙ sym e′) in
-        let c : bit (levelMark (lower i)) (n - 1) ≡ true = level-bit (lower i) (n - 1) ∙ lt-ltb (n - 1) (lower i) (omega (arith, e)) in
-        let fits : leb (want + rest i n) here ≡ true = le-leb (want + rest i n) here (omega (arith, z, same, f .within, f .released .0)) in
-        let s : want + rest i n ≡ upto i + max (A (due j i)) (needOf upto (due j) A ks) = omega (arith, z, same) in
-        let b : left lower i + rest i n ≡ left upper i = omega (arith, z, same) in
-        let mk : withLayer (levelMark (lower i)) n ≡ levelMark (upper i) = rw (e, e′) (level-set (base i) n h (omega (arith, own-base, choice i (omega arith) (omega arith)))) in
-        rw (c, fits, s, b, mk)
-
-    one-trial : tryOne rest A n here (keptRest lower i) (result ks) ≡ result (i ∷ ks)
-    one-trial = ⊎-elim (λ t. whole-trial (ltb→lt n (base i) t)) (λ t. open-trial (nltb→le n (base i) t)) (test (ltb n (base i)))
-
-    stepped : run (here - left lower i) ks rs ≡ result ks → run room (i ∷ ks) (r ∷ rs) ≡ result (i ∷ ks)
-    unfolding back
-    stepped e = ap (tryOne rest A n here (keptRest lower i)) e ∙ one-trial
-
-  front-scan :
-      (m lo room : ℕ) (rs : List ℕ) → lo + suc m ≡ chunks j → T (member (suc lo)) →
-      ((room : ℕ) (rs : List ℕ) → Ready room (suc lo) (picked member (suc lo) m) rs → run room (picked member (suc lo) m) rs ≡ result (picked member (suc lo) m)) →
-      Ready room lo (suc lo ∷ picked member (suc lo) m) rs → run room (suc lo ∷ picked member (suc lo) m) rs ≡ result (suc lo ∷ picked member (suc lo) m)
-  front-scan m lo room [] h mem next b = absurd (b .plan-in .released)
-  front-scan m lo room (r ∷ rs) h mem next b = stepped room lo m r rs h mem b (next (min room (A (r - 1)) - left lower (suc lo)) rs (ready-front room lo m r rs h mem b))
-
-  scan : (m lo room : ℕ) (rs : List ℕ) → lo + m ≡ chunks j → Ready room lo (picked member lo m) rs → run room (picked member lo m) rs ≡ result (picked member lo m)
-  unfolding back
-  scan zero lo room rs h a = refl
-  scan (suc m) lo room rs h a =
-      let next : (room : ℕ) (rs : List ℕ) → Ready room (suc lo) (picked member (suc lo) m) rs → run room (picked member (suc lo) m) rs ≡ result (picked member (suc lo) m) = λ room rs b. scan m (suc lo) room rs (omega arith) b in
-      ⊎-elim
-      (λ t.
-      let e : member (suc lo) ≡ true = T-true (member (suc lo)) t in
-      rw e (front-scan m lo room rs h t next (rw e at a)))
-      (λ t.
-      let e : member (suc lo) ≡ false = not-T-false (member (suc lo)) t in
-      let a′ : Ready room lo (picked member (suc lo) m) rs = rw e at a in
-      rw e (next room rs (record { trials = λ i u v w. a′ .trials i (omega arith) v w; plan-in = a′ .plan-in })))
-      (test (member (suc lo)))
 
   -- ---- what is tried fits exactly if it has room
 
@@ -300,7 +134,14 @@ module _
       let cs = busyFrom j p fetched q in
       let rs = releases (due j) (heldMost j) cs in
       let t : (w : ℕ → ℕ) → Feas w (due j) A (heldMost j) cs ↔ Roomy w (due j) A (A 0) cs rs = λ w. feas-roomy w (due j) A (heldMost j) cs in
-      scan (chunks j) 0 (A 0) rs (omega arith)
+      scan (chunks j) (due j) A rest base q n up (omega arith) member (fq .whole)
+      (λ i u v h. (omega (arith, level-iff j fetched (ok .lower) i n (layer-of j i n u v in-job) .1 h), omega (arith, fq .whole i u v, choice i u v)))
+      (λ i. FitsFrom j p fetched (triedFrom j fetched q n i))
+      (λ i u v mem lacks.
+      let a = accepts i u v in
+      let due-then = leb→le p (due j i) (and-T (busy fetched q i) (leb p (due j i)) mem .1) in
+      (λ l. ⊎-elim (λ x. absurd (omega arith)) (λ x. (x .1, x .2)) (a .0 l), λ x. a .1 (inr (due-then, x .0, x .1))))
+      (chunks j) 0 (A 0) rs (omega arith)
       (record {
         trials = λ i u v mem reached lacks.
             let x = tried-fits i u v mem reached lacks in

@@ -22,10 +22,10 @@ use Rattle.theory_plan.specs.lemmas.Base.{basesIn, bases-counted}
 use Rattle.theory_plan.specs.lemmas.Choice.{Fits, can-carry-fits, can-carry-iff-fits}
 use Rattle.theory_plan.specs.lemmas.Kept.{feas-picked, length-picked, picked-cong}
 use Rattle.theory_plan.specs.lemmas.Level.{count-carried, level, level-choice, level-exactly}
-use Rattle.theory_plan.specs.lemmas.Linear.{kept-of-set}
 use Rattle.theory_plan.specs.lemmas.Need.{Feas}
 use Rattle.theory_plan.specs.lemmas.Plan.{fits-iff, tested-le}
 use Rattle.theory_plan.specs.lemmas.Words.{Sized, accepted-sized}
+use Rattle.theory_plan.specs.lemmas.Decided.{kept-of-set}
 use Rattle.theory_search.specs.Statement.{Chunks, Tells, basesOf}
 use Rattle.theory_search.specs.Search.{fitting}
 

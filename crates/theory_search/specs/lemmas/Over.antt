@@ -9,11 +9,11 @@ use Rattle.job.specs.Job.{Job, layers}
 use Rattle.theory_plan.specs.Plan.{kept}
 use Rattle.theory_plan.specs.Statement.{Same}
 use Rattle.theory_plan.specs.lemmas.Choice.{Fits}
-use Rattle.theory_plan.specs.lemmas.Linear.{decided-on-is, kept-of-set}
 use Rattle.theory_plan.specs.lemmas.Plan.{fits-cong, on-bases, on-choice, on-upper, planTo-fits, settles-iff, tested-le}
 use Rattle.theory_plan.specs.lemmas.Trials.{decidedOn, keptAt}
 use Rattle.theory_plan.specs.lemmas.Unique.{same-on-bases, same-tested}
 use Rattle.theory_plan.specs.lemmas.Words.{Sized}
+use Rattle.theory_plan.specs.lemmas.Decided.{decided-on-is, kept-of-set}
 use Rattle.theory_search.specs.Search.{planOver}
 use Rattle.theory_search.specs.Statement.{Chunks, IsPlanOver, basesOf}
 

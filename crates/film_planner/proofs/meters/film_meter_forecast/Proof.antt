@@ -24,7 +24,7 @@ forecast-number-requires : tie.Need-forecast-number-requires
 forecast-number-requires c κs = search needs
 
 returns-2 : tie.Need-returns-2
-returns-2 c = mean-whole (storage (c .before .before .before .before .before .before .before .before .args .slots .now) (c .before .before .before .before .before .before .before .before .args .bytes .now) (c .before .before .before .before .before .before .before .before .args .kept .now)) _ _ _ (cells (storage (c .before .before .before .before .before .before .before .before .args .slots .now) (c .before .before .before .before .before .before .before .before .args .bytes .now) (c .before .before .before .before .before .before .before .before .args .kept .now)) _ (c .before .before .before .before .holds-meter .ensures) (c .before .before .before .if1 .left)) (c .before .before .meter-in .ensures) (c .before .forecast .ensures) (c .forecast-number .ensures)
+returns-2 c = mean-whole (storage (c .before .before .before .before .before .before .before .before .args .slots .now) (c .before .before .before .before .before .before .before .before .args .bytes .now) (c .before .before .before .before .before .before .before .before .args .kept .now)) _ _ _ (cells (storage (c .before .before .before .before .before .before .before .before .args .slots .now) (c .before .before .before .before .before .before .before .before .args .bytes .now) (c .before .before .before .before .before .before .before .before .args .kept .now)) _ (c .before .before .before .before .holds-meter .ensures) (c .before .before .before .if1 .left)) (c .before .before .meter-in .ensures) (c .before .forecast .ensures .answer) (c .forecast-number .ensures)
 
 pub film-meter-forecast-spec : {M : Type 1} → statement M
 film-meter-forecast-spec =
