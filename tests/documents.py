@@ -1,6 +1,7 @@
 """The documents against the tree: no document may name a file, a crate, a call, a definition or a
 must-fail edit that isn't there; docs/PROMISES.md has to name every edit, docs/CALLS.md every call of
 the header, docs/ARCHITECTURE.md every crate. No long line of a document may stand in it twice.
+A must-fail edit has to find what it replaces.
 Looked at are links, what stands in `code`, and paths in commands. The notes and the changelog tell
 what was, so of them only the links are looked at. In sources every file that a comment names has to
 be there.
@@ -175,9 +176,25 @@ def source_faults():
                         yield f"{path}: {found}: there is no such file"
 
 
+def edit_faults():
+    """A must-fail edit replaces a text that stands once in its file."""
+    for path in sorted(glob.glob("crates/*/must-fail/*.edit")):
+        texts, file, old = {}, "", ""
+        for line in read(path).split("\n"):
+            if line.startswith("file: "):
+                file = os.path.join(os.path.dirname(path), "..", line[6:])
+            elif line.startswith("old: "):
+                old = line[5:]
+            elif line.startswith("new:"):
+                text = texts[file] if file in texts else read(file) if os.path.isfile(file) else ""
+                if text.count(old) != 1:
+                    yield f"{path}: its file has what it replaces {text.count(old)} times: {old.strip()}"
+                texts[file] = text.replace(old, line[5:])
+
+
 def main():
     count = 0
-    for fault in source_faults():
+    for fault in [*source_faults(), *edit_faults()]:
         print(fault)
         count += 1
     for document in DOCUMENTS:

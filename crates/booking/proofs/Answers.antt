@@ -23,7 +23,7 @@ use Rattle.checker.specs.declared.Checked.the-variants as check
 use Rattle.checker.specs.Checked.{checkRefusal, checked}
 use Rattle.booking.specs.Booking.{slotHas, slotThere, takenOff, addedBack, passRefusal, roomRefusal, Releasable}
 use Rattle.booking.specs.declared.Answer.the-variants.{Done, Refused}
-use Rattle.booking.specs.Answer.{Booked, Released, bookRefusal, releaseRefusal, rowsRefusal}
+use Rattle.booking.specs.Answer.{BookPromise, ReleasePromise, bookRefusal, releaseRefusal, rowsRefusal}
 use Rattle.booking.specs.Theorems.{twenty-iff, booked-bookable, booked-whole}
 use Rattle.booking.specs.lemmas.Slots.{added-at, bookable-within, bookable-there, length-added}
 use Rattle.booking.specs.lemmas.Runs.{slots-there}
@@ -54,7 +54,7 @@ module _ (h : JobInput) (s : ListSlices) where
     found : no ≡ n
     found = sym (f ∙ ap refusedBy e ∙ said)
 
-    pub book-refused : (n ≡ 0 → ⊥) → Booked h s (Refused n) (h .forecast)
+    pub book-refused : (n ≡ 0 → ⊥) → BookPromise h s (Refused n) (h .forecast)
     book-refused o = record { answered = rw (found, ne-eqb n 0 o); left = rw (found, ne-eqb n 0 o) }
 
     module _ (z : n ≡ 0) where
@@ -68,7 +68,7 @@ module _ (h : JobInput) (s : ListSlices) where
             bare-covered (s .slots) (s .chunks) (s .layers) (s .bytes) (h .forecast) (record { there = bookable-there (h .forecast) rows b; covered = bookable-within (h .forecast) rows b }),
           )
 
-      pub book-done : (after : List ℕ) → after ≡ takenOff (h .forecast) (bare (s .slots) (s .bytes) (length (s .slots))) → Booked h s Done after
+      pub book-done : (after : List ℕ) → after ≡ takenOff (h .forecast) (bare (s .slots) (s .bytes) (length (s .slots))) → BookPromise h s Done after
       book-done after x =
           let none : no ≡ 0 = found ∙ z in
           record { answered = rw none; left = rw none (x ∙ sym (taken-bare (s .slots) (s .chunks) (s .layers) (s .bytes) (h .forecast))) }
@@ -92,18 +92,18 @@ module _ (h : JobInput) (s : RowSlices) where
   abbrev rows : List Row
   rows = rowsIn s
 
-  refused : (n : ℕ) → why ≡ n → (n ≡ 0 → ⊥) → Released h s (Refused n) (h .forecast)
+  refused : (n : ℕ) → why ≡ n → (n ≡ 0 → ⊥) → ReleasePromise h s (Refused n) (h .forecast)
   refused n e o = record { answered = rw (e, ne-eqb n 0 o); left = rw (e, ne-eqb n 0 o) }
 
   module _ (job : ℕ) (j : job ≡ jobRefusal h) where
-    pub release-job : (job ≡ 0 → ⊥) → Released h s (Refused job) (h .forecast)
+    pub release-job : (job ≡ 0 → ⊥) → ReleasePromise h s (Refused job) (h .forecast)
     release-job o = refused job (rw (sym j) (orElse-some job (rowsRefusal s orElse roomRefusal (h .forecast) rows) o)) o
 
     module _ (job-fine : job ≡ 0) (list : ℕ) (l : list ≡ rowsRefusal s) where
       past-job : why ≡ (list orElse roomRefusal (h .forecast) rows)
       past-job = rw (sym j, sym l) (orElse-none job (list orElse roomRefusal (h .forecast) rows) job-fine)
 
-      pub release-list : (list ≡ 0 → ⊥) → Released h s (Refused list) (h .forecast)
+      pub release-list : (list ≡ 0 → ⊥) → ReleasePromise h s (Refused list) (h .forecast)
       release-list o = refused list (past-job ∙ orElse-some list (roomRefusal (h .forecast) rows) o) o
 
       module _ (list-fine : list ≡ 0) where
@@ -132,12 +132,12 @@ module _ (h : JobInput) (s : RowSlices) where
                 },
               )
 
-          pub release-twenty : r < length (s .slots) → (after : List ℕ) → after ≡ takenOff mid (bare (s .slots) (s .bytes) r) → Released h s (Refused 20) after
+          pub release-twenty : r < length (s .slots) → (after : List ℕ) → after ≡ takenOff mid (bare (s .slots) (s .bytes) r) → ReleasePromise h s (Refused 20) after
           release-twenty less after x =
               let back : after ≡ h .forecast = x ∙ rw (a .says) (taken-again (h .forecast) (bare (s .slots) (s .bytes) r)) in
               rw back (refused 20 (past-list ∙ twenty (h .forecast) rows (λ o. a .stops less (bare-releasable (s .slots) (s .chunks) (s .layers) (s .bytes) (h .forecast) .1 o))) (λ z. omega arith))
 
-          pub release-done : length (s .slots) ≤ r → Released h s Done mid
+          pub release-done : length (s .slots) ≤ r → ReleasePromise h s Done mid
           release-done all-added =
               let all-of-them : r ≡ length (s .slots) = omega (arith, a .inside) in
               let fits = bare-releasable (s .slots) (s .chunks) (s .layers) (s .bytes) (h .forecast) .0 (rw all-of-them at (a .fits)) in

@@ -34,7 +34,7 @@ abbrev pub bookRefusal : JobInput → ListSlices → ℕ
 bookRefusal h s = checkRefusal h s orElse passRefusal (jobIn h) (s .marks) (listRows s)
 
 -- What `book` promises of a job and a list as handed, with its answer and the forecast afterwards.
-pub record Booked (h : JobInput) (s : ListSlices) (r : Answer) (after : List ℕ) : Type 0 where
+pub record BookPromise (h : JobInput) (s : ListSlices) (r : Answer) (after : List ℕ) : Type 0 where
   -- "19, booking a list whose verdict isn't 0", after 8.
   pub answered : r ≡ answer (bookRefusal h s)
   -- "Booking a fetch list takes a passing list off its job's forecast and leaves the unspent bytes
@@ -52,7 +52,7 @@ abbrev pub releaseRefusal : JobInput → RowSlices → ℕ
 releaseRefusal h s = jobRefusal h orElse rowsRefusal s orElse roomRefusal (h .forecast) (rowsIn s)
 
 -- What `release` promises of a job and rows as handed, with its answer and the forecast afterwards.
-pub record Released (h : JobInput) (s : RowSlices) (r : Answer) (after : List ℕ) : Type 0 where
+pub record ReleasePromise (h : JobInput) (s : RowSlices) (r : Answer) (after : List ℕ) : Type 0 where
   -- "20, releasing a row for a slot that isn't there or beyond 16,777,216 bytes in a slot", after
   -- 8.
   pub answered : r ≡ answer (releaseRefusal h s)

@@ -21,7 +21,7 @@ use Rattle.fetch.specs.Input
 use Rattle.checker.specs.Checked.{checkRefusal}
 use Rattle.booking.specs.Booking.{Run, Without, addedBack, booking, passRefusal, releasing, roomRefusal, start, takenOff}
 use Rattle.booking.specs.Booking
-use Rattle.booking.specs.Answer.{Booked, Released, answer, bookRefusal, onForecast, releaseRefusal, rowsRefusal}
+use Rattle.booking.specs.Answer.{BookPromise, ReleasePromise, answer, bookRefusal, onForecast, releaseRefusal, rowsRefusal}
 use Rattle.booking.specs.declared.Answer.{Answer}
 use Rattle.booking.specs.declared.Answer.the-variants.{Done, Refused}
 use Rattle.booking.specs.Theorems.{balanced, booked-accepted, booked-bookable, booked-whole, remainder-accepted, still-booked-releasable}
@@ -87,9 +87,9 @@ module _ (h : JobInput) (s : ListSlices) where
   -- The list is booked, `book` having answered `Done`; then, after any run in which it is still
   -- booked, `release` restores.
   pub release-in-run :
-      {first f left after : List ℕ} {booked others : List (List Row)} {r : Answer} → Booked h s Done left →
+      {first f left after : List ℕ} {booked others : List (List Row)} {r : Answer} → BookPromise h s Done left →
       All (Within 0 16777216) first → length first ≡ length (h .forecast) → Run first f booked → Without rows booked others →
-      Released (onForecast h f) alone r after → Restored first others r after
+      ReleasePromise (onForecast h f) alone r after → Restored first others r after
   release-in-run {first = first} {f = f} {after = after} {others = others} {r = r} b high same run w g =
       let fine = done-unrefused (bookRefusal h s) (b .answered) in
       let n = releaseRefusal (onForecast h f) alone in
@@ -100,8 +100,8 @@ module _ (h : JobInput) (s : ListSlices) where
 
   -- "Releasing what was booked restores the forecast exactly": at once, the forecast before.
   pub release-after-book :
-      {left after : List ℕ} {r : Answer} → Booked h s Done left →
-      Released (onForecast h left) alone r after → (r ≡ Done) × (after ≡ h .forecast)
+      {left after : List ℕ} {r : Answer} → BookPromise h s Done left →
+      ReleasePromise (onForecast h left) alone r after → (r ≡ Done) × (after ≡ h .forecast)
   release-after-book {left = left} b g =
       let n = bookRefusal h s in
       let fine : n ≡ 0 = done-unrefused n (b .answered) in
@@ -113,9 +113,9 @@ module _ (h : JobInput) (s : ListSlices) where
   -- And so after further bookings and releases that leave, beside the list, what was booked before
   -- it: the forecast that it was booked on.
   pub release-later :
-      {first f left after : List ℕ} {before booked : List (List Row)} {r : Answer} → Booked h s Done left →
+      {first f left after : List ℕ} {before booked : List (List Row)} {r : Answer} → BookPromise h s Done left →
       All (Within 0 16777216) first → Run first (h .forecast) before → Run first f booked → Without rows booked before →
-      Released (onForecast h f) alone r after → (r ≡ Done) × (after ≡ h .forecast)
+      ReleasePromise (onForecast h f) alone r after → (r ≡ Done) × (after ≡ h .forecast)
   release-later b high was run w g =
       let x = release-in-run b high (sym (balanced was .slots)) run w g in
       (x .done, x .exactly (h .forecast) was)

@@ -11,7 +11,7 @@ ghost use Rattle.job.specs.Job.{Within};
 ghost use Rattle.job.specs.Input.{jobInput};
 ghost use Rattle.fetch.specs.Slices.{rowSlices, slicesOf};
 ghost use Rattle.booking.specs.Booking.{takenOff};
-ghost use Rattle.booking.specs.Answer.{Booked, Released};
+ghost use Rattle.booking.specs.Answer.{BookPromise, ReleasePromise};
 ghost use Rattle.booking.specs.lemmas.Passes.{Added, Covered, bare, refusedBy};
 
 // The forecast is changed, or the number of a refusal.
@@ -107,7 +107,7 @@ pub fn book(
     layers: &[u8],
     bytes: &[u32],
 ) -> Answer
-    ensures { λ r. ⌜ Booked
+    ensures { λ r. ⌜ BookPromise
         (jobInput p (now (sizes .entry)) (now («size_chunks» .entry)) (now («size_layers» .entry))
         (now («size_bytes» .entry)) (now (forecast .entry)))
         (slicesOf (now (marks .entry)) (now (slots .entry)) (now (chunks .entry)) (now (layers .entry))
@@ -149,7 +149,7 @@ pub fn release(
     layers: &[u8],
     bytes: &[u32],
 ) -> Answer
-    ensures { λ r. ⌜ Released
+    ensures { λ r. ⌜ ReleasePromise
         (jobInput p (now (sizes .entry)) (now («size_chunks» .entry)) (now («size_layers» .entry))
         (now («size_bytes» .entry)) (now (forecast .entry)))
         (rowSlices (now (slots .entry)) (now (chunks .entry)) (now (layers .entry)) (now (bytes .entry)))

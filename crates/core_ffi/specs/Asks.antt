@@ -11,9 +11,9 @@ use Rattle.live.specs.Answer.{inputRefusal, LiveInput, pieces, PieceSlices, ref
 use Rattle.live.specs.Theorems.{few-pieces}
 use Rattle.core_ffi.specs.Convention.{answered}
 
--- What `film_live` hands over. What holds of these pieces is the promise of the library's call,
+-- `film_live`. What holds of these pieces is the promise of the library's call,
 -- live/Answer.LivePromise.
-pub record Asked (i : LiveInput) (l : PieceSlices) (r : ℕ) (l′ : PieceSlices) : Type 0 where
+pub record LiveReturned (i : LiveInput) (l : PieceSlices) (r : ℕ) (l′ : PieceSlices) : Type 0 where
   -- How many pieces, or the refusal's number by the convention.
   pub number : r ≡ answered (refusal i l) (length (pieces i))
   -- The pieces, a slice for each of their three numbers, then the old contents; on a refusal these

@@ -44,7 +44,7 @@ jobReturnRefusal sequenced file lent =
 
 -- What `film_read_job` and `film_read_mixed_job` promise of a file and what they are lent, with the
 -- answer and what is lent afterwards.
-pub record JobReturned (sequenced : Bool) (file : List ℕ) (lent : JobRoom) (r : ℕ) (lent' : JobRoom) : Type 0 where
+pub record JobReadReturned (sequenced : Bool) (file : List ℕ) (lent : JobRoom) (r : ℕ) (lent' : JobRoom) : Type 0 where
   -- The number of slots, or the refusal.
   pub number : r ≡ answered (jobReturnRefusal sequenced file lent) (length (jobOfFile sequenced file .forecast))
   -- Sizes, SZs and forecast; what is past them stays unchanged, and on a refusal all.

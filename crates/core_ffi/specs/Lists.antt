@@ -46,7 +46,7 @@ abbrev pub countAfter : ℕ → (marks count : List ℕ) → List ℕ
 countAfter n marks count = lentAfter (countRefusal count) (markCount n marks ∷ []) count
 
 -- `film_count_marks`.
-pub record CountReturned (marks : List ℕ) (n : ℕ) (count : List ℕ) (r : ℕ) (count' : List ℕ) : Type 0 where
+pub record CountMarksReturned (marks : List ℕ) (n : ℕ) (count : List ℕ) (r : ℕ) (count' : List ℕ) : Type 0 where
   -- 0, or 11.
   pub number : r ≡ answered (countRefusal count) 0
   -- The count, in front of what the slice held: that of marks of any length may be 2^32 or more.

@@ -36,26 +36,28 @@ abbrev pub storedIn : ℕ → Meter → Storage → Storage
 storedIn refused m s =
     record { slots = lentAfter refused (m .slots) (s .slots); bytes = lentAfter refused (m .bytes) (s .bytes); kept = lentAfter refused (m .kept ∷ []) (s .kept) }
 
--- The answer, and the storage afterwards, of a meter without samples ..
-pub record Begun (s : Storage) (r : ℕ) (s' : Storage) : Type 0 where
+-- `film_meter_new`.
+pub record MeterNewReturned (s : Storage) (r : ℕ) (s' : Storage) : Type 0 where
   -- 0, or the refusal's number by the convention.
   pub number : r ≡ answered (cellsRefusal s) 0
   -- A meter without samples; on a refusal the storage is as it was.
   pub storage-is : s' ≡ storedIn (cellsRefusal s) empty s
 
--- .. and of a sample: the sample's 10, 11, then 10 and 13 as the meter gives them.
+-- The sample's 10, 11, then 10 and 13 as the meter gives them.
 abbrev pub sampledRefusal : Storage → (slot bytes : ℕ) → ℕ
 sampledRefusal s slot bytes = sampleRefusal (sample slot bytes) orElse cellsRefusal s orElse taken (meterIn s) slot bytes .code
 
-pub record Sampled (s : Storage) (slot bytes : ℕ) (r : ℕ) (s' : Storage) : Type 0 where
+-- `film_meter_take`.
+pub record MeterTakeReturned (s : Storage) (slot bytes : ℕ) (r : ℕ) (s' : Storage) : Type 0 where
   -- 0, or the refusal's number by the convention.
   pub number : r ≡ answered (sampledRefusal s slot bytes) 0
   -- "Brought up to date in its own storage"; on a refusal it is as it was.
   pub storage-is : s' ≡ storedIn (sampledRefusal s slot bytes) (taken (meterIn s) slot bytes .meter) s
 
--- The forecast: 11, then 10 and 12 as the meter gives them.
+-- 11, then 10 and 12 as the meter gives them.
 abbrev pub meanRefusal : Storage → ℕ
 meanRefusal s = cellsRefusal s orElse meterForecastRefusal (samplesOf (meterIn s))
 
-abbrev pub meanNumber : Storage → ℕ
-meanNumber s = answered (meanRefusal s) (forecastOf (bytesOf (samplesOf (meterIn s))))
+-- `film_meter_forecast`: the forecast, or the refusal.
+abbrev pub meterForecastAnswer : Storage → ℕ
+meterForecastAnswer s = answered (meanRefusal s) (forecastOf (bytesOf (samplesOf (meterIn s))))

@@ -17,23 +17,23 @@ use Rattle.whole_files.specs.Files.{filesRefusal, jobFileRefusal, jobSaid, plan
 use Rattle.core_ffi.specs.Convention.{answered}
 
 -- What a call answers that hands over a text.
-pub record TextHanded (refused : ℕ) (text old : List ℕ) (r : ℕ) (new : List ℕ) : Type 0 where
+pub record TextReturned (refused : ℕ) (text old : List ℕ) (r : ℕ) (new : List ℕ) : Type 0 where
   -- How many bytes the text has, or the refusal's number by the convention.
   pub number : r ≡ answered (withRoom refused text old) (length text)
   -- The text, then what the slice held; on a refusal that alone.
   pub buffer : new ≡ lentAfter (withRoom refused text old) text old
 
-abbrev pub PlanOfFile : (job old : List ℕ) (r : ℕ) (new : List ℕ) → Type 0
-PlanOfFile job old r new = TextHanded (jobFileRefusal job) (fileOf (planOfJob (jobSaid job))) old r new
+abbrev pub PlanFileReturned : (job old : List ℕ) (r : ℕ) (new : List ℕ) → Type 0
+PlanFileReturned job old r new = TextReturned (jobFileRefusal job) (fileOf (planOfJob (jobSaid job))) old r new
 
-abbrev pub ReportOfFile : (job old : List ℕ) (r : ℕ) (new : List ℕ) → Type 0
-ReportOfFile job old r new = TextHanded (jobFileRefusal job) (planReport (jobSaid job)) old r new
+abbrev pub ReportFileReturned : (job old : List ℕ) (r : ℕ) (new : List ℕ) → Type 0
+ReportFileReturned job old r new = TextReturned (jobFileRefusal job) (planReport (jobSaid job)) old r new
 
-abbrev pub ReasonsOfFile : (job old : List ℕ) (r : ℕ) (new : List ℕ) → Type 0
-ReasonsOfFile job old r new = TextHanded (jobFileRefusal job) (planText (jobSaid job)) old r new
+abbrev pub ReasonsFileReturned : (job old : List ℕ) (r : ℕ) (new : List ℕ) → Type 0
+ReasonsFileReturned job old r new = TextReturned (jobFileRefusal job) (planText (jobSaid job)) old r new
 
-abbrev pub ConvertedFile : (job old : List ℕ) (r : ℕ) (new : List ℕ) → Type 0
-ConvertedFile job old r new = TextHanded (refusalOf mixed job) (jobFile (jobOfFile mixed job)) old r new
+abbrev pub ConvertFileReturned : (job old : List ℕ) (r : ℕ) (new : List ℕ) → Type 0
+ConvertFileReturned job old r new = TextReturned (refusalOf mixed job) (jobFile (jobOfFile mixed job)) old r new
 
-abbrev pub verdictAnswer : (job plan : List ℕ) → ℕ
-verdictAnswer job plan = answered (filesRefusal job plan) (verdictOfFiles job plan)
+abbrev pub verdictFilesAnswer : (job plan : List ℕ) → ℕ
+verdictFilesAnswer job plan = answered (filesRefusal job plan) (verdictOfFiles job plan)

@@ -39,9 +39,9 @@ use Rattle.core_ffi.specs.Convention.{answered, never-mistaken, refusalI
 use Rattle.core_ffi.specs.Asks.{pieces-asked}
 use Rattle.core_ffi.specs.Files.{JobRoom, jobReturnRefusal}
 use Rattle.core_ffi.specs.Lists.{checkAnswer, checkFromAnswer, countRefusal}
-use Rattle.core_ffi.specs.Meters.{Storage, cellsRefusal, meanNumber, meanRefusal, sampledRefusal}
+use Rattle.core_ffi.specs.Meters.{Storage, cellsRefusal, meterForecastAnswer, meanRefusal, sampledRefusal}
 use Rattle.core_ffi.specs.Plans.{orderNumber, withCounts, withWalk}
-use Rattle.core_ffi.specs.Programs.{verdictAnswer}
+use Rattle.core_ffi.specs.Programs.{verdictFilesAnswer}
 use Rattle.core_ffi.specs.Texts.{waitAnswer}
 use Rattle.core_ffi.specs.Theorems.{converted-small, files-small, forecast-made, job-read, job-written, plan-written, reasons-written, report-written, rows-afresh, rows-found, rows-planned, trace-read}
 use Rattle.fetch.specs.Slices.{ListSlices, RowSlices}
@@ -166,7 +166,7 @@ meter-new-refused s = never-mistaken (cellsRefusal s) 0 0 (omega arith) (λ e. o
 pub meter-take-refused : (s : Storage) (slot bytes : ℕ) → refusalIn (answered (sampledRefusal s slot bytes) 0) ≡ sampledRefusal s slot bytes
 meter-take-refused s slot bytes = never-mistaken (sampledRefusal s slot bytes) 0 0 (omega arith) (λ e. omega arith)
 
-pub meter-forecast-refused : (s : Storage) → refusalIn (meanNumber s) ≡ meanRefusal s
+pub meter-forecast-refused : (s : Storage) → refusalIn (meterForecastAnswer s) ≡ meanRefusal s
 meter-forecast-refused s = never-mistaken (meanRefusal s) _ 16777216 (omega arith) (forecast-made s)
 
 -- ---- whole files: film_plan_file, film_report_file, film_reasons_file, film_convert_file,
@@ -205,5 +205,5 @@ module _ (job old : List ℕ) where
       never-mistaken (withRoom (refusalOf mixed job) text old) (length text) 46800 (omega arith) (λ e.
       converted-small job (none-first (refusalOf mixed job) (unless 11 (leb (length text) (length old))) e))
 
-pub verdict-files-refused : (job plan : List ℕ) → refusalIn (verdictAnswer job plan) ≡ filesRefusal job plan
+pub verdict-files-refused : (job plan : List ℕ) → refusalIn (verdictFilesAnswer job plan) ≡ filesRefusal job plan
 verdict-files-refused job plan = never-mistaken (filesRefusal job plan) (verdictOfFiles job plan) 7 (omega arith) (λ e. verdict-few (jobSaid job) _ _)

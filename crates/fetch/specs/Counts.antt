@@ -43,7 +43,7 @@ unfoldable pub overRest : ℕ → List ℕ → ℕ
 overRest n marks = markCount n (drop (length marks / 8 * 8) marks)
 
 -- What `count_marks` answers.
-pub record CountedMarks (marks : List ℕ) (n r : ℕ) : Type 0 where
+pub record CountMarksPromise (marks : List ℕ) (n r : ℕ) : Type 0 where
   -- How many marks have layer n, one by one.
   pub counted : r ≡ markCount n marks
   -- "For marks of any length every count is the sum over words and rest"

@@ -7,7 +7,7 @@ ghost use Prim.Native.Nat.{_+_, _*_, _^_, _≤_, _<_};
 ghost use lib.ListN.{length};
 ghost use lib.Count.{ones};
 ghost use Rattle.fetch.specs.Marks.{bit, withLayer, withoutLayer};
-ghost use Rattle.fetch.specs.Counts.{CountedMarks, wordCount, wordOf, overWords, overRest};
+ghost use Rattle.fetch.specs.Counts.{CountMarksPromise, wordCount, wordOf, overWords, overRest};
 ghost use Rattle.fetch.specs.lemmas.Counts.{eight};
 ghost use Rattle.fetch.specs.Slices.{slicesOf, slicesRefusal};
 ghost use Rattle.fetch.specs.VerdictFrom.{slotRefusal};
@@ -125,7 +125,7 @@ fn count_rest(marks: &[u8], n: u8) -> usize
 
 // How many marks have layer n, for marks of any length: eight at once, and the odd rest by bytes.
 pub fn count_marks(marks: &[u8], n: u8) -> usize
-    ensures { λ r. ⌜ CountedMarks (now (marks .entry)) n r ⌝ }
+    ensures { λ r. ⌜ CountMarksPromise (now (marks .entry)) n r ⌝ }
 {
     count_words(marks, n) + count_rest(marks, n)
 }

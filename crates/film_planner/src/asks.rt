@@ -1,6 +1,6 @@
 // The call that says what to fetch next: its number of pieces, and the pieces.
 use job::Programme;
-ghost use Rattle.core_ffi.specs.Asks.{Asked};
+ghost use Rattle.core_ffi.specs.Asks.{LiveReturned};
 ghost use Rattle.core_ffi.specs.Convention.{film};
 ghost use Rattle.live.specs.Answer.{liveInput, pieceSlices};
 ghost use Rattle.fetch.specs.Slices.{rowSlices};
@@ -27,7 +27,7 @@ pub extern "C" fn film_live(
     piece_layers: &mut [u8],
     piece_bytes: &mut [u32],
 ) -> u64
-    ensures { λ r. ⌜ Asked
+    ensures { λ r. ⌜ LiveReturned
         (liveInput
         (film chunks span delay limit (now (sizes .entry)) (now («size_chunks» .entry))
         (now («size_layers» .entry)) (now («size_bytes» .entry)) (now (forecast .entry)))

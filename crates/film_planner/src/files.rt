@@ -5,7 +5,7 @@ ghost use Rattle.fetch.specs.Slices.{slicesOf};
 ghost use Rattle.jobrecords.specs.Reader.{buffers};
 ghost use Rattle.jobrecords.specs.Refusal.{mixed, oneSequence};
 ghost use Rattle.core_ffi.specs.Convention.{film};
-ghost use Rattle.core_ffi.specs.Files.{JobReturned, JobWriteReturned, PlanReadReturned, PlanWriteReturned, jobRoom};
+ghost use Rattle.core_ffi.specs.Files.{JobReadReturned, JobWriteReturned, PlanReadReturned, PlanWriteReturned, jobRoom};
 
 // `jobfile::read_job` for C.
 #[no_mangle]
@@ -19,7 +19,7 @@ pub extern "C" fn film_read_job(
     size_bytes: &mut [u32],
     forecast: &mut [u32],
 ) -> u64
-    ensures { λ r. ⌜ JobReturned oneSequence (now (file .entry))
+    ensures { λ r. ⌜ JobReadReturned oneSequence (now (file .entry))
         (jobRoom
         (buffers (now (sizes .entry)) (now («size_chunks» .entry)) (now («size_layers» .entry))
         (now («size_bytes» .entry)) (now (forecast .entry)))
@@ -47,7 +47,7 @@ pub extern "C" fn film_read_mixed_job(
     sizes: &mut [u32],
     forecast: &mut [u32],
 ) -> u64
-    ensures { λ r. ⌜ JobReturned mixed (now (file .entry))
+    ensures { λ r. ⌜ JobReadReturned mixed (now (file .entry))
         (jobRoom
         (buffers (now (sizes .entry)) [] [] [] (now (forecast .entry)))
         (now (programme .entry)) (now (lengths .entry)))

@@ -5,7 +5,7 @@ ghost use Rattle.fetch.specs.Counts.{wordCount};
 ghost use Rattle.fetch.specs.Slices.{rowSlices, slicesOf};
 ghost use Rattle.planner.specs.Answer.{compared};
 ghost use Rattle.core_ffi.specs.Convention.{film};
-ghost use Rattle.core_ffi.specs.Lists.{BookReturned, CountReturned, ReleaseReturned, checkAnswer, checkFromAnswer};
+ghost use Rattle.core_ffi.specs.Lists.{BookReturned, CountMarksReturned, ReleaseReturned, checkAnswer, checkFromAnswer};
 ghost use Rattle.core_ffi.specs.Plans.{fourCounts, orderNumber};
 
 // `checker::check` for C.
@@ -194,7 +194,7 @@ pub extern "C" fn film_release(
 // A count of marks of any length may pass 2^32, so it stands in a lent slice.
 #[no_mangle]
 pub extern "C" fn film_count_marks(marks: &[u8], n: u8, count: &mut [u64]) -> u64
-    ensures { λ r. ⌜ CountReturned (now (marks .entry)) n (now (count .entry)) r (now (count .exit)) ⌝ }
+    ensures { λ r. ⌜ CountMarksReturned (now (marks .entry)) n (now (count .entry)) r (now (count .exit)) ⌝ }
 {
     if count.len() < 1 {
         return core_ffi::refused(11);

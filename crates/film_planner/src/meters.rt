@@ -1,12 +1,12 @@
 // The link meter in the caller's own storage.
 ghost use mathlib.Core.Path.{_≡_};
 ghost use Rattle.meter.specs.Meter.{sample};
-ghost use Rattle.core_ffi.specs.Meters.{Begun, Sampled, meanNumber, storage};
+ghost use Rattle.core_ffi.specs.Meters.{MeterNewReturned, MeterTakeReturned, meterForecastAnswer, storage};
 
 // `meter::new` into the caller's storage.
 #[no_mangle]
 pub extern "C" fn film_meter_new(slots: &mut [u16], bytes: &mut [u32], kept: &mut [u8]) -> u64
-    ensures { λ r. ⌜ Begun (storage (now (slots .entry)) (now (bytes .entry)) (now (kept .entry)))
+    ensures { λ r. ⌜ MeterNewReturned (storage (now (slots .entry)) (now (bytes .entry)) (now (kept .entry)))
         r (storage (now (slots .exit)) (now (bytes .exit)) (now (kept .exit))) ⌝ }
 {
     if !core_ffi::holds_meter(slots.len(), bytes.len(), kept.len()) {
@@ -28,7 +28,7 @@ pub extern "C" fn film_meter_take(
     slot: u16,
     sample: u32,
 ) -> u64
-    ensures { λ r. ⌜ Sampled (storage (now (slots .entry)) (now (bytes .entry)) (now (kept .entry))) slot sample
+    ensures { λ r. ⌜ MeterTakeReturned (storage (now (slots .entry)) (now (bytes .entry)) (now (kept .entry))) slot sample
         r (storage (now (slots .exit)) (now (bytes .exit)) (now (kept .exit))) ⌝ }
 {
     if !core_ffi::holds_meter(slots.len(), bytes.len(), kept.len()) {
@@ -49,7 +49,7 @@ pub extern "C" fn film_meter_take(
 // `meter::forecast` of the meter in the caller's storage.
 #[no_mangle]
 pub extern "C" fn film_meter_forecast(slots: &[u16], bytes: &[u32], kept: &[u8]) -> u64
-    ensures { λ r. ⌜ r ≡ meanNumber (storage (now (slots .entry)) (now (bytes .entry)) (now (kept .entry))) ⌝ }
+    ensures { λ r. ⌜ r ≡ meterForecastAnswer (storage (now (slots .entry)) (now (bytes .entry)) (now (kept .entry))) ⌝ }
 {
     if !core_ffi::holds_meter(slots.len(), bytes.len(), kept.len()) {
         return core_ffi::refused(11);

@@ -110,7 +110,7 @@ taken m slot bytes =
     record { code = n; meter = cond (eqb n 0) (storing (with-sample l x) m) m }
 
 -- What `update` promises of a lent meter and a sample, with its answer and the meter afterwards.
-pub record Updated (m : Meter) (slot bytes r : ℕ) (m' : Meter) : Type 0 where
+pub record UpdatePromise (m : Meter) (slot bytes r : ℕ) (m' : Meter) : Type 0 where
   -- 0, or the refusal's number.
   pub code : r ≡ taken m slot bytes .code
   -- "The meter lent by the link reader is brought up to date in its own storage."

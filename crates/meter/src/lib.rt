@@ -8,7 +8,7 @@ ghost use Rattle.meter.specs.lemmas.Cells.{nextCells};
 ghost use Rattle.meter.specs.Forecast.{share, bytesOf, forecastOf};
 ghost use Rattle.meter.specs.Calls.{ForecastPromise};
 ghost use Rattle.meter.specs.Meter.{sample, samplesOf, storing, empty, inRange, inOrder, lastSampleSlot};
-ghost use Rattle.meter.specs.Meter.{with-sample, taken, InOrder, Updated};
+ghost use Rattle.meter.specs.Meter.{with-sample, taken, InOrder, UpdatePromise};
 
 // Ten cells, the first `kept` of which hold a sample each, a slot and its bytes, the newest last.
 pub struct Meter {
@@ -200,7 +200,7 @@ pub fn forecast(m: Meter) -> Answer
 // "The meter lent by the link reader is brought up to date in its own storage." The lent meter is
 // then the one that `take` answers: on a refusal the meter as it was.
 pub fn update(m: &mut Meter, slot: u16, bytes: u32) -> u8
-    ensures { λ r. ⌜ Updated (now (m .entry)) slot bytes r (now (m .exit)) ⌝ }
+    ensures { λ r. ⌜ UpdatePromise (now (m .entry)) slot bytes r (now (m .exit)) ⌝ }
 {
     let a = take(*m, slot, bytes);
     *m = a.meter;

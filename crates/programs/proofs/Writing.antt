@@ -17,7 +17,7 @@ use Rattle.theory_basics.specs.lemmas.Tests.{by-cond, test}
 use Rattle.core_text.specs.lemmas.Places.{Put, put-then, put-whole}
 use Rattle.records.specs.declared.Written.{Written}
 use Rattle.records.specs.declared.Written.the-variants.{Bytes, Refused}
-use Rattle.whole_files.specs.Calls.{Wrote, withRoom}
+use Rattle.whole_files.specs.Calls.{TextPromise, withRoom}
 use Rattle.whole_files.proofs.Writing.{never-second}
 use Rattle.programs.specs.Calls.{Prints}
 use Rattle.programs.specs.Printed.{printed, refusedText}
@@ -29,7 +29,7 @@ module _ (refused : ℕ) (text old new : List ℕ) (room : refused ≡ 0 → len
   never-eleven = never-second refused (unless 11 (leb (length text) (length old))) (λ e. rw (le-leb (length text) (length old) (room e)))
 
   -- So the text is printed,
-  pub prints-text : (n : ℕ) → Wrote refused text old (Bytes n) new → Prints (printed refused text) old n new
+  pub prints-text : (n : ℕ) → TextPromise refused text old (Bytes n) new → Prints (printed refused text) old n new
   prints-text n w =
       let a : Bytes n ≡ cond (eqb refused 0) (Bytes (length text)) (Refused refused) = rw never-eleven at (w .answer) in
       let b : new ≡ lentAfter refused text old = rw never-eleven at (w .buffer) in
@@ -44,7 +44,7 @@ module _ (refused : ℕ) (text old new : List ℕ) (room : refused ≡ 0 → len
       (test (eqb refused 0))
 
   -- or the refusal is known, and the buffer untouched.
-  pub refused-by : (n : ℕ) → Wrote refused text old (Refused n) new → (refused ≡ n) × ((n ≡ 0 → ⊥) × (new ≡ old))
+  pub refused-by : (n : ℕ) → TextPromise refused text old (Refused n) new → (refused ≡ n) × ((n ≡ 0 → ⊥) × (new ≡ old))
   refused-by n w =
       let a : Refused n ≡ cond (eqb refused 0) (Bytes (length text)) (Refused refused) = rw never-eleven at (w .answer) in
       let b : new ≡ lentAfter refused text old = rw never-eleven at (w .buffer) in
@@ -66,7 +66,7 @@ prints-refused refused n text old count new e z p = rw (e, ne-eqb n 0 z) p
 
 -- What is printed of an answer.
 pub prints-answer :
-    (refused : ℕ) (text old mid : List ℕ) (r : Written) (count : ℕ) (new : List ℕ) → Wrote refused text old r mid → (refused ≡ 0 → length text ≤ length old) →
+    (refused : ℕ) (text old mid : List ℕ) (r : Written) (count : ℕ) (new : List ℕ) → TextPromise refused text old r mid → (refused ≡ 0 → length text ≤ length old) →
     PrintsAnswer r mid count new → Prints (printed refused text) old count new
 prints-answer refused text old mid (Bytes n) count new w room p =
     let known = prints-text refused text old mid room n w in

@@ -23,17 +23,17 @@ abbrev pub twoFiles : (job plan : List ℕ) → TwoFiles
 twoFiles job plan = record { job = job; plan = plan }
 
 -- Of each program, for the files as its function is handed them.
-abbrev pub PrintsPlan : (job old : List ℕ) (count : ℕ) (new : List ℕ) → Type 0
-PrintsPlan job old count new = Prints (planPrinted job) old count new
+abbrev pub PrintPlanPromise : (job old : List ℕ) (count : ℕ) (new : List ℕ) → Type 0
+PrintPlanPromise job old count new = Prints (planPrinted job) old count new
 
-abbrev pub PrintsVerdict : TwoFiles → (old : List ℕ) (count : ℕ) (new : List ℕ) → Type 0
-PrintsVerdict files old count new = Prints (verdictPrinted (files .job) (files .plan)) old count new
+abbrev pub PrintVerdictPromise : TwoFiles → (old : List ℕ) (count : ℕ) (new : List ℕ) → Type 0
+PrintVerdictPromise files old count new = Prints (verdictPrinted (files .job) (files .plan)) old count new
 
-abbrev pub PrintsReport : (job old : List ℕ) (count : ℕ) (new : List ℕ) → Type 0
-PrintsReport job old count new = Prints (reportPrinted job) old count new
+abbrev pub PrintReportPromise : (job old : List ℕ) (count : ℕ) (new : List ℕ) → Type 0
+PrintReportPromise job old count new = Prints (reportPrinted job) old count new
 
-abbrev pub PrintsReasons : (job old : List ℕ) (count : ℕ) (new : List ℕ) → Type 0
-PrintsReasons job old count new = Prints (reasonsPrinted job) old count new
+abbrev pub PrintReasonsPromise : (job old : List ℕ) (count : ℕ) (new : List ℕ) → Type 0
+PrintReasonsPromise job old count new = Prints (reasonsPrinted job) old count new
 
-abbrev pub PrintsConverted : (job old : List ℕ) (count : ℕ) (new : List ℕ) → Type 0
-PrintsConverted job old count new = Prints (convertPrinted job) old count new
+abbrev pub PrintConvertedPromise : (job old : List ℕ) (count : ℕ) (new : List ℕ) → Type 0
+PrintConvertedPromise job old count new = Prints (convertPrinted job) old count new

@@ -7,8 +7,8 @@ ghost use mathlib.Core.List.{[], _∷_, _++_};
 ghost use Prim.Native.Nat.{_≤_};
 ghost use lib.ListN.{length};
 ghost use Rattle.theory_basics.specs.Text.{digits};
-ghost use Rattle.programs.specs.Calls.{Prints, PrintsConverted, PrintsPlan, PrintsReasons, PrintsReport};
-ghost use Rattle.programs.specs.Calls.{PrintsVerdict, twoFiles};
+ghost use Rattle.programs.specs.Calls.{Prints, PrintConvertedPromise, PrintPlanPromise, PrintReasonsPromise, PrintReportPromise};
+ghost use Rattle.programs.specs.Calls.{PrintVerdictPromise, twoFiles};
 ghost use Rattle.programs.specs.lemmas.Answered.{PrintsAnswer};
 
 // What a program reads of a file: one byte more than a file may have, so that a longer one is 9.
@@ -52,7 +52,7 @@ fn print_answer(written: Written, out: &mut [u8]) -> usize
 // What `film_plan` prints for its standard input, of which it reads READ_BYTES, so that a longer
 // one is refused by 9.
 pub fn print_plan(job: &[u8], out: &mut [u8; PLAN_BYTES]) -> usize
-    ensures { λ r. ⌜ PrintsPlan (now (job .entry)) (now (out .entry)) r (now (out .exit)) ⌝ }
+    ensures { λ r. ⌜ PrintPlanPromise (now (job .entry)) (now (out .entry)) r (now (out .exit)) ⌝ }
 {
     let written = whole_files::plan_file(job, out);
     print_answer(written, out)
@@ -61,7 +61,7 @@ pub fn print_plan(job: &[u8], out: &mut [u8; PLAN_BYTES]) -> usize
 // What `film_verdict` prints for the files `job` and `plan`. Of each it reads READ_BYTES, and none
 // of a file that can't be opened.
 pub fn print_verdict(job: &[u8], plan: &[u8], out: &mut [u8; VERDICT_BYTES]) -> usize
-    ensures { λ r. ⌜ PrintsVerdict
+    ensures { λ r. ⌜ PrintVerdictPromise
         (twoFiles (now (job .entry)) (now (plan .entry)))
         (now (out .entry)) r (now (out .exit)) ⌝ }
 {
@@ -73,7 +73,7 @@ pub fn print_verdict(job: &[u8], plan: &[u8], out: &mut [u8; VERDICT_BYTES]) -> 
 
 // What `film_report` prints for its standard input.
 pub fn print_report(job: &[u8], out: &mut [u8; REPORT_BYTES]) -> usize
-    ensures { λ r. ⌜ PrintsReport (now (job .entry)) (now (out .entry)) r (now (out .exit)) ⌝ }
+    ensures { λ r. ⌜ PrintReportPromise (now (job .entry)) (now (out .entry)) r (now (out .exit)) ⌝ }
 {
     let written = whole_files::report_file(job, out);
     print_answer(written, out)
@@ -81,7 +81,7 @@ pub fn print_report(job: &[u8], out: &mut [u8; REPORT_BYTES]) -> usize
 
 // What `film_reasons` prints for its standard input.
 pub fn print_reasons(job: &[u8], out: &mut [u8; REASONS_BYTES]) -> usize
-    ensures { λ r. ⌜ PrintsReasons (now (job .entry)) (now (out .entry)) r (now (out .exit)) ⌝ }
+    ensures { λ r. ⌜ PrintReasonsPromise (now (job .entry)) (now (out .entry)) r (now (out .exit)) ⌝ }
 {
     let written = whole_files::reasons_file(job, out);
     print_answer(written, out)
@@ -89,7 +89,7 @@ pub fn print_reasons(job: &[u8], out: &mut [u8; REASONS_BYTES]) -> usize
 
 // What `film_convert` prints for its standard input.
 pub fn print_converted(job: &[u8], out: &mut [u8; CONVERTED_BYTES]) -> usize
-    ensures { λ r. ⌜ PrintsConverted (now (job .entry)) (now (out .entry)) r (now (out .exit)) ⌝ }
+    ensures { λ r. ⌜ PrintConvertedPromise (now (job .entry)) (now (out .entry)) r (now (out .exit)) ⌝ }
 {
     let written = whole_files::convert_file(job, out);
     print_answer(written, out)

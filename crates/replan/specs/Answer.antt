@@ -20,7 +20,7 @@ use Rattle.theory_plan.specs.Statement.{Same, SettledByTrials, countsOf, marksO
 use Rattle.planner.specs.declared.Answer.the-variants.{Refused, Rows}
 use Rattle.planner.specs.declared.Answer.{Answer}
 use Rattle.planner.specs.declared.Planned.{Planned}
-use Rattle.theory_replan.specs.Desk.{Replans}
+use Rattle.theory_replan.specs.Promised.{Replans}
 use Rattle.theory_replan.specs.Own.{ownRest}
 use Rattle.theory_replan.specs.Plan.{replan}
 use Rattle.theory_replan.specs.Refusal.{replanRefusal}
@@ -99,7 +99,8 @@ pub record ReplanOutput (h : JobInput) (o : ReplanInput) (lent : ListSlices) (r 
 
 -- ---- what holds of it
 
--- The plan made afresh is settled as request 12 says, and there is no other (theory_replan, Desk).
+-- The plan made afresh is settled as request 12 says, and there is no other (theory_replan,
+-- Promised).
 pub record Settled (h : JobInput) (o : ReplanInput) : Type 0 where
   -- "Layers whole before p are carried. Chunks due before p are settled by what they have. Others
   -- are settled as in document 01, bases too, over lists that begin with the rows fetched."

@@ -22,7 +22,8 @@ use Rattle.theory_plan.specs.Statement.{Same, countsOf, marksOf}
 use Rattle.theory_plan.specs.Theorems.{same-counts, same-marks}
 use Rattle.planner.specs.declared.Answer.the-variants.{Refused, Rows}
 use Rattle.planner.specs.declared.Planned.{Planned}
-use Rattle.theory_replan.specs.Desk.{Continues, replans, standing-continues}
+use Rattle.theory_replan.specs.Desk.{replans, standing-continues}
+use Rattle.theory_replan.specs.Promised.{Continues}
 use Rattle.theory_replan.specs.Refusal.{replanRefusal}
 use Rattle.theory_replan.specs.Theorems.{order-free}
 use Rattle.theory_replan.specs.lemmas.Standing.{own-rest-cong}

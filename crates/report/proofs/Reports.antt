@@ -16,7 +16,7 @@ use Rattle.core_sizes.specs.Table.{sizesTable}
 use Rattle.core_sizes.specs.lemmas.Table.{table-says}
 use Rattle.job.specs.lemmas.Within.{size-most}
 use Rattle.planner.specs.Answer.{planRows}
-use Rattle.report.specs.Answer.{Answered, Reported, plan-report-fits, planReport, reportRefusal, roomRefusal}
+use Rattle.report.specs.Answer.{Answered, ReportPromise, plan-report-fits, planReport, reportRefusal, roomRefusal}
 use Rattle.report.specs.Report.{bytesInRows}
 use Rattle.records.specs.declared.Written.{Written}
 use Rattle.records.specs.declared.Written.the-variants.{Refused}
@@ -34,7 +34,7 @@ unsent-case h true n e = let z : _≡_ {A = ℕ} 0 1 = cc in absurd (omega arith
 unsent-case h false n e = (cc, cc)
 
 module _ {h : JobInput} {table : List ℕ} {r : Spent} (t : Tabled h table r) where
-  pub refused : {no : ℕ} {out : List ℕ} → r ≡ unsent no → Reported h out out (Refused no)
+  pub refused : {no : ℕ} {out : List ℕ} → r ≡ unsent no → ReportPromise h out (Refused no) out
   refused {no} {out} e =
       let u = unsent-case h (eqb (jobRefusal h) 0) no (sym (t .spent) ∙ e) in
       let n : jobRefusal h ≡ 0 → ⊥ = λ z. subst T (u .0) (subst (λ (k : ℕ). T (eqb k 0)) (sym z) tt) in
@@ -71,7 +71,7 @@ module _ {h : JobInput} {table : List ℕ} {r : Spent} (t : Tabled h table r) wh
         λ i k. rw (s, table-says (jobIn h) accepted i k) (size-most (jobIn h) accepted i k),
       )
 
-      pub reported : {old out : List ℕ} {w : Written} → Answered (linesBy (h .programme) stored (length (h .sizes)) table n left) old out w → Reported h old out w
+      pub reported : {old out : List ℕ} {w : Written} → Answered (linesBy (h .programme) stored (length (h .sizes)) table n left) old w out → ReportPromise h old w out
       reported {old} a =
           let b = rw lines-report at a in
           let g : reportRefusal h old ≡ roomRefusal (planReport (jobIn h)) old = orElse-none (jobRefusal h) (roomRefusal (planReport (jobIn h)) old) none in

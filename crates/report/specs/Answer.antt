@@ -35,21 +35,21 @@ abbrev pub roomRefusal : List ℕ → List ℕ → ℕ
 roomRefusal t out = unless 11 (leb (length t) (length out))
 
 -- The answer and the buffer afterwards for a text at hand.
-pub record Answered (t old now : List ℕ) (r : Written) : Type 0 where
+pub record Answered (t old : List ℕ) (r : Written) (new : List ℕ) : Type 0 where
   pub result : r ≡ answer (roomRefusal t old) (length t)
-  pub buffer : now ≡ lentAfter (roomRefusal t old) t old
+  pub buffer : new ≡ lentAfter (roomRefusal t old) t old
 
 -- The refusal of the call: 5, 6, 18, 7 by the job, then 11.
 abbrev pub reportRefusal : JobInput → List ℕ → ℕ
 reportRefusal h out = jobRefusal h orElse roomRefusal (planReport (jobIn h)) out
 
--- What `report` promises of a job as handed and the buffer that it is lent, with the buffer
--- afterwards and its answer.
-pub record Reported (h : JobInput) (old now : List ℕ) (r : Written) : Type 0 where
+-- What `report` promises of a job as handed and the buffer that it is lent, with its
+-- answer and the buffer afterwards.
+pub record ReportPromise (h : JobInput) (old : List ℕ) (r : Written) (new : List ℕ) : Type 0 where
   -- The number of bytes, or a refusal's number.
   pub result : r ≡ answer (reportRefusal h old) (length (planReport (jobIn h)))
   -- The report; "in a longer one the bytes past the result stay unchanged", and on a refusal all.
-  pub buffer : now ≡ lentAfter (reportRefusal h old) (planReport (jobIn h)) old
+  pub buffer : new ≡ lentAfter (reportRefusal h old) (planReport (jobIn h)) old
 
 -- Whichever plan of an accepted job is taken, this is its report.
 pub report-of-plan : (j : Job) (p : ℕ → ℕ) → Accepted j → IsPlan j p → planReport j ≡ reportOf j (ownList j p)

@@ -19,7 +19,7 @@ ghost use lib.ListN.{length, replicate};
 ghost use Rattle.theory_basics.specs.Lists.{upTo};
 ghost use Rattle.job.specs.Input.{jobInput};
 ghost use Rattle.theory_basics.specs.Text.{ascii, digits, line, text};
-ghost use Rattle.report.specs.Answer.{Answered, Reported};
+ghost use Rattle.report.specs.Answer.{Answered, ReportPromise};
 ghost use Rattle.core_text.specs.lemmas.Places.{Put};
 ghost use Rattle.report.specs.lemmas.Tables.{SizesIn, Tabled, chunkLineBy, countBy, linesBy};
 
@@ -153,7 +153,7 @@ fn put_lines(
 
 // The text over the front of the buffer, if it fits.
 fn copy_out(text: &[u8], out: &mut [u8]) -> Written
-    ensures { λ r. ⌜ Answered (now (text .entry)) (now (out .entry)) (now (out .exit)) r ⌝ }
+    ensures { λ r. ⌜ Answered (now (text .entry)) (now (out .entry)) r (now (out .exit)) ⌝ }
 {
     if out.len() < text.len() {
         return Written::Refused(11);
@@ -179,8 +179,8 @@ fn write_lines(
         × (1 ≤ p .span)
         × (length (linesBy p (now sizes) depth (now table) spent left) ≤ 7633)
         × SizesIn (now sizes) ⌝ }
-    ensures { λ r. ⌜ Answered (linesBy p (now (sizes .entry)) depth (now (table .entry)) spent left) (now (out .entry))
-        (now (out .exit)) r ⌝ }
+    ensures { λ r. ⌜ Answered (linesBy p (now (sizes .entry)) depth (now (table .entry)) spent left)
+        (now (out .entry)) r (now (out .exit)) ⌝ }
 {
     let mut text = [0u8; 7633];
     let n = put_lines(p, sizes, depth, table, spent, left, &mut text);
@@ -244,10 +244,10 @@ pub fn report(
     forecast: &[u32],
     out: &mut [u8],
 ) -> Written
-    ensures { λ r. ⌜ Reported
+    ensures { λ r. ⌜ ReportPromise
         (jobInput p (now (sizes .entry)) (now («size_chunks» .entry)) (now («size_layers» .entry))
-        (now («size_bytes» .entry)) (now (forecast .entry))) (now (out .entry))
-        (now (out .exit)) r ⌝ }
+        (now («size_bytes» .entry)) (now (forecast .entry)))
+        (now (out .entry)) r (now (out .exit)) ⌝ }
 {
     let mut table = [0u64; SIZES];
     let made = plan_table(

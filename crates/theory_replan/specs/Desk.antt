@@ -20,32 +20,16 @@ use Rattle.theory_plan.specs.Theorems.{elsewhere-iff}
 use Rattle.theory_plan.specs.lemmas.Words.{accepted-sized}
 use Rattle.theory_replan.specs.Plan.{replan}
 use Rattle.theory_replan.specs.Own.{ownRest}
+use Rattle.theory_replan.specs.Promised.{Continues, GivenUp, Replans}
 use Rattle.theory_replan.specs.Refusal.{joined-accepted, joined-unchanged, replan-refusal-iff, Replannable, replanRefusal}
 use Rattle.theory_replan.specs.Statement.{Acceptable, IsReplan, joined, rowsBefore, rowsFrom}
-use Rattle.theory_replan.specs.Theorems.{CarriesAfresh, replan-carries, replan-exists, replan-unique}
+use Rattle.theory_replan.specs.Theorems.{replan-carries, replan-exists, replan-unique}
 use Rattle.theory_replan.specs.lemmas.AnyOrder.{acceptable-permuted, permuted-back, standing-any-order}
 use Rattle.theory_replan.specs.lemmas.Decision.{rest-given-up}
 use Rattle.theory_replan.specs.lemmas.Held.{begun-row}
 use Rattle.theory_replan.specs.lemmas.Plan.{is-replan-fits}
 use Rattle.theory_replan.specs.lemmas.Shape.{own-rest-ascending, own-rest-rows}
 use Rattle.theory_replan.specs.lemmas.Standing.{standing-plan}
-
--- "A begun layer that is given up stays spent, isn't carried, and its chunk is held to its due
--- slot."
-pub record GivenUp (j : Job) (p : ℕ) (fetched rest : List Row) (i n : ℕ) : Type 0 where
-  pub spent : bytesOfLayer (fetched ++ rest) i n ≡ bytesOfLayer fetched i n
-  pub not-carried : Carried j (fetched ++ rest) i n → ⊥
-  pub held-on : (t : ℕ) → p ≤ t → t < due j i → T (held j (fetched ++ rest) t i)
-
--- What a call that is not refused hands over: there is one plan made afresh, and of it and its own
--- rows:
-pub record Replans (j : Job) (p : ℕ) (fetched : List Row) (plan : ℕ → ℕ) : Type 0 where
-  pub settled : IsReplan j p fetched plan
-  pub only : (other : ℕ → ℕ) → IsReplan j p fetched other → Same j other plan
-  pub carries : CarriesAfresh j p fetched plan (ownRest j p fetched plan)
-  pub ascending : Ascending (ownRest j p fetched plan)
-  pub few-rows : length (ownRest j p fetched plan) ≤ 5599
-  pub given-up : (i n : ℕ) → Layer j i n → plan i ≤ n → 1 ≤ bytesOfLayer fetched i n → GivenUp j p fetched (ownRest j p fetched plan) i n
 
 given-up-at :
     (j : Job) → Accepted j → (p : ℕ) (fetched : List Row) → Acceptable j p fetched → (plan : ℕ → ℕ) → IsReplan j p fetched plan →
@@ -84,15 +68,7 @@ replans j a p fetched onward e =
 
 -- ---- the standing plan
 
--- "If the standing plan was settled for the whole job in document 01's way, bases too, the rows are
--- all its own before p and the forecast hasn't changed, the new rows are exactly the rest of that
--- plan."
-pub record Continues (j : Job) (q : ℕ → ℕ) (p : ℕ) (fetched : List Row) (onward : List ℕ) : Type 0 where
-  pub accepted : replanRefusal j p fetched onward ≡ 0
-  pub same : (plan : ℕ → ℕ) → IsReplan (joined j p onward) p fetched plan → Same j plan q
-  pub rest : (plan : ℕ → ℕ) → IsReplan (joined j p onward) p fetched plan → ownRest (joined j p onward) p fetched plan ≡ rowsFrom p (ownList j q)
-
--- In whatever order its rows are fetched.
+-- The rest of a plan settled in document 01's way, in whatever order its rows are fetched.
 pub standing-continues :
     (j : Job) → Accepted j → (q : ℕ → ℕ) → SettledByTrials j q → (p : ℕ) → 1 ≤ p → p ≤ lastSlot j → (fetched : List Row) →
     Permuted fetched (rowsBefore p (ownList j q)) → Continues j q p fetched (drop (p - 1) (j .forecast))

@@ -2,6 +2,7 @@ pub mod Statement
 pub mod Own
 pub mod Plan
 pub mod Refusal
+pub mod Promised
 pub mod Theorems
 pub mod Desk
 pub mod Examples

@@ -22,6 +22,7 @@ use Rattle.theory_plan.specs.lemmas.Level.{count-carried}
 use Rattle.theory_plan.specs.lemmas.Words.{accepted-sized}
 use Rattle.theory_replan.specs.Own.{ownRest}
 use Rattle.theory_replan.specs.Plan.{fitsFrom, replan, triedFrom}
+use Rattle.theory_replan.specs.Promised.{CarriesAfresh}
 use Rattle.theory_replan.specs.Refusal.{replanRefusal}
 use Rattle.theory_replan.specs.Statement.{Acceptable, CanCarryFrom, IsReplan, rowsBefore, rowsFrom, TrialFrom}
 use Rattle.theory_replan.specs.lemmas.AnyOrder.{refusal-order-free, replan-order-free, rest-order-free}
@@ -74,13 +75,6 @@ due-before-by-what-they-have j p fetched plan d i n r h =
 
 -- "only the rows from p on"; "together with the handed rows they pass that call", in playing order,
 -- and carry exactly the plan.
-pub record CarriesAfresh (j : Job) (p : ℕ) (fetched : List Row) (plan : ℕ → ℕ) (rest : List Row) : Type 0 where
-  pub later : All (λ x. p ≤ x .slot) rest
-  pub keeps : KeepsFrom j p (marksOf j plan) (fetched ++ rest)
-  pub in-order : PlayingOrder j (fetched ++ rest)
-  pub exactly : CarriesExactly j (fetched ++ rest) plan
-  pub counted : (n : ℕ) → n < layers j → layerCount j (fetched ++ rest) n ≡ countOf j plan n
-
 pub replan-carries :
     (j : Job) → Accepted j → (p : ℕ) (fetched : List Row) → Acceptable j p fetched → (plan : ℕ → ℕ) → IsReplan j p fetched plan →
     CarriesAfresh j p fetched plan (ownRest j p fetched plan)

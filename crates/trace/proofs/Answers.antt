@@ -18,7 +18,7 @@ use Rattle.theory_basics.specs.Tests.{all}
 use Rattle.theory_basics.specs.lemmas.Tests.{T-true, test}
 use Rattle.job.specs.Refusal.{within}
 use Rattle.trace.specs.declared.TraceRead.the-variants.{Slots, Refused}
-use Rattle.trace.specs.Answer.{Read, traceReadRefusal}
+use Rattle.trace.specs.Answer.{TraceReadPromise, traceReadRefusal}
 use Rattle.trace.specs.Trace.{forecastOf, howMany, inSlot, times, traceRefusal}
 use Rattle.trace.specs.lemmas.Lists.{all-upTo, map-upTo, take-upTo}
 use Rattle.trace.specs.lemmas.Passes.{Counted, fewLines, linesForecast}
@@ -37,20 +37,20 @@ few-same h =
 -- ---- what is handed
 
 module _ (trace : List ℕ) (slots : ℕ) (old : List ℕ) where
-  refused : (n : ℕ) → traceReadRefusal trace slots (length old) ≡ n → (n ≡ 0 → ⊥) → Read trace slots old old (Refused n)
+  refused : (n : ℕ) → traceReadRefusal trace slots (length old) ≡ n → (n ≡ 0 → ⊥) → TraceReadPromise trace slots old (Refused n) old
   refused n e o = record { answer = rw (e, ne-eqb n 0 o); buffer = rw (e, ne-eqb n 0 o) }
 
-  by-input : (n : ℕ) → traceRefusal slots trace ≡ n → (n ≡ 0 → ⊥) → Read trace slots old old (Refused n)
+  by-input : (n : ℕ) → traceRefusal slots trace ≡ n → (n ≡ 0 → ⊥) → TraceReadPromise trace slots old (Refused n) old
   by-input n e o = refused n (orElse-some (traceRefusal slots trace) (unless 11 (leb slots (length old))) (λ z. o (sym e ∙ z)) ∙ e) o
 
-  by-slots : within 1 3600 slots ≡ false → Read trace slots old old (Refused 7)
+  by-slots : within 1 3600 slots ≡ false → TraceReadPromise trace slots old (Refused 7) old
   unfolding traceRefusal
   by-slots e = by-input 7 (rw e) (λ z. omega arith)
 
-  pub read-none : slots < 1 → Read trace slots old old (Refused 7)
+  pub read-none : slots < 1 → TraceReadPromise trace slots old (Refused 7) old
   read-none h = by-slots (rw (lt-leb 1 slots h))
 
-  pub read-many : 3600 < slots → Read trace slots old old (Refused 7)
+  pub read-many : 3600 < slots → TraceReadPromise trace slots old (Refused 7) old
   read-many h = by-slots (rw (lt-leb slots 3600 h) (and-false (leb 1 slots)))
 
   module _ (low : 1 ≤ slots) (high : slots ≤ 3600) (counts : List ℕ) (r : Bool) (c : Counted trace (replicate 3600 0) counts r) where
@@ -81,7 +81,7 @@ module _ (trace : List ℕ) (slots : ℕ) (old : List ℕ) where
         past true e = rw (e tt)
         past false e = refl
 
-    pub read-refused : (n : ℕ) → n ≡ unless 14 r orElse unless 15 (fewLines (take slots counts)) → (n ≡ 0 → ⊥) → Read trace slots old old (Refused n)
+    pub read-refused : (n : ℕ) → n ≡ unless 14 r orElse unless 15 (fewLines (take slots counts)) → (n ≡ 0 → ⊥) → TraceReadPromise trace slots old (Refused n) old
     read-refused n e o = by-input n (input ∙ sym e) o
 
     module _ (none : unless 14 r orElse unless 15 (fewLines (take slots counts)) ≡ 0) where
@@ -96,7 +96,7 @@ module _ (trace : List ℕ) (slots : ℕ) (old : List ℕ) where
       room-only : traceReadRefusal trace slots (length old) ≡ unless 11 (leb slots (length old))
       room-only = orElse-none (traceRefusal slots trace) (unless 11 (leb slots (length old))) (input ∙ none)
 
-      pub read-short : length old < slots → Read trace slots old old (Refused 11)
+      pub read-short : length old < slots → TraceReadPromise trace slots old (Refused 11) old
       read-short h = refused 11 (room-only ∙ rw (lt-leb slots (length old) h)) (λ z. omega arith)
 
       forecast-is : linesForecast (take slots counts) ≡ forecastOf slots trace
@@ -109,7 +109,7 @@ module _ (trace : List ℕ) (slots : ℕ) (old : List ℕ) where
           let t : getD counts k 0 ≡ count k = rw (table (both .0)) (getD-upTo count 3600 k 0 (omega arith)) in
           omega (arith, t, few-at counts slots k (c .long) high read-few h))
 
-      pub read-done : (new : List ℕ) → slots ≤ length old → new ≡ over (linesForecast (take slots counts)) old → Read trace slots old new (Slots slots)
+      pub read-done : (new : List ℕ) → slots ≤ length old → new ≡ over (linesForecast (take slots counts)) old → TraceReadPromise trace slots old (Slots slots) new
       read-done new h x =
           let z : traceReadRefusal trace slots (length old) ≡ 0 = room-only ∙ rw (le-leb slots (length old) h) in
           record { answer = rw z; buffer = rw z (x ∙ ap (λ (l : List ℕ). over l old) forecast-is) }

@@ -17,7 +17,7 @@ use Rattle.theory_basics.specs.Text.{digits}
 use Rattle.trace.specs.Trace.{linesFrom, writable, linesBytes, unwritableRefusal, traceOf}
 use Rattle.job.specs.Refusal.{within}
 use Rattle.records.specs.declared.Written.the-variants.{Bytes, Refused}
-use Rattle.trace.specs.Answer.{Wrote, writeRefusal}
+use Rattle.trace.specs.Answer.{TraceWritePromise, writeRefusal}
 use Rattle.core_text.specs.lemmas.Places.{Put, put-length, put-none, put-room, put-then, put-whole}
 use Rattle.trace.proofs.Repeats.{bytes-append}
 
@@ -67,20 +67,20 @@ module _ (f old : List ℕ) (room : length (traceOf f) ≤ length old) (out : Li
 -- ---- what is handed
 
 module _ (f old : List ℕ) where
-  refused : (n : ℕ) → writeRefusal f (length old) ≡ n → (n ≡ 0 → ⊥) → Wrote f old old (Refused n)
+  refused : (n : ℕ) → writeRefusal f (length old) ≡ n → (n ≡ 0 → ⊥) → TraceWritePromise f old (Refused n) old
   refused n e o = record { answer = rw (e, ne-eqb n 0 o); buffer = rw (e, ne-eqb n 0 o) }
 
-  by-forecast : (n : ℕ) → unwritableRefusal f ≡ n → (n ≡ 0 → ⊥) → Wrote f old old (Refused n)
+  by-forecast : (n : ℕ) → unwritableRefusal f ≡ n → (n ≡ 0 → ⊥) → TraceWritePromise f old (Refused n) old
   by-forecast n e o = refused n (orElse-some (unwritableRefusal f) (unless 11 (leb (length (traceOf f)) (length old))) (λ z. o (sym e ∙ z)) ∙ e) o
 
   by-seven : within 1 3600 (length f) ≡ false → unwritableRefusal f ≡ 7
   unfolding unwritableRefusal
   by-seven e = rw e
 
-  pub wrote-none : length f < 1 → Wrote f old old (Refused 7)
+  pub wrote-none : length f < 1 → TraceWritePromise f old (Refused 7) old
   wrote-none h = by-forecast 7 (by-seven (rw (lt-leb 1 (length f) h))) (λ e. omega arith)
 
-  pub wrote-many : 3600 < length f → Wrote f old old (Refused 7)
+  pub wrote-many : 3600 < length f → TraceWritePromise f old (Refused 7) old
   wrote-many h = by-forecast 7 (by-seven (rw (lt-leb (length f) 3600 h) (and-false (leb 1 (length f))))) (λ e. omega arith)
 
   module _ (low : 1 ≤ length f) (high : length f ≤ 3600) (r : Bool) (is : r ≡ all writable f) where
@@ -88,7 +88,7 @@ module _ (f old : List ℕ) where
     unfolding unwritableRefusal
     past-seven = rw (le-leb 1 (length f) low, le-leb (length f) 3600 high, is)
 
-    pub wrote-odd : not r ≡ true → Wrote f old old (Refused 15)
+    pub wrote-odd : not r ≡ true → TraceWritePromise f old (Refused 15) old
     wrote-odd e = by-forecast 15 (past-seven ∙ rw (not-true r e)) (λ z. omega arith)
 
     module _ (on : not r ≡ false) (n : ℕ) (wide : n ≡ widthFrom 0 f) where
@@ -101,10 +101,10 @@ module _ (f old : List ℕ) where
       no : writeRefusal f (length old) ≡ unless 11 (leb (length (traceOf f)) (length old))
       no = orElse-none (unwritableRefusal f) (unless 11 (leb (length (traceOf f)) (length old))) (past-seven ∙ rw fine)
 
-      pub wrote-short : length old < n → Wrote f old old (Refused 11)
+      pub wrote-short : length old < n → TraceWritePromise f old (Refused 11) old
       wrote-short h = refused 11 (no ∙ rw (lt-leb (length (traceOf f)) (length old) (omega (arith, width-all)))) (λ z. omega arith)
 
-      pub wrote-done : n ≤ length old → (new : List ℕ) (end : ℕ) → Put old 0 (traceOf f) new end → Wrote f old new (Bytes end)
+      pub wrote-done : n ≤ length old → (new : List ℕ) (end : ℕ) → Put old 0 (traceOf f) new end → TraceWritePromise f old (Bytes end) new
       wrote-done h new end p =
           let z : writeRefusal f (length old) ≡ 0 = no ∙ rw (le-leb (length (traceOf f)) (length old) (omega (arith, width-all))) in
           let e : 0 + length (traceOf f) ≡ length (traceOf f) = omega arith in

@@ -22,9 +22,9 @@ traceReadRefusal trace slots room = traceRefusal slots trace orElse unless 11 (l
 abbrev pub readAnswer : ℕ → ℕ → TraceRead
 readAnswer refused slots = cond (eqb refused 0) (read.Slots slots) (read.Refused refused)
 
--- What `read_trace` promises of a trace and the forecast that it is lent, with the forecast
--- afterwards and its answer.
-pub record Read (trace : List ℕ) (slots : ℕ) (old new : List ℕ) (r : TraceRead) : Type 0 where
+-- What `read_trace` promises of a trace and the forecast that it is lent, with its
+-- answer and the forecast afterwards.
+pub record TraceReadPromise (trace : List ℕ) (slots : ℕ) (old : List ℕ) (r : TraceRead) (new : List ℕ) : Type 0 where
   -- The number of slots, or a refusal's number.
   pub answer : r ≡ readAnswer (traceReadRefusal trace slots (length old)) slots
   -- "Read such a trace for a stated number of slots"; what is past them stays unchanged, and on a
@@ -38,9 +38,9 @@ writeRefusal forecast room = unwritableRefusal forecast orElse unless 11 (leb (l
 abbrev pub writeAnswer : ℕ → ℕ → Written
 writeAnswer refused n = cond (eqb refused 0) (wrote.Bytes n) (wrote.Refused refused)
 
--- What `write_trace` promises of a forecast and the buffer that it is lent, with the buffer
--- afterwards and its answer.
-pub record Wrote (forecast old new : List ℕ) (r : Written) : Type 0 where
+-- What `write_trace` promises of a forecast and the buffer that it is lent, with its
+-- answer and the buffer afterwards.
+pub record TraceWritePromise (forecast old : List ℕ) (r : Written) (new : List ℕ) : Type 0 where
   -- The number of bytes, or a refusal's number.
   pub answer : r ≡ writeAnswer (writeRefusal forecast (length old)) (length (traceOf forecast))
   -- "the trace with each slot's lines at its first millisecond"; what is past it stays unchanged,

@@ -15,11 +15,11 @@ use Rattle.theory_basics.specs.lemmas.Refusals.{orElse-iff, orElse-none}
 use Rattle.trace.specs.declared.TraceRead.{TraceRead}
 use Rattle.trace.specs.declared.TraceRead.the-variants as read
 use Rattle.records.specs.declared.Written.the-variants as wrote
-use Rattle.trace.specs.Answer.{Read, Wrote, traceReadRefusal, writeRefusal}
+use Rattle.trace.specs.Answer.{TraceReadPromise, TraceWritePromise, traceReadRefusal, writeRefusal}
 use Rattle.trace.specs.Theorems.{reads-back, never-refused}
 use Rattle.trace.specs.Trace.{unwritableRefusal, traceOf, traceRefusal}
 
-module _ (f old new : List ℕ) (n : ℕ) (w : Wrote f old new (wrote.Bytes n)) where
+module _ (f old new : List ℕ) (n : ℕ) (w : TraceWritePromise f old (wrote.Bytes n) new) where
   by-test :
       (b : Bool) → wrote.Bytes n ≡ cond b (wrote.Bytes (length (traceOf f))) (wrote.Refused (writeRefusal f (length old))) →
       (b ≡ true) × (n ≡ length (traceOf f))
@@ -40,11 +40,11 @@ module _ (f old new : List ℕ) (n : ℕ) (w : Wrote f old new (wrote.Bytes n)) 
 
   -- "reading it restores the forecast": read for its number of slots, with room for it.
   pub round-trip :
-      (lent after : List ℕ) (r : TraceRead) → length f ≤ length lent → Read (take n new) (length f) lent after r →
+      (lent after : List ℕ) (r : TraceRead) → length f ≤ length lent → TraceReadPromise (take n new) (length f) lent r after →
       (r ≡ read.Slots (length f)) × (after ≡ over f lent)
   round-trip lent after r room q =
       let a : unwritableRefusal f ≡ 0 = orElse-iff (unwritableRefusal f) (unless 11 (leb (length (traceOf f)) (length old))) .0 none .0 in
       let z : traceReadRefusal (traceOf f) (length f) (length lent) ≡ 0 =
       orElse-none (traceRefusal (length f) (traceOf f)) (unless 11 (leb (length f) (length lent))) (never-refused f a) ∙ rw (le-leb (length f) (length lent) room) in
-      let p : Read (traceOf f) (length f) lent after r = rw written-front at q in
+      let p : TraceReadPromise (traceOf f) (length f) lent r after = rw written-front at q in
       (p .answer ∙ rw z, p .buffer ∙ rw z (ap (λ (l : List ℕ). over l lent) (reads-back f a)))

@@ -16,7 +16,7 @@ ghost use Rattle.theory_basics.specs.Tests.{all};
 ghost use Rattle.theory_basics.specs.Text.{digits};
 ghost use Rattle.job.specs.Refusal.{within};
 ghost use Rattle.core_text.specs.lemmas.Places.{Put};
-ghost use Rattle.trace.specs.Answer.{Read, Wrote};
+ghost use Rattle.trace.specs.Answer.{TraceReadPromise, TraceWritePromise};
 ghost use Rattle.trace.specs.Trace.{traceOf, writable};
 ghost use Rattle.trace.specs.lemmas.Passes.{Counted, DigitsRead, fewLines, linesForecast};
 ghost use Rattle.trace.specs.lemmas.Tally.{bump, widthFrom};
@@ -158,7 +158,7 @@ fn put_forecast(counts: &[u32; SLOTS], slots: usize, out: &mut [u32])
 // The forecast of so many slots that a trace gives. Refused: 7, 14, 15, then 11 exactly if out has
 // fewer places than slots.
 pub fn read_trace(trace: &[u8], slots: usize, out: &mut [u32]) -> TraceRead
-    ensures { λ r. ⌜ Read (now (trace .entry)) slots (now (out .entry)) (now (out .exit)) r ⌝ }
+    ensures { λ r. ⌜ TraceReadPromise (now (trace .entry)) slots (now (out .entry)) r (now (out .exit)) ⌝ }
 {
     if slots < 1 {
         return TraceRead::Refused(7);
@@ -259,7 +259,7 @@ fn put_trace(forecast: &[u32], out: &mut [u8]) -> usize
 // The trace of a forecast, each slot's lines at its first millisecond. Refused: 7, 15, then 11
 // exactly if out is shorter than the trace.
 pub fn write_trace(forecast: &[u32], out: &mut [u8]) -> Written
-    ensures { λ r. ⌜ Wrote (now (forecast .entry)) (now (out .entry)) (now (out .exit)) r ⌝ }
+    ensures { λ r. ⌜ TraceWritePromise (now (forecast .entry)) (now (out .entry)) r (now (out .exit)) ⌝ }
 {
     if forecast.len() < 1 {
         return Written::Refused(7);

@@ -26,7 +26,7 @@ use Rattle.jobfile.specs.Writer.{JobWritePromise, fileWritten, jobFile, longRef
 use Rattle.records.specs.declared.Written.{Written}
 use Rattle.jobrecords.specs.declared.JobRead.{JobRead}
 use Rattle.jobrecords.specs.declared.JobRead.the-variants as jobRead
-use Rattle.whole_files.specs.Calls.{Wrote}
+use Rattle.whole_files.specs.Calls.{TextPromise}
 use Rattle.whole_files.proofs.Fronts.{filled, front}
 use Rattle.whole_files.proofs.Writing.{never-second}
 
@@ -104,12 +104,12 @@ module _ (sequenced : Bool) (file : List ℕ) (lent : Buffers) where
 -- What is written for the job handed on is written for the file.
 pub of-file :
     (sequenced : Bool) (file : List ℕ) (h : JobInput) (f : Job → List ℕ) (old : List ℕ) (r : Written) (new : List ℕ) →
-    Taken sequenced file h → Wrote (jobRefusal h) (f (jobIn h)) old r new → Wrote (refusalOf sequenced file) (f (jobOfFile sequenced file)) old r new
+    Taken sequenced file h → TextPromise (jobRefusal h) (f (jobIn h)) old r new → TextPromise (refusalOf sequenced file) (f (jobOfFile sequenced file)) old r new
 of-file sequenced file h f old r new t w =
     subst
-    (λ (n : ℕ). Wrote n (f (jobOfFile sequenced file)) old r new)
+    (λ (n : ℕ). TextPromise n (f (jobOfFile sequenced file)) old r new)
     (t .accepted ∙ sym (t .none))
-    (subst (λ (j : Job). Wrote (jobRefusal h) (f j) old r new) (t .same) w)
+    (subst (λ (j : Job). TextPromise (jobRefusal h) (f j) old r new) (t .same) w)
 
 -- ---- the buffers that the calls read into hold any job
 
@@ -169,7 +169,7 @@ taken-mixed file r p l o s zs fs zs' fs' made given z f =
 -- Of a job that was accepted the writer refuses nothing but a short buffer.
 pub rewritten :
     (file : List ℕ) (h : JobInput) (old : List ℕ) (r : Written) (new : List ℕ) → Taken mixed file h → JobWritePromise h old r new →
-    Wrote (jobRefusal h) (jobFile (jobIn h)) old r new
+    TextPromise (jobRefusal h) (jobFile (jobIn h)) old r new
 unfolding writeAnswer fileWritten
 rewritten file h old r new t w =
     let z : longRefusal (jobIn h) ≡ 0 = never-long (jobIn h) (input-iff h .0 (t .accepted) .1) in

@@ -29,7 +29,7 @@ withRoom refused text old = refused orElse unless 11 (leb (length text) (length 
 
 -- What a call promises of a text and the buffer that it is lent, with its answer and the buffer
 -- afterwards.
-pub record Wrote (refused : ℕ) (text old : List ℕ) (r : Written) (new : List ℕ) : Type 0 where
+pub record TextPromise (refused : ℕ) (text old : List ℕ) (r : Written) (new : List ℕ) : Type 0 where
   -- The number of bytes, or a refusal's number: that of the files, then 11.
   pub answer : r ≡ cond (eqb (withRoom refused text old) 0) (Bytes (length text)) (Refused (withRoom refused text old))
   -- "In a longer one the bytes past the result stay unchanged"; on a refusal all of them.
@@ -37,17 +37,17 @@ pub record Wrote (refused : ℕ) (text old : List ℕ) (r : Written) (new : List
 
 -- The plan file, the report and the reasons of the job of a file; the job of a mixed file in one
 -- sequence.
-abbrev pub PlanOfFile : (job old : List ℕ) → Written → (new : List ℕ) → Type 0
-PlanOfFile job old r new = Wrote (jobFileRefusal job) (fileOf (planOfJob (jobSaid job))) old r new
+abbrev pub PlanFilePromise : (job old : List ℕ) → Written → (new : List ℕ) → Type 0
+PlanFilePromise job old r new = TextPromise (jobFileRefusal job) (fileOf (planOfJob (jobSaid job))) old r new
 
-abbrev pub ReportOfFile : (job old : List ℕ) → Written → (new : List ℕ) → Type 0
-ReportOfFile job old r new = Wrote (jobFileRefusal job) (planReport (jobSaid job)) old r new
+abbrev pub ReportFilePromise : (job old : List ℕ) → Written → (new : List ℕ) → Type 0
+ReportFilePromise job old r new = TextPromise (jobFileRefusal job) (planReport (jobSaid job)) old r new
 
-abbrev pub ReasonsOfFile : (job old : List ℕ) → Written → (new : List ℕ) → Type 0
-ReasonsOfFile job old r new = Wrote (jobFileRefusal job) (planText (jobSaid job)) old r new
+abbrev pub ReasonsFilePromise : (job old : List ℕ) → Written → (new : List ℕ) → Type 0
+ReasonsFilePromise job old r new = TextPromise (jobFileRefusal job) (planText (jobSaid job)) old r new
 
-abbrev pub ConvertedFile : (job old : List ℕ) → Written → (new : List ℕ) → Type 0
-ConvertedFile job old r new = Wrote (refusalOf mixed job) (jobFile (jobOfFile mixed job)) old r new
+abbrev pub ConvertFilePromise : (job old : List ℕ) → Written → (new : List ℕ) → Type 0
+ConvertFilePromise job old r new = TextPromise (refusalOf mixed job) (jobFile (jobOfFile mixed job)) old r new
 
 -- The verdict on a plan file, or the refusal of either file.
 abbrev pub verdictAnswer : (job plan : List ℕ) → Checked
@@ -56,7 +56,7 @@ verdictAnswer job plan = answer (filesRefusal job plan) (verdictOfFiles job plan
 -- ---- the same for a job as a direct call hands it over
 
 abbrev pub PlanOfJob : JobInput → (old : List ℕ) → Written → (new : List ℕ) → Type 0
-PlanOfJob h old r new = Wrote (jobRefusal h) (fileOf (planOfJob (jobIn h))) old r new
+PlanOfJob h old r new = TextPromise (jobRefusal h) (fileOf (planOfJob (jobIn h))) old r new
 
 abbrev pub verdictOnFile : JobInput → (plan : List ℕ) → Checked
 verdictOnFile h plan =

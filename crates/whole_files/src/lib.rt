@@ -13,7 +13,7 @@ use planner::Answer;
 use records::Written;
 ghost use mathlib.Core.Path.{_≡_};
 ghost use Rattle.job.specs.Input.{jobInput};
-ghost use Rattle.whole_files.specs.Calls.{ConvertedFile, PlanOfFile, ReasonsOfFile, ReportOfFile, verdictAnswer};
+ghost use Rattle.whole_files.specs.Calls.{ConvertFilePromise, PlanFilePromise, ReasonsFilePromise, ReportFilePromise, verdictAnswer};
 ghost use Rattle.whole_files.specs.Calls.{PlanOfJob, verdictOnFile};
 
 // The plan file of a job. The local slices hold any plan: a mark a chunk, 5,599 rows. What is
@@ -127,7 +127,7 @@ fn verdict_job(
 // where the buffer is shorter than the plan file. On a refusal the buffer stays as it is. The local
 // slices hold any job; they are filled with no constant, as above.
 pub fn plan_file(job: &[u8], out: &mut [u8]) -> Written
-    ensures { λ r. ⌜ PlanOfFile (now (job .entry)) (now (out .entry)) r (now (out .exit)) ⌝ }
+    ensures { λ r. ⌜ PlanFilePromise (now (job .entry)) (now (out .entry)) r (now (out .exit)) ⌝ }
 {
     let unset = (job.len() % 65536) as u16;
     let wide = unset as u32;
@@ -202,7 +202,7 @@ pub fn verdict_files(job: &[u8], plan: &[u8]) -> Checked
 
 // The report of the job of a file, into a lent buffer. Refused as plan_file.
 pub fn report_file(job: &[u8], out: &mut [u8]) -> Written
-    ensures { λ r. ⌜ ReportOfFile (now (job .entry)) (now (out .entry)) r (now (out .exit)) ⌝ }
+    ensures { λ r. ⌜ ReportFilePromise (now (job .entry)) (now (out .entry)) r (now (out .exit)) ⌝ }
 {
     let unset = (job.len() % 65536) as u16;
     let wide = unset as u32;
@@ -240,7 +240,7 @@ pub fn report_file(job: &[u8], out: &mut [u8]) -> Written
 // The reasons under the layers that the plan of the job of a file lacks, into a lent buffer.
 // Refused as plan_file.
 pub fn reasons_file(job: &[u8], out: &mut [u8]) -> Written
-    ensures { λ r. ⌜ ReasonsOfFile (now (job .entry)) (now (out .entry)) r (now (out .exit)) ⌝ }
+    ensures { λ r. ⌜ ReasonsFilePromise (now (job .entry)) (now (out .entry)) r (now (out .exit)) ⌝ }
 {
     let unset = (job.len() % 65536) as u16;
     let wide = unset as u32;
@@ -278,7 +278,7 @@ pub fn reasons_file(job: &[u8], out: &mut [u8]) -> Written
 // The job of a mixed file in one sequence, into a lent buffer. Refused: the mixed file's number,
 // then 11. A mixed file has no SZ: to its reader an SZ is an unknown mark, 2.
 pub fn convert_file(job: &[u8], out: &mut [u8]) -> Written
-    ensures { λ r. ⌜ ConvertedFile (now (job .entry)) (now (out .entry)) r (now (out .exit)) ⌝ }
+    ensures { λ r. ⌜ ConvertFilePromise (now (job .entry)) (now (out .entry)) r (now (out .exit)) ⌝ }
 {
     let mut sizes = [0u32; 4];
     let mut forecast = [0u32; SLOTS];

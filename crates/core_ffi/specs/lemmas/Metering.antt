@@ -18,7 +18,7 @@ use Rattle.meter.specs.Forecast.{answerOf, bytesOf, forecastOf, meterForecastRe
 use Rattle.meter.specs.Meter.{empty, inRange, lateRefusal, meterRefusal, sample, sampleRefusal, samplesOf, taken}
 use Rattle.meter.specs.lemmas.Order.{in-range-iff}
 use Rattle.core_ffi.specs.Convention.{answered}
-use Rattle.core_ffi.specs.Meters.{Begun, Sampled, Storage, cellsRefusal, meanNumber, meterIn, sampledRefusal, storage, storedIn}
+use Rattle.core_ffi.specs.Meters.{MeterNewReturned, MeterTakeReturned, Storage, cellsRefusal, meterForecastAnswer, meterIn, sampledRefusal, storage, storedIn}
 use Rattle.core_ffi.specs.lemmas.Numbers.{forecastNumber, is-answered, refusedNumber}
 use Rattle.core_ffi.specs.lemmas.Slices.{eleven-some, first-twice, refused-keeps}
 
@@ -51,11 +51,11 @@ refused-answer refused result n = sym (ap (λ (t : Bool). cond t result (refused
 
 -- ---- a meter without samples
 
-pub begun-short : (s : Storage) (r : ℕ) → cellsRefusal s ≡ 11 → r ≡ refusedNumber 11 → Begun s r s
+pub begun-short : (s : Storage) (r : ℕ) → cellsRefusal s ≡ 11 → r ≡ refusedNumber 11 → MeterNewReturned s r s
 unfolding answered
 begun-short s r e f = record { number = f ∙ sym (ap (λ (n : ℕ). answered n 0) e); storage-is = sym (ap (λ (n : ℕ). storedIn n empty s) e) }
 
-pub begun-whole : (s : Storage) (m : Meter) (a b k : List ℕ) → cellsRefusal s ≡ 0 → m ≡ empty → a ≡ over (m .slots) (s .slots) → b ≡ over (m .bytes) (s .bytes) → k ≡ over (m .kept ∷ []) (s .kept) → Begun s 0 (storage a b k)
+pub begun-whole : (s : Storage) (m : Meter) (a b k : List ℕ) → cellsRefusal s ≡ 0 → m ≡ empty → a ≡ over (m .slots) (s .slots) → b ≡ over (m .bytes) (s .bytes) → k ≡ over (m .kept ∷ []) (s .kept) → MeterNewReturned s 0 (storage a b k)
 unfolding answered
 begun-whole s m a b k e f ea eb ek =
     record {
@@ -80,7 +80,7 @@ taken-code : (m : Meter) (slot bytes : ℕ) → sampleRefusal (sample slot bytes
 unfolding taken
 taken-code m slot bytes = first-twice (sampleRefusal (sample slot bytes)) (meterRefusal (samplesOf m) orElse lateRefusal (samplesOf m) (sample slot bytes))
 
-pub sampled-short : (s : Storage) (slot bytes x y r : ℕ) → cellsRefusal s ≡ 11 → x ≡ sampleRefusal (sample slot bytes) → y ≡ x orElse 11 → r ≡ refusedNumber y → Sampled s slot bytes r s
+pub sampled-short : (s : Storage) (slot bytes x y r : ℕ) → cellsRefusal s ≡ 11 → x ≡ sampleRefusal (sample slot bytes) → y ≡ x orElse 11 → r ≡ refusedNumber y → MeterTakeReturned s slot bytes r s
 sampled-short s slot bytes x y r e f g h =
     let is : sampledRefusal s slot bytes ≡ y =
     ap (λ (n : ℕ). sampleRefusal (sample slot bytes) orElse n orElse taken (meterIn s) slot bytes .code) e ∙ sym (g ∙ ap (λ (n : ℕ). n orElse 11) f) in
@@ -98,7 +98,7 @@ meter-own s slot bytes e =
 took : (s : Storage) (slot bytes : ℕ) (m : Meter) (t : Taken) → m ≡ meterIn s → t ≡ taken m slot bytes → t ≡ taken (meterIn s) slot bytes
 took s slot bytes m t e f = f ∙ ap (λ (w : Meter). taken w slot bytes) e
 
-pub sampled-refused : (s : Storage) (slot bytes r : ℕ) (m : Meter) (t : Taken) → cellsRefusal s ≡ 0 → m ≡ meterIn s → t ≡ taken m slot bytes → (t .code ≡ 0 → ⊥) → r ≡ refusedNumber (t .code) → Sampled s slot bytes r s
+pub sampled-refused : (s : Storage) (slot bytes r : ℕ) (m : Meter) (t : Taken) → cellsRefusal s ≡ 0 → m ≡ meterIn s → t ≡ taken m slot bytes → (t .code ≡ 0 → ⊥) → r ≡ refusedNumber (t .code) → MeterTakeReturned s slot bytes r s
 sampled-refused s slot bytes r m t e f g n h =
     let is : sampledRefusal s slot bytes ≡ t .code = meter-own s slot bytes e ∙ sym (ap (λ (w : Taken). w .code) (took s slot bytes m t f g)) in
     let some : sampledRefusal s slot bytes ≡ 0 → ⊥ = λ z. n (sym is ∙ z) in
@@ -107,7 +107,7 @@ sampled-refused s slot bytes r m t e f g n h =
       storage-is = kept-storage (sampledRefusal s slot bytes) (taken (meterIn s) slot bytes .meter) s some;
     }
 
-pub sampled-whole : (s : Storage) (slot bytes : ℕ) (m : Meter) (t : Taken) (a b k : List ℕ) → cellsRefusal s ≡ 0 → m ≡ meterIn s → t ≡ taken m slot bytes → t .code ≡ 0 → a ≡ over (t .meter .slots) (s .slots) → b ≡ over (t .meter .bytes) (s .bytes) → k ≡ over (t .meter .kept ∷ []) (s .kept) → Sampled s slot bytes 0 (storage a b k)
+pub sampled-whole : (s : Storage) (slot bytes : ℕ) (m : Meter) (t : Taken) (a b k : List ℕ) → cellsRefusal s ≡ 0 → m ≡ meterIn s → t ≡ taken m slot bytes → t .code ≡ 0 → a ≡ over (t .meter .slots) (s .slots) → b ≡ over (t .meter .bytes) (s .bytes) → k ≡ over (t .meter .kept ∷ []) (s .kept) → MeterTakeReturned s slot bytes 0 (storage a b k)
 unfolding answered
 sampled-whole s slot bytes m t a b k e f g z ea eb ek =
     let is : sampledRefusal s slot bytes ≡ 0 = meter-own s slot bytes e ∙ sym (ap (λ (w : Taken). w .code) (took s slot bytes m t f g)) ∙ z in
@@ -118,11 +118,11 @@ sampled-whole s slot bytes m t a b k e f g z ea eb ek =
 
 -- ---- the forecast
 
-pub mean-short : (s : Storage) (r : ℕ) → cellsRefusal s ≡ 11 → r ≡ refusedNumber 11 → r ≡ meanNumber s
+pub mean-short : (s : Storage) (r : ℕ) → cellsRefusal s ≡ 11 → r ≡ refusedNumber 11 → r ≡ meterForecastAnswer s
 unfolding answered
 mean-short s r e f = f ∙ sym (ap (λ (n : ℕ). answered (n orElse meterForecastRefusal (samplesOf (meterIn s))) (forecastOf (bytesOf (samplesOf (meterIn s))))) e)
 
-pub mean-whole : (s : Storage) (m : Meter) (a : Answer) (r : ℕ) → cellsRefusal s ≡ 0 → m ≡ meterIn s → a ≡ answerOf m → r ≡ forecastNumber a → r ≡ meanNumber s
+pub mean-whole : (s : Storage) (m : Meter) (a : Answer) (r : ℕ) → cellsRefusal s ≡ 0 → m ≡ meterIn s → a ≡ answerOf m → r ≡ forecastNumber a → r ≡ meterForecastAnswer s
 unfolding answerOf
 mean-whole s m a r e f g h =
     is-answered forecastNumber _ _ a r (meterForecastRefusal (samplesOf (meterIn s))) (forecastOf (bytesOf (samplesOf (meterIn s)))) h (g ∙ ap answerOf f) refl refl

@@ -6,11 +6,11 @@ use mathlib.Core.List.{List}
 use lib.ListN.{length}
 use Rattle.records.specs.declared.Written.{Written}
 use Rattle.records.specs.declared.Written.the-variants.{Bytes, Refused}
-use Rattle.whole_files.specs.Calls.{Wrote, withRoom}
-use Rattle.core_ffi.specs.Programs.{TextHanded}
+use Rattle.whole_files.specs.Calls.{TextPromise, withRoom}
+use Rattle.core_ffi.specs.Programs.{TextReturned}
 use Rattle.core_ffi.specs.lemmas.Numbers.{is-answered, writtenNumber}
 
-pub text-handed : (refused : ℕ) (text old new : List ℕ) (a : Written) (r : ℕ) → r ≡ writtenNumber a → Wrote refused text old a new → TextHanded refused text old r new
+pub text-handed : (refused : ℕ) (text old new : List ℕ) (a : Written) (r : ℕ) → r ≡ writtenNumber a → TextPromise refused text old a new → TextReturned refused text old r new
 text-handed refused text old new a r g w =
     let n : ℕ = withRoom refused text old in
     record {

@@ -22,7 +22,7 @@ use Rattle.jobrecords.specs.Theorems.{file-accepted}
 use Rattle.jobrecords.specs.declared.JobRead.{JobRead}
 use Rattle.jobrecords.specs.declared.JobRead.the-variants as jobRead
 use Rattle.core_ffi.specs.Convention.{answered}
-use Rattle.core_ffi.specs.Files.{JobReturned, JobRoom, jobReturnRefusal, lengthsOf, programmeOf}
+use Rattle.core_ffi.specs.Files.{JobReadReturned, JobRoom, jobReturnRefusal, lengthsOf, programmeOf}
 use Rattle.core_ffi.specs.lemmas.Numbers.{jobReadNumber, lengthsRead, programmeRead, refusedNumber, through}
 use Rattle.core_ffi.specs.lemmas.Slices.{eleven-first, eleven-once, eleven-some, no-more, refused-keeps}
 
@@ -63,7 +63,7 @@ module _ (sequenced : Bool) (file : List ℕ) where
       → lent' .programme ≡ programmeRead read (lent .programme)
       → lent' .lengths ≡ lengthsRead read (lent .lengths)
       → r ≡ jobReadNumber read
-      → JobReturned sequenced file lent r lent'
+      → JobReadReturned sequenced file lent r lent'
   unfolding lentRead
   read-whole lent lent' held read r t f p ep en er =
       let j = jobOfFile sequenced file in
@@ -110,7 +110,7 @@ module _ (sequenced : Bool) (file : List ℕ) where
       → held ≡ leb 4 (length (lent .programme)) && leb 2 (length (lent .lengths))
       → not held ≡ true
       → r ≡ refusedNumber (refusalOf sequenced file orElse 11)
-      → JobReturned sequenced file lent r lent
+      → JobReadReturned sequenced file lent r lent
   unfolding answered
   read-short lent held r t g er =
       let j = jobOfFile sequenced file in
