@@ -1,6 +1,7 @@
 // The programs' work on whole files: plan, verdict, report, reasons, convert.
 ghost use mathlib.Core.Path.{_≡_};
-ghost use Rattle.core_ffi.specs.Programs.{ConvertFileReturned, PlanFileReturned, ReasonsFileReturned, ReportFileReturned, verdictFilesAnswer};
+ghost use Rattle.core_ffi.specs.Programs.{ConvertFileReturned, PlanFileReturned, ReasonsFileReturned};
+ghost use Rattle.core_ffi.specs.Programs.{ReportFileReturned, verdictFilesAnswer};
 
 // `whole_files::plan_file` for C.
 #[no_mangle]

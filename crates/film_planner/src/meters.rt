@@ -28,8 +28,8 @@ pub extern "C" fn film_meter_take(
     slot: u16,
     sample: u32,
 ) -> u64
-    ensures { λ r. ⌜ MeterTakeReturned (storage (now (slots .entry)) (now (bytes .entry)) (now (kept .entry))) slot sample
-        r (storage (now (slots .exit)) (now (bytes .exit)) (now (kept .exit))) ⌝ }
+    ensures { λ r. ⌜ MeterTakeReturned (storage (now (slots .entry)) (now (bytes .entry)) (now (kept .entry)))
+        slot sample r (storage (now (slots .exit)) (now (bytes .exit)) (now (kept .exit))) ⌝ }
 {
     if !core_ffi::holds_meter(slots.len(), bytes.len(), kept.len()) {
         return core_ffi::refused_or_11(core_ffi::sample_refusal(slot, sample));

@@ -7,7 +7,8 @@ ghost use mathlib.Core.List.{[], _∷_, _++_};
 ghost use Prim.Native.Nat.{_≤_};
 ghost use lib.ListN.{length};
 ghost use Rattle.theory_basics.specs.Text.{digits};
-ghost use Rattle.programs.specs.Calls.{Prints, PrintConvertedPromise, PrintPlanPromise, PrintReasonsPromise, PrintReportPromise};
+ghost use Rattle.programs.specs.Calls.{Prints, PrintConvertedPromise, PrintPlanPromise};
+ghost use Rattle.programs.specs.Calls.{PrintReasonsPromise, PrintReportPromise};
 ghost use Rattle.programs.specs.Calls.{PrintVerdictPromise, twoFiles};
 ghost use Rattle.programs.specs.lemmas.Answered.{PrintsAnswer};
 

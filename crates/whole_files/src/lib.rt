@@ -13,7 +13,8 @@ use planner::Answer;
 use records::Written;
 ghost use mathlib.Core.Path.{_≡_};
 ghost use Rattle.job.specs.Input.{jobInput};
-ghost use Rattle.whole_files.specs.Calls.{ConvertFilePromise, PlanFilePromise, ReasonsFilePromise, ReportFilePromise, verdictAnswer};
+ghost use Rattle.whole_files.specs.Calls.{ConvertFilePromise, PlanFilePromise, ReasonsFilePromise};
+ghost use Rattle.whole_files.specs.Calls.{ReportFilePromise, verdictAnswer};
 ghost use Rattle.whole_files.specs.Calls.{PlanOfJob, verdictOnFile};
 
 // The plan file of a job. The local slices hold any plan: a mark a chunk, 5,599 rows. What is
