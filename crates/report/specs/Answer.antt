@@ -43,8 +43,8 @@ pub record Answered (t old : List ℕ) (r : Written) (new : List ℕ) : Type 0 w
 abbrev pub reportRefusal : JobInput → List ℕ → ℕ
 reportRefusal h out = jobRefusal h orElse roomRefusal (planReport (jobIn h)) out
 
--- What `report` promises of a job as handed and the buffer that it is lent, with its
--- answer and the buffer afterwards.
+-- What `report` promises of a job as handed and the buffer that it is lent, with its answer and the
+-- buffer afterwards.
 pub record ReportPromise (h : JobInput) (old : List ℕ) (r : Written) (new : List ℕ) : Type 0 where
   -- The number of bytes, or a refusal's number.
   pub result : r ≡ answer (reportRefusal h old) (length (planReport (jobIn h)))

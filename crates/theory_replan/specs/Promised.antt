@@ -16,6 +16,7 @@ use Rattle.theory_replan.specs.Own.{ownRest}
 use Rattle.theory_replan.specs.Refusal.{replanRefusal}
 use Rattle.theory_replan.specs.Statement.{IsReplan, joined, rowsFrom}
 
+-- Of the rows fetched and the own rows from p on, together:
 pub record CarriesAfresh (j : Job) (p : ℕ) (fetched : List Row) (plan : ℕ → ℕ) (rest : List Row) : Type 0 where
   -- "only the rows from p on"
   pub later : All (λ x. p ≤ x .slot) rest
@@ -43,7 +44,7 @@ pub record Replans (j : Job) (p : ℕ) (fetched : List Row) (plan : ℕ → ℕ)
   pub carries : CarriesAfresh j p fetched plan (ownRest j p fetched plan)
   pub ascending : Ascending (ownRest j p fetched plan)
   pub few-rows : length (ownRest j p fetched plan) ≤ 5599
-  -- and of each begun layer that it does not carry.
+  -- and what is said above of each begun layer that it gives up.
   pub given-up : (i n : ℕ) → Layer j i n → plan i ≤ n → 1 ≤ bytesOfLayer fetched i n → GivenUp j p fetched (ownRest j p fetched plan) i n
 
 -- "If the standing plan was settled for the whole job in document 01's way, bases too, the rows are

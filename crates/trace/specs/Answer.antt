@@ -22,8 +22,8 @@ traceReadRefusal trace slots room = traceRefusal slots trace orElse unless 11 (l
 abbrev pub readAnswer : ℕ → ℕ → TraceRead
 readAnswer refused slots = cond (eqb refused 0) (read.Slots slots) (read.Refused refused)
 
--- What `read_trace` promises of a trace and the forecast that it is lent, with its
--- answer and the forecast afterwards.
+-- What `read_trace` promises of a trace and the forecast that it is lent, with its answer and the
+-- forecast afterwards.
 pub record TraceReadPromise (trace : List ℕ) (slots : ℕ) (old : List ℕ) (r : TraceRead) (new : List ℕ) : Type 0 where
   -- The number of slots, or a refusal's number.
   pub answer : r ≡ readAnswer (traceReadRefusal trace slots (length old)) slots
@@ -38,8 +38,8 @@ writeRefusal forecast room = unwritableRefusal forecast orElse unless 11 (leb (l
 abbrev pub writeAnswer : ℕ → ℕ → Written
 writeAnswer refused n = cond (eqb refused 0) (wrote.Bytes n) (wrote.Refused refused)
 
--- What `write_trace` promises of a forecast and the buffer that it is lent, with its
--- answer and the buffer afterwards.
+-- What `write_trace` promises of a forecast and the buffer that it is lent, with its answer and the
+-- buffer afterwards.
 pub record TraceWritePromise (forecast old : List ℕ) (r : Written) (new : List ℕ) : Type 0 where
   -- The number of bytes, or a refusal's number.
   pub answer : r ≡ writeAnswer (writeRefusal forecast (length old)) (length (traceOf forecast))
