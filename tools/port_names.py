@@ -24,6 +24,8 @@ APART = {
     "lengths_read": "lengths_read_lem", "word_count": "word_count_lem", "first_run": "first_run_lem",
     "best_of": "best_of_lem", "read_whole": "read_whole_lem", "neqb→ne": "neqb_ne",
 }
+# Fields of records, which nothing hides.
+PLAIN = {"lent_after", "lower_carried", "reasons_text", "chunks_in", "sets_in", "equal_bases", "need_in", "layers_in"}
 # The same in some files alone.
 APART_IN = {"crates/planfile/": {"rows_in": "rows_in_lem"}}
 
@@ -61,7 +63,7 @@ def own():
     camel = {spelled(n) for n in names if re.match(r"[a-z]", n) and "-" not in n and spelled(n) != n}
     for n in names:
         if "-" in n and re.match(r"[a-z]", n) and (spelled(n) in camel or spelled(n) in snake):
-            APART[n] = spelled(n) + "_lem"
+            APART[n] = spelled(n) + ("" if spelled(n) in PLAIN else "_lem")
     return {n for n in names if spelled(n) != n}
 
 

@@ -120,12 +120,12 @@ pub remainder_accepted :
     last_slot film ≡ length first → Accepted (with_forecast film f)
 remainder_accepted film a run ok e =
     record {
-      chunks_in_lem = ok.chunks_in_lem;
+      chunks_in = ok.chunks_in;
       span_in = ok.span_in;
       delay_in = ok.delay_in;
       limit_in = ok.limit_in;
       last_in = ok.last_in;
-      layers_in_lem = ok.layers_in_lem;
+      layers_in = ok.layers_in;
       sizes_in_lem = ok.sizes_in_lem;
       overrides_named = ok.overrides_named;
       overrides_rise = ok.overrides_rise;

@@ -1,5 +1,7 @@
 // Two films on one link: document 02, request 11. Booking takes a passing list's bytes off the lent
 // forecast, releasing adds them back, both in the forecast's own storage and row by row.
+#![tactic(auto)]
+
 ghost use Rattle.std.specs.Prelude.{◌≡◌, ◌+◌, ◌≤◌, ◌<◌, leb, length};
 ghost use Rattle.theory_basics.specs.Tests.{All};
 ghost use Rattle.job.specs.Job.{Within};
@@ -13,7 +15,7 @@ use checker::Checked;
 use job::Programme;
 
 // The forecast is changed, or the number of a refusal.
-#[derive(Drop)]
+#[derive(Clone, Copy)]
 pub enum Answer {
     Done,
     Refused(u8),

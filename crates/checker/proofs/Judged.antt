@@ -40,8 +40,8 @@ module _ (j : Job) (rows : List Row) (S L F : List ℕ) (ok : Accepted j) (t : T
   rule2_from_is =
       all_to_cong (chunks j) _ _ (λ i u v.
       all_below_cong (layers j) _ _ (λ n w.
-      let few : i ≤ 500 = omega (arith, ok.chunks_in_lem.high) in
-      let deep : n < 4 = omega (arith, ok.layers_in_lem.high) in
+      let few : i ≤ 500 = omega (arith, ok.chunks_in.high) in
+      let deep : n < 4 = omega (arith, ok.layers_in.high) in
       let small = size_most j ok i n in
       rw (t.by_layer i n u few deep, eqb_cap (bytes_of_layer rows i n) 0 (omega arith), eqb_cap (bytes_of_layer rows i n) (size j i n) (omega arith), ltb_cap (bytes_of_layer rows i n) (size j i n) (omega arith))))
 

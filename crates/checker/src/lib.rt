@@ -1,6 +1,8 @@
 // The checker: document 01's verdict for any fetch list with its marks, and document 02's from a
 // slot on, whose rule 2 allows a short sum whose rows are all before that slot. At slot 1 the
 // second is the first. The tables and what they say of the rules are those of core_rules.
+#![tactic(auto)]
+
 ghost use Rattle.std.specs.Prelude.{◌≡◌, ◌||◌, [], ◌∷◌, ℕ, ◌+◌, ◌*◌, ◌-◌, ◌<◌, ◌≤◌, length, get_or, replicate, eqb};
 ghost use Rattle.theory_basics.specs.Tests.{all_below, all_to};
 ghost use Rattle.job.specs.Job.{last_due};
@@ -17,7 +19,7 @@ ghost use Rattle.checker.specs.lemmas.Judged.{allowed_sum, allowed_by, early, In
 use job::{Programme, SIZES, SUMS, SizeTable};
 
 // The verdict 0 to 7, or the number of a refusal.
-#[derive(Drop)]
+#[derive(Clone, Copy)]
 pub enum Checked {
     Verdict(u8),
     Refused(u8),

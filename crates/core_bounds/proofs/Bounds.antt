@@ -129,7 +129,7 @@ module _ {p : Programme} {sizes : ℕ → ℕ → ℕ} {left : List ℕ} (o : Bo
   ok = o.holds.accepted
 
   pub few : p.chunks ≤ 500
-  few = ok.chunks_in_lem.high
+  few = ok.chunks_in.high
 
   pub sum_most : (t : ℕ) → get_or left t 0 ≤ 60397977600
   sum_most t =

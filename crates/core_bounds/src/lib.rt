@@ -2,6 +2,8 @@
 // go by rows of needs: for each c, how much of the forecast, counted from its end, c bases need at
 // least. In any order one row is enough; in playing order the search reads every row, so they stand
 // in the caller's work slice, 501 numbers to a row.
+#![tactic(auto)]
+
 ghost use Rattle.std.specs.Prelude.{◌≡◌, ◌-◌, ◌<◌, ◌≤◌, min, length, get_or, leb};
 ghost use Rattle.core_sizes.specs.Table.{table_at};
 ghost use Rattle.theory_most.specs.Statement.{largest};

@@ -1,5 +1,7 @@
 // Fields and bytes at a place that is known to be there, so without a test. Crate records has the
 // same for any place.
+#![tactic(auto)]
+
 ghost use Rattle.std.specs.Prelude.{◌≡◌, ◌&&◌, ◌+◌, ◌*◌, ◌≤◌, ◌<◌, length, get_or, eqb};
 ghost use Rattle.std.proofs.Math.Seq.{paste};
 

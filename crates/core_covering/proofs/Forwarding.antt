@@ -76,7 +76,7 @@ module _ (count held : ℕ) (ends opens bases : List ℕ) where
 
   pub forwarding_start : (ids : List ℕ) → ForwardPre count held ends opens bases ids → Forwarding 0 0 0 0 ids
   forwarding_start ids o =
-      record { within = omega arith; small = omega (arith, o.holds.count_is, o.holds.accepted.chunks_in_lem.high); few = omega arith; long = o.long; each = λ j f. record { are = refl; used_is = refl; last_is = λ some. refl } }
+      record { within = omega arith; small = omega (arith, o.holds.count_is, o.holds.accepted.chunks_in.high); few = omega arith; long = o.long; each = λ j f. record { are = refl; used_is = refl; last_is = λ some. refl } }
 
   -- What the code computes of chunk i + 1.
   abbrev pub level_of : (i used last : ℕ) → ℕ

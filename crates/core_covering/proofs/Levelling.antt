@@ -69,7 +69,7 @@ module _ (p : Programme) (sizes : ℕ → ℕ → ℕ) (left : List ℕ) where
   levelling_start ends opens bases smallest o =
       record {
         within = omega arith;
-        few = o.job.holds.accepted.chunks_in_lem.high;
+        few = o.job.holds.accepted.chunks_in.high;
         last_in = o.job.holds.accepted.last_in;
         left_long = o.job.holds.long;
         long = o.long;

@@ -1,6 +1,8 @@
 // Internal. Sets of bases fetched forward (theory_most, Statement): a set is a slice of chunk
 // numbers in playing order, with the level up to which it has used the forecast. Levels of chunks
 // stand in tables by chunk number. Here are the tests of one set, and of one set against another.
+#![tactic(auto)]
+
 ghost use Rattle.std.specs.Prelude.{◌≡◌, ℕ, ◌+◌, ◌*◌, ◌-◌, ◌<◌, ◌≤◌, max, min, cond, length, get_or, ltb};
 ghost use Rattle.core_sizes.specs.Table.{table_at};
 ghost use Rattle.core_covering.specs.lemmas.Tables.{SetLevelsPost, SetLevelsPre, WaitPost, WaitPre};

@@ -56,7 +56,7 @@ module _
       record {
         some = o.some;
         few = o.few_layers;
-        chunks_in_lem = asc_within 1 p.chunks 1 500 ks (omega arith) o.few b.ascending;
+        chunks_in = asc_within 1 p.chunks 1 500 ks (omega arith) o.few b.ascending;
         small = o.small;
         sums = o.sums;
         due_slots = due_in;

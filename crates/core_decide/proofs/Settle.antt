@@ -70,7 +70,7 @@ module _ (layers : ℕ) (size : ℕ → ℕ → ℕ) (all : ℕ) (after ids dues
           record {
             low = s.low;
             high = omega (arith, o.few);
-            chunks_in_lem = o.chunks_in_lem;
+            chunks_in = o.chunks_in;
             small = o.small;
             sums = o.sums;
             slots = o.due_slots;

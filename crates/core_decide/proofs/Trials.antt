@@ -77,7 +77,7 @@ module _ (size : ℕ → ℕ → ℕ) (n : ℕ) (after ids dues room : List ℕ)
       bytes_small = rw (b.old (q - 1) (omega arith)).0 (all_from (λ x. x ≤ n * 16777216) bytes₀ first (q - 1) o.carried (omega arith) (omega (arith, b.to, o.long.4)))
 
       pub chunk_in : Within 1 500 (get_or ids (q - 1) 0)
-      chunk_in = all_from (Within 1 500) ids first (q - 1) o.chunks_in_lem (omega arith) (omega (arith, b.to, o.long.1))
+      chunk_in = all_from (Within 1 500) ids first (q - 1) o.chunks_in (omega arith) (omega (arith, b.to, o.long.1))
 
       pub due_slot_lem : Slot (get_or dues (q - 1) 0)
       due_slot_lem = all_from Slot dues first (q - 1) o.slots (omega arith) (omega (arith, b.to, o.long.2))

@@ -4,6 +4,8 @@
 // any slot: sum_after and keep_bases for the base, then, for kept chunks with their due slots and
 // bytes however they were found, set_releases and settle_layers. Sizes are those of the table that
 // core_sizes' fill_sizes fills.
+#![tactic(auto)]
+
 ghost use Rattle.std.specs.Prelude.{◌≡◌, cond, ◌&&◌, ℕ, ◌+◌, ◌*◌, ◌-◌, ◌/◌, ◌<◌, ◌≤◌, max, min, length, get_or, take, drop, leb, ltb, ◌++◌};
 ghost use Rattle.theory_basics.specs.Tests.{All};
 ghost use Rattle.core_sizes.specs.Table.{table_at};

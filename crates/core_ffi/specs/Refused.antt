@@ -201,7 +201,7 @@ module _ (job old : List ℕ) where
       let text = plan_text (job_said job) in refusal_in (answered (with_room (job_file_refusal job) text old) (length text)) ≡ with_room (job_file_refusal job) text old
   reasons_file_refused =
       let text = plan_text (job_said job) in
-      never_mistaken (refused_with text) (length text) 94000 (omega arith) (λ e. (files_small job (not_refused text e)).reasons_text_lem)
+      never_mistaken (refused_with text) (length text) 94000 (omega arith) (λ e. (files_small job (not_refused text e)).reasons_text)
 
   pub convert_file_refused :
       let text = job_file (job_of_file mixed job) in refusal_in (answered (with_room (refusal_of mixed job) text old) (length text)) ≡ with_room (refusal_of mixed job) text old

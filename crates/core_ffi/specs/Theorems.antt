@@ -60,7 +60,7 @@ pub record JobSmall (j : Job) : Type 0 where
 pub job_read : (sequenced : Bool) (file : List ℕ) → refusal_of sequenced file ≡ 0 → JobSmall (job_of_file sequenced file)
 job_read sequenced file e =
     let a = file_accepted sequenced file e in
-    record { slots = omega (arith, a.slots_in, a.last_in); layers_few = a.layers_in_lem.high; overrides = overrides_few (job_of_file sequenced file) a }
+    record { slots = omega (arith, a.slots_in, a.last_in); layers_few = a.layers_in.high; overrides = overrides_few (job_of_file sequenced file) a }
 
 -- FILM_JOB_FILE.
 pub job_written : (h : JobInput) → job_refusal h ≡ 0 → length (job_file (job_in h)) ≤ 46800
@@ -78,7 +78,7 @@ plan_written h s out e = (accepts h s out e).fits
 pub record FilesSmall (job : List ℕ) : Type 0 where
   pub plan_file : length (file_of (plan_of_job (job_said job))) ≤ 64091
   pub report_text : length (plan_report (job_said job)) ≤ 7633
-  pub reasons_text_lem : length (plan_text (job_said job)) ≤ 94000
+  pub reasons_text : length (plan_text (job_said job)) ≤ 94000
 
 pub files_small : (job : List ℕ) → job_file_refusal job ≡ 0 → FilesSmall job
 files_small job e =
@@ -86,7 +86,7 @@ files_small job e =
     record {
       plan_file = plan_file_fits (job_said job) a;
       report_text = plan_report_fits (job_said job) a;
-      reasons_text_lem = text_fits (job_said job) a;
+      reasons_text = text_fits (job_said job) a;
     }
 
 pub converted_small : (job : List ℕ) → refusal_of mixed job ≡ 0 → length (job_file (job_of_file mixed job)) ≤ 46800
@@ -96,7 +96,7 @@ converted_small job e = file_short (job_of_file mixed job) (file_accepted mixed 
 
 -- FILM_MARKS.
 pub marks_few : (j : Job) (choice : ℕ → ℕ) → Accepted j → length (marks_of j choice) ≤ 500
-marks_few j choice a = omega (arith, marks_long j choice, a.chunks_in_lem.high)
+marks_few j choice a = omega (arith, marks_long j choice, a.chunks_in.high)
 
 -- FILM_ROWS.
 pub rows_planned : (h : JobInput) → job_refusal h ≡ 0 → length (plan_rows (job_in h)) ≤ 5599

@@ -1,5 +1,7 @@
 // Internal. What the calls for C and Rust share: each library's answer as one number, and what they
 // hand over beside it in lent slices.
+#![tactic(auto)]
+
 ghost use Rattle.std.specs.Prelude.{◌≤◌, leb, get_or, length, ◌&&◌, cond, [], ◌∷◌, ◌≡◌};
 ghost use Rattle.theory_basics.specs.Lent.{over};
 ghost use Rattle.theory_basics.specs.Refusals.{◌or_else◌};

@@ -265,7 +265,7 @@ module _ (P : ℕ → Type 0) (f : ℕ → ℕ → ℕ → List QueuedPiece) (st
           record {
             room = room_left start part 4 (4 * (500 - first)) (omega (arith, y.from)) o.room y.puts;
             by = all_from (λ r. r ≤ last_of start part) ready first q o.by y.from (omega (arith, o.long.1));
-            chunk_in = all_from (Within 1 500) ids first q o.chunks_in_lem y.from (omega (arith, o.long.0));
+            chunk_in = all_from (Within 1 500) ids first q o.chunks_in y.from (omega (arith, o.long.0));
             levels = all_from P mark first q o.levels y.from (omega (arith, o.long.2));
             fed = fed_front (left_at start part) here' later (fed_append (left_at start part) y.done (here' ++ later) split_fed);
             fits = omega (arith, load_append here' later, y.puts.enough (here' ++ later) split_fed (subst (λ (l : List QueuedPiece). load l ≤ a.left + left_at start part a.slot) split o.fits));

@@ -3,6 +3,8 @@
 // start at any slot, and the list may be under way already: the contracts speak of every list that
 // goes on with these pieces. Sizes are those of the table that core_sizes' fill_sizes fills, or
 // what the fetched rows leave of them.
+#![tactic(auto)]
+
 ghost use Rattle.std.specs.Prelude.{◌≡◌, cond, [], ◌∷◌, ℕ, ◌+◌, ◌*◌, ◌-◌, ◌<◌, ◌≤◌, length, drop, set, eqb};
 ghost use Rattle.fetch.specs.Marks.{bit};
 ghost use Rattle.core_sizes.specs.Table.{table_at};
@@ -14,7 +16,7 @@ ghost use Rattle.theory_plan.specs.lemmas.Parts.{ForecastPart};
 use job::{CHUNKS, SizeTable};
 
 // The slot t, the bytes left in it, and the rows made.
-#[derive(Drop)]
+#[derive(Clone, Copy)]
 pub struct Position {
     pub slot: usize,
     pub left: u32,

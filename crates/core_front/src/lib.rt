@@ -2,6 +2,8 @@
 // the target if any set can (theory_most, Statement, `Settled`). Set a stands in `sets` from place
 // 500 a on, `counts` says how many chunks it has and `useds` what it has used. A front has room for
 // 64 sets; one place more holds the set that is being settled.
+#![tactic(auto)]
+
 ghost use Rattle.std.specs.Prelude.{◌≡◌};
 ghost use Rattle.core_front.specs.lemmas.Tables.{CopySetPre, CopySetPost, MoveSetPre, MoveSetPost, TrialPre};
 ghost use Rattle.core_front.specs.lemmas.Tables.{SetCoversPre, SetCoversPost, IsCoveredPost, IsHopelessPost};
@@ -21,7 +23,7 @@ pub const IDS: usize = 32500;
 
 // What sets are judged by: the target, how many chunks may be held, the whole forecast, and a
 // number that no later base is below.
-#[derive(Drop)]
+#[derive(Clone, Copy)]
 pub struct Measure {
     pub target: usize,
     pub held: usize,
@@ -30,7 +32,7 @@ pub struct Measure {
 }
 
 // How many sets a front has, and whether no set was dropped for want of room.
-#[derive(Drop)]
+#[derive(Clone, Copy)]
 pub struct Front {
     pub sets: usize,
     pub whole: bool,

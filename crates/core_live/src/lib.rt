@@ -1,6 +1,8 @@
 // Internal. What to ask the link for in a slot, over tables by chunk: what the rows fetched leave
 // of each layer, and which chunks they begin. The rule is that of theory_live, Statement; each
 // function answers one of its words, and the pieces go into tables that have room for any.
+#![tactic(auto)]
+
 ghost use Rattle.std.specs.Prelude.{◌≡◌, ◌&&◌, ◌||◌, not, cond, ℕ, ◌+◌, ◌*◌, ◌-◌, ◌<◌, ◌≤◌, length, leb, ltb, eqb};
 ghost use Rattle.job.specs.Job.{due_slot, Within};
 ghost use Rattle.core_sizes.specs.Table.{table_at};

@@ -6,6 +6,8 @@
 // stays as it is; the largest kept one, the earliest among equals, is found from the root down. The
 // kept chunks end up where core_decide's pass over the bases leaves them: at the end of tables of
 // 500 places, in playing order.
+#![tactic(auto)]
+
 ghost use Rattle.std.specs.Prelude.{◌≡◌, not, ◌≤◌, max};
 ghost use Rattle.core_sizes.specs.Table.{table_at};
 ghost use Rattle.theory_plan.specs.lemmas.Parts.{at};

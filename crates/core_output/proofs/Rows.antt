@@ -83,7 +83,7 @@ module _
   left_is = ap (left_at 1) o.forecast_is ∙ accepted-job.left_is j ok
 
   levels_in : All (λ k. (1 ≤ x k) × (x k ≤ 4)) (kept j x)
-  levels_in = picked_each (λ i. leb 1 (x i)) (λ k. (1 ≤ x k) × (x k ≤ 4)) 0 (chunks j) (λ i u v t. (leb→le 1 (x i) t, omega (arith, c i u (omega arith), ok.layers_in_lem.high)))
+  levels_in = picked_each (λ i. leb 1 (x i)) (λ k. (1 ≤ x k) × (x k ≤ 4)) 0 (chunks j) (λ i u v t. (leb→le 1 (x i) t, omega (arith, c i u (omega arith), ok.layers_in.high)))
 
   plan_queue : List QueuedPiece
   plan_queue = queue (size j) x (kept j x) (releases (due j) (held_most j) (kept j x))
@@ -125,7 +125,7 @@ module _
         within = o.tables.within;
         room = record { part_in = subst (ForecastPart 1) (sym o.forecast_is) (accepted-job.part_in j ok); low = omega arith; high = omega arith; count = omega arith; s = omega arith; c = omega arith; l = omega arith; b = omega arith };
         by = subst (All (λ r. r ≤ last_of 1 f)) (sym o.tables.releases_are) released;
-        chunks_in_lem = subst (All (Within 1 500)) (sym o.tables.chunks) (asc_within 1 (chunks j) 1 500 (kept j x) (omega arith) ok.chunks_in_lem.high (kept_asc j x));
+        chunks_in = subst (All (Within 1 500)) (sym o.tables.chunks) (asc_within 1 (chunks j) 1 500 (kept j x) (omega arith) ok.chunks_in.high (kept_asc j x));
         levels = subst (All Levels) (sym o.tables.marks) (all_of_map Levels (λ k. level_mark (x k)) (kept j x) (all_map (λ k. (1 ≤ x k) × (x k ≤ 4)) (λ k. Levels (level_mark (x k))) (kept j x) level levels_in));
         fed = subst (Fed (left_at 1 f)) (sym queued) (subst (λ (A : ℕ → ℕ). Fed A plan_queue) (sym left_is) (fed_ready (due j) (after j) plan_queue plan_ready.1));
         fits = subst (λ (q : List QueuedPiece). load q ≤ get_or f 0 0 + left_at 1 f 1) (sym queued) (omega (arith, load_needs (due j) (after j) plan_queue, plan_ready.0, ap (λ (A : ℕ → ℕ). A 0) left_is, left_next 1 f 0 (omega arith)));
@@ -181,7 +181,7 @@ module _
           fills = all_from;
           few_rows = omega (arith, ap length rows_are, own_list_rows j ok x c);
           within = o.tables.within;
-          few = omega (arith, o.counted, ok.chunks_in_lem.high);
+          few = omega (arith, o.counted, ok.chunks_in.high);
           ascending = ascending;
           long = (o.tables.long.0, o.tables.long.2, lw);
           marks_fit = fit;
@@ -192,7 +192,7 @@ module _
       marks_told : marks_in count first ids mark whole ≡ marks_of j x
       marks_told =
           ap (λ (n : ℕ). up_to (λ i. mark_or (get_or whole i 0) (i + 1) (drop first ids) (drop first mark)) n) o.counted
-          ∙ up_to_cong _ _ (chunks j) (λ i h. ap (λ (w : ℕ). mark_or w (i + 1) (drop first ids) (drop first mark)) (none i (omega (arith, ok.chunks_in_lem.high))))
+          ∙ up_to_cong _ _ (chunks j) (λ i h. ap (λ (w : ℕ). mark_or w (i + 1) (drop first ids) (drop first mark)) (none i (omega (arith, ok.chunks_in.high))))
           ∙ marks_are
 
       pub written_choice :

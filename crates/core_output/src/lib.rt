@@ -3,6 +3,8 @@
 // releases and their marks stand at the end of tables of 500 places, from a first place on, as
 // core_decide and core_replan_decide leave them. Made afresh, a plan lists what is left of its
 // layers, and a chunk that stands in no table keeps the mark of what is whole of it.
+#![tactic(auto)]
+
 ghost use Rattle.std.specs.Prelude.{◌≡◌, ◌≤◌, length, drop};
 ghost use Rattle.theory_basics.specs.Lent.{over};
 ghost use Rattle.core_sizes.specs.Table.{table_at};
@@ -13,14 +15,14 @@ ghost use Rattle.theory_plan.specs.Bases.{Asc};
 use job::{CHUNKS, ROWS, SizeTable};
 
 // The rows made, and the counts.
-#[derive(Drop)]
+#[derive(Clone, Copy)]
 struct Filled {
     pub rows: usize,
     pub counts: [u16; 4],
 }
 
 // Whether the slices hold the rows and marks whole, how many rows there are, and the counts.
-#[derive(Drop)]
+#[derive(Clone, Copy)]
 pub struct Output {
     pub whole: bool,
     pub rows: usize,

@@ -1,6 +1,8 @@
 // Internal. The search for a largest set of bases: passes over the chunks with a front of sets, for
 // one target after the other from the bound down (theory_most, Statement, `Pass`). A pass that
 // dropped no set and ends with none that reaches the target lowers the bound.
+#![tactic(auto)]
+
 ghost use Rattle.std.specs.Prelude.{◌≡◌, true, false, ◌<◌, ◌≤◌, length};
 ghost use Rattle.core_passes.specs.lemmas.Tables.{AppendPre, AppendPost, OfferPre, OfferPost, KeepPre, KeepPost};
 ghost use Rattle.core_passes.specs.lemmas.Tables.{StepPre, StepPost, CopyFrontPre, CopyFrontPost};
@@ -15,7 +17,7 @@ use job::CHUNKS;
 const ROW: usize = 501;
 
 // The next chunk: its number, its base's bytes, and the forecast up to the end of its due slot.
-#[derive(Drop)]
+#[derive(Clone, Copy)]
 struct Chunk {
     pub number: u16,
     pub base: u64,
@@ -23,7 +25,7 @@ struct Chunk {
 }
 
 // A film: how many chunks it has, how many may be held, and the whole forecast.
-#[derive(Drop)]
+#[derive(Clone, Copy)]
 pub struct Film {
     pub count: usize,
     pub held: usize,
@@ -32,7 +34,7 @@ pub struct Film {
 
 // A set in a front: its place and how many chunks it has; and the most bases that any list in
 // playing order has.
-#[derive(Drop)]
+#[derive(Clone, Copy)]
 struct Found {
     pub place: usize,
     pub count: usize,
@@ -40,7 +42,7 @@ struct Found {
 }
 
 // Where the set found begins in ids, and the most bases that any list in playing order has.
-#[derive(Drop)]
+#[derive(Clone, Copy)]
 pub struct Sought {
     pub first: usize,
     pub bound: usize,

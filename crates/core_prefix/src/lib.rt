@@ -1,5 +1,7 @@
 // The first n elements of a slice, or all where there are fewer: what the programs hand on of their
 // buffers.
+#![tactic(auto)]
+
 ghost use Rattle.std.specs.Prelude.{◌≡◌, take};
 
 // The first n bytes.

@@ -134,7 +134,7 @@ module _ (p : Programme) (layers : ℕ) (most : Bool) (sums after levels : List 
             scratch = l.scratch;
             chunk_low = o.chunk_low;
             chunk_high = o.chunk_high;
-            layer = omega (arith, o.layers_is, o.facts.accepted.layers_in_lem.high);
+            layer = omega (arith, o.layers_is, o.facts.accepted.layers_in.high);
             have_is = refl;
             missing = l.low;
             job = j;

@@ -1,6 +1,8 @@
 // Internal. Request 14: a line under each layer that the plan doesn't carry, by chunk and then
 // layer, into a lent buffer that has room for them. A line of the first kind takes two passes over
 // the kept chunks, so all lines take time linear in lines x chunks.
+#![tactic(auto)]
+
 use job::{CHUNKS, Programme, SizeTable, SlotSums};
 
 mod passes;

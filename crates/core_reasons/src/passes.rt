@@ -8,7 +8,7 @@ ghost use Rattle.core_reasons.specs.lemmas.Passes.{starts_in, FindStretchPost};
 use job::{CHUNKS, SlotSums};
 
 // A stretch of slots, what it carries and what it needs.
-#[derive(Drop)]
+#[derive(Clone, Copy)]
 pub struct Stretch {
     pub first: u16,
     pub last: u16,
@@ -17,7 +17,7 @@ pub struct Stretch {
 }
 
 // The first slot of a stretch, what the stretch carries and what it needs.
-#[derive(Drop)]
+#[derive(Clone, Copy)]
 struct Begin {
     first: u16,
     carry: u64,

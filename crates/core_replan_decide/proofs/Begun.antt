@@ -44,7 +44,7 @@ module _ {p : Programme} {left : ℕ → ℕ → ℕ} {whole after front : List 
   begun_start =
       record {
         says = rw (drop_of_length-le front {i = 500} (omega (arith, o.long.2)));
-        small = o.need_in_lem;
+        small = o.need_in;
         place = refl;
         low = o.fb_in;
         high = omega arith;
@@ -74,7 +74,7 @@ module _ {p : Programme} {left : ℕ → ℕ → ℕ} {whole after front : List 
       it = get_or front (q - 1) 0
 
       pub it_in : Within 1 p.chunks it
-      it_in = all_from (Within 1 p.chunks) front head (q - 1) o.chunks_in_lem (omega arith) (omega (arith, b.high, o.long.2))
+      it_in = all_from (Within 1 p.chunks) front head (q - 1) o.chunks_in (omega arith) (omega (arith, b.high, o.long.2))
 
       pub first_in : (0 < first) × (first ≤ 500)
       first_in = (omega (arith, b.place, o.room), omega (arith, b.place, b.high, o.within))

@@ -106,8 +106,8 @@ module _ {p : Programme} {layers start : ℕ} {part : List ℕ} {left : ℕ → 
         small = o.small;
         sums = sums_small s;
         fb_in = f.within;
-        chunks_in_lem = asc_within 1 last 1 p.chunks (drop head front) (omega arith) lp f.ascending;
-        need_in_lem = rw (e, z) (omega (arith, n.top, sums_small s 0));
+        chunks_in = asc_within 1 last 1 p.chunks (drop head front) (omega arith) lp f.ascending;
+        need_in = rw (e, z) (omega (arith, n.top, sums_small s 0));
         room = omega (arith, f.room, n.room);
         within = n.within;
         ids_in = asc_within (suc last) p.chunks 1 p.chunks ns (omega arith) (omega arith) n.ascending;
@@ -126,7 +126,7 @@ module _ {p : Programme} {layers start : ℕ} {part : List ℕ} {left : ℕ → 
         some = o.some;
         few = o.few_layers;
         small = o.small;
-        chunks_in_lem = all_map (Within 1 p.chunks) (Within 1 500) (drop first ids₂) (λ x w. record { low = w.low; high = omega (arith, w.high, o.fine.few) }) b.ids_in;
+        chunks_in = all_map (Within 1 p.chunks) (Within 1 500) (drop first ids₂) (λ x w. record { low = w.low; high = omega (arith, w.high, o.fine.few) }) b.ids_in;
         sums = sums_small s;
         due_slots = b.slots;
         release_slots = subst (All Slot) (sym r) (release_slots held (500 - first) (drop first dues₂) b.slots);
@@ -243,7 +243,7 @@ module _
       ap (λ (b : Bool). b && leb start (due j i)) (sym (tab.begun_is i (omega arith) h) ∙ lb.behind i (omega arith) h)))
 
   left_base : (i : ℕ) → 1 ≤ i → i ≤ chunks j → base_of left i ≡ rest j fetched i 0
-  left_base i u v = tab.left_is i 0 (layer_of j i 0 u v a.layers_in_lem.low)
+  left_base i u v = tab.left_is i 0 (layer_of j i 0 u v a.layers_in.low)
 
   left_new : (i : ℕ) → last < i → i ≤ chunks j → base_of left i ≡ size j i 0
   left_new i u v = left_base i (omega arith) v ∙ omega (arith, nothing_fetched j a start fetched ok plan d last behind top lb.within i 0 u)
@@ -340,7 +340,7 @@ module _
             whole_is : kept_of (drop first ids₂) (drop first dues₂) (drop first bytes₃) (drop first mark₃) ≡ map (kept_rest j fetched plan) cs
             whole_is =
                 let K = map (kept_rest j fetched b1) cs in
-                let up : suc (length sizes - 1) ≡ length sizes = omega (arith, a.layers_in_lem.low) in
+                let up : suc (length sizes - 1) ≡ length sizes = omega (arith, a.layers_in.low) in
                 y.kept
                 ∙ ap (on_layers (left) (at table) all (drop first ready) (count - 1)) based_is
                 ∙ ap (λ (l : List ℕ). on_layers (left) (at table) all l (count - 1) K) (released ∙ ap (λ (m : ℕ). take m rs) (sym many))
@@ -348,7 +348,7 @@ module _
                 ∙ ap (λ (m : ℕ). on_layers (left) (at table) m rs (count - 1) K) ae
                 ∙ ap (λ (m : ℕ). on_layers (left) (at table) (at table 0) rs (m - 1) K) le
                 ∙ ap (λ (B : ℕ → ℕ). on_layers (left) B (B 0) rs (length sizes - 1) K) A_is
-                ∙ layers_left_lem (length sizes - 1) (omega (arith, a.layers_in_lem.low))
+                ∙ layers_left_lem (length sizes - 1) (omega (arith, a.layers_in.low))
                 ∙ ap (λ (m : ℕ). map (kept_rest j fetched (below j fetched plan m)) cs) up
                 ∙ passes_are_plan j a start fetched ok plan d last behind top lb.within
 

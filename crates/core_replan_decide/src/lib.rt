@@ -2,6 +2,8 @@
 // fetched rows have left to fetch. The chunks begun or kept stand at the end of tables of 500
 // places, in playing order, from a first place on. The layers above the base, the sums and the
 // releases are core_decide's.
+#![tactic(auto)]
+
 ghost use Rattle.std.specs.Prelude.{◌≡◌, ◌&&◌, cond, ℕ, ◌+◌, ◌-◌, ◌<◌, ◌≤◌, max, length, leb, ltb, eqb};
 ghost use Rattle.core_sizes.specs.Table.{table_at};
 ghost use Rattle.core_replan_decide.specs.lemmas.Tables.{Falls, NeedCapPost, PlacesBelowPost, LastBegunPost};
@@ -230,7 +232,7 @@ fn new_bases(
 }
 
 // What a begun chunk and those behind it use up, what it has to fetch, and its mark.
-#[derive(Drop)]
+#[derive(Clone, Copy)]
 pub struct Chosen {
     pub need: u64,
     pub bytes: u32,

@@ -75,7 +75,7 @@ module _ (j : Job) (ok : Accepted j) (rows : List Row) (range : All (RowInRange 
 
   module _ {S L F : List ℕ} (t : Tallied rows S L F) where
     first_is : (i : ℕ) → 1 ≤ i → i ≤ chunks j → get_or F i 0 ≡ first_of i rows
-    first_is i u v = t.firsts i u (omega (arith, ok.chunks_in_lem.high))
+    first_is i u v = t.firsts i u (omega (arith, ok.chunks_in.high))
 
     -- ---- in turn
 
@@ -119,7 +119,7 @@ module _ (j : Job) (ok : Accepted j) (rows : List Row) (range : All (RowInRange 
     few_is =
         all_to_cong (chunks j) _ _ (λ i u v.
         all_below_cong (layers j) _ _ (λ n w.
-        ap (λ (s : ℕ). leb s (size j i n)) (t.by_layer i n u (omega (arith, ok.chunks_in_lem.high)) (omega (arith, ok.layers_in_lem.high)))
+        ap (λ (s : ℕ). leb s (size j i n)) (t.by_layer i n u (omega (arith, ok.chunks_in.high)) (omega (arith, ok.layers_in.high)))
         ∙ leb_cap (bytes_of_layer rows i n) (size j i n) (omega (arith, size_most j ok i n))))
 
     -- ---- the tables that the decision asks for
@@ -133,8 +133,8 @@ module _ (j : Job) (ok : Accepted j) (rows : List Row) (range : All (RowInRange 
 
       left_at : (i n : ℕ) → 1 ≤ i → i ≤ chunks j → n < layers j → table_at left i n ≡ size j i n - bytes_of_layer rows i n
       left_at i n u v w =
-          let few : i ≤ 500 = omega (arith, ok.chunks_in_lem.high) in
-          let deep : n < 4 = omega (arith, ok.layers_in_lem.high) in
+          let few : i ≤ 500 = omega (arith, ok.chunks_in.high) in
+          let deep : n < 4 = omega (arith, ok.layers_in.high) in
           let z : get_or table (4 * (i - 1) + n) 0 ≡ size j i n = sym (in_table i n u few deep table) ∙ ap (λ (f : ℕ → ℕ → ℕ). f i n) sizes_are in
           in_table i n u few deep left ∙ omega (arith, d.is (4 * (i - 1) + n) (omega arith), z, t.by_layer i n u few deep, size_most j ok i n)
 

@@ -1,6 +1,8 @@
 // Internal. The rows fetched, gathered into tables: what they leave of each layer, which chunks
 // they begin, and the marks of the layers whole in them. And whether they keep what refusal 22
 // asks, by the sums and first slots of rules.
+#![tactic(auto)]
+
 ghost use Rattle.std.specs.Prelude.{◌≡◌, ◌&&◌, cond, ℕ, ◌-◌, ◌<◌, ◌≤◌, length, leb, ltb};
 ghost use Rattle.theory_basics.specs.Tests.{all_below};
 ghost use Rattle.core_sizes.specs.Table.{table_at};
@@ -11,7 +13,7 @@ ghost use Rattle.core_replan_input.specs.lemmas.Gather.{GatherPost};
 use job::{CHUNKS, Programme, SIZES, SUMS, SizeTable};
 
 // Whether rule 3 holds, and whether no sum exceeds its size, for all chunks.
-#[derive(Drop)]
+#[derive(Clone, Copy)]
 pub struct Kept {
     pub lower: bool,
     pub few: bool,

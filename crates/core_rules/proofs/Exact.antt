@@ -83,14 +83,14 @@ same_is marks n f e =
 module _ (j : Job) (rows : List Row) (S L F : List ℕ) (ok : Accepted j) (t : Tallied rows S L F) where
   pub carried_is : (i n : ℕ) → 1 ≤ i → i ≤ chunks j → n < layers j → carried_by (size j) L i n ≡ carried j rows i n
   carried_is i n u v w =
-      ap (λ (s : ℕ). eqb s (size j i n)) (t.by_layer i n u (omega (arith, ok.chunks_in_lem.high)) (omega (arith, ok.layers_in_lem.high)))
+      ap (λ (s : ℕ). eqb s (size j i n)) (t.by_layer i n u (omega (arith, ok.chunks_in.high)) (omega (arith, ok.layers_in.high)))
       ∙ eqb_cap (bytes_of_layer rows i n) (size j i n) (omega (arith, size_most j ok i n))
 
   whole_is : (i n : ℕ) → 1 ≤ i → i ≤ chunks j → n < layers j → whole_by (size j) L i n ≡ eqb (bytes_of_layer rows i n) 0 || carried j rows i n
   whole_is i n u v w =
       ap (λ (b : Bool). eqb (get_or L (4 * (i - 1) + n) 0) 0 || b) (carried_is i n u v w)
       ∙ ap (λ (b : Bool). b || carried j rows i n)
-      (ap (λ (s : ℕ). eqb s 0) (t.by_layer i n u (omega (arith, ok.chunks_in_lem.high)) (omega (arith, ok.layers_in_lem.high))) ∙ eqb_cap (bytes_of_layer rows i n) 0 (omega arith))
+      (ap (λ (s : ℕ). eqb s 0) (t.by_layer i n u (omega (arith, ok.chunks_in.high)) (omega (arith, ok.layers_in.high))) ∙ eqb_cap (bytes_of_layer rows i n) 0 (omega arith))
 
   under_is : (i n : ℕ) → 1 ≤ i → i ≤ chunks j → n < layers j → under (carried_by (size j) L i) n ≡ lower_carried j rows i n
   under_is i zero u v w = refl
@@ -110,7 +110,7 @@ module _ (j : Job) (rows : List Row) (S L F : List ℕ) (ok : Accepted j) (t : T
   held_is : (u : ℕ) → u ≤ 3600 → held_by j.programme F u ≡ held_count j rows u
   held_is u h =
       count_cong (λ i. leb (get_or F i 0) u && ltb u (due_slot j.programme i)) (held j rows u) (chunks j) (λ i a b.
-      ap (λ (e : Bool). e && ltb u (due_slot j.programme i)) (ap (λ (n : ℕ). leb n u) (t.firsts i a (omega (arith, ok.chunks_in_lem.high))) ∙ begun_is rows i u (omega arith)))
+      ap (λ (e : Bool). e && ltb u (due_slot j.programme i)) (ap (λ (n : ℕ). leb n u) (t.firsts i a (omega (arith, ok.chunks_in.high))) ∙ begun_is rows i u (omega arith)))
 
   pub rule6_is : all_to (last_due j.programme) (λ u. leb (held_by j.programme F u) (j.programme.limit / j.programme.span)) ≡ rule6 j rows
   rule6_is = all_to_cong (last_due j.programme) _ _ (λ u a b. ap (λ (n : ℕ). leb n (j.programme.limit / j.programme.span)) (held_is u (omega (arith, ok.last_in))))

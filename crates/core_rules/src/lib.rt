@@ -1,6 +1,8 @@
 // Internal. The rules of a fetch list by tables: one pass over the rows fills tables of sums and of
 // first slots; one pass over the chunks and two over the slots read them. The checker and the
 // planner afresh stand on it.
+#![tactic(auto)]
+
 ghost use Rattle.std.specs.Prelude.{◌≡◌, ◌&&◌, ℕ, ◌+◌, ◌*◌, ◌-◌, ◌/◌, ◌<◌, ◌≤◌, min, length, get_or, set, replicate, leb};
 ghost use Rattle.theory_basics.specs.Tests.{all_to};
 ghost use Rattle.job.specs.Job.{due_slot};
@@ -12,14 +14,14 @@ ghost use Rattle.core_rules.specs.lemmas.Tables.{MarkTimesPost};
 use job::{Programme, SIZES, SUMS, SizeTable, SlotSums};
 
 // What the pass over the rows finds: rule 1, and where it holds rule 5.
-#[derive(Drop)]
+#[derive(Clone, Copy)]
 pub struct Pass {
     pub ranged: bool,
     pub timely: bool,
 }
 
 // The layers of one chunk: its mark byte, rules 2 and 3.
-#[derive(Drop)]
+#[derive(Clone, Copy)]
 pub struct Seen {
     pub mark: u8,
     pub whole: bool,
@@ -27,7 +29,7 @@ pub struct Seen {
 }
 
 // The layers of all chunks: rules 2, 3 and 7.
-#[derive(Drop)]
+#[derive(Clone, Copy)]
 pub struct Layers {
     pub whole: bool,
     pub lower: bool,

@@ -1,6 +1,8 @@
 // Internal. The search of request 13 over tables of 500 places, the same time at each step: the
 // kept chunks and their needs stand at the end of ids and needs, from a first place on, and the
 // best set met so far at the end of best.
+#![tactic(auto)]
+
 ghost use Rattle.std.specs.Prelude.{◌≡◌, ℕ, ◌≤◌, length, drop};
 ghost use Rattle.job.specs.Job.{last_due};
 ghost use Rattle.core_sizes.specs.Table.{table_at};
@@ -11,7 +13,7 @@ ghost use Rattle.core_search.specs.lemmas.Tables.{SearchPost, DueTable, PlaceBes
 use job::{CHUNKS, Programme, SizeTable, SlotSums};
 
 // Where the best set begins, the steps taken, and whether the walk ended.
-#[derive(Drop)]
+#[derive(Clone, Copy)]
 pub struct Outcome {
     pub first: usize,
     pub steps: u32,

@@ -1,6 +1,8 @@
 // Internal. The table of all sizes, which a call fills once, and a size out of it: `size_at` tests
 // for every chunk and layer there is; `size_in`, for a chunk and a layer that have a place in it,
 // is one read without a test.
+#![tactic(auto)]
+
 ghost use Rattle.std.specs.Prelude.{◌≡◌, ◌≤◌, ◌<◌, length};
 ghost use Rattle.job.specs.Job.{Within};
 ghost use Rattle.job.specs.Input.{overrides_of};

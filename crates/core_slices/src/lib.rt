@@ -1,5 +1,7 @@
 // Internal. What the calls that hand over a plan share: the counts of marks, copies of what was
 // laid out aside, and whether it fits.
+#![tactic(auto)]
+
 ghost use Rattle.std.specs.Prelude.{◌≡◌, ◌&&◌, ℕ, ◌≤◌, length, take, leb};
 ghost use Rattle.theory_basics.specs.Lists.{up_to};
 ghost use Rattle.theory_basics.specs.Lent.{over};

@@ -1,5 +1,7 @@
 // Words and numbers as text at a place of a lent buffer, for the crates that write text. Internal:
 // what is written has to fit.
+#![tactic(auto)]
+
 ghost use Rattle.std.specs.Prelude.{◌++◌, ◌+◌, ◌≤◌, length};
 ghost use Rattle.theory_basics.specs.Text.{digits};
 ghost use Rattle.core_text.specs.lemmas.Places.{Put};

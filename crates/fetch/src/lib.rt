@@ -1,5 +1,7 @@
 // A fetch list as it is handed: four slices of one length and a mark byte a chunk; and a slot that
 // is handed.
+#![tactic(auto)]
+
 ghost use Rattle.std.specs.Prelude.{◌≡◌, cond, ◌+◌, ◌*◌, ◌^◌, ◌≤◌, ◌<◌, length};
 ghost use Rattle.std.specs.Int.Count.{ones};
 ghost use Rattle.fetch.specs.Marks.{bit, with_layer, without_layer};

@@ -2,6 +2,8 @@
 // output; on a refusal, `refused n`. What is written for what was read is crate programs'
 // print_converted. It reads by document 01's reader alone: a file in one sequence is a mixed file
 // too, if it has no SZ. One with an SZ has an unknown mark, 2.
+#![tactic(auto)]
+
 use libc::{STDIN_FILENO, STDOUT_FILENO};
 
 fn write_first(out: &[u8; programs::CONVERTED_BYTES], count: usize) {

@@ -1,5 +1,7 @@
 // Reads a job on standard input and writes its plan file to standard output; on a refusal, `refused
 // n`. What is written for what was read is crate programs' print_plan.
+#![tactic(auto)]
+
 use libc::{STDIN_FILENO, STDOUT_FILENO};
 
 fn write_first(out: &[u8; programs::PLAN_BYTES], count: usize) {

@@ -1,6 +1,8 @@
 // Reads a job on standard input and prints the reason under each layer that its plan lacks (request
 // 14); on a refusal, `refused n`. What is printed for what was read is crate programs'
 // print_reasons.
+#![tactic(auto)]
+
 use libc::{STDIN_FILENO, STDOUT_FILENO};
 
 fn write_first(out: &[u8; programs::REASONS_BYTES], count: usize) {

@@ -1,5 +1,7 @@
 // Reads a job on standard input and prints its report; on a refusal, `refused n`. What is printed
 // for what was read is crate programs' print_report.
+#![tactic(auto)]
+
 use libc::{STDIN_FILENO, STDOUT_FILENO};
 
 fn write_first(out: &[u8; programs::REPORT_BYTES], count: usize) {

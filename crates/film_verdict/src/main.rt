@@ -1,5 +1,7 @@
 // Reads the files `job`, then `plan`, and prints `verdict n`; on a refusal, `refused n`. What is
 // printed for what was read is crate programs' print_verdict.
+#![tactic(auto)]
+
 use libc::STDOUT_FILENO;
 
 // The file's bytes go to the start of the buffer: one more than a file may have, so that a longer

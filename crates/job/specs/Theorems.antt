@@ -103,12 +103,12 @@ accepted_iff j =
       λ e.
           let u = parts.0 e in
           record {
-            chunks_in_lem = u.0.0.0;
+            chunks_in = u.0.0.0;
             span_in = u.0.0.1.0;
             limit_in = u.0.0.1.1;
             delay_in = u.0.1;
             last_in = u.1.0;
-            layers_in_lem = u.1.1.0.0;
+            layers_in = u.1.1.0.0;
             sizes_in_lem = u.1.1.0.1;
             overrides_named = u.1.1.1.0.0;
             overrides_rise = u.1.1.1.0.1.0;
@@ -116,7 +116,7 @@ accepted_iff j =
             forecast_in_lem = u.1.1.1.1.0;
             slots_in = u.1.1.1.1.1;
           },
-      λ a. parts.1 (((a.chunks_in_lem, (a.span_in, a.limit_in)), a.delay_in), (a.last_in, ((a.layers_in_lem, a.sizes_in_lem), ((a.overrides_named, (a.overrides_rise, a.overrides_in_lem)), (a.forecast_in_lem, a.slots_in))))),
+      λ a. parts.1 (((a.chunks_in, (a.span_in, a.limit_in)), a.delay_in), (a.last_in, ((a.layers_in, a.sizes_in_lem), ((a.overrides_named, (a.overrides_rise, a.overrides_in_lem)), (a.forecast_in_lem, a.slots_in))))),
     )
 
 -- ---- a job as a call hands it over

@@ -9,7 +9,7 @@ use Rattle.job.specs.lemmas.Spots.{Spot, spots, few, Other, own_where, own_size,
 
 -- "A file can hold more SZs than any valid job": at most 1,996.
 pub overrides_few : (j : Job) → Accepted j → length j.overrides ≤ 1996
-overrides_few j a = omega (arith, few (chunks j) j.overrides a.chunks_in_lem.low a.overrides_rise (spots j a), a.chunks_in_lem.high)
+overrides_few j a = omega (arith, few (chunks j) j.overrides a.chunks_in.low a.overrides_rise (spots j a), a.chunks_in.high)
 
 -- `LY` gives chunk 1's own.
 pub size_one : (j : Job) → Accepted j → (n : ℕ) → size j 1 n ≡ get_or j.sizes n 0
@@ -23,7 +23,7 @@ equal_iff j a = (λ e. by_list e j.overrides refl, λ none i k n x y. rw none (o
   by_list e (o ∷ os) i =
       let named = (subst (λ (l : List Override). All (Named j.programme j.sizes) l) i a.overrides_named).0 in
       let here : Layer j o.chunk o.layer = record { chunk_low = omega (arith, named.chunk_in.low); chunk_high = named.chunk_in.high; layer_in = named.layer_in } in
-      let one : Layer j 1 o.layer = record { chunk_low = omega arith; chunk_high = a.chunks_in_lem.low; layer_in = named.layer_in } in
+      let one : Layer j 1 o.layer = record { chunk_low = omega arith; chunk_high = a.chunks_in.low; layer_in = named.layer_in } in
       let its : size j o.chunk o.layer ≡ o.bytes = rw i (head_size j.sizes o os) in
       absurd (named.not_own (sym its ∙ e o.chunk 1 o.layer here one ∙ size_one j a o.layer))
 

@@ -1,6 +1,8 @@
 // What a job is, and the checks of a job handed in a direct call: refusals 5, 6, 18 and 7, a
 // function a number. A refusal is its number, and 0 is none. An SZ is an element of each of three
 // slices: its chunk, its layer, its size.
+#![tactic(auto)]
+
 ghost use Rattle.std.specs.Prelude.{◌≡◌, ◌&&◌, ◌/◌, ◌≤◌, max, min, length, get_or, leb};
 ghost use Rattle.theory_basics.specs.Tests.{all};
 ghost use Rattle.theory_basics.specs.Refusals.{unless, ◌or_else◌};
@@ -38,7 +40,7 @@ pub type SizeTable = [u32; SIZES];
 pub type SlotSums = [u64; SUMS];
 
 // Document 01's C, L, s and buffer limit.
-#[derive(Drop)]
+#[derive(Clone, Copy)]
 pub struct Programme {
     pub chunks: u16,
     pub span: u16,

@@ -83,7 +83,7 @@ pub record SlicesBack (h : JobInput) (lent : Buffers) : Type 0 where
   pub answer :
       read_answer one_sequence (job_file (job_in h)) lent
       ≡ jobRead.Job h.programme (length h.sizes) (length h.size_chunks) (length h.forecast)
-  pub lent_after_lem : lent_read one_sequence (job_file (job_in h)) lent ≡ slices_back h lent
+  pub lent_after : lent_read one_sequence (job_file (job_in h)) lent ≡ slices_back h lent
 
 pub reads_what_was_written : (h : JobInput) (out : List ℕ) (lent : Buffers) → write_refusal h (length out) ≡ 0 → HoldsSlices h lent → SlicesBack h lent
 reads_what_was_written h out lent e room =
@@ -102,7 +102,7 @@ reads_what_was_written h out lent e room =
       le-leb (length h.forecast) (length lent.forecast) room.forecast,
     ) in
     let r = read_again j lent ok.1 holds in
-    record { answer = r.answer ∙ rw n; lent_after_lem = r.buffers_are ∙ rw (back.0, back.1, back.2) }
+    record { answer = r.answer ∙ rw n; lent_after = r.buffers_are ∙ rw (back.0, back.1, back.2) }
 
 -- And the file stands in front in the buffer lent to `write_job`.
 pub written_in_front : (h : JobInput) (out : List ℕ) → write_refusal h (length out) ≡ 0 → take (length (job_file (job_in h))) (file_written h out) ≡ job_file (job_in h)

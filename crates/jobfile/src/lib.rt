@@ -1,6 +1,8 @@
 // Job files, document 02's request 6: a reader of files in one sequence and a writer of any job,
 // into lent buffers that a refusal leaves as they are. What the reader takes is what the writer
 // puts, byte for byte. The reading is crate jobrecords'.
+#![tactic(auto)]
+
 ghost use Rattle.std.specs.Prelude.{◌≡◌, ◌+◌, ◌≤◌, ◌<◌, [], map, length};
 ghost use Rattle.job.specs.Input.{WholeSizes, job_input, job_in, overrides_of};
 ghost use Rattle.jobrecords.specs.declared.Record.TheVariants.{Pg, Ly, Sz, Bw};

@@ -70,7 +70,7 @@ module _ (q : Bool) (s : List ℕ) (lent : Buffers) where
       complete = rw e at h
 
       pub layers_inside : j.layers ≤ length z
-      layers_inside = omega (arith, complete.room.sized.layers_in_lem, complete.room.sized.sizes_room)
+      layers_inside = omega (arith, complete.room.sized.layers_in, complete.room.sized.sizes_room)
 
       pub slots_inside : j.slots ≤ length f
       slots_inside = omega (arith, complete.room.slots_in, complete.room.slots_room)

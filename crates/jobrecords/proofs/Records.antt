@@ -21,7 +21,7 @@ use Rattle.jobrecords.specs.lemmas.Joined.{has_append, has_same, programme_same,
 
 -- Of the table of sizes only programme and layers matter.
 same_sized : (j j' : Progress) (z : List ℕ) → j'.programme ≡ j.programme → j'.layers ≡ j.layers → Sized j z → Sized j' z
-same_sized j j' z p n s = record { chunks_in_lem = rw p s.chunks_in_lem; layers_in_lem = rw n s.layers_in_lem; sizes_room = s.sizes_room }
+same_sized j j' z p n s = record { chunks_in = rw p s.chunks_in; layers_in = rw n s.layers_in; sizes_room = s.sizes_room }
 
 module _ (j : Progress) (z f : List ℕ) (rs : List Record) (i : StandsFor j z f rs) where
   stands_programme : (p : Programme) → Fine j (Pg p) → StandsFor (with_programme j p) z f (rs ++ (Pg p ∷ []))
@@ -29,7 +29,7 @@ module _ (j : Progress) (z f : List ℕ) (rs : List Record) (i : StandsFor j z f
       let new : has_programme rs ≡ false = sym i.seen_is ∙ first_programme j.seen p e.first in
       let sized = i.room.sized in
       record {
-        room = record { sized = record { chunks_in_lem = programme_in_lem p e.in_range_lem; layers_in_lem = sized.layers_in_lem; sizes_room = sized.sizes_room }; slots_in = i.room.slots_in; slots_room = i.room.slots_room };
+        room = record { sized = record { chunks_in = programme_in_lem p e.in_range_lem; layers_in = sized.layers_in; sizes_room = sized.sizes_room }; slots_in = i.room.slots_in; slots_room = i.room.slots_room };
         place_is = sym (ap place (previous_snoc rs (Pg p)));
         bytes_is = sym (ap run_bytes (previous_snoc rs (Pg p)));
         seen_is = sym (has_append rs (Pg p ∷ []) ∙ rw new);
@@ -44,7 +44,7 @@ module _ (j : Progress) (z f : List ℕ) (rs : List Record) (i : StandsFor j z f
       let sized = i.room.sized in
       let inside : j.layers < length z = omega (arith, sized.sizes_room) in
       record {
-        room = record { sized = record { chunks_in_lem = sized.chunks_in_lem; layers_in_lem = omega arith; sizes_room = length-set z j.layers size ∙ sized.sizes_room }; slots_in = i.room.slots_in; slots_room = i.room.slots_room };
+        room = record { sized = record { chunks_in = sized.chunks_in; layers_in = omega arith; sizes_room = length-set z j.layers size ∙ sized.sizes_room }; slots_in = i.room.slots_in; slots_room = i.room.slots_room };
         place_is = sym (ap place (previous_snoc rs (Ly size)));
         bytes_is = sym (ap run_bytes (previous_snoc rs (Ly size)));
         seen_is = i.seen_is ∙ sym (has_same rs (Ly size ∷ []) refl);

@@ -51,7 +51,7 @@ read_stands q s at r next e = by_front (front q (drop at s)) refl e where
 
 module _ (j : Progress) (z f : List ℕ) (rs : List Record) (i : StandsFor j z f rs) where
   pub layers_are : j.layers ≡ length (sizes_in rs)
-  layers_are = sym (length-take-le j.layers z (omega (arith, i.room.sized.layers_in_lem, i.room.sized.sizes_room))) ∙ ap length i.sizes_are
+  layers_are = sym (length-take-le j.layers z (omega (arith, i.room.sized.layers_in, i.room.sized.sizes_room))) ∙ ap length i.sizes_are
 
   pub slots_are : j.slots ≡ length (forecast_in rs)
   slots_are = sym (length-take-le j.slots f (omega (arith, i.room.slots_in, i.room.slots_room))) ∙ ap length i.forecast_is
@@ -74,7 +74,7 @@ going_start q s z f h k =
       before = [];
       reads = reads_start (format q) s;
       stands = record {
-        room = record { sized = record { chunks_in_lem = omega arith; layers_in_lem = omega arith; sizes_room = h }; slots_in = omega arith; slots_room = k };
+        room = record { sized = record { chunks_in = omega arith; layers_in = omega arith; sizes_room = h }; slots_in = omega arith; slots_room = k };
         place_is = refl;
         bytes_is = refl;
         seen_is = refl;

@@ -3,6 +3,8 @@
 // is read, judged and taken a turn, with the sound runs or SZs that follow it; sizes and slots
 // stand in tables until every refusal has been ruled out. The SZs stand in the file one after the
 // other, so only their number and the place after them are kept.
+#![tactic(auto)]
+
 ghost use Rattle.std.specs.Prelude.{◌≡◌, ◌+◌, ◌*◌, ◌≤◌, ◌<◌, length, replicate, take, drop, leb, not, ◌&&◌, ◌||◌};
 ghost use Rattle.std.proofs.Math.Seq.{paste};
 ghost use Rattle.theory_basics.specs.Lent.{over};
@@ -25,7 +27,7 @@ use job::{MOST_BYTES, OVERRIDES, Programme, SLOTS};
 use records::FILE_BYTES;
 
 // A record of a job file, without its mark.
-#[derive(Drop)]
+#[derive(Clone, Copy)]
 pub enum Record {
     Pg(Programme),
     Ly(u32),
@@ -35,7 +37,7 @@ pub enum Record {
 }
 
 // A record with the place after it, or a refusal.
-#[derive(Drop)]
+#[derive(Clone, Copy)]
 enum Read {
     Got(Record, usize),
     Refused(u8),
@@ -43,7 +45,7 @@ enum Read {
 
 // What reading a job file gives: the job, whose sizes, SZs and forecast are in the lent buffers, or
 // a refusal.
-#[derive(Drop)]
+#[derive(Clone, Copy)]
 pub enum JobRead {
     Job {
         programme: Programme,
@@ -57,7 +59,7 @@ pub enum JobRead {
 // What the records so far say beside the sizes and the forecast, which stand in tables; of the last
 // record its place in the sequence, 0 if there is none, and its bytes, if it is a run; of the SZs
 // how many there are and the place in the file after the last.
-#[derive(Drop)]
+#[derive(Clone, Copy)]
 struct Progress {
     place: u8,
     bytes: u32,
@@ -70,14 +72,14 @@ struct Progress {
 }
 
 // Where the records end: a whole job, or a refusal.
-#[derive(Drop)]
+#[derive(Clone, Copy)]
 enum Ending {
     Whole(Progress),
     Broken(u8),
 }
 
 // What a record does: on from a place, a whole job, or a refusal.
-#[derive(Drop)]
+#[derive(Clone, Copy)]
 enum Step {
     On(Progress, usize),
     Done(Progress),
@@ -85,7 +87,7 @@ enum Step {
 }
 
 // A run that can be taken, slots and bytes, or anything else.
-#[derive(Drop)]
+#[derive(Clone, Copy)]
 enum Run {
     Sound(u16, u32),
     Other,

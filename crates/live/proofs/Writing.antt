@@ -116,8 +116,8 @@ module _ (i : LiveInput) (l : PieceSlices) where
       hand_from =
           let a = accepted i none in
           record {
-            fine = record { few = a.chunks_in_lem.high; late = a.delay_in.low; ends = a.last_in };
-            few_layers = a.layers_in_lem.high;
+            fine = record { few = a.chunks_in.high; late = a.delay_in.low; ends = a.last_in };
+            few_layers = a.layers_in.high;
             begun_long = g.long.0;
           }
 

@@ -2,6 +2,8 @@
 // the slot and a rate, the pieces to ask the link for, one after the other, as far as the slot
 // goes. A desk that asks so from slot 1 to d(C) on an accepted job is refused neither by 21 nor by
 // 22, as long as the forecast that it hands of each slot gone covers what that slot brought.
+#![tactic(auto)]
+
 ghost use Rattle.std.specs.Prelude.{◌≡◌, ◌&&◌, ◌-◌, drop, leb};
 ghost use Rattle.job.specs.Input.{job_input};
 ghost use Rattle.core_sizes.specs.Table.{table_at};
@@ -12,7 +14,7 @@ ghost use Rattle.fetch.specs.Slices.{row_slices};
 use job::{CHUNKS, Programme, SIZES, SizeTable};
 
 // How many pieces are asked, or the refusal's number.
-#[derive(Drop)]
+#[derive(Clone, Copy)]
 pub enum Answer {
     Pieces(usize),
     Refused(u8),

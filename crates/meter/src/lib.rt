@@ -1,6 +1,8 @@
 // The link meter of document 01: the last ten samples of the link by value, a forecast from them,
 // and one thin function that brings a lent meter up to date in its own storage. Refusals 10, 12 and
 // 13.
+#![tactic(auto)]
+
 ghost use Rattle.std.specs.Prelude.{◌≡◌, ◌≤◌, ◌<◌, length};
 ghost use Rattle.meter.specs.lemmas.Cells.{next_cells};
 ghost use Rattle.meter.specs.Forecast.{share, bytes_of, forecast_of};
@@ -9,7 +11,7 @@ ghost use Rattle.meter.specs.Meter.{sample, samples_of, storing, empty, in_range
 ghost use Rattle.meter.specs.Meter.{with_sample, taken, InOrder, UpdatePromise};
 
 // Ten cells, the first `kept` of which hold a sample each, a slot and its bytes, the newest last.
-#[derive(Drop)]
+#[derive(Clone, Copy)]
 pub struct Meter {
     pub slots: [u16; 10],
     pub bytes: [u32; 10],
@@ -17,14 +19,14 @@ pub struct Meter {
 }
 
 // What a sample handed to a meter gives: 0 or the refusal, and the meter afterwards.
-#[derive(Drop)]
+#[derive(Clone, Copy)]
 pub struct Taken {
     pub code: u8,
     pub meter: Meter,
 }
 
 // What a forecast gives: the bytes of a slot, or the refusal.
-#[derive(Drop)]
+#[derive(Clone, Copy)]
 pub enum Answer {
     Bytes(u32),
     Refused(u8),

@@ -32,7 +32,7 @@ use Rattle.most.proofs.Finding.{found_most}
 -- ---- of a job: the set found fits, and so does the plan over it
 
 set_fits : (j : Job) → Accepted j → {set : List ℕ} {most : ℕ} → Most j set most → Fits j (bases_of set)
-set_fits j ok {set} m = can_carry_fits j (accepted_sized j ok) (bases_of set) (bases_choice j set ok.layers_in_lem.low) m.can_carry
+set_fits j ok {set} m = can_carry_fits j (accepted_sized j ok) (bases_of set) (bases_choice j set ok.layers_in.low) m.can_carry
 
 pub plan_over_fits : (j : Job) → Accepted j → {set : List ℕ} {most : ℕ} → Most j set most → Fits j (plan_over j set)
 plan_over_fits j ok {set} m = planned_fits j set (set_fits j ok m)
@@ -86,12 +86,12 @@ module _
       decides_job : {ready mark : List ℕ} → SettleKeptPost p layers size left out.first ids ready mark → Decides j (plan_over j set) out.first ids ready mark
       decides_job d =
           let sized = accepted_sized j ok in
-          let one = ok.layers_in_lem.low in
+          let one = ok.layers_in.low in
           let over = over_exists j ok set in
           let asc = most_found.ascending in
           d sizes overrides f count says (sums_are p layers size 1 f ids₀ ready₀ mark₀ o.from left s sizes overrides) (plan_over j set)
           (sym (over_kept j sized one set (plan_over j set) over asc))
-          (over_decided j sized one set (plan_over j set) over asc (set_fits j ok most_found) (omega (arith, ok.layers_in_lem.high)))
+          (over_decided j sized one set (plan_over j set) over asc (set_fits j ok most_found) (omega (arith, ok.layers_in.high)))
 
       decides_most :
           {r : Decision} {ready mark : List ℕ} → r.first ≡ out.first → r.bound ≡ out.bound → AnyOrderPost p size left r.bound_any →

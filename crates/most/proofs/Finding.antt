@@ -55,13 +55,13 @@ module _ (j : Job) (ok : Accepted j) where
 
 module _ {j : Job} (ok : Accepted j) {n : ℕ} {row : List ℕ} (f : ForwardOf j n row) where
   pub taken_long : n ≡ length (take n row)
-  taken_long = sym (length-take n row ∙ omega (arith, f.few, f.long, ok.chunks_in_lem.high))
+  taken_long = sym (length-take n row ∙ omega (arith, f.few, f.long, ok.chunks_in.high))
 
   pub taken_few : length (take n row) ≤ 500
-  taken_few = omega (arith, length-take n row, f.few, ok.chunks_in_lem.high)
+  taken_few = omega (arith, length-take n row, f.few, ok.chunks_in.high)
 
   pub kept_inside : n ≤ length row
-  kept_inside = omega (arith, f.few, f.long, ok.chunks_in_lem.high)
+  kept_inside = omega (arith, f.few, f.long, ok.chunks_in.high)
 
 pub forward_found :
     {j : Job} {count held : ℕ} {ends opens bases : List ℕ} → ForwardFor j count held ends opens bases → {n : ℕ} {row : List ℕ} →
@@ -90,14 +90,14 @@ module _
       record {
         from =
             record {
-              few = ok.chunks_in_lem.high;
+              few = ok.chunks_in.high;
               late = ok.delay_in.low;
               ends = ok.last_in;
               small = λ i n. subst (λ (y : ℕ → ℕ → ℕ). y i n ≤ 16777216) (sym s.sizes_are) (size_most j ok i n);
               sums = sums;
               long = (s.long, l.0, l.1, l.2, l.3);
             };
-        least = λ i u v. subst (λ (y : ℕ → ℕ → ℕ). 1 ≤ y i 0) (sym s.sizes_are) (size_least j ok i 0 ok.layers_in_lem.low);
+        least = λ i u v. subst (λ (y : ℕ → ℕ → ℕ). 1 ≤ y i 0) (sym s.sizes_are) (size_least j ok i 0 ok.layers_in.low);
       }
 
   -- The bases that are settled are the plan's.
@@ -107,7 +107,7 @@ module _
       ∙ ap (λ (y : ℕ → ℕ → ℕ). bases_in p y (at left)) s.sizes_are
       ∙ ap (bases_in p (size j)) s.left_is
       ∙ ap (λ (l : List ℕ). cond (by_moore_hodgson j) l (stacked j)) (kept_by_after j)
-      ∙ bases_kept j s.accepted.layers_in_lem.low
+      ∙ bases_kept j s.accepted.layers_in.low
 
   forward_for :
       {held : ℕ} {ends opens bases smallest : List ℕ} → LevelsOf j ends opens bases smallest → held ≡ p.limit / p.span → held < 2 →

@@ -43,7 +43,7 @@ count_over : (j : Job) → Accepted j → (set : List ℕ) {most : ℕ} → Most
 count_over j ok set m =
     get_d_up_to (count_of j (plan_over j set)) 4 0 0 (omega arith)
     ∙ count_kept j (plan_over j set)
-    ∙ ap (length {A = ℕ}) (over_kept j (accepted_sized j ok) ok.layers_in_lem.low set (plan_over j set) (over_exists j ok set) m.ascending)
+    ∙ ap (length {A = ℕ}) (over_kept j (accepted_sized j ok) ok.layers_in.low set (plan_over j set) (over_exists j ok set) m.ascending)
 
 -- ---- what is returned
 

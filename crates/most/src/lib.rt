@@ -1,6 +1,8 @@
 // Most pictures for any film: a set of bases found by search, bounds that no fetch list is above,
 // and the plan over that set. The bounds are core_bounds', the search is core_passes'; this crate
 // adds the refusals, the layers above the bases, and the output.
+#![tactic(auto)]
+
 ghost use Rattle.std.specs.Prelude.{◌≡◌, ◌&&◌, ◌+◌, ◌*◌, ◌≤◌, length};
 ghost use Rattle.job.specs.Input.{job_input, job_refusal};
 ghost use Rattle.core_sizes.specs.Table.{table_at};
@@ -22,7 +24,7 @@ pub const WORK_ROW: usize = 501;
 // The number of rows or the refusal's number, how many chunks carry each layer, the most bases that
 // a passing list in playing order carries, the most that any passing list carries, and whether the
 // plan carries as many as the first of the two.
-#[derive(Drop)]
+#[derive(Clone, Copy)]
 pub struct MostPlan {
     pub answer: Answer,
     pub counts: [u16; 4],
@@ -32,7 +34,7 @@ pub struct MostPlan {
 }
 
 // Where the set found begins in the tables, and the two bounds.
-#[derive(Drop)]
+#[derive(Clone, Copy)]
 struct Decision {
     pub first: usize,
     pub bound: u16,

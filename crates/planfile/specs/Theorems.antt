@@ -44,7 +44,7 @@ slices_back s lent =
 
 pub record SlicesBack (h : JobInput) (s lent : ListSlices) : Type 0 where
   pub answer : read_answer h (file_of (plan_of s)) lent ≡ Rows (length s.slots)
-  pub lent_after_lem : read_lent h (file_of (plan_of s)) lent ≡ slices_back s lent
+  pub lent_after : read_lent h (file_of (plan_of s)) lent ≡ slices_back s lent
 
 pub reads_what_was_written : (h : JobInput) (s : ListSlices) (out : List ℕ) (lent : ListSlices) → InWidth (plan_of s) → write_refusal h s out ≡ 0 → T (room lent (chunks (job_in h)) (length s.slots)) → SlicesBack h s lent
 reads_what_was_written h s out lent i e t =
@@ -54,7 +54,7 @@ reads_what_was_written h s out lent i e t =
     let none : plan_read_refusal h (file_of (plan_of s)) lent ≡ 0 = not_short h s lent a.job_in_lem back.not_refused back.says n t in
     record {
       answer = rw (none, back.says, n);
-      lent_after_lem = rw (none, back.says, field (λ x. x.slot) s s.slots (λ k. refl) refl, field (λ x. x.chunk) s s.chunks (λ k. refl) a.whole.chunk_each, field (λ x. x.layer) s s.layers (λ k. refl) a.whole.layer_each, field (λ x. x.bytes) s s.bytes (λ k. refl) a.whole.bytes_each);
+      lent_after = rw (none, back.says, field (λ x. x.slot) s s.slots (λ k. refl) refl, field (λ x. x.chunk) s s.chunks (λ k. refl) a.whole.chunk_each, field (λ x. x.layer) s s.layers (λ k. refl) a.whole.layer_each, field (λ x. x.bytes) s s.bytes (λ k. refl) a.whole.bytes_each);
     }
 
 -- ---- 8 of the reader
@@ -92,4 +92,4 @@ nine_iff h s out z w =
 
 -- The plan of an accepted job with at most 5,599 rows has a file of at most 64,091 bytes.
 pub always_fits : (j : Job) → Accepted j → (plan : Plan) → length plan.marks ≡ chunks j → length plan.rows ≤ 5599 → length (file_of plan) ≤ 64091
-always_fits j a plan e l = omega (arith, length_file plan, a.chunks_in_lem.high)
+always_fits j a plan e l = omega (arith, length_file plan, a.chunks_in.high)

@@ -1,4 +1,6 @@
 // Plan files: the marks of every chunk and the rows of a fetch list, read and written.
+#![tactic(auto)]
+
 ghost use Rattle.std.specs.Prelude.{◌≡◌, ◌&&◌, map, ◌+◌, ◌*◌, ◌≤◌, ◌<◌, length, leb};
 ghost use Rattle.job.specs.Input.{job_input};
 ghost use Rattle.records.specs.File.{file_refusal};
@@ -17,7 +19,7 @@ use job::Programme;
 use records::{FILE_BYTES, Written};
 
 // A record without its mark.
-#[derive(Drop)]
+#[derive(Clone, Copy)]
 pub enum Record {
     Kp {
         chunk: u16,
@@ -33,14 +35,14 @@ pub enum Record {
 }
 
 // A record with the place after it, or its refusal.
-#[derive(Drop)]
+#[derive(Clone, Copy)]
 pub enum Read {
     Got(Record, usize),
     Refused(u8),
 }
 
 // The number of rows read, or the refusal.
-#[derive(Drop)]
+#[derive(Clone, Copy)]
 pub enum PlanRead {
     Rows(usize),
     Refused(u8),

@@ -204,7 +204,7 @@ module _ (h : JobInput) (z : job_refusal h ≡ 0) where
       let a = accepted h z in
       record {
         most = most_pictures k a (plan k) is_plan;
-        equal_bases_lem = λ equal. (elsewhere_iff k (λ w. w.1 equal) (plan k)).0 is_plan;
+        equal_bases = λ equal. (elsewhere_iff k (λ w. w.1 equal) (plan k)).0 is_plan;
         either_way = λ all. plan_moore_hodgson k a all (plan k) is_plan;
       }
 

@@ -83,7 +83,7 @@ pub record Pictures (j : Job) (choice : ℕ → ℕ) : Type 0 where
   pub most : MostPictures j choice
   -- "For equal sizes the marks are those of document 01": every layer is settled in its way, the
   -- base too. `IsPlan` says as much;
-  pub equal_bases_lem : EqualBases j → SettledByTrials j choice
+  pub equal_bases : EqualBases j → SettledByTrials j choice
   -- "and that too is to be shown": where H is at least C the bases are those that request 9 keeps,
   -- for equal sizes too, where it is document 01 that settles them. So the two ways agree there.
   pub either_way : HoldsAll j → BasesMooreHodgson j choice

@@ -1,4 +1,6 @@
 // The planner: marks, rows and counts of a job's plan, as document 01 decides and lists them.
+#![tactic(auto)]
+
 ghost use Rattle.std.specs.Prelude.{◌≡◌, [], ◌∷◌, ◌≤◌, length, cond};
 ghost use Rattle.job.specs.Input.{job_input, job_refusal};
 ghost use Rattle.fetch.specs.Slices.{slices_of};
@@ -8,21 +10,21 @@ use core_output::Output;
 use job::{CHUNKS, Programme, SIZES};
 
 // How many rows the plan has, or the refusal's number.
-#[derive(Drop)]
+#[derive(Clone, Copy)]
 pub enum Answer {
     Rows(usize),
     Refused(u8),
 }
 
 // The answer, and how many chunks carry each layer.
-#[derive(Drop)]
+#[derive(Clone, Copy)]
 pub struct Planned {
     pub answer: Answer,
     pub counts: [u16; 4],
 }
 
 // How counts stand to others at the first layer, from the base up, where they differ.
-#[derive(Drop)]
+#[derive(Clone, Copy)]
 pub enum Order {
     Less,
     Same,

@@ -1,6 +1,8 @@
 // What each program prints for the files that it reads, into a buffer that holds it whatever the
 // files are. A program reads, calls its function here and writes; what is read and written no
 // contract can say.
+#![tactic(auto)]
+
 ghost use Rattle.std.specs.Prelude.{[], ◌∷◌, ◌++◌, ◌≤◌, length};
 ghost use Rattle.theory_basics.specs.Text.{digits};
 ghost use Rattle.programs.specs.Calls.{Prints, PrintConvertedPromise, PrintPlanPromise};

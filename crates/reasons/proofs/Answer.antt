@@ -74,7 +74,7 @@ under_all R P (x ∷ xs) (l ∷ ls) u g = (g x here l u.0, under_all R P xs ls u
 true_line : (j : Job) → Accepted j → (p : ℕ → ℕ) → IsPlan j p → (x : Place) → In x (missing j p) → (l : Line) → Reason j p (against j p) x.chunk x.layer l → TrueLine j p l
 true_line j a p d x at (short i n first last carried needed) r =
     let m = (missing_iff j p x).0 at in
-    let exact : p x.chunk ≡ x.layer = omega (arith, m.not_carried, r.2.lower_carried_lem) in
+    let exact : p x.chunk ≡ x.layer = omega (arith, m.not_carried, r.2.lower_carried) in
     let there_is : TrueReason j (against j p x.chunk x.layer) first last =
     record { short = r.2.stretch.short; never = (line_refused j a p d x.chunk x.layer m.layer exact).1 } in
     subst (λ (k : ℕ). TrueReason j (against j p k n) first last) (sym r.0)

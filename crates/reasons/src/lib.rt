@@ -1,6 +1,8 @@
 // The reason under each missing layer (request 14): the lines of a job's plan as text in a lent
 // buffer. No text is longer than 94,000 bytes, so a buffer of that length takes it at once; for a
 // shorter one it is laid out aside and copied if it fits.
+#![tactic(auto)]
+
 use job::{CHUNKS, Programme, SIZES, SUMS};
 use records::Written;
 

@@ -1,5 +1,7 @@
 // Marks, little-endian fields and bytes at a place of a file, for any kind of record. Each call is
 // total: past the end a byte reads as 0, and what doesn't fit isn't written.
+#![tactic(auto)]
+
 ghost use Rattle.std.specs.Prelude.{◌≡◌, ◌<◌, get_or, drop};
 ghost use Rattle.records.specs.Fields.{h_at, w_at, marked, written};
 
@@ -7,7 +9,7 @@ ghost use Rattle.records.specs.Fields.{h_at, w_at, marked, written};
 pub const FILE_BYTES: usize = 65536;
 
 // What a call that writes into a lent buffer answers: the number of bytes written, or a refusal.
-#[derive(Drop)]
+#[derive(Clone, Copy)]
 pub enum Written {
     Bytes(usize),
     Refused(u8),

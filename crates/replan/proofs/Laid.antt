@@ -41,14 +41,14 @@ module _ {p : Programme} {layers start : ℕ} {part : List ℕ} {left : ℕ → 
       record { low = omega (arith, r.starts); high = omega (arith, r.starts, n, r.accepted.slots_in, r.accepted.last_in); small = small_behind r.earlier part r.accepted.forecast_in_lem }
 
   few_chunks : p.chunks ≤ 500
-  few_chunks = r.accepted.chunks_in_lem.high
+  few_chunks = r.accepted.chunks_in.high
 
   pub decide_from : {ids ready mark : List ℕ} → length ids ≡ 500 → length ready ≡ 500 → length mark ≡ 500 → DecidePre p layers start part left begun whole ids ready mark
   decide_from li lr lm =
       record {
         fine = record { few = few_chunks; late = r.accepted.delay_in.low; ends = r.accepted.last_in };
-        some = omega (arith, r.layers_are, r.accepted.layers_in_lem.low);
-        few_layers = omega (arith, r.layers_are, r.accepted.layers_in_lem.high);
+        some = omega (arith, r.layers_are, r.accepted.layers_in.low);
+        few_layers = omega (arith, r.layers_are, r.accepted.layers_in.high);
         small = o.small;
         part_in = part_in;
         long = (o.long.0, o.long.1, li, lr, lm);

@@ -110,9 +110,9 @@ module _ (h : JobInput) (o : ReplanInput) (z : asked_refusal h o ≡ 0) where
   pub gather_from : {left begun whole : List ℕ} → length left ≡ 2000 → length begun ≡ 500 → length whole ≡ 500 → GatherPre h.programme (length h.sizes) earlier o.slots o.chunks o.layers o.bytes left begun whole
   gather_from el eb ew =
       record {
-        chunks_few = accepted.chunks_in_lem.high;
+        chunks_few = accepted.chunks_in.high;
         slots_few = accepted.last_in;
-        layers_few = accepted.layers_in_lem.high;
+        layers_few = accepted.layers_in.high;
         earlier_few = omega (arith, earlier_long, asked.slot_in.high, accepted.last_in);
         chunk_each = asked.whole.chunk_each;
         layer_each = asked.whole.layer_each;

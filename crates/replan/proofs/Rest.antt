@@ -246,7 +246,7 @@ module _
     where
       eight : (l : List ℕ) → All (λ k. plan k ≤ layers j) l → All (λ k. plan k ≤ 8) l
       eight [] y = tt
-      eight (k ∷ l) y = (omega (arith, y.0, a.layers_in_lem.high), eight l y.1)
+      eight (k ∷ l) y = (omega (arith, y.0, a.layers_in.high), eight l y.1)
 
   queue_fed : (load (queue_left (rest j fetched) plan cs rs) ≤ A 0) × Fed A (queue_left (rest j fetched) plan cs rs)
   queue_fed =
@@ -280,7 +280,7 @@ module _
         within = within;
         room = record { part_in = part_in; low = omega arith; high = omega (arith, la, ok.p_high); count = omega arith; s = omega arith; c = omega arith; l = omega arith; b = omega arith };
         by = subst (All (λ r. r ≤ last_of start part)) (sym x.releases_are) released;
-        chunks_in_lem = in_job 1 (drop first ids) (omega arith) asc;
+        chunks_in = in_job 1 (drop first ids) (omega arith) asc;
         levels = subst (All AnyLevels) (sym x.marks) (all_of_map AnyLevels (λ k. level_mark (plan k)) cs (level_all cs levels));
         fed = subst (Fed (left_at start part)) (sym queued) (subst (λ (B : ℕ → ℕ). Fed B (queue_left (rest j fetched) plan cs rs)) (sym left_is) queue_fed.1);
         fits = subst (λ (q : List QueuedPiece). load q ≤ get_or part 0 0 + left_at start part start) (sym queued) fits_first;
@@ -289,7 +289,7 @@ module _
     where
       in_job : (lo : ℕ) (l : List ℕ) → 1 ≤ lo → Asc lo p.chunks l → All (Within 1 500) l
       in_job lo [] u y = tt
-      in_job lo (k ∷ l) u y = (record { low = omega (arith, y.0); high = omega (arith, y.1, a.chunks_in_lem.high) }, in_job (suc k) l (omega arith) y.2)
+      in_job lo (k ∷ l) u y = (record { low = omega (arith, y.0); high = omega (arith, y.1, a.chunks_in.high) }, in_job (suc k) l (omega arith) y.2)
 
       released : All (λ r. r ≤ last_of start part) (take (500 - first) rs)
       released =
@@ -300,7 +300,7 @@ module _
       level_all : (l : List ℕ) → All (λ k. plan k ≤ layers j) l → All (λ k. AnyLevels (level_mark (plan k))) l
       level_all [] y = tt
       level_all (k ∷ l) y =
-          let four : plan k ≤ 4 = omega (arith, y.0, a.layers_in_lem.high) in
+          let four : plan k ≤ 4 = omega (arith, y.0, a.layers_in.high) in
           let e = level_of_lem (plan k) (omega arith) in
           (record { high = omega (arith, e); closed = ap level_mark (sym e) }, level_all l y.1)
 
@@ -425,7 +425,7 @@ module _
         fills = λ ss cs' ls bs k1 k2 k3 k4. all_from within asc lr lm ss cs' ls bs k1 k2 k3 k4 part_in;
         few_rows = omega (arith, ap length rows_are, own_rest_rows j a start fetched ok plan d);
         within = within;
-        few = a.chunks_in_lem.high;
+        few = a.chunks_in.high;
         ascending = asc;
         long = (li, lm, lw);
         marks_fit = fit;

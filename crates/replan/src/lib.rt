@@ -1,6 +1,8 @@
 // Planning afresh during the act: from the slot of replanning on, over the rows fetched before it
 // and the forecast from it on. Marks, counts and only the rows from that slot on, as document 02
 // settles and document 01 lists them.
+#![tactic(auto)]
+
 ghost use Rattle.std.specs.Prelude.{◌≡◌, ◌≤◌, ltb};
 ghost use Rattle.theory_basics.specs.Refusals.{unless};
 ghost use Rattle.theory_basics.specs.Tests.{all};

@@ -34,10 +34,10 @@ module _ (j : Job) (ok : Accepted j) (rows : List Row) (table : List ℕ) (s : S
   stored = sizes_table j.sizes j.overrides
 
   carried_is : (i n : ℕ) → 1 ≤ i → i ≤ chunks j → n < 4 → carried_by stored table i n ≡ carried j rows i n
-  carried_is i n u v w = ap₂ eqb (s.by_layer i n u (omega (arith, ok.chunks_in_lem.high)) w) (table_says j ok i n)
+  carried_is i n u v w = ap₂ eqb (s.by_layer i n u (omega (arith, ok.chunks_in.high)) w) (table_says j ok i n)
 
   shallow : (n : ℕ) → n < layers j → n < 4
-  shallow n w = omega (arith, ok.layers_in_lem.high)
+  shallow n w = omega (arith, ok.layers_in.high)
 
   layers_is : (i : ℕ) → 1 ≤ i → i ≤ chunks j → layers_by stored table (layers j) i ≡ layers_carried j rows i
   layers_is i u v = sum_cong _ _ (layers j) (λ n w. ap (λ (b : Bool). cond b 1 0) (carried_is i n u v (shallow n w)))
@@ -45,7 +45,7 @@ module _ (j : Job) (ok : Accepted j) (rows : List Row) (table : List ℕ) (s : S
   bytes_is : (i : ℕ) → 1 ≤ i → i ≤ chunks j → bytes_by stored table (layers j) i ≡ bytes_carried j rows i
   bytes_is i u v =
       sum_cong _ _ (layers j)
-      (λ n w. rw (carried_is i n u v (shallow n w), s.by_layer i n u (omega (arith, ok.chunks_in_lem.high)) (shallow n w)))
+      (λ n w. rw (carried_is i n u v (shallow n w), s.by_layer i n u (omega (arith, ok.chunks_in.high)) (shallow n w)))
 
   count_is : (n : ℕ) → n < layers j → count_by stored table (chunks j) n ≡ layer_count j rows n
   count_is n w = pre_cong _ _ (chunks j) (λ i u v. ap (λ (b : Bool). cond b 1 0) (carried_is i n u v (shallow n w)))

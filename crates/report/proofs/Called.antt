@@ -45,7 +45,7 @@ module _ (h : JobInput) where
       let a : Accepted (job_in h) = input_accepted h ok in
       let n = length (plan_rows (job_in h)) in
       let rows = le-leb n (length (zeros 5599)) (omega (arith, plan_rows_few (job_in h) a, length-replicate {A = ℕ} 5599 0)) in
-      rw (ok, le-leb (chunks (job_in h)) (length (zeros 500)) (omega (arith, a.chunks_in_lem.high, length-replicate {A = ℕ} 500 0)), rows)
+      rw (ok, le-leb (chunks (job_in h)) (length (zeros 500)) (omega (arith, a.chunks_in.high, length-replicate {A = ℕ} 500 0)), rows)
 
   answers : answer_of h room ≡ cond (eqb (job_refusal h) 0) (made (length (plan_rows (job_in h)))) (refused (job_refusal h))
   answers =

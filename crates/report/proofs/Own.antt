@@ -43,6 +43,6 @@ module _ {j : Job} (a : Accepted j) where
         bytes_each = length-map l row_slot ∙ sym (length-map l row_bytes);
         few = omega (arith, length-map l row_slot, plan_rows_few j a);
         chunk_low = λ k h. rw (get_or-map row_chunk l k none) (at k h).chunk_low;
-        chunk_high = λ k h. rw (get_or-map row_chunk l k none) (omega (arith, (at k h).chunk_high, a.chunks_in_lem.high));
-        layer_in = λ k h. rw (get_or-map row_layer l k none) (omega (arith, (at k h).layer_in, a.layers_in_lem.high));
+        chunk_high = λ k h. rw (get_or-map row_chunk l k none) (omega (arith, (at k h).chunk_high, a.chunks_in.high));
+        layer_in = λ k h. rw (get_or-map row_layer l k none) (omega (arith, (at k h).layer_in, a.layers_in.high));
       }

@@ -63,9 +63,9 @@ module _ {h : JobInput} {table : List ℕ} {r : Spent} (t : Tabled h table r) wh
           (length h.sizes ≤ 4) × (1 ≤ h.programme.chunks) × (h.programme.chunks ≤ 500) × (1 ≤ h.programme.span)
           × (length (lines_by h.programme stored (length h.sizes) table n left) ≤ 7633) × SizesIn stored
       lines_asked = (
-        accepted.layers_in_lem.high,
-        accepted.chunks_in_lem.low,
-        accepted.chunks_in_lem.high,
+        accepted.layers_in.high,
+        accepted.chunks_in.low,
+        accepted.chunks_in.high,
         accepted.span_in.low,
         rw lines_report (plan_report_fits (job_in h) accepted),
         λ i k. rw (s, table_says (job_in h) accepted i k) (size_most (job_in h) accepted i k),

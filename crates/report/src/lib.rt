@@ -1,6 +1,8 @@
 // The report: document 01's lines for a job and its plan, as text in a lent buffer. One pass over
 // the rows fills a table of the bytes of each layer of each chunk; every number of the lines is
 // read from it or is a sum over rows.
+#![tactic(auto)]
+
 use job::{CHUNKS, Programme, ROWS, SIZES, SizeTable};
 use planner::Answer;
 use records::Written;

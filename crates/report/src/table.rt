@@ -9,21 +9,21 @@ ghost use Rattle.report.specs.lemmas.Tables.{picture_by, change_of, held_of, swi
 use job::{SIZES, SizeTable};
 
 // What a chunk carries: how many layers and how many bytes.
-#[derive(Drop)]
+#[derive(Clone, Copy)]
 pub struct Chunk {
     pub layers: u64,
     pub bytes: u64,
 }
 
 // The bytes in the rows of a plan, or the number of the job's refusal.
-#[derive(Drop)]
+#[derive(Clone, Copy)]
 pub enum Spent {
     Bytes(u64),
     Refused(u8),
 }
 
 // What is on the screen: nothing yet, or a chunk of so many bytes.
-#[derive(Drop)]
+#[derive(Clone, Copy)]
 pub enum Picture {
     Nothing,
     Bytes(u64),

@@ -35,7 +35,7 @@ use Rattle.search.specs.lemmas.Deciding.{DecidesFound, DecidePost, ShortfallPre}
 pub found_fits : (j : Job) → Accepted j → (budget : ℕ) → Fits j (bases_of (found j budget).kept)
 found_fits j ok budget =
     let ks = (found j budget).kept in
-    can_carry_fits j (accepted_sized j ok) (bases_of ks) (bases_choice j ks ok.layers_in_lem.low) (found_carried j ok budget (found j budget) (found_is_found j ok budget)).1
+    can_carry_fits j (accepted_sized j ok) (bases_of ks) (bases_choice j ks ok.layers_in.low) (found_carried j ok budget (found j budget) (found_is_found j ok budget)).1
 
 pub plan_found_fits : (j : Job) → Accepted j → (budget : ℕ) → Fits j (plan_found j budget)
 plan_found_fits j ok budget = planned_fits j (found j budget).kept (found_fits j ok budget)
@@ -99,11 +99,11 @@ module _ (p : Programme) (layers : ℕ) (size : ℕ → ℕ → ℕ) (f ids₀ r
         decides_job ready mark d =
             let ks = (found j budget).kept in
             let sized = accepted_sized j ok in
-            let one = ok.layers_in_lem.low in
+            let one = ok.layers_in.low in
             let over = over_exists j ok ks in
             let set = (found_carried j ok budget (found j budget) (found_is_found j ok budget)).0 in
             d sizes overrides f count says sums (plan_found j budget) (kept_is ∙ sym (over_kept j sized one ks (plan_over j ks) over set))
-            (ap (decided_on j) kept_is ∙ over_decided j sized one ks (plan_over j ks) over set (found_fits j ok budget) (omega (arith, ok.layers_in_lem.high)))
+            (ap (decided_on j) kept_is ∙ over_decided j sized one ks (plan_over j ks) over set (found_fits j ok budget) (omega (arith, ok.layers_in.high)))
 
         found_job : {r : Decision} {ready mark : List ℕ} → r.first ≡ out.first → r.steps ≡ out.steps → r.ended ≡ out.ended → r.shortfall ≡ cond out.ended 0 (length (moore_hodgson_in p size (at left)) - (500 - out.first)) → SettleKeptPost p layers size left out.first ids ready mark → DecidesFound j budget r ids ready mark
         found_job {r} {ready} {mark} e₁ e₂ e₃ e₄ d =

@@ -144,7 +144,7 @@ found_by_walk h budget z =
       only_found = λ other o. found_unique j budget other (found j budget) o is;
       is_over = over;
       only_over = λ other o. over_unique j (found j budget).kept other (plan_found j budget) o over;
-      in_marks = set_in_marks j ok.layers_in_lem.low (found j budget).kept (plan_found j budget) over;
+      in_marks = set_in_marks j ok.layers_in.low (found j budget).kept (plan_found j budget) over;
     }
 
 good_enough_found : (h : JobInput) (budget : ℕ) → GoodEnoughFound h budget

@@ -1,6 +1,8 @@
 // Request 13, "Good enough before the curtain": the best set of bases met within a budget of steps,
 // and the plan over it. The search itself is core_search's; this crate adds the shortfall, the
 // layers above the bases, and the hand-over.
+#![tactic(auto)]
+
 ghost use Rattle.std.specs.Prelude.{◌≡◌, cond, ◌-◌, ◌≤◌, length};
 ghost use Rattle.job.specs.Input.{job_input, job_refusal};
 ghost use Rattle.core_sizes.specs.Table.{table_at};
@@ -17,7 +19,7 @@ use planner::Answer;
 
 // The number of rows or the refusal's number, how many chunks carry each layer, the steps taken,
 // whether the walk ended, and by how many bases at most another list in playing order is better.
-#[derive(Drop)]
+#[derive(Clone, Copy)]
 pub struct Searched {
     pub answer: Answer,
     pub counts: [u16; 4],
@@ -27,7 +29,7 @@ pub struct Searched {
 }
 
 // Where the set found begins in the tables, and what is said of it.
-#[derive(Drop)]
+#[derive(Clone, Copy)]
 struct Decision {
     pub first: usize,
     pub steps: u32,

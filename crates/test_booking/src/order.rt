@@ -5,7 +5,7 @@ use job::Programme;
 
 // How much is handed: chunks, layers and slots of job A, SZs of chunk 1, which it has none of,
 // marks, and of the row its chunk, layer and bytes.
-#[derive(Drop)]
+#[derive(Clone, Copy)]
 struct Lengths {
     chunks: u16,
     layers: usize,

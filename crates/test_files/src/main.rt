@@ -2,6 +2,8 @@
 // (CASES.md says what each is), whose lines tests/reference.py, another reading of document 01,
 // computes; then plan files at the limit of 65,536 bytes, whose lines are written by hand in
 // tests/cases.py.
+#![tactic(auto)]
+
 mod files;
 mod large;
 mod print;

@@ -4,6 +4,8 @@
 // 0 to 3 and the largest. The rows are handed in two orders. tests/lives.py reads the rule anew and
 // prints the same counts and the same checksum over all answers. Then the first 0, 1 and 2 bytes of
 // the asks as rows of slot p: the next slot accepts every such list.
+#![tactic(auto)]
+
 mod asked;
 mod film;
 mod lists;

@@ -9,7 +9,7 @@ use most::MostPlan;
 
 // Films; the bases of their plans, of the sets found, and of the two bounds; how many are exact,
 // and how many lists the checker passes.
-#[derive(Drop)]
+#[derive(Clone, Copy)]
 struct Tally {
     films: u64,
     plan: u64,

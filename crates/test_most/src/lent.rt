@@ -6,7 +6,7 @@ use job::{Programme, ROWS};
 
 // How much is handed over: chunks, layers and slots of the job, SZs of chunk 1, which it has none
 // of, and how long each slice of the caller's is.
-#[derive(Drop)]
+#[derive(Clone, Copy)]
 struct Lengths {
     chunks: u16,
     layers: usize,

@@ -2,6 +2,8 @@
 // they take; the room in the caller's slices and the refusals in their order; then all films of a
 // small family, told by sums. The lines are those of tests/most_cases.py, which tries every set of
 // bases and every list.
+#![tactic(auto)]
+
 mod cases;
 mod family;
 mod lent;

@@ -4,6 +4,8 @@
 // to 3, one to four layers of 1 byte each, or the base or the layer above it of 2, and each
 // forecast of 0, 1 or 2 bytes a slot. Of uneven film all bases of 1 and 2 bytes, and some of two
 // and three layers.
+#![tactic(auto)]
+
 mod bits;
 mod bounds;
 mod film;

@@ -2,6 +2,8 @@
 // case files of data/ (CASES.md says what each is), among them refused ones, one that isn't there
 // and one above 65,536 bytes. tests/program_cases.py computes every line by another reading of
 // document 01.
+#![tactic(auto)]
+
 mod jobs;
 mod verdicts;
 

@@ -7,7 +7,7 @@ use job::Programme;
 use records::Written;
 
 // What is counted of the texts.
-#[derive(Drop)]
+#[derive(Clone, Copy)]
 struct Tally {
     jobs: u64,
     silent: u64,

@@ -2,6 +2,8 @@
 // each is), then the room for job A's lines, then a family of small jobs, whose texts are summed to
 // one number. Every line comes from tests/reasons.py, another reading of request 14, which searches
 // all pairs of slots.
+#![tactic(auto)]
+
 mod cases;
 mod family;
 mod rooms;

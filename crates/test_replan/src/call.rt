@@ -8,7 +8,7 @@ use job::Programme;
 use planner::Planned;
 
 // How much is lent.
-#[derive(Drop)]
+#[derive(Clone, Copy)]
 struct Room {
     marks: usize,
     slots: usize,

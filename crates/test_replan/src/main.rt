@@ -1,5 +1,7 @@
 // Tests of planning afresh and of the second checker call, on the cases that stand on standard
 // input, a line each: tests/replans.py writes them, and what has to come of each.
+#![tactic(auto)]
+
 mod call;
 mod line;
 mod print;

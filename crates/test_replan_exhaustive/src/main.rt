@@ -4,6 +4,8 @@
 // forecast of 0, 1 or 2 bytes a slot from p on. The rows are handed in two orders. tests/replans.py
 // decides each layer by a search over all lists and prints the same counts and the same checksum
 // over all answers. Then standing plans, at every p against the rest of the plan.
+#![tactic(auto)]
+
 mod asked;
 mod film;
 mod link;

@@ -8,7 +8,7 @@ use search::Searched;
 
 // Jobs, searches, those that ended, those cut with no shortfall, steps, bases, shortfalls, and a
 // number that every value handed over changes.
-#[derive(Drop)]
+#[derive(Clone, Copy)]
 struct Tally {
     jobs: u64,
     searches: u64,
@@ -106,7 +106,7 @@ fn noted_found(t: Tally, found: Searched, check: u64) -> Tally {
     )
 }
 
-#[derive(Drop)]
+#[derive(Clone, Copy)]
 struct Tried {
     pub tally: Tally,
     pub steps: u32,

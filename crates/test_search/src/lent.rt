@@ -4,7 +4,7 @@ use job::Programme;
 
 // How much is handed: chunks, layers and slots of job A, SZs of chunk 1, which it has none of, and
 // how much of each slice is lent.
-#[derive(Drop)]
+#[derive(Clone, Copy)]
 struct Lengths {
     chunks: u16,
     layers: usize,

@@ -2,6 +2,8 @@
 // length and one more, the room lent and the refusals in their order, then all jobs of a small
 // family, every budget, told by sums and a check number. The lines are those of tests/searches.py,
 // which reads request 13 anew.
+#![tactic(auto)]
+
 mod cases;
 mod family;
 mod lent;

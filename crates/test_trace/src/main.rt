@@ -2,6 +2,8 @@
 // read for three slots and written again, whose lines tests/reference.py computes; then slot
 // counts, rooms and refusals that compete, whose lines are written by hand in
 // tests/by_hand/test_trace.txt.
+#![tactic(auto)]
+
 mod print;
 mod reading;
 mod writing;

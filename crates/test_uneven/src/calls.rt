@@ -17,7 +17,7 @@ pub(crate) fn job_of(chunks: u16) -> Programme {
 }
 
 // The layers and slots handed of job A, which has two and six.
-#[derive(Drop)]
+#[derive(Clone, Copy)]
 struct Lengths {
     chunks: u16,
     layers: usize,

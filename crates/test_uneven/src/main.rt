@@ -1,6 +1,8 @@
 // Tests of uneven film in direct calls: refusal 18 of each call that takes a job, in each of its
 // ways, and its order against the others; a job with SZs in every call; the room lent for SZs. The
 // lines are written by hand in tests/by_hand/test_uneven.txt.
+#![tactic(auto)]
+
 mod calls;
 mod print;
 mod rooms;

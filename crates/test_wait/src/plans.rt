@@ -2,7 +2,7 @@
 use job::Programme;
 
 // A film by value, without its forecast: one layer or two.
-#[derive(Drop)]
+#[derive(Clone, Copy)]
 pub struct Film {
     pub chunks: u16,
     pub span: u16,
@@ -11,7 +11,7 @@ pub struct Film {
 
 // What trying every s says: the first that works or 0, how many were tried, and whether one after
 // the first doesn't work.
-#[derive(Drop)]
+#[derive(Clone, Copy)]
 pub struct Found {
     pub first: u16,
     pub tried: u16,

@@ -220,10 +220,10 @@ as_many_as_allowed j p rows r ok =
 
 pub few_pieces : (j : Job) → Accepted j → (p : ℕ) (rows : List Row) (r : ℕ) → length (asks j p rows r) ≤ 4 * chunks j
 few_pieces j ok p rows r =
-    omega (arith, below_length j rows (asked j p rows r) (layers j), mul-le-mul_right (chunks j) ok.layers_in_lem.high)
+    omega (arith, below_length j rows (asked j p rows r) (layers j), mul-le-mul_right (chunks j) ok.layers_in.high)
 
 pub at_most_2000 : (j : Job) → Accepted j → (p : ℕ) (rows : List Row) (r : ℕ) → length (asks j p rows r) ≤ 2000
-at_most_2000 j ok p rows r = omega (arith, few_pieces j ok p rows r, ok.chunks_in_lem.high)
+at_most_2000 j ok p rows r = omega (arith, few_pieces j ok p rows r, ok.chunks_in.high)
 
 -- ---- (d) the act from slot 1 on
 

@@ -32,7 +32,7 @@ no_second_drop j i = rw (le-leb (kept_bytes (base_size j) (kept_after (base_size
 
 -- No passing list, in any order, carries more bases than it keeps, whatever the limit is.
 pub none_carries_more : (j : Job) → Accepted j → (list : List Row) → Passes j list → layer_count j list 0 ≤ length (moore_hodgson j)
-none_carries_more j ok list o = omega (arith, list_bases j ok.layers_in_lem.low list o, kept_count_lem j)
+none_carries_more j ok list o = omega (arith, list_bases j ok.layers_in.low list o, kept_count_lem j)
 
 -- ---- the plan, where H is at least C
 
@@ -40,7 +40,7 @@ module _ (j : Job) (ok : Accepted j) (wide : HoldsAll j) where
   -- "For equal sizes the marks are those of document 01": its way carries exactly the bases that
   -- Moore-Hodgson keeps,
   pub equal_moore_hodgson : EqualBases j → (p : ℕ → ℕ) → SettledByTrials j p → BasesMooreHodgson j p
-  equal_moore_hodgson equal p d = trials_moore_hodgson j (accepted_sized j ok) ok.layers_in_lem.low wide equal p d
+  equal_moore_hodgson equal p d = trials_moore_hodgson j (accepted_sized j ok) ok.layers_in.low wide equal p d
 
   -- so settling the bases by it makes no difference to the marks.
   pub equal_marks :
@@ -59,7 +59,7 @@ pub most_pictures : (j : Job) → Accepted j → (p : ℕ → ℕ) → IsPlan j 
 most_pictures j ok p d wide list o =
     omega (
       arith,
-      list_bases j ok.layers_in_lem.low list o,
+      list_bases j ok.layers_in.low list o,
       count_cong (λ i. ltb 0 (p i)) (is_kept j) (chunks j) (λ i u v.
           let k = plan_moore_hodgson j ok wide p d i u v in
           same_test (ltb 0 (p i)) (is_kept j i) (λ t. k.0 (ltb→lt 0 (p i) t)) (λ t. lt→ltb 0 (p i) (k.1 t))),
@@ -70,6 +70,6 @@ most_pictures j ok p d wide list o =
 -- A plan skips no base exactly if document 01's way by itself skips none.
 pub no_skip_either_way : (j : Job) → Accepted j → (p q : ℕ → ℕ) → IsPlan j p → SettledByTrials j q → NoSkip j p ↔ NoSkip j q
 no_skip_either_way j ok p q dp dq =
-    let a = no_skip_iff j ok.layers_in_lem.low (accepted_sized j ok) p dp in
-    let b = trials_no_skip_iff j ok.layers_in_lem.low (accepted_sized j ok) q dq in
+    let a = no_skip_iff j ok.layers_in.low (accepted_sized j ok) p dp in
+    let b = trials_no_skip_iff j ok.layers_in.low (accepted_sized j ok) q dq in
     (λ n. b.1 (a.0 n), λ n. a.1 (b.0 n))

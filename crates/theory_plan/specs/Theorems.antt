@@ -64,7 +64,7 @@ own_carries j sized lv c s =
 -- some fetch list in playing order still keeps them all"; of bases, where request 9 does not settle
 -- them. The computed plan is such a plan.
 pub plan_exists : (j : Job) → Accepted j → IsPlan j (plan j)
-plan_exists j a = plan_is_plan j (accepted_sized j a) a.layers_in_lem.low
+plan_exists j a = plan_is_plan j (accepted_sized j a) a.layers_in.low
 
 -- Any two plans carry the same layers of every chunk of the job,
 pub plan_unique : (j : Job) (p q : ℕ → ℕ) → IsPlan j p → IsPlan j q → Same j p q
@@ -152,14 +152,14 @@ pub best : (j : Job) → Accepted j → EqualChunks j → (p : ℕ → ℕ) → 
 best j a equal p is =
     let sized = accepted_sized j a in
     let own = plan_carried j sized p is in
-    let dec = (equal_plan_iff j (equal_chunks_bases j a.layers_in_lem.low equal) p).0 is in
+    let dec = (equal_plan_iff j (equal_chunks_bases j a.layers_in.low equal) p).0 is in
     let z : ℕ → ℕ = size j 1 in
-    let one : (i n : ℕ) → Layer j i n → size j i n ≡ z n = λ i n r. equal i 1 n r (layer_of j 1 n (omega arith) a.chunks_in_lem.low r.layer_in) in
+    let one : (i n : ℕ) → Layer j i n → size j i n ≡ z n = λ i n r. equal i 1 n r (layer_of j 1 n (omega arith) a.chunks_in.low r.layer_in) in
     record {
       passes = own.0;
       in_order = own.1;
       counted = count_carried j (own_list j p) p own.2;
-      most_bases = most_bases_lem j sized p dec z one a.layers_in_lem.low;
+      most_bases = most_bases_lem j sized p dec z one a.layers_in.low;
       most_of_layer = λ n h other ok o. most_of_layer_lem j sized p dec z one other ok o n h;
       first_difference = λ w other ok n h same differ.
           let l = first_difference_lem j sized p dec z one w other ok n h same in

@@ -83,7 +83,7 @@ pub record LowerMissing (plan : ℕ → ℕ) (i n below : ℕ) : Type 0 where
 -- The first is for the others: the layers below n are carried. Against a choice it names the
 -- stretch, its carry and its need.
 pub record TooLittle (j : Job) (plan choice : ℕ → ℕ) (i n first last carried needed : ℕ) : Type 0 where
-  pub lower_carried_lem : n ≤ plan i
+  pub lower_carried : n ≤ plan i
   pub stretch : Named j choice first last
   pub carry_is : carried ≡ carry j first last
   pub need_is : needed ≡ need j choice first last

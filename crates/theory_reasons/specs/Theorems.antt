@@ -157,7 +157,7 @@ module _ (j : Job) (a : Accepted j) (wide : HoldsAll j) (equal : EqualBases j) (
   skipped_before : (i : ℕ) → i ≤ chunks j → p i ≡ 0 → (k : ℕ) → 1 ≤ k → k ≤ i → p k ≡ 0
   skipped_before i h e k u v =
       ⊎_elim
-      (λ t. absurd (omega (arith, ltb→lt 0 (p i) (trials_last j (accepted_sized j a) a.layers_in_lem.low wide equal p d k i u v h t))))
+      (λ t. absurd (omega (arith, ltb→lt 0 (p i) (trials_last j (accepted_sized j a) a.layers_in.low wide equal p d k i u v h t))))
       (λ t. omega (arith, nltb→le 0 (p k) t))
       (test (ltb 0 (p k)))
 

@@ -125,12 +125,12 @@ pub joined_in :
     Accepted (joined j p onward)
 joined_in j a p low high onward small many =
     record {
-      chunks_in_lem = a.chunks_in_lem;
+      chunks_in = a.chunks_in;
       span_in = a.span_in;
       delay_in = a.delay_in;
       limit_in = a.limit_in;
       last_in = a.last_in;
-      layers_in_lem = a.layers_in_lem;
+      layers_in = a.layers_in;
       sizes_in_lem = a.sizes_in_lem;
       overrides_named = a.overrides_named;
       overrides_rise = a.overrides_rise;

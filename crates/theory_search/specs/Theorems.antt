@@ -98,7 +98,7 @@ module _ (j : Job) (ok : Accepted j) (budget : ℕ) (f : Found) (is : IsFound j 
       let p = rw c at (onto_picked q (chunks j) 0) in
       let r = walk_reaches j is.allowed good q (chunks j) [] [] (omega arith) tt (omega arith) (subst (Good j) (sym p) (list_bases_good j (accepted_sized j ok) rows passes o)) in
       let k : f.kept ≡ best_in [] w = kept_is ∙ ap (best_in []) (take_all budget w (is.ends.0 e)) in
-      omega (arith, r, ap length k, ap length p, list_bases_counted j rows passes ok.layers_in_lem.low)
+      omega (arith, r, ap length k, ap length p, list_bases_counted j rows passes ok.layers_in.low)
 
   -- "the steps of that fixed walk actually taken": all of them, or as many as the budget.
   pub steps_are : f.steps ≡ min budget (length (whole_walk j is.allowed))
@@ -110,7 +110,7 @@ module _ (j : Job) (ok : Accepted j) (budget : ℕ) (f : Found) (is : IsFound j 
   -- A list that carries the set carries as many bases as it has chunks.
   kept_count_lem : (rows : List Row) → CarriesExactly j rows (bases_of f.kept) → layer_count j rows 0 ≡ length f.kept
   kept_count_lem rows c =
-      count_carried j rows (bases_of f.kept) c 0 ok.layers_in_lem.low ∙ count_kept j (bases_of f.kept) ∙ ap length (kept_bases_lem j f.kept found_carried.0)
+      count_carried j rows (bases_of f.kept) c 0 ok.layers_in.low ∙ count_kept j (bases_of f.kept) ∙ ap length (kept_bases_lem j f.kept found_carried.0)
 
   -- The set found has no more chunks than request 9 keeps without the limit.
   pub kept_under : length f.kept ≤ most_without_limit j
@@ -140,7 +140,7 @@ module _ (j : Job) (ok : Accepted j) (budget : ℕ) (f : Found) (is : IsFound j 
         arith,
         ap length kept_is,
         greedy_reached is.allowed (chunks j) [] [] budget h (omega arith),
-        ap length (greedy_kept j (accepted_sized j ok) ok.layers_in_lem.low p dec is.allowed good),
+        ap length (greedy_kept j (accepted_sized j ok) ok.layers_in.low p dec is.allowed good),
         count_kept j p,
       )
 
@@ -148,9 +148,9 @@ module _ (j : Job) (ok : Accepted j) (budget : ℕ) (f : Found) (is : IsFound j 
   pub equal_document_01 : EqualChunks j → (p : ℕ → ℕ) → SettledByTrials j p → 2 * chunks j ≤ budget → f.kept ≡ kept j p
   equal_document_01 equal p dec h =
       let g = greedy_first is.allowed (chunks j) [] budget h in
-      let e : f.kept ≡ best_of (kept j p) g.0 = kept_is ∙ g.1 ∙ ap (λ (b : List ℕ). best_of b g.0) (greedy_kept j (accepted_sized j ok) ok.layers_in_lem.low p dec is.allowed good) in
+      let e : f.kept ≡ best_of (kept j p) g.0 = kept_is ∙ g.1 ∙ ap (λ (b : List ℕ). best_of b g.0) (greedy_kept j (accepted_sized j ok) ok.layers_in.low p dec is.allowed good) in
       let c = found_carried.1 in
-      let plan = (equal_plan_iff j (equal_chunks_bases j ok.layers_in_lem.low equal) p).1 dec in
+      let plan = (equal_plan_iff j (equal_chunks_bases j ok.layers_in.low equal) p).1 dec in
       e ∙ best_stays (kept j p) g.0
       (omega (
         arith,
@@ -174,7 +174,7 @@ larger_budget j m n f g x y h =
 
 -- There is one over any set,
 pub over_exists : (j : Job) → Accepted j → (ks : List ℕ) → IsPlanOver j ks (plan_over j ks)
-over_exists j ok = over_is j (accepted_sized j ok) ok.layers_in_lem.low
+over_exists j ok = over_is j (accepted_sized j ok) ok.layers_in.low
 
 -- and only one: the layers of every chunk, and so marks, counts and own list.
 pub over_unique : (j : Job) (ks : List ℕ) (p q : ℕ → ℕ) → IsPlanOver j ks p → IsPlanOver j ks q → Same j p q
@@ -194,7 +194,7 @@ pub over_carried :
     (j : Job) → Accepted j → (ks : List ℕ) → CanCarry j (bases_of ks) → (p : ℕ → ℕ) → IsPlanOver j ks p → CarriesWith j p (own_list j p)
 over_carried j ok ks c p dp =
     let sized = accepted_sized j ok in
-    let one = ok.layers_in_lem.low in
+    let one = ok.layers_in.low in
     let f = (can_carry_iff_fits j sized (bases_of ks) (bases_choice j ks one)).0 c in
     own_carries j sized p dp.choice (fits_can_carry j sized p dp.choice (over_fits j sized one ks p dp f))
 
@@ -209,7 +209,7 @@ good_enough j ok budget f is p dp =
       passes = own.0;
       in_order = own.1;
       counted = count_carried j (own_list j p) p own.2;
-      bases = count_kept j p ∙ ap length (over_kept j (accepted_sized j ok) ok.layers_in_lem.low f.kept p dp set.0);
+      bases = count_kept j p ∙ ap length (over_kept j (accepted_sized j ok) ok.layers_in.low f.kept p dp set.0);
       within = steps_within j ok budget f is;
       short = better_by_at_most j ok budget f is;
       ended_most = ended_most j ok budget f is;

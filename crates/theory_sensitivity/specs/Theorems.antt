@@ -26,10 +26,10 @@ module _ (j : Job) (a : Accepted j) (equal : EqualChunks j) (f : List ℕ) (t b 
   k = with_forecast j f
 
   some : 0 < layers j
-  some = a.layers_in_lem.low
+  some = a.layers_in.low
 
   base_is : (i : ℕ) → 1 ≤ i → i ≤ chunks j → size j i 0 ≡ equal_base_size j
-  base_is i u v = equal i 1 0 (layer_of j i 0 u v some) (layer_of j 1 0 (omega arith) a.chunks_in_lem.low some)
+  base_is i u v = equal i 1 0 (layer_of j i 0 u v some) (layer_of j 1 0 (omega arith) a.chunks_in.low some)
 
   -- What passes for j passes for k, and for what passes for k some list passes for j with at most
   -- so many bases fewer.

@@ -1,6 +1,8 @@
 // Link traces from the test van, read and written: document 02, request 4. The reader goes once
 // over the trace, with a local table of counts that stop at 11,185, one above what a slot may have;
 // nothing is written before the last refusal.
+#![tactic(auto)]
+
 use job::{MOST_BYTES, SLOTS};
 use records::Written;
 
@@ -18,14 +20,14 @@ ghost use Rattle.trace.specs.lemmas.Passes.{Counted, DigitsRead, few_lines, line
 ghost use Rattle.trace.specs.lemmas.Tally.{bump, width_from};
 
 // What reading a trace gives: the number of slots in the lent forecast, or a refusal.
-#[derive(Drop)]
+#[derive(Clone, Copy)]
 pub enum TraceRead {
     Slots(usize),
     Refused(u8),
 }
 
 // The number that digits say, and the place after them.
-#[derive(Drop)]
+#[derive(Clone, Copy)]
 struct Digits {
     pub value: u32,
     pub next: usize,

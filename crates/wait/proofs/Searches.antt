@@ -109,7 +109,7 @@ module _ (chunks span limit : ℕ) (sizes : List ℕ) (os : List Override) (f : 
       let d = plan_exists j ok in
       let a = skips_none_iff film s r t in
       let b = works_iff_plan film s r t (plan j) d in
-      let c = no_skip_iff j r.layers_in_lem.low (accepted_sized j ok) (plan j) d in
+      let c = no_skip_iff j r.layers_in.low (accepted_sized j ok) (plan j) d in
       let k = kept_with_iff film s in
       same_test (skips_none j) (kept_with film s) (λ x. k.1 (c.0 (b.0 (a.0 x)))) (λ x. a.1 (b.1 (c.1 (k.0 x))))
 
@@ -121,8 +121,8 @@ module _ (chunks span limit : ℕ) (sizes : List ℕ) (os : List Override) (f : 
               let last : ℕ = (chunks - 1) * span + s in
               let in_f : last ≤ length f = omega arith in
               record {
-                some = r.chunks_in_lem.low;
-                few = r.chunks_in_lem.high;
+                some = r.chunks_in.low;
+                few = r.chunks_in.high;
                 wait = l;
                 reach = omega (arith, r.slots_in.high);
                 held_in = in_held;
@@ -150,7 +150,7 @@ module _ (chunks span limit : ℕ) (sizes : List ℕ) (os : List Override) (f : 
           (λ k u v. same ((k - 1) * span + s) (due_in chunks span s v))
           (λ k u v. same ((k - 1) * span + s - 1) (omega (arith, due_in chunks span s v)))
           (same 0 (omega arith))
-          (limit / span) r.chunks_in_lem.high 0 chunks (omega arith)
+          (limit / span) r.chunks_in.high 0 chunks (omega arith)
 
       pub shortest_is :
           (n : ℕ) → n ≡ first_from (kept_by chunks span (min (limit / span) 500) bases sums) 1 (tries film) →

@@ -34,12 +34,12 @@ use Rattle.theory_plan.specs.lemmas.AllBases.{bases_alone}
 pub job_accepted : (w : Film) (s : ℕ) → FilmInRange w → Tried w s → Accepted (job_at w s)
 job_accepted w s r t =
     record {
-      chunks_in_lem = r.chunks_in_lem;
+      chunks_in = r.chunks_in;
       span_in = r.span_in;
       delay_in = record { low = t.low; high = omega (arith, t.reaches, r.slots_in.high) };
       limit_in = r.limit_in;
       last_in = omega (arith, t.reaches, r.slots_in.high);
-      layers_in_lem = r.layers_in_lem;
+      layers_in = r.layers_in;
       sizes_in_lem = r.sizes_in_lem;
       overrides_named =
           all_map (Named (programme_at w 1) w.sizes) (Named (programme_at w s) w.sizes) w.overrides
@@ -70,10 +70,10 @@ input_iff h =
           let u = r.0 e in (
             u.1.1.0.0,
             record {
-              chunks_in_lem = u.0.0;
+              chunks_in = u.0.0;
               span_in = u.0.1.0;
               limit_in = u.0.1.1;
-              layers_in_lem = u.1.0.0;
+              layers_in = u.1.0.0;
               sizes_in_lem = u.1.0.1;
               overrides_named = u.1.1.0.1.0;
               overrides_rise = u.1.1.0.1.1.0;
@@ -85,7 +85,7 @@ input_iff h =
       λ x.
           let i = x.1 in
           r.1
-          ((i.chunks_in_lem, (i.span_in, i.limit_in)), ((i.layers_in_lem, i.sizes_in_lem), ((x.0, (i.overrides_named, (i.overrides_rise, i.overrides_in_lem))), (i.slots_in, i.forecast_in_lem)))),
+          ((i.chunks_in, (i.span_in, i.limit_in)), ((i.layers_in, i.sizes_in_lem), ((x.0, (i.overrides_named, (i.overrides_rise, i.overrides_in_lem))), (i.slots_in, i.forecast_in_lem)))),
     )
 
 -- ---- one s
@@ -108,21 +108,21 @@ module _ (w : Film) (s : ℕ) (r : FilmInRange w) (t : Tried w s) where
   pub works_iff_can_carry : Works w s ↔ CanCarry (job_at w s) bases_alone
   works_iff_can_carry =
       let a = works_iff_plan (plan (job_at w s)) the_plan in
-      let b = no_skip_can_carry (job_at w s) r.layers_in_lem.low (accepted_sized (job_at w s) accepted) (plan (job_at w s)) the_plan in
+      let b = no_skip_can_carry (job_at w s) r.layers_in.low (accepted_sized (job_at w s) accepted) (plan (job_at w s)) the_plan in
       (λ k. b.0 (a.0 k), λ c. a.1 (b.1 c))
 
   -- if some passing list in playing order carries every base,
   pub works_iff_ordered : Works w s ↔ SomeOrdered (job_at w s)
   works_iff_ordered =
       let a = works_iff_plan (plan (job_at w s)) the_plan in
-      let b = no_skip_ordered (job_at w s) r.layers_in_lem.low (accepted_sized (job_at w s) accepted) (plan (job_at w s)) the_plan in
+      let b = no_skip_ordered (job_at w s) r.layers_in.low (accepted_sized (job_at w s) accepted) (plan (job_at w s)) the_plan in
       (λ k. b.0 (a.0 k), λ c. a.1 (b.1 c))
 
   -- and for equal chunks if some passing list in any order does.
   pub works_iff_any : EqualChunks (job_at w s) → Works w s ↔ SomeList (job_at w s)
   works_iff_any equal =
       let a = works_iff_plan (plan (job_at w s)) the_plan in
-      let b = no_skip_any (job_at w s) r.layers_in_lem.low (accepted_sized (job_at w s) accepted) (plan (job_at w s)) the_plan equal in
+      let b = no_skip_any (job_at w s) r.layers_in.low (accepted_sized (job_at w s) accepted) (plan (job_at w s)) the_plan equal in
       (λ k. b.0 (a.0 k), λ c. a.1 (b.1 c))
 
   -- The test that the answer's definition makes of the computed plan says it.

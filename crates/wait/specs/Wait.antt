@@ -60,10 +60,10 @@ NoneWorks w = (s : ℕ) → Works w s → ⊥
 -- C, L and the limit as of a job, s and d(C) left out; layers, sizes and SZs as of a job, whatever
 -- s is; 1 to 3,600 slots, each of 0 to 16,777,216 bytes.
 pub record FilmInRange (w : Film) : Type 0 where
-  pub chunks_in_lem : Within 1 500 w.chunks
+  pub chunks_in : Within 1 500 w.chunks
   pub span_in : Within 1 60 w.span
   pub limit_in : Within 0 65535 w.limit
-  pub layers_in_lem : Within 1 4 (length w.sizes)
+  pub layers_in : Within 1 4 (length w.sizes)
   pub sizes_in_lem : All (Within 1 16777216) w.sizes
   pub overrides_named : All (Named (programme_at w 1) w.sizes) w.overrides
   pub overrides_rise : Rising w.overrides

@@ -1,6 +1,8 @@
 // How long must the film wait: document 02, request 5. The smallest s whose bases are all kept, by
 // one table of forecast sums and a pass over the chunks for each s; no plan is laid out. Nothing is
 // monotone in s, so each is tried.
+#![tactic(auto)]
+
 ghost use Rattle.std.specs.Prelude.{◌≡◌, ◌*◌, ◌-◌, ◌/◌, ◌≤◌, min, length};
 ghost use Rattle.theory_plan.specs.lemmas.Parts.{Small};
 ghost use Rattle.job.specs.Input.{overrides_of};
@@ -13,7 +15,7 @@ ghost use Rattle.wait.specs.lemmas.Table.{BaseTable, KeepsAllPost, KeepsAllPre, 
 use job::{CHUNKS, Programme, SIZES, SLOTS, SUMS, SizeTable, SlotSums};
 
 // The start delay, or the refusal's number.
-#[derive(Drop)]
+#[derive(Clone, Copy)]
 pub enum Answer {
     Delay(u16),
     Refused(u8),

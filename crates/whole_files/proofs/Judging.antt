@@ -73,7 +73,7 @@ module _ (h : JobInput) (file : List ℕ) where
       let never : a ≡ 0 → (f or_else u) ≡ f =
       λ z. never_second f u (λ e.
       let few : n ≤ 5957 = omega (arith, rows_inside count file e) in
-      let small : count ≤ 500 = ((input_iff h).0 z).1.chunks_in_lem.high in
+      let small : count ≤ 500 = ((input_iff h).0 z).1.chunks_in.high in
       let long = filled 5957 0 in
       holds_any empty count n (omega (arith, filled 500 0)) (omega arith) (omega arith) (omega arith) (omega arith)) in
       ⊎_elim

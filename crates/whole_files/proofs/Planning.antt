@@ -44,7 +44,7 @@ holds_any : (j : Job) → Accepted j → (l : ListSlices) → 500 ≤ length l.m
 holds_any j a l m s c n b =
     let few = plan_rows_few j a in
     rw (
-      le-leb (chunks j) (length l.marks) (omega (arith, a.chunks_in_lem.high)),
+      le-leb (chunks j) (length l.marks) (omega (arith, a.chunks_in.high)),
       le-leb (length (plan_rows j)) (length l.slots) (omega arith),
       le-leb (length (plan_rows j)) (length l.chunks) (omega arith),
       le-leb (length (plan_rows j)) (length l.layers) (omega arith),

@@ -122,7 +122,7 @@ holds_any : (j : Job) → Accepted j → (lent : Buffers) → 4 ≤ length lent.
 holds_any j a lent z c l b f =
     let few = overrides_few j a in
     rw (
-      le-leb (layers j) (length lent.sizes) (omega (arith, a.layers_in_lem.high)),
+      le-leb (layers j) (length lent.sizes) (omega (arith, a.layers_in.high)),
       le-leb (length j.overrides) (length lent.size_chunks) (omega arith),
       le-leb (length j.overrides) (length lent.size_layers) (omega arith),
       le-leb (length j.overrides) (length lent.size_bytes) (omega arith),
@@ -143,7 +143,7 @@ empty_mixed = buffers (replicate 4 0) [] [] [] (replicate 3600 0)
 holds_mixed : (j : Job) → Accepted j → j.overrides ≡ [] → (zs fs : List ℕ) → 4 ≤ length zs → 3600 ≤ length fs → room_refusal j (buffers zs [] [] [] fs) ≡ 0
 holds_mixed j a none zs fs z f =
     rw (
-      le-leb (layers j) (length zs) (omega (arith, a.layers_in_lem.high)),
+      le-leb (layers j) (length zs) (omega (arith, a.layers_in.high)),
       none,
       le-leb (length j.forecast) (length fs) (omega (arith, a.slots_in, a.last_in)),
     )

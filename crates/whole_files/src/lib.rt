@@ -1,6 +1,8 @@
 // The programs' work for callers who have files: whole files in, the plan file, the verdict, the
 // report, the reasons or the job file in one sequence out. A refusal comes from the files, then 11
 // by the lent buffer, which it leaves as it is.
+#![tactic(auto)]
+
 ghost use Rattle.std.specs.Prelude.{◌≡◌};
 ghost use Rattle.job.specs.Input.{job_input};
 ghost use Rattle.whole_files.specs.Calls.{ConvertFilePromise, PlanFilePromise, ReasonsFilePromise};

@@ -41,7 +41,7 @@ verdict-of-requires c κs =
     let a = c.before.before.before.before.before.before.before.before.before.before.before.before.before.before.before.before.before.before.before.before.args in
     let h = job_input a.p a.sizes.now a.size_chunks.now a.size_layers.now a.size_bytes.now a.forecast.now in
     let ok = input_accepted h (sym c.before.before.before.before.before.before.before.before.before.refusal.ensures ∙ c.before.before.before.before.before.before.before.before.if1.false) in (
-      ok.chunks_in_lem.high,
+      ok.chunks_in.high,
       ok.last_in,
       ok.layers-in.high,
       omega (arith, ok.slots_in, ok.last_in),

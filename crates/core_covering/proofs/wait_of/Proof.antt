@@ -28,14 +28,14 @@ mul-result c =
     let o = c.before.before.before.before.requires in
     let s = o.set_in in
     let k = chunk_before _ _ _ _ s c.before.before.before.before.args.q o.inside c.before.before.if1.false in
-    omega (arith, k.1, c.place.ensures, s.accepted.chunks_in_lem.high)
+    omega (arith, k.1, c.place.ensures, s.accepted.chunks_in.high)
 
 element-copy-out-result : tie.Need-element-copy-out-result
 element-copy-out-result c =
     let o = c.before.before.before.before.requires in
     let s = o.set_in in
     let k = chunk_before _ _ _ _ s c.before.before.before.before.args.q o.inside c.before.before.if1.false in
-    omega (arith, k.1, c.place.ensures, s.accepted.chunks_in_lem.high)
+    omega (arith, k.1, c.place.ensures, s.accepted.chunks_in.high)
 
 returns-2 : tie.Need-returns-2
 returns-2 c =

@@ -31,13 +31,13 @@ module _ (j : Job) (ok : Accepted j) where
       {base : ℕ} → base ≡ with_layer 0 0 → DecidePre j.programme (layers j) own 1 j.forecast ids ready (replicate 500 base)
   decide_from own says ids ready a b e =
       record {
-        few = ok.chunks_in_lem.high;
+        few = ok.chunks_in.high;
         late = ok.delay_in.low;
         ends = ok.last_in;
-        some = ok.layers_in_lem.low;
-        few_layers = ok.layers_in_lem.high;
+        some = ok.layers_in.low;
+        few_layers = ok.layers_in.high;
         small = λ i n. subst (λ (z : ℕ → ℕ → ℕ). z i n ≤ 16777216) (sym says) (size_most j ok i n);
-        least = λ i u v. subst (λ (z : ℕ → ℕ → ℕ). 1 ≤ z i 0) (sym says) (size_least j ok i 0 ok.layers_in_lem.low);
+        least = λ i u v. subst (λ (z : ℕ → ℕ → ℕ). 1 ≤ z i 0) (sym says) (size_least j ok i 0 ok.layers_in.low);
         part_in = part_in;
         slots = omega (arith, ok.slots_in);
         long = (a, b);

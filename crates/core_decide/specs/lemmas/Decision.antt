@@ -66,7 +66,7 @@ Slot t = Within 1 3600 t
 pub record TryLayerPre (size : ℕ → ℕ → ℕ) (n : ℕ) (after ids dues room : List ℕ) (first : ℕ) (bytes mark : List ℕ) : Type 0 where
   pub low : 1 ≤ n
   pub high : n ≤ 3
-  pub chunks_in_lem : All (Within 1 500) (drop first ids)
+  pub chunks_in : All (Within 1 500) (drop first ids)
   pub small : (i n : ℕ) → size i n ≤ 16777216
   pub sums : Sums after
   pub slots : All Slot (drop first dues)
@@ -86,7 +86,7 @@ pub record TryLayerPost (size : ℕ → ℕ → ℕ) (n : ℕ) (after ids dues r
 pub record SettleLayersPre (layers : ℕ) (size : ℕ → ℕ → ℕ) (after ids dues ready : List ℕ) (first : ℕ) (bytes room mark : List ℕ) : Type 0 where
   pub some : 1 ≤ layers
   pub few : layers ≤ 4
-  pub chunks_in_lem : All (Within 1 500) (drop first ids)
+  pub chunks_in : All (Within 1 500) (drop first ids)
   pub small : (i n : ℕ) → size i n ≤ 16777216
   pub sums : Sums after
   pub due_slots : All Slot (drop first dues)

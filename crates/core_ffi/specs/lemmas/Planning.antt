@@ -126,7 +126,7 @@ no_marks h o s c l b =
     (λ t.
     let none = eqb→eq asked 0 t in
     let fine = (input_iff h).0 ((or_else_iff (job_refusal h) (list_refusal 0 [] o.slots o.chunks o.layers o.bytes or_else replan_refusal (job_in h) o.from (fetched o) o.onward)).0 none).0 in
-    let some : 0 < chunks (job_in h) = omega (arith, fine.1.chunks_in_lem.low) in
+    let some : 0 < chunks (job_in h) = omega (arith, fine.1.chunks_in.low) in
     or_else_none asked room none
     ∙ eleven_first (leb (chunks (job_in h)) 0) (leb n (length s) && (leb n (length c) && (leb n (length l) && leb n (length b)))) (lt-leb (chunks (job_in h)) 0 some)
     ∙ sym (or_else_none asked 11 none))

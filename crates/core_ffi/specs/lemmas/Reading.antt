@@ -83,7 +83,7 @@ module _ (sequenced : Bool) (file : List ℕ) where
       ⊎_elim
       (λ t.
       let none = eqb→eq refused 0 t in
-      let some : 0 < layers j = omega (arith, (file_accepted sequenced file none).layers_in_lem.low) in
+      let some : 0 < layers j = omega (arith, (file_accepted sequenced file none).layers_in.low) in
       or_else_none refused room none
       ∙ eleven_first (leb (layers j) 0) (leb (length j.overrides) (length cs) && (leb (length j.overrides) (length ls) && (leb (length j.overrides) (length bs) && leb (length j.forecast) (length f)))) (lt-leb (layers j) 0 some)
       ∙ sym (or_else_none refused 11 none))

@@ -141,7 +141,7 @@ pub record AllBy (P : ℕ → Type 0) (f : ℕ → ℕ → ℕ → List QueuedPi
   pub within : first ≤ 500
   pub room : PutPiecePre start part (4 * (500 - first)) a ss cs ls bs
   pub by : All (λ r. r ≤ last_of start part) (drop first ready)
-  pub chunks_in_lem : All (Within 1 500) (drop first ids)
+  pub chunks_in : All (Within 1 500) (drop first ids)
   pub levels : All P (drop first mark)
   pub fed : Fed (left_at start part) (queue_by f (drop first ids) (drop first ready) (drop first mark))
   pub fits : load (queue_by f (drop first ids) (drop first ready) (drop first mark)) ≤ a.left + left_at start part a.slot

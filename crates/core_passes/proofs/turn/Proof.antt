@@ -11,85 +11,85 @@ add-k : tie.Need-overflow-add-k
 add-k c =
     let t = c.before.before.before.before.before.before.before.requires.holds in
     let f = t.film_is in
-    omega (arith, t.inside, f.accepted.chunks_in_lem.high, f.long, f.levels.least_are.long, f.levels.bases_are.long, f.levels.ends_are.long)
+    omega (arith, t.inside, f.accepted.chunks_in.high, f.long, f.levels.least_are.long, f.levels.bases_are.long, f.levels.ends_are.long)
 
 mul-from : tie.Need-overflow-mul-from
 mul-from c =
     let t = c.before.before.before.before.before.before.before.requires.holds in
     let f = t.film_is in
-    omega (arith, t.inside, f.accepted.chunks_in_lem.high, f.long, f.levels.least_are.long, f.levels.bases_are.long, f.levels.ends_are.long)
+    omega (arith, t.inside, f.accepted.chunks_in.high, f.long, f.levels.least_are.long, f.levels.bases_are.long, f.levels.ends_are.long)
 
 add-to : tie.Need-overflow-add-to
 add-to c =
     let t = c.before.before.before.before.before.before.before.requires.holds in
     let f = t.film_is in
-    omega (arith, t.inside, f.accepted.chunks_in_lem.high, f.long, f.levels.least_are.long, f.levels.bases_are.long, f.levels.ends_are.long)
+    omega (arith, t.inside, f.accepted.chunks_in.high, f.long, f.levels.least_are.long, f.levels.bases_are.long, f.levels.ends_are.long)
 
 mul-least : tie.Need-overflow-mul-least
 mul-least c =
     let t = c.before.before.before.before.before.before.before.requires.holds in
     let f = t.film_is in
-    omega (arith, t.inside, f.accepted.chunks_in_lem.high, f.long, f.levels.least_are.long, f.levels.bases_are.long, f.levels.ends_are.long)
+    omega (arith, t.inside, f.accepted.chunks_in.high, f.long, f.levels.least_are.long, f.levels.bases_are.long, f.levels.ends_are.long)
 
 element-copy-out-least : tie.Need-element-copy-out-least
 element-copy-out-least c =
     let t = c.before.before.before.before.before.before.before.requires.holds in
     let f = t.film_is in
-    omega (arith, t.inside, f.accepted.chunks_in_lem.high, f.long, f.levels.least_are.long, f.levels.bases_are.long, f.levels.ends_are.long)
+    omega (arith, t.inside, f.accepted.chunks_in.high, f.long, f.levels.least_are.long, f.levels.bases_are.long, f.levels.ends_are.long)
 
 cast-number : tie.Need-overflow-cast-number
 cast-number c =
     let t = c.before.before.before.before.before.before.before.before.requires.holds in
     let f = t.film_is in
-    omega (arith, t.inside, f.accepted.chunks_in_lem.high, f.long, f.levels.least_are.long, f.levels.bases_are.long, f.levels.ends_are.long)
+    omega (arith, t.inside, f.accepted.chunks_in.high, f.long, f.levels.least_are.long, f.levels.bases_are.long, f.levels.ends_are.long)
 
 mul-base : tie.Need-overflow-mul-base
 mul-base c =
     let t = c.before.before.before.before.before.before.before.before.requires.holds in
     let f = t.film_is in
-    omega (arith, t.inside, f.accepted.chunks_in_lem.high, f.long, f.levels.least_are.long, f.levels.bases_are.long, f.levels.ends_are.long)
+    omega (arith, t.inside, f.accepted.chunks_in.high, f.long, f.levels.least_are.long, f.levels.bases_are.long, f.levels.ends_are.long)
 
 element-copy-out-base : tie.Need-element-copy-out-base
 element-copy-out-base c =
     let t = c.before.before.before.before.before.before.before.before.requires.holds in
     let f = t.film_is in
-    omega (arith, t.inside, f.accepted.chunks_in_lem.high, f.long, f.levels.least_are.long, f.levels.bases_are.long, f.levels.ends_are.long)
+    omega (arith, t.inside, f.accepted.chunks_in.high, f.long, f.levels.least_are.long, f.levels.bases_are.long, f.levels.ends_are.long)
 
 mul-end : tie.Need-overflow-mul-end
 mul-end c =
     let t = c.before.before.before.before.before.before.before.before.before.requires.holds in
     let f = t.film_is in
-    omega (arith, t.inside, f.accepted.chunks_in_lem.high, f.long, f.levels.least_are.long, f.levels.bases_are.long, f.levels.ends_are.long)
+    omega (arith, t.inside, f.accepted.chunks_in.high, f.long, f.levels.least_are.long, f.levels.bases_are.long, f.levels.ends_are.long)
 
 element-copy-out-end : tie.Need-element-copy-out-end
 element-copy-out-end c =
     let t = c.before.before.before.before.before.before.before.before.before.requires.holds in
     let f = t.film_is in
-    omega (arith, t.inside, f.accepted.chunks_in_lem.high, f.long, f.levels.least_are.long, f.levels.bases_are.long, f.levels.ends_are.long)
+    omega (arith, t.inside, f.accepted.chunks_in.high, f.long, f.levels.least_are.long, f.levels.bases_are.long, f.levels.ends_are.long)
 
 mul-step : tie.Need-overflow-mul-step
 mul-step c =
     let t = c.before.before.before.before.before.before.before.before.before.before.requires.holds in
     let f = t.film_is in
-    omega (arith, t.inside, f.accepted.chunks_in_lem.high, f.long, f.levels.least_are.long, f.levels.bases_are.long, f.levels.ends_are.long)
+    omega (arith, t.inside, f.accepted.chunks_in.high, f.long, f.levels.least_are.long, f.levels.bases_are.long, f.levels.ends_are.long)
 
 sub-step : tie.Need-overflow-sub-step
 sub-step c =
     let t = c.before.before.before.before.before.before.before.before.before.before.requires.holds in
     let f = t.film_is in
-    omega (arith, t.inside, f.accepted.chunks_in_lem.high, f.long, f.levels.least_are.long, f.levels.bases_are.long, f.levels.ends_are.long)
+    omega (arith, t.inside, f.accepted.chunks_in.high, f.long, f.levels.least_are.long, f.levels.bases_are.long, f.levels.ends_are.long)
 
 part-step-start : tie.Need-slice-bounds-step-start
 part-step-start c =
     let t = c.before.before.before.before.before.before.before.before.before.before.requires.holds in
     let f = t.film_is in
-    omega (arith, t.inside, f.accepted.chunks_in_lem.high, f.long, f.levels.least_are.long, f.levels.bases_are.long, f.levels.ends_are.long)
+    omega (arith, t.inside, f.accepted.chunks_in.high, f.long, f.levels.least_are.long, f.levels.bases_are.long, f.levels.ends_are.long)
 
 part-step-end : tie.Need-slice-bounds-step-end
 part-step-end c =
     let t = c.before.before.before.before.before.before.before.before.before.before.requires.holds in
     let f = t.film_is in
-    omega (arith, t.inside, f.accepted.chunks_in_lem.high, f.long, f.levels.least_are.long, f.levels.bases_are.long, f.levels.ends_are.long)
+    omega (arith, t.inside, f.accepted.chunks_in.high, f.long, f.levels.least_are.long, f.levels.bases_are.long, f.levels.ends_are.long)
 
 step-requires : tie.Need-step-requires
 step-requires c κs = turn_step_pre c.before.before.before.before.before.before.before.before.before.before.before.before.before.before.before.before.before.requires (c.before.before.before.before.before.before.before.before.before.before.before.before.before.before.before.before.before.args.i + 1) (add-one c.before.before.before.before.before.before.before.before.before.before.before.before.before.before.before.before.before.args.i)

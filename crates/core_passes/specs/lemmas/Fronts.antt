@@ -249,7 +249,7 @@ module _ {by : Measure} {chunk : Chunk} {row opens sets counts useds : List ℕ}
         record {
           long = copied.long;
           inside = omega (arith, o.room);
-          few = omega (arith, keep_few {i = p.before} p.holds, o.inside, o.measure.accepted.chunks_in_lem.high);
+          few = omega (arith, keep_few {i = p.before} p.holds, o.inside, o.measure.accepted.chunks_in.high);
           others_few = λ b h. omega (arith, copied.other_counts b h, (o.next.each b h).few);
         }
 
@@ -266,7 +266,7 @@ module _ {by : Measure} {chunk : Chunk} {row opens sets counts useds : List ℕ}
             record {
               is_set = subst (λ (l : List ℕ). Set j (suc i) l) (sym e) (keeps_to_set j i ks o.one.is_set (omega (arith, w, reached, in_time_lem, k.chunk_is.end_is)));
               used_is = appended.used_is ∙ reached ∙ w ∙ sym (ap (λ (x : State). x.used) t) ∙ ap (λ (l : List ℕ). (after_set j l).used) (sym e);
-              few = omega (arith, appended.count_is, keep_few {i = i} k, o.inside, o.measure.accepted.chunks_in_lem.high);
+              few = omega (arith, appended.count_is, keep_few {i = i} k, o.inside, o.measure.accepted.chunks_in.high);
             } in
             record {
               trial = record {

@@ -36,7 +36,7 @@ row_at_lem :
     {j : Job} {film : Film} {ends opens bases smallest work : List ℕ} → FilmOf j film ends opens bases smallest work → (k : ℕ) → k ≤ chunks j →
     RowOf j k (row_at work k)
 row_at_lem {work = work} f k h =
-    let few = f.accepted.chunks_in_lem.high in
+    let few = f.accepted.chunks_in.high in
     let e : k * 501 + 501 - k * 501 ≡ 501 = omega arith in
     record {
       is = λ c l.

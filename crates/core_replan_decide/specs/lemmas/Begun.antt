@@ -65,8 +65,8 @@ pub record KeepBegunPre (p : Programme) (left : ℕ → ℕ → ℕ) (whole afte
   pub small : Small left
   pub sums : Sums after
   pub fb_in : head ≤ 500
-  pub chunks_in_lem : All (Within 1 p.chunks) (drop head front)
-  pub need_in_lem : need ≤ 60397977600
+  pub chunks_in : All (Within 1 p.chunks) (drop head front)
+  pub need_in : need ≤ 60397977600
   pub room : 500 ≤ head + from
   pub within : from ≤ 500
   pub ids_in : All (Within 1 p.chunks) (drop from ids)

@@ -77,7 +77,7 @@ module _
   sized = accepted_sized j a
 
   some : 0 < layers j
-  some = a.layers_in_lem.low
+  some = a.layers_in.low
 
   fits : FitsFrom j p fetched plan
   fits = is_replan_fits j p fetched ok sized plan d

@@ -67,13 +67,13 @@ other_chunk : (j : Job) (i n : ℕ) → Accepted j → (i < 2) ⊎ (500 < i) →
 other_chunk j i n a far =
     own_where j.sizes j.overrides i n
     (all_map (Spot (chunks j)) (Other i n) j.overrides
-    (λ o s. inl (λ e. ⊎_elim (λ l. omega (arith, s.low)) (λ l. omega (arith, s.high, a.chunks_in_lem.high)) far)) (spots j a))
+    (λ o s. inl (λ e. ⊎_elim (λ l. omega (arith, s.low)) (λ l. omega (arith, s.high, a.chunks_in.high)) far)) (spots j a))
 
 no_layer : (j : Job) (i n : ℕ) → Accepted j → 4 ≤ n → size j i n ≡ 0
 no_layer j i n a h =
     own_where j.sizes j.overrides i n
     (all_map (Spot (chunks j)) (Other i n) j.overrides (λ o s. inr (λ e. omega (arith, s.layer))) (spots j a))
-    ∙ get_or-eq_default j.sizes 0 (omega (arith, a.layers_in_lem.high))
+    ∙ get_or-eq_default j.sizes 0 (omega (arith, a.layers_in.high))
 
 first_place : (j : Job) → Accepted j → (n : ℕ) → n < 4 → get_or (sizes_table j.sizes j.overrides) n 0 ≡ get_or j.sizes n 0
 first_place j a n h =

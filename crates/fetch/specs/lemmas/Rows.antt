@@ -106,4 +106,4 @@ base_carried j rows f i (suc n) r c =
 
 -- A base of an accepted job has at least a byte.
 pub base_low : (j : Job) → Accepted j → (i : ℕ) → 1 ≤ size j i 0
-base_low j ok i = size_least j ok i 0 ok.layers_in_lem.low
+base_low j ok i = size_least j ok i 0 ok.layers_in.low

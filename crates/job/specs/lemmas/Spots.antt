@@ -16,7 +16,7 @@ pub record Spot (c : ℕ) (o : Override) : Type 0 where
 pub spots : (j : Job) → Accepted j → All (Spot (chunks j)) j.overrides
 spots j a =
     all_map (Named j.programme j.sizes) (Spot (chunks j)) j.overrides
-    (λ o n. record { low = n.chunk_in.low; high = n.chunk_in.high; layer = omega (arith, n.layer_in, a.layers_in_lem.high) }) a.overrides_named
+    (λ o n. record { low = n.chunk_in.low; high = n.chunk_in.high; layer = omega (arith, n.layer_in, a.layers_in.high) }) a.overrides_named
 
 rising_few : (c : ℕ) (o : Override) (os : List Override) → Rising (o ∷ os) → All (Spot c) (o ∷ os) → o.chunk * 4 + o.layer + length (o ∷ os) ≤ c * 4 + 4
 rising_few c o [] r a = omega (arith, a.0.high, a.0.layer)

@@ -66,7 +66,7 @@ accepted_programme : (rs : List Record) → Accepted (job_in rs) → InRange (pr
 accepted_programme rs a =
     let p = programme_in rs in
     (or_else_iff (fields_refusal p) (last_due_refusal p)).1 (
-      (or_else_iff (film_refusal p) (delay_refusal p)).1 ((film_iff p).1 (a.chunks_in_lem, (a.span_in, a.limit_in)), (delay_iff p).1 a.delay_in),
+      (or_else_iff (film_refusal p) (delay_refusal p)).1 ((film_iff p).1 (a.chunks_in, (a.span_in, a.limit_in)), (delay_iff p).1 a.delay_in),
       (last_due_iff p).1 a.last_in,
     )
 
@@ -157,7 +157,7 @@ faults_from before (Bw count bytes ∷ rs) g m =
 faults_from before (En ∷ rs) g m = absurd g.0
 
 pub no_faults : (rs : List Record) → All Good rs → programmes rs ≡ 1 → Accepted (job_in rs) → first_fault (format mixed) [] rs ≡ 0
-no_faults rs g one a = faults_from [] rs g (record { one = omega arith; layers = omega (arith, a.layers_in_lem.high); slots = omega (arith, few_slots rs a) })
+no_faults rs g one a = faults_from [] rs g (record { one = omega arith; layers = omega (arith, a.layers_in.high); slots = omega (arith, few_slots rs a) })
 
 -- ---- nothing is lacking
 
@@ -177,7 +177,7 @@ nothing_lacks rs one a =
     (or_else_iff (missing_refusal rs) (bare_refusal rs or_else uneven or_else total)).1 (
       (unless_iff 4 (has_programme rs) (omega arith)).1 (has_one rs (omega arith)),
       (or_else_iff (bare_refusal rs) (uneven or_else total)).1 (
-        (unless_iff 6 (leb 1 (length (sizes_in rs))) (omega arith)).1 ((leb_iff 1 (length (sizes_in rs))).1 a.layers_in_lem.low),
+        (unless_iff 6 (leb 1 (length (sizes_in rs))) (omega arith)).1 ((leb_iff 1 (length (sizes_in rs))).1 a.layers_in.low),
         (or_else_iff uneven total).1 (
           (overrides_iff p (sizes_in rs) (overrides_in rs)).1 (a.overrides_named, (a.overrides_rise, a.overrides_in_lem)),
           (slots_iff p (forecast_in rs)).1 a.slots_in,
@@ -197,7 +197,7 @@ bytes_many (En ∷ rs) g = absurd g.0
 
 pub few_bytes : (rs : List Record) → All Good rs → programmes rs ≡ 1 → Accepted (job_in rs) → length (with_end rs) ≤ 65536
 few_bytes rs g one a =
-    omega (arith, length-append (encode_all encode rs) (encode En), bytes_many rs g, a.layers_in_lem.high, few_slots rs a)
+    omega (arith, length-append (encode_all encode rs) (encode En), bytes_many rs g, a.layers_in.high, few_slots rs a)
 
 -- ---- the other way round
 

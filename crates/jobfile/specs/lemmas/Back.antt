@@ -150,7 +150,7 @@ module _ (j : Job) (a : Accepted j) where
   pub records_back : All (Plain form encode) (records_of j)
   records_back =
       let narrow : Narrow j.programme = record {
-        chunks_fit = omega (arith, a.chunks_in_lem.high);
+        chunks_fit = omega (arith, a.chunks_in.high);
         span_fit = omega (arith, a.span_in.high);
         delay_fit = omega (arith, a.delay_in.high);
         limit_fit = omega (arith, a.limit_in.high);
@@ -160,7 +160,7 @@ module _ (j : Job) (a : Accepted j) where
         all_append (Plain form encode) (map layer_record j.sizes) (map override_record j.overrides ++ runRecords)
             (layers_back j.sizes a.sizes_in_lem)
             (all_append (Plain form encode) (map override_record j.overrides) runRecords
-            (overrides_back j.programme j.sizes j.overrides narrow.chunks_fit a.layers_in_lem.high a.overrides_named a.overrides_in_lem)
+            (overrides_back j.programme j.sizes j.overrides narrow.chunks_fit a.layers_in.high a.overrides_named a.overrides_in_lem)
             (runs_back (length j.forecast) (runs j.forecast) few_slots (runs_good j.forecast a.forecast_in_lem))),
       )
 
@@ -320,7 +320,7 @@ module _ (j : Job) where
     programme_clean : fault one_sequence [] (Pg j.programme) ≡ 0
     programme_clean =
         let p = j.programme in
-        let film = (film_iff p).1 (a.chunks_in_lem, (a.span_in, a.limit_in)) in
+        let film = (film_iff p).1 (a.chunks_in, (a.span_in, a.limit_in)) in
         good_next [] (Pg p) refl tt (rw (film, (delay_iff p).1 a.delay_in, (last_due_iff p).1 a.last_in))
 
     -- No record has a fault, and nothing is lacking at EN.
@@ -336,10 +336,10 @@ module _ (j : Job) where
         λ b y. overrides_clean b j.overrides rest (record { turn = record { low = y.turn.low; high = omega (arith, y.turn.high) }; no_slots = y.no_slots }) last in
         (or_else_iff (fault one_sequence [] (Pg j.programme)) (first_fault form pg (body_of j.sizes j.overrides j.forecast))).1 (
           programme_clean,
-          layers_clean pg j.sizes (map override_record j.overrides ++ rest) (record { turn = record { low = omega arith; high = omega arith }; no_slots = refl }) (omega (arith, a.layers_in_lem.high)) a.sizes_in_lem middle,
+          layers_clean pg j.sizes (map override_record j.overrides ++ rest) (record { turn = record { low = omega arith; high = omega arith }; no_slots = refl }) (omega (arith, a.layers_in.high)) a.sizes_in_lem middle,
         )
 
     pub nothing_lacking : lacking (records_of j) ≡ 0
     nothing_lacking =
         let named = (overrides_iff j.programme j.sizes j.overrides).1 (a.overrides_named, (a.overrides_rise, a.overrides_in_lem)) in
-        rw (sizes_back, overrides_are, forecast_back, le-leb 1 (layers j) a.layers_in_lem.low, named, eq-eqb (length j.forecast) (last_slot j) a.slots_in)
+        rw (sizes_back, overrides_are, forecast_back, le-leb 1 (layers j) a.layers_in.low, named, eq-eqb (length j.forecast) (last_slot j) a.slots_in)

@@ -51,4 +51,4 @@ few_runs (x ∷ l) = omega (arith, front_length x (runs l), few_runs l)
 
 -- At most 10 + 4 × 6 + 1,996 × 9 + 3,600 × 8 + 2 bytes.
 pub short_file : (j : Job) → Accepted j → length (job_file j) ≤ 46800
-short_file j a = omega (arith, file_length j, few_runs j.forecast, overrides_few j a, a.layers_in_lem.high, a.slots_in, a.last_in)
+short_file j a = omega (arith, file_length j, few_runs j.forecast, overrides_few j a, a.layers_in.high, a.slots_in, a.last_in)

@@ -144,12 +144,12 @@ accepted rs k e =
     let fields = (or_else_iff (film_refusal p) (delay_refusal p)).0 good.fields in
     let film = (film_iff p).0 fields.0 in
     record {
-      chunks_in_lem = film.0;
+      chunks_in = film.0;
       span_in = film.1.0;
       limit_in = film.1.1;
       delay_in = (delay_iff p).0 fields.1;
       last_in = (last_due_iff p).0 good.due;
-      layers_in_lem = record { low = (leb_iff 1 (length (sizes_in rs))).0 ((unless_iff 6 (leb 1 (length (sizes_in rs))) (omega arith)).0 v.0); high = k.few };
+      layers_in = record { low = (leb_iff 1 (length (sizes_in rs))).0 ((unless_iff 6 (leb 1 (length (sizes_in rs))) (omega arith)).0 v.0); high = k.few };
       sizes_in_lem = k.sizes;
       overrides_named = named.0;
       overrides_rise = named.1.0;

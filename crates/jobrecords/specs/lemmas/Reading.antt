@@ -152,8 +152,8 @@ pub record Inside (s : List ℕ) (j : Progress) : Type 0 where
 
 -- A table with room for every layer,
 pub record Sized (j : Progress) (z : List ℕ) : Type 0 where
-  pub chunks_in_lem : j.programme.chunks ≤ 500
-  pub layers_in_lem : j.layers ≤ 4
+  pub chunks_in : j.programme.chunks ≤ 500
+  pub layers_in : j.layers ≤ 4
   pub sizes_room : length z ≡ 4
 
 -- and one with room for every slot.

@@ -21,7 +21,7 @@ cast-count : tie.Need-overflow-cast-count
 cast-count c = search rules
 
 has-room-requires : tie.Need-has-room-requires
-has-room-requires c κs = omega (arith, (input_accepted _ (found_none c.before.before.refusal.ensures c.before.if1.false)).chunks_in_lem.high)
+has-room-requires c κs = omega (arith, (input_accepted _ (found_none c.before.before.refusal.ensures c.before.if1.false)).chunks_in.high)
 
 write-most-requires : tie.Need-write-most-requires
 write-most-requires c κs = record { accepted = found_none c.before.before.before.before.before.before.before.before.before.before.refusal.ensures c.before.before.before.before.before.before.before.before.before.if1.false; room = sym c.before.before.before.before.before.before.before.has_room.ensures ∙ c.before.before.before.before.before.before.if2.true }

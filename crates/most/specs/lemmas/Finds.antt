@@ -20,11 +20,11 @@ use Rattle.most.specs.Promise.{Finds}
 module _ (j : Job) (ok : Accepted j) where
   pub bound_small : bound j ≤ 500
   unfolding bound
-  bound_small = omega (arith, largest_le (λ c. leb (least j 0 c) (after j 0)) (chunks j), ok.chunks_in_lem.high)
+  bound_small = omega (arith, largest_le (λ c. leb (least j 0 c) (after j 0)) (chunks j), ok.chunks_in.high)
 
   pub bound_any_small : bound_any j ≤ 500
   unfolding bound_any
-  bound_any_small = omega (arith, largest_le (λ c. leb (any_row j (chunks j) c) (after j 0)) (chunks j), ok.chunks_in_lem.high)
+  bound_any_small = omega (arith, largest_le (λ c. leb (any_row j (chunks j) c) (after j 0)) (chunks j), ok.chunks_in.high)
 
   pub plan_is_set : Set j (chunks j) (kept j (plan j))
   plan_is_set = plan_set j ok (plan j) (plan_exists j ok)

@@ -49,7 +49,7 @@ module _ (j : Job) (ok : Accepted j) where
 
   -- The kept chunks have places.
   pub ids_in : (first : ℕ) (ids ready mark : List ℕ) → Decides j (plan j) first ids ready mark → All (Within 1 500) (drop first ids)
-  ids_in first ids ready mark d = rw d.chunks (asc_within 1 (chunks j) 1 500 (kept j (plan j)) (omega arith) ok.chunks_in_lem.high (kept_asc j (plan j)))
+  ids_in first ids ready mark d = rw d.chunks (asc_within 1 (chunks j) 1 500 (kept j (plan j)) (omega arith) ok.chunks_in.high (kept_asc j (plan j)))
 
   module _
       (first : ℕ) (ids ready mark : List ℕ) (decided : Decides j (plan j) first ids ready mark) (zeros levels : List ℕ) (none : (k : ℕ) → get_or zeros k 0 ≡ 0)
@@ -95,7 +95,7 @@ module _ (j : Job) (ok : Accepted j) where
             rw flag_is
             (record {
               tables = record {
-                few = ok.chunks_in_lem.high;
+                few = ok.chunks_in.high;
                 late = ok.delay_in.low;
                 ends = ok.last_in;
                 held_is = held_is;

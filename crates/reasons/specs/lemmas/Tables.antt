@@ -68,8 +68,8 @@ pub plan_levels :
     get_or (spread (kept j (plan j)) (map (λ k. level_mark (plan j k)) (kept j (plan j))) zeros) (i - 1) 0 ≡ plan j i
 plan_levels j a zeros long none i u v =
     let has-is : has (kept j (plan j)) i ≡ leb 1 (plan j i) = has_picked (λ k. leb 1 (plan j k)) 0 (chunks j) i u (omega arith) in
-    spread_at (λ k. level_mark (plan j k)) 1 (chunks j) (kept j (plan j)) zeros i (omega arith) (kept_asc j (plan j)) (omega (arith, a.chunks_in_lem.high)) u (omega (arith, a.chunks_in_lem.high))
-    ∙ rw (has-is, layers_of_lem (plan j i) (omega (arith, plan_choice j i u v, a.layers_in_lem.high)), none (i - 1)) (either (plan j i))
+    spread_at (λ k. level_mark (plan j k)) 1 (chunks j) (kept j (plan j)) zeros i (omega arith) (kept_asc j (plan j)) (omega (arith, a.chunks_in.high)) u (omega (arith, a.chunks_in.high))
+    ∙ rw (has-is, layers_of_lem (plan j i) (omega (arith, plan_choice j i u v, a.layers_in.high)), none (i - 1)) (either (plan j i))
   where
     either : (m : ℕ) → cond (leb 1 m) m 0 ≡ m
     either zero = refl
@@ -128,8 +128,8 @@ pub sums_are :
     m ≤ layers j → bytes_in sums k m ≡ sum (size j k) m
 sums_are j a table sums says s k m u v w h =
     let x : ℕ = (k - 1) * 4 + (m - 1) in
-    let low : m ≤ 4 = omega (arith, a.layers_in_lem.high) in
-    let few : k ≤ 500 = omega (arith, a.chunks_in_lem.high) in
+    let low : m ≤ 4 = omega (arith, a.layers_in.high) in
+    let few : k ≤ 500 = omega (arith, a.chunks_in.high) in
     let e : x / 4 ≡ k - 1 = omega arith in
     let f : x % 4 + 1 ≡ m = omega arith in
     s.at x (omega arith) ∙ rw (e, f) (sum_cong (λ n. get_or table ((k - 1) * 4 + n) 0) (size j k) m (λ n l. table_at_lem table k n u few (omega arith) ∙ ap (λ (z : ℕ → ℕ → ℕ). z k n) says))

@@ -21,7 +21,7 @@ slots_width j ok =
       arith,
       line_width (ascii "slots") (digits (last_slot j) ∷ ascii "chunks" ∷ digits (chunks j) ∷ ascii "held" ∷ digits (held_most j) ∷ []),
       digits_few 3 (last_slot j) (omega (arith, ok.last_in)),
-      digits_few 2 (chunks j) (omega (arith, ok.chunks_in_lem.high)),
+      digits_few 2 (chunks j) (omega (arith, ok.chunks_in.high)),
       digits_few 4 (held_most j) (omega (arith, div-le_self j.programme.limit j.programme.span, ok.limit_in.high)),
     )
 
@@ -29,14 +29,14 @@ slots_width j ok =
 
 module _ (j : Job) (rows : List Row) (ok : Accepted j) where
   layers_most : (i : ℕ) → layers_carried j rows i ≤ 4
-  layers_most i = omega (arith, sum_most _ 1 (layers j) (λ n. cond_most (carried j rows i n) 1 1 (omega arith)), ok.layers_in_lem.high)
+  layers_most i = omega (arith, sum_most _ 1 (layers j) (λ n. cond_most (carried j rows i n) 1 1 (omega arith)), ok.layers_in.high)
 
   bytes_most : (i : ℕ) → bytes_carried j rows i ≤ 67108864
   bytes_most i =
       omega (
         arith,
         sum_most _ 16777216 (layers j) (λ n. equal_most (bytes_of_layer rows i n) (size j i n) 16777216 (size_most j ok i n)),
-        ok.layers_in_lem.high,
+        ok.layers_in.high,
       )
 
   chunk_width : (i : ℕ) → i ≤ 500 → length (chunk_line j rows i) ≤ 15
@@ -53,14 +53,14 @@ module _ (j : Job) (rows : List Row) (ok : Accepted j) where
   chunks_width =
       omega (
         arith,
-        text_most (λ k. chunk_line j rows (k + 1)) 15 (chunks j) (λ k h. chunk_width (k + 1) (omega (arith, ok.chunks_in_lem.high))),
-        ok.chunks_in_lem.high,
+        text_most (λ k. chunk_line j rows (k + 1)) 15 (chunks j) (λ k h. chunk_width (k + 1) (omega (arith, ok.chunks_in.high))),
+        ok.chunks_in.high,
       )
 
   -- ---- counts, bytes and the switch sum
 
   count_most : (n : ℕ) → layer_count j rows n ≤ 500
-  count_most n = omega (arith, pre_most _ 1 (chunks j) (λ i. cond_most (carried j rows i n) 1 1 (omega arith)), ok.chunks_in_lem.high)
+  count_most n = omega (arith, pre_most _ 1 (chunks j) (λ i. cond_most (carried j rows i n) 1 1 (omega arith)), ok.chunks_in.high)
 
   pub layers_width : length (layers_line j rows) ≤ 23
   layers_width =
@@ -71,7 +71,7 @@ module _ (j : Job) (rows : List Row) (ok : Accepted j) where
         ap length (ended_text f (layers j)),
         length-append (text (up_to (λ n. 32 ∷ f n) (layers j))) (10 ∷ []),
         text_most (λ n. 32 ∷ f n) 4 (layers j) (λ n h. omega (arith, digits_few 2 (layer_count j rows n) (omega (arith, count_most n)))),
-        ok.layers_in_lem.high,
+        ok.layers_in.high,
       )
 
   forecast_most : forecast_sum j ≤ 60397977600
@@ -88,17 +88,17 @@ module _ (j : Job) (rows : List Row) (ok : Accepted j) where
       )
 
   switch_most : switch_sum j rows ≤ 33554432000
-  switch_most = omega (arith, differences_most (λ i. carried j rows i 0) (bytes_carried j rows) 67108864 (chunks j) bytes_most, ok.chunks_in_lem.high)
+  switch_most = omega (arith, differences_most (λ i. carried j rows i 0) (bytes_carried j rows) 67108864 (chunks j) bytes_most, ok.chunks_in.high)
 
   pub switch_width : length (switch_line j rows) ≤ 19
   switch_width = omega (arith, line_width (ascii "switch") (digits (switch_sum j rows) ∷ []), digits_few 10 (switch_sum j rows) (omega (arith, switch_most)))
 
   -- C × L is at least 1 and at most 500 × 60.
   pub film_some : 1 ≤ film_slots j
-  film_some = one-le-mul ok.chunks_in_lem.low ok.span_in.low
+  film_some = one-le-mul ok.chunks_in.low ok.span_in.low
 
   film_most : film_slots j ≤ 30000
-  film_most = mul-le-mul ok.chunks_in_lem.high ok.span_in.high
+  film_most = mul-le-mul ok.chunks_in.high ok.span_in.high
 
   -- The quotient is at most the switch sum, and the remainder below C × L.
   pub rate_width : length (rate_line j rows) ≤ 23

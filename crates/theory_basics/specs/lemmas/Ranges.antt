@@ -1,6 +1,6 @@
 -- Lemmas. Sums and counts over ranges of numbers. Assumes nothing.
 use Rattle.std.specs.Prelude.{ℕ, zero, suc, ◌+◌, ◌*◌, ◌≤◌, ◌<◌, ◌≡◌, refl, Bool, true, false, not, cond, ◌&&◌, ◌⊎◌, ◌↔◌, T, ltb, eqb}
-use Rattle.std.proofs.Common.{sym, inl, inr, ⊎_elim, arith, eq-eqb, ne_eqb, lt-ltb, le-ltb, T_not, ltb→lt, nltb→le, eqb→eq, add-one}
+use Rattle.std.proofs.Common.{sym, subst, inl, inr, ⊎_elim, arith, eq-eqb, ne_eqb, lt-ltb, le-ltb, T_not, ltb→lt, nltb→le, eqb→eq, add-one}
 use Rattle.std.proofs.Math.Dec.{not_T}
 use Rattle.theory_basics.specs.Sums.{count, pre, sum}
 use Rattle.theory_basics.specs.lemmas.Tests.{last, not_T_false, test}
@@ -218,7 +218,7 @@ sum_below f m zero h = let e : m ≡ 0 = omega arith in rw e
 sum_below f m (suc n) h =
     ⊎_elim
     (λ l. rw (le-ltb n m l) (omega (arith, sum_below f m n l)))
-    (λ e. rw (lt-ltb n m (omega arith)) (rw e (omega (arith, sum_cong (λ t. cond (ltb t (suc n)) (f t) 0) f n (λ t u. rw (lt-ltb t (suc n) (omega arith)))))))
+    (λ e. subst (λ (k : ℕ). sum (λ t. cond (ltb t k) (f t) 0) (suc n) ≡ sum f k) (sym e) (sum_cong (λ t. cond (ltb t (suc n)) (f t) 0) f (suc n) (λ t u. rw (lt-ltb t (suc n) u))))
     (last m n h)
 
 sum_point_out : (s b n : ℕ) → n ≤ s → sum (point s b) n ≡ 0

@@ -82,13 +82,13 @@ reaches P p x (q ∷ a) b e h =
     (test (ltb 0 x))
 
 -- Then each of them is a row.
-pub whole_row : (p x : ℕ) {q : Piece} {a : List Piece} (b : List Piece) → Somes a → total a ≤ x → In q a → In (row_of p q q.bytes) (taken_of p x (a ++ b))
-whole_row p x {q = q} b s h (here {xs = a}) =
+pub whole_row : {q : Piece} (p x : ℕ) {a : List Piece} (b : List Piece) → Somes a → total a ≤ x → In q a → In (row_of p q q.bytes) (taken_of p x (a ++ b))
+whole_row {q = q} p x b s h (here {xs = a}) =
     let l : 0 < x = omega (arith, s.0) in
     let u = T_true (ltb 0 x) (lt→ltb 0 x l) in
     let m : min x q.bytes ≡ q.bytes = omega arith in
     rw u (rw m here)
-whole_row p x {q = q} b s h (there {y = y} {xs = a} i) =
+whole_row {q = q} p x b s h (there {y = y} {xs = a} i) =
     let l : 0 < x = omega (arith, s.0) in
     let u = T_true (ltb 0 x) (lt→ltb 0 x l) in
     rw u (there (whole_row p (x - y.bytes) b s.1 (omega arith) i))

@@ -1,6 +1,6 @@
 -- Lemmas. The numbers of a range that pass a test, as an ascending list: the kept chunks are those.
 use Rattle.std.specs.Prelude.{ℕ, zero, suc, ◌+◌, ◌≤◌, ◌<◌, ◌≡◌, refl, Bool, true, false, cond, List, [], ◌∷◌, length, drop, T, leb}
-use Rattle.std.proofs.Common.{ap, ◌∙◌, ⊎_elim, arith, eq-eqb, ne_eqb, leb→le}
+use Rattle.std.proofs.Common.{ap, ◌∙◌, ⊎_elim, arith, eq-eqb, ne_eqb, leb→le, subst, sym}
 use Rattle.std.proofs.Math.Dec.{nleb→lt}
 use Rattle.theory_basics.specs.Sums.{count}
 use Rattle.theory_basics.specs.Tests.{All}
@@ -68,7 +68,10 @@ picked_has lo (suc n) hi (k ∷ ks) h a =
     (λ t.
     let e : k ≡ suc lo = omega (arith, leb→le k (suc lo) t, a.0) in
     let r : picked (has ks) (suc lo) n ≡ ks = picked_has (suc lo) n hi ks (omega arith) (rw e at a.2) in
-    rw e (rw (eq-eqb (suc lo) (suc lo) refl) (ap (λ (l : List ℕ). suc lo ∷ l) (behind ks ∙ r))))
+    subst
+    (λ (x : ℕ). picked (has (x ∷ ks)) lo (suc n) ≡ x ∷ ks)
+    (sym e)
+    (rw (eq-eqb (suc lo) (suc lo) refl) (ap (λ (l : List ℕ). suc lo ∷ l) (behind ks ∙ r))))
     (λ t.
     let b : Asc (suc (suc lo)) hi (k ∷ ks) = (nleb→lt k (suc lo) t, a.1, a.2) in
     rw (has_low (suc (suc lo)) hi (k ∷ ks) (suc lo) b (omega arith)) (picked_has (suc lo) n hi (k ∷ ks) (omega arith) b))

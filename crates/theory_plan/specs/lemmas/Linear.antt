@@ -1,7 +1,7 @@
 -- Lemmas. The stack of Trials.antt keeps the bases that the plan keeps, for any sizes; what fits
 -- behind releases, and marks of levels. Assumes nothing. Section 4 of the argument.
 use Rattle.std.specs.Prelude.{ℕ, zero, suc, ◌+◌, ◌-◌, ◌≤◌, ◌<◌, min, ◌≡◌, refl, Bool, true, false, cond, List, [], ◌∷◌, ◌++◌, map, ◌↔◌, get_or, drop, T, leb, ltb, eqb}
-use Rattle.std.proofs.Common.{ap, ◌∙◌, ⊎_elim, arith, add-one, eq-eqb, ne_eqb, lt-ltb, le-ltb, drop-drop, ltb→lt, nltb→le, eqb→eq}
+use Rattle.std.proofs.Common.{ap, ◌∙◌, ⊎_elim, arith, add-one, eq-eqb, ne_eqb, lt-ltb, le-ltb, drop-drop, ltb→lt, nltb→le, eqb→eq, subst, sym}
 use Rattle.theory_basics.specs.Sums.{sum}
 use Rattle.theory_basics.specs.lemmas.Ranges.{sum_cong}
 use Rattle.theory_basics.specs.lemmas.Tests.{by_cond, same_test, test, tests, neqb_ne}
@@ -159,7 +159,7 @@ pub mark_level : (c k : ℕ) → c ≤ k → mark_byte (λ n. ltb n c) k ≡ lev
 mark_level c zero h = let e : c ≡ 0 = omega arith in rw e
 mark_level c (suc k) h =
     ⊎_elim
-    (λ t. let l = ltb→lt k c t in let e : c ≡ suc k = omega arith in rw e (mark_cong (λ n. ltb n (suc k)) (λ n. true) (suc k) (λ n u. lt-ltb n (suc k) u)))
+    (λ t. let l = ltb→lt k c t in let e : c ≡ suc k = omega arith in subst (λ (x : ℕ). mark_byte (λ n. ltb n x) (suc k) ≡ level_mark x) (sym e) (mark_cong (λ n. ltb n (suc k)) (λ n. true) (suc k) (λ n u. lt-ltb n (suc k) u)))
     (λ t. let l = nltb→le k c t in rw (le-ltb k c l) (omega (arith, mark_level c k l)))
     (test (ltb k c))
 

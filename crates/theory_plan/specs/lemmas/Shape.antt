@@ -209,7 +209,7 @@ own_few_rows j a choice few =
     omega (
       arith,
       own_list_count j choice few,
-      mul-le-mul_right (layers j) a.chunks_in_lem.high,
-      a.layers_in_lem.high,
+      mul-le-mul_right (layers j) a.chunks_in.high,
+      a.layers_in.high,
       a.last_in,
     )

@@ -76,7 +76,7 @@ reason_agree j p q f g i n e s (short i' n' a b c m) r =
       r.0,
       r.1,
       record {
-        lower_carried_lem = omega (arith, t.lower_carried_lem);
+        lower_carried = omega (arith, t.lower_carried);
         stretch = named_agree j (f i n) (g i n) s a b t.stretch;
         carry_is = t.carry_is;
         need_is = t.need_is ∙ need_agree j (f i n) (g i n) s a b;

@@ -163,7 +163,7 @@ module _ (j : Job) (plan : ℕ → ℕ) (held : ℕ → ℕ → ℕ → ℕ) (na
       (λ t.
       let u = leb→le n (plan i) t in
       let x = named i n l (omega arith) in
-      (refl, refl, record { lower_carried_lem = u; stretch = x.named; carry_is = x.carry_is; need_is = x.need_is }))
+      (refl, refl, record { lower_carried = u; stretch = x.named; carry_is = x.carry_is; need_is = x.need_is }))
       (λ t. let u = nleb→lt n (plan i) t in (refl, refl, record { next_lower = omega arith; missing = omega arith }))
 
   pub lines_are : Reasons j plan held (lines_of j plan held)
@@ -184,8 +184,8 @@ reason_unique j plan held i n (short i₁ n₁ a b c m) (short i₂ n₂ a' b' c
     let ea = e.0 in
     let eb = e.1 in
     cc
-reason_unique j plan held i n (short i₁ n₁ a b c m) (lower i₂ n₂ k) p q = absurd (omega (arith, p.2.lower_carried_lem, q.2.next_lower, q.2.missing))
-reason_unique j plan held i n (lower i₁ n₁ k) (short i₂ n₂ a' b' c' m') p q = absurd (omega (arith, q.2.lower_carried_lem, p.2.next_lower, p.2.missing))
+reason_unique j plan held i n (short i₁ n₁ a b c m) (lower i₂ n₂ k) p q = absurd (omega (arith, p.2.lower_carried, q.2.next_lower, q.2.missing))
+reason_unique j plan held i n (lower i₁ n₁ k) (short i₂ n₂ a' b' c' m') p q = absurd (omega (arith, q.2.lower_carried, p.2.next_lower, p.2.missing))
 reason_unique j plan held i n (lower i₁ n₁ k) (lower i₂ n₂ k') p q =
     let ei : i₁ ≡ i₂ = p.0 ∙ sym q.0 in
     let en : n₁ ≡ n₂ = p.1 ∙ sym q.1 in

@@ -1,7 +1,7 @@
 -- Lemmas. The search in two passes over the places: forward to the first that is late, then back to
 -- where the stretch begins. Linear in the places. Places, w, d, r and F as in Runs.
 use Rattle.std.specs.Prelude.{ℕ, zero, suc, ◌+◌, ◌-◌, ◌≤◌, ◌<◌, max, ◌≡◌, refl, Bool, not, cond, ◌&&◌, T, ltb}
-use Rattle.std.proofs.Common.{sym, ap, subst, ◌∙◌, ⊎_elim, arith, T_not, ltb→lt, nltb→le, lt→ltb}
+use Rattle.std.proofs.Common.{sym, ap, subst, ◌∙◌, ⊎_elim, arith, T_not, ltb→lt, nltb→le, lt→ltb, ap₂}
 use Rattle.theory_basics.specs.Sums.{sum}
 use Rattle.theory_basics.specs.lemmas.Tests.{T_true, not_T_false, same_test, test}
 use Rattle.theory_reasons.specs.lemmas.First.{Found, Rising, breaks, late, late_breaks, opens, used}
@@ -171,5 +171,8 @@ module _ (w d r F w' d' r' F' : ℕ → ℕ) (c : ℕ) (same : Agrees w d r F w'
       let e = forward_agrees 0 0 c (omega arith) in
       let m = forward w d r F 0 0 c in
       let b = back_agrees (F (d m)) 0 (suc m) h in
-      let to : stretch_to w d r F m ≡ stretch_to w' d' r' F' m = rw (b, same.up_to_due m h, same.due m h) in
+      let begun : back w d r F (F (d m)) 0 (suc m) ≡ back w' d' r' F' (F' (d' m)) 0 (suc m) =
+          b ∙ ap (λ (most : ℕ). back w' d' r' F' most 0 (suc m)) (same.up_to_due m h) in
+      let ending = λ (last : ℕ) (o : Begin). let st : Stretch = record { first = o.first; last = last; carry = o.carry; need = o.need } in st in
+      let to : stretch_to w d r F m ≡ stretch_to w' d' r' F' m = ap₂ ending (same.due m h) begun in
       to ∙ ap (stretch_to w' d' r' F') e

@@ -32,7 +32,7 @@ bytes_most j a choice c k u v =
       arith,
       sum_most (size j k) 16777216 (choice k) (λ n. size_most j a k n),
       c k u v,
-      a.layers_in_lem.high,
+      a.layers_in.high,
     )
 
 -- 500 chunks of 4 layers of 16,777,216 bytes.
@@ -46,7 +46,7 @@ need_most j a choice c x y =
           let r = asc_nth 1 (chunks j) (kept j choice) m h (kept_asc j choice) in
           by_cond (λ (z : ℕ). z ≤ 67108864) (between j choice x y m) (λ t. bytes_most j a choice c (kept_chunk j choice m) r.0 r.1) (λ t. omega arith)),
       length_picked_le (λ i. leb 1 (choice i)) 0 (chunks j),
-      a.chunks_in_lem.high,
+      a.chunks_in.high,
     )
 
 -- ---- one line
@@ -106,8 +106,8 @@ module _ (j : Job) (acc : Accepted j) (plan : ℕ → ℕ) (held : ℕ → ℕ �
       let most = need_most j acc (held i n) r.0 s.first s.last in
       rw (le-leb n (plan i) (omega arith))
       (short_width i n s.first s.last s.carry s.need
-      (omega (arith, l.chunk_high, acc.chunks_in_lem.high))
-      (omega (arith, l.layer_in, acc.layers_in_lem.high))
+      (omega (arith, l.chunk_high, acc.chunks_in.high))
+      (omega (arith, l.layer_in, acc.layers_in.high))
       (omega (arith, b.in_order, b.last_slot_lem, acc.last_in))
       (omega (arith, b.last_slot_lem, acc.last_in))
       (omega (arith, x.carry_is, b.exceeds, most))
@@ -116,7 +116,7 @@ module _ (j : Job) (acc : Accepted j) (plan : ℕ → ℕ) (held : ℕ → ℕ �
   later_missing : (i n : ℕ) → Layer j i n → plan i < n → length (sentence (line_at j plan held i n)) ≤ 38
   later_missing i n l h =
       rw (lt-leb n (plan i) h)
-      (lower_width i n (n - 1) (omega (arith, l.chunk_high, acc.chunks_in_lem.high)) (omega (arith, l.layer_in, acc.layers_in_lem.high)) (omega (arith, l.layer_in, acc.layers_in_lem.high)))
+      (lower_width i n (n - 1) (omega (arith, l.chunk_high, acc.chunks_in.high)) (omega (arith, l.layer_in, acc.layers_in.high)) (omega (arith, l.layer_in, acc.layers_in.high)))
 
   -- The lines of one chunk: one of the first kind at most.
   abbrev OfChunk : ℕ → ℕ → Type 0
@@ -155,7 +155,7 @@ module _ (j : Job) (acc : Accepted j) (plan : ℕ → ℕ) (held : ℕ → ℕ �
       let r = of_chunk_lem (suc i) (layers j) (omega arith) h (omega arith) in
       let here : text_length (missing_of plan (suc i) (layers j)) ≤ 188 =
       ⊎_elim
-      (λ t. omega (arith, r.1 (ltb→lt (plan (suc i)) (layers j) t), acc.layers_in_lem.high))
+      (λ t. omega (arith, r.1 (ltb→lt (plan (suc i)) (layers j) t), acc.layers_in.high))
       (λ t. omega (arith, r.0 (nltb→le (plan (suc i)) (layers j) t)))
       (test (ltb (plan (suc i)) (layers j))) in
       omega (arith, text_append line_of_place (missing_to plan (layers j) i) (missing_of plan (suc i) (layers j)), to_chunk i (omega arith), here)
@@ -165,4 +165,4 @@ module _ (j : Job) (acc : Accepted j) (plan : ℕ → ℕ) (held : ℕ → ℕ �
   pub lines_fit : (ls : List Line) → Reasons j plan held ls → length (reasons_text ls) ≤ 94000
   lines_fit ls r =
       let e = lines_unique j plan held ls (lines_of j plan held) r (lines_hold j acc plan held refuses) in
-      rw e (omega (arith, to_chunk (chunks j) (omega arith), acc.chunks_in_lem.high))
+      rw e (omega (arith, to_chunk (chunks j) (omega arith), acc.chunks_in.high))

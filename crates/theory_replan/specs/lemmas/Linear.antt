@@ -44,7 +44,7 @@ module _ (j : Job) (a : Accepted j) (p : ℕ) (fetched : List Row) (ok : Accepta
         record { needs = needs_of_lem one (due j) A (picked is_kept last (chunks j - last)); chunks = picked is_kept last (chunks j - last) }
     new_bases =
         let sized = accepted_sized j a in
-        let some = a.layers_in_lem.low in
+        let some = a.layers_in.low in
         bases_new_are j sized p fetched ok some plan (is_replan_fits j p fetched ok sized plan d) (λ i u v. is_replan_accepts j p fetched ok sized plan d i 0 (layer_of j i 0 u v some)) last behind last (chunks j - last) (omega arith) (omega arith)
 
     -- From the need of the new chunks on; 1 layer for each base kept, and the layers whole before
@@ -54,7 +54,7 @@ module _ (j : Job) (a : Accepted j) (p : ℕ) (fetched : List Row) (ok : Accepta
         record { need = need_of (bytes_left j fetched (λ e. max (level j fetched e) (min (plan e) 1))) (due j) A (busy_from j p fetched plan); kept = picked (λ i. is_begun i && is_kept i) 0 last }
     begun_bases =
         let sized = accepted_sized j a in
-        let some = a.layers_in_lem.low in
+        let some = a.layers_in.low in
         let f = is_replan_fits j p fetched ok sized plan d in
         let x : (i : ℕ) → 1 ≤ i → i ≤ chunks j → _ = λ i u v. is_replan_accepts j p fetched ok sized plan d i 0 (layer_of j i 0 u v some) in
         let e : chunks j - 0 ≡ chunks j = omega arith in
@@ -77,4 +77,4 @@ module _ (j : Job) (a : Accepted j) (p : ℕ) (fetched : List Row) (ok : Accepta
       record { need = need_of (bytes_left j fetched (below (suc n))) (due j) A cs; kept = map (kept_rest (below (suc n))) cs }
   layer_pass n up h =
       let sized = accepted_sized j a in
-      layer_from_is j p fetched ok n up (omega (arith, a.layers_in_lem.high)) h plan d.choice (is_replan_fits j p fetched ok sized plan d) (λ i u v. is_replan_accepts j p fetched ok sized plan d i n (layer_of j i n u v h))
+      layer_from_is j p fetched ok n up (omega (arith, a.layers_in.high)) h plan d.choice (is_replan_fits j p fetched ok sized plan d) (λ i u v. is_replan_accepts j p fetched ok sized plan d i n (layer_of j i n u v h))

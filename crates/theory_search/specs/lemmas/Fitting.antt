@@ -72,7 +72,7 @@ fits_good j ks a =
 
 pub can_carry_good : (j : Job) → Accepted j → (ks : List ℕ) → Chunks j ks → CanCarry j (bases_of ks) ↔ Good j ks
 can_carry_good j ok ks a =
-    let d = can_carry_iff_fits j (accepted_sized j ok) (bases_of ks) (bases_choice j ks ok.layers_in_lem.low) in
+    let d = can_carry_iff_fits j (accepted_sized j ok) (bases_of ks) (bases_choice j ks ok.layers_in.low) in
     let g = fits_good j ks a in
     (λ s. g.0 (d.0 s), λ s. d.1 (g.1 s))
 

@@ -40,7 +40,7 @@ module _ (j : Job) (a : Accepted j) where
 
   -- A mark has a bit a layer at most.
   marks_width : All (λ m. m < 256) (marks_of j (plan j))
-  marks_width = all_up_to (λ m. m < 256) (λ k. mark_byte (λ n. ltb n (plan j (k + 1))) (layers j)) (chunks j) (λ k. mark_small (λ n. ltb n (plan j (k + 1))) (layers j) a.layers_in_lem.high)
+  marks_width = all_up_to (λ m. m < 256) (λ k. mark_byte (λ n. ltb n (plan j (k + 1))) (layers j)) (chunks j) (λ k. mark_small (λ n. ltb n (plan j (k + 1))) (layers j) a.layers_in.high)
 
   -- A row's bytes are at most its slot's forecast.
   row_width : (x : Row) → In x (plan_rows j) → RowInWidth x
@@ -51,8 +51,8 @@ module _ (j : Job) (a : Accepted j) where
       let most : forecast j x.slot ≤ 16777216 = (all_at (Within 0 16777216) j.forecast (x.slot - 1) (omega (arith, a.slots_in, r.slot_low, r.slot_high)) a.forecast_in_lem).high in
       record {
         slot_in = omega (arith, r.slot_high, a.last_in);
-        chunk_in = omega (arith, r.chunk_high, a.chunks_in_lem.high);
-        layer_in = omega (arith, r.layer_in, a.layers_in_lem.high);
+        chunk_in = omega (arith, r.chunk_high, a.chunks_in.high);
+        layer_in = omega (arith, r.layer_in, a.layers_in.high);
         bytes_in_lem = omega (arith, slot, bytes, most);
       }
 

@@ -1,0 +1,12 @@
+-- `job::most` meets its contract. Assumes nothing.
+use Prim.Native.Nat.{◌≤◌, ◌-◌, max}
+use mathlib.Core.Path.{◌≡◌}
+use lib.ListN.{length, drop}
+use Rattle.job.specs.lemmas.Greatest.{greatest}
+use Rattle.job.proofs.most.Given as goal
+
+abbrev pub invariant-loop-i : goal.invariant-loop-i
+invariant-loop-i l = (l.i ≤ length l.s) × (max l.m (greatest (drop l.i l.s)) ≡ greatest l.s)
+
+abbrev pub decreases-loop-i : goal.decreases-loop-i
+decreases-loop-i l = length l.s - l.i

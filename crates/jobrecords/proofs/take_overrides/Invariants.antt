@@ -1,0 +1,11 @@
+-- `jobrecords::take_overrides` meets its contract. Assumes nothing.
+use Prim.Native.Nat.{◌-◌}
+use lib.ListN.{length}
+use Rattle.jobrecords.proofs.Likes.{Passing}
+use Rattle.jobrecords.proofs.take_overrides.Given as goal
+
+abbrev pub invariant-loop-n : goal.invariant-loop-n
+invariant-loop-n l = Passing l.file l.from l.j l.n l.at
+
+abbrev pub decreases-loop-n : goal.decreases-loop-n
+decreases-loop-n l = length l.file - l.at

@@ -1,0 +1,16 @@
+-- `meter::keep` meets its contract: cell by cell, and the count, at most ten.
+use native.Mathlib.Omega.{arith}
+use mathlib.Core.Logic.{⊎_elim}
+use mathlib.Core.Path.{◌≡◌}
+use Prim.Native.Nat.{min, ◌+◌}
+use Rattle.meter.specs.Meter.{sample}
+use Rattle.meter.proofs.Laws.{stored}
+use Rattle.meter.proofs.keep.Goals as goal
+
+pub returns : goal.returns
+returns c =
+    let m = c.args.m in
+    let x = sample c.args.slot c.args.bytes in
+    let e : c.if-at-lt10.auto ≡ min (m.kept + 1) 10 = ⊎_elim (λ w. omega arith) (λ w. omega arith) c.if-at-lt10.branch in
+    rw (c.next_slots.ensures.0, c.next_bytes.ensures.0)
+    (stored m x c.if-at-lt10.auto c.next_slots.ensures.1 c.next_bytes.ensures.1 (omega arith) e)
