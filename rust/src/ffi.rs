@@ -1,6 +1,6 @@
-//! The calls of `include/film_planner.h`, declared and wrapped: the only file with `unsafe`. A slice
-//! crosses as its pointer and its length, so each wrapper hands on exactly what Rust lent it, and
-//! no two of its `&mut` slices overlap.
+//! The calls of `include/film_planner.h`, declared and wrapped: the only file with `unsafe`, which
+//! `most.rs` has by the macro of this file. A slice crosses as its pointer and its length, so each
+//! wrapper hands on exactly what Rust lent it, and no two of its `&mut` slices overlap.
 #![allow(unsafe_code)]
 // The calls have up to 21 numbers and slices.
 #![allow(clippy::too_many_arguments)]

@@ -1,9 +1,9 @@
 //! The layered film planner of the winch desk, proved in Rattle, for callers in Rust. A call
 //! answers a value or a [`Refusal`], which carries document 01's or 02's number and sentence; nothing
 //! is changed by a call that refuses. `include/film_planner.h` says what every call needs and
-//! answers; here buffers are of the largest size a result can have, so that
-//! [`Refusal::ShortBuffer`] never arises. No call panics: what is expected of the archive in this
-//! crate is proved of it.
+//! answers, and `include/film_most.h` says it of [`Job::most`]; here buffers are of the largest size
+//! a result can have, so that [`Refusal::ShortBuffer`] never arises. No call panics: what is expected
+//! of the archive in this crate is proved of it.
 //!
 //! ```
 //! use film_planner::{Job, Refusal, Verdict};
@@ -34,11 +34,13 @@
 // Nothing is lost where the answer of a getter is dropped; both arms of a test read as one table.
 #[allow(clippy::must_use_candidate, clippy::match_bool)]
 mod act;
+#[macro_use]
 mod ffi;
 mod files;
 mod job;
 mod list;
 mod meter;
+mod most;
 mod refusal;
 mod trace;
 
@@ -49,6 +51,7 @@ pub use files::{convert_file, plan_file, reasons_file, report_file, verdict_file
 pub use job::{Job, Override};
 pub use list::{FetchList, Piece, Row};
 pub use meter::Meter;
+pub use most::{Most, BOUNDS, MOST_WORK};
 pub use refusal::Refusal;
 pub use trace::{read_trace, write_trace};
 
