@@ -1,4 +1,3 @@
-use Prim.Native.Nat.{◌-◌}
 use native.Mathlib.Omega.{arith}
 use Rattle.jobrecords.proofs.Likes.{runs_start, sound_at, sound_inside, runs_more, runs_end}
 use Rattle.jobrecords.proofs.take_runs.Goals as goal

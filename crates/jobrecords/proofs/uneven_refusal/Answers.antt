@@ -1,6 +1,5 @@
 -- `jobrecords::uneven_refusal` meets its contract. Assumes nothing.
-use mathlib.Core.Path.{sym, ◌∙◌}
-use lib.Seq.{length-take-le}
+use mathlib.Core.Path.{◌∙◌}
 use Rattle.jobrecords.proofs.Uneven.{none_uneven, many_uneven, some_uneven}
 use Rattle.jobrecords.proofs.uneven_refusal.Goals as goal
 
