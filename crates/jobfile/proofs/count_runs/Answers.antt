@@ -1,6 +1,4 @@
-use Prim.Native.Nat.{◌-◌}
 use native.Mathlib.Omega.{arith}
-use Rattle.jobfile.specs.Writer.{runs}
 use Rattle.jobfile.specs.lemmas.Runs.{count_last, count_same, count_other}
 use Rattle.jobfile.specs.lemmas.FileLength.{few_runs}
 use Rattle.jobfile.proofs.count_runs.Goals as goal

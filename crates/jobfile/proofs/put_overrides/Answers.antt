@@ -1,4 +1,3 @@
-use Prim.Native.Nat.{◌-◌}
 use native.Mathlib.Omega.{arith}
 use Rattle.jobfile.specs.lemmas.Puts.{underway_start}
 use Rattle.jobfile.proofs.Queues.{overrides_from, override_fits, override_more, overrides_end}

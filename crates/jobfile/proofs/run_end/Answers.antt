@@ -1,7 +1,6 @@
-use Prim.Native.Nat.{◌-◌}
 use native.Mathlib.Omega.{arith}
 use lib.ListN.{get_or}
-use Rattle.jobfile.specs.lemmas.Runs.{lead, lead_end, lead_stop, lead_more}
+use Rattle.jobfile.specs.lemmas.Runs.{lead_end, lead_stop, lead_more}
 use Rattle.jobfile.proofs.run_end.Goals as goal
 
 pub loop-end-init : goal.loop-end-init
