@@ -1,4 +1,3 @@
-use Prim.Native.Nat.{◌-◌}
 use mathlib.Core.Path.{◌≡◌, refl, sym, ◌∙◌}
 use native.Mathlib.Omega.{arith}
 use Rattle.core_rules.proofs.Held.{sweeping_start, sweeping_fine, sweeping_more, sweeping_stop, sweep_is}

@@ -1,12 +1,11 @@
 use Prim.Native.Nat.{ℕ, ◌+◌, ◌-◌}
 use mathlib.Core.Path.{◌≡◌, refl, sym}
-use mathlib.Core.Bool.{Bool, true}
+use mathlib.Core.Bool.{Bool}
 use mathlib.Core.List.{List}
 use native.Mathlib.Omega.{arith}
 use lib.ListN.{length, get_or}
 use lib.Dec.{leb}
 use borrow.Author.Tests.{le-leb, lt-leb}
-use Rattle.theory_basics.specs.Tests.{all_to}
 use Rattle.theory_basics.specs.lemmas.Tests.{all_to_holds, all_to_not}
 use Rattle.core_rules.proofs.within.Goals as goal
 
