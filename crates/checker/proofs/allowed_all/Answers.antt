@@ -1,8 +1,6 @@
-use Prim.Native.Nat.{◌-◌}
 use mathlib.Core.Path.{◌≡◌, refl, sym}
-use mathlib.Core.Bool.{true}
 use native.Mathlib.Omega.{arith}
-use Rattle.theory_basics.specs.Tests.{all_below, all_to}
+use Rattle.theory_basics.specs.Tests.{all_below}
 use Rattle.theory_basics.specs.lemmas.Tests.{all_to_more}
 use Rattle.core_sizes.specs.Table.{table_at}
 use Rattle.checker.specs.lemmas.Judged.{allowed_by, early}

@@ -1,4 +1,3 @@
-use Prim.Native.Nat.{◌-◌}
 use native.Mathlib.Omega.{arith}
 use Rattle.checker.proofs.Late.{marking_early, marking_end, marking_late, marking_start, row_places}
 use Rattle.checker.proofs.mark_late.Goals as goal
