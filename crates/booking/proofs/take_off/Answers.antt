@@ -1,4 +1,3 @@
-use Prim.Native.Nat.{◌-◌}
 use native.Mathlib.Omega.{arith}
 use Rattle.booking.proofs.Rows.{taking_start, taking_there, taking_covers, taking_more, taking_end}
 use Rattle.booking.proofs.take_off.Goals as goal
