@@ -1,4 +1,3 @@
-use Prim.Native.Nat.{◌-◌}
 use native.Mathlib.Omega.{arith}
 use Rattle.core_replan_input.proofs.Flags.{leaving_end, leaving_more, leaving_start}
 use Rattle.core_replan_input.proofs.set_left.Goals as goal
