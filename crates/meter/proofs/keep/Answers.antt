@@ -11,6 +11,6 @@ pub returns : goal.returns
 returns c =
     let m = c.args.m in
     let x = sample c.args.slot c.args.bytes in
-    let e : c.if-at-lt10.auto ≡ min (m.kept + 1) 10 = ⊎_elim (λ w. omega arith) (λ w. omega arith) c.if-at-lt10.branch in
+    let e : c.if-at-lt10.kept ≡ min (m.kept + 1) 10 = ⊎_elim (λ w. omega arith) (λ w. omega arith) c.if-at-lt10.branch in
     rw (c.next_slots.ensures.0, c.next_bytes.ensures.0)
-    (stored m x c.if-at-lt10.auto c.next_slots.ensures.1 c.next_bytes.ensures.1 (omega arith) e)
+    (stored m x c.if-at-lt10.kept c.next_slots.ensures.1 c.next_bytes.ensures.1 (omega arith) e)
