@@ -1,10 +1,10 @@
 -- Two bytes are compared as one number. Assumes nothing.
 use Prim.Native.Nat.{ℕ, ◌+◌, ◌*◌, ◌<◌}
-use mathlib.Core.Path.{◌≡◌, sym}
+use mathlib.Core.Path.{◌≡◌}
 use mathlib.Core.Bool.{◌&&◌}
 use mathlib.Core.Logic.{⊎_elim}
 use native.Mathlib.Omega.{arith}
-use lib.Dec.{eqb, eqb→eq, T_not, eqb_refl}
+use lib.Dec.{eqb, eqb→eq, T_not}
 use borrow.Author.Tests.{eq-eqb, ne_eqb}
 use Rattle.theory_basics.specs.lemmas.Tests.{test, T_true, not_T_false}
 

@@ -1,16 +1,16 @@
 -- Theorems. The verdicts of both checker calls say what their rules say: 0 exactly for a list with
 -- marks that keeps them. The rows may come in any order, and where no row stands before p the
 -- second call is the first.
-use Rattle.std.specs.Prelude.{ℕ, zero, suc, ◌+◌, ◌≤◌, ◌<◌, ◌≡◌, refl, Bool, true, false, not, cond, ◌&&◌, ◌||◌, List, [], ◌∷◌, ◌⊎◌, ◌↔◌, T, leb, ltb, eqb}
-use Rattle.std.proofs.Common.{sym, ap, ◌∙◌, inl, inr, ⊎_elim, arith, eqb→eq, ltb→lt, lt→ltb}
-use Rattle.theory_basics.specs.Tests.{All, In, all, all_to, all_below, any}
+use Rattle.std.specs.Prelude.{ℕ, zero, suc, ◌≤◌, ◌<◌, ◌≡◌, refl, Bool, true, false, not, ◌&&◌, ◌||◌, List, [], ◌∷◌, ◌↔◌, T, leb, ltb, eqb}
+use Rattle.std.proofs.Common.{ap, inl, inr, ⊎_elim, arith, eqb→eq, ltb→lt, lt→ltb}
+use Rattle.theory_basics.specs.Tests.{All, In, all, all_below, any}
 use Rattle.theory_basics.specs.lemmas.Refusals.{unless_as}
 use Rattle.theory_basics.specs.lemmas.Tests.{all_iff, all_map, all_below_cong, all_below_iff, all_to_cong, all_to_iff, and_T, at_row, each_row, eq_or_iff, eqb_iff, if_iff, leb_iff, not_T_false, same_test, T_and, T_or_iff, test, tests}
-use Rattle.job.specs.Job.{Job, Layer, Within, chunks, due, forecast, held_most, last_due, last_slot, layers, size}
+use Rattle.job.specs.Job.{Job, Layer, Within, chunks, due, last_due, layers, size}
 use Rattle.job.specs.Refusal.{within}
 use Rattle.job.specs.Theorems.{within_iff}
 use Rattle.job.specs.declared.Programme.{Programme}
-use Rattle.fetch.specs.Rows.{Row, Permuted, bytes_if, bytes_in_slot, bytes_of_layer, Carried, carried, held_count, marks_given}
+use Rattle.fetch.specs.Rows.{Row, Permuted, bytes_if, bytes_of_layer, carried, marks_given}
 use Rattle.fetch.specs.Rules.{RowInRange, WholeLayers, LowerCarried, WithinForecast, OnTime, FewHeld, MarksSay, Keeps}
 use Rattle.fetch.specs.RulesFrom.{KeepsFrom, WholeFrom}
 use Rattle.fetch.specs.Verdict.{all_layers, lower_carried, lowest, rule1, rule2, rule3, rule4, rule5, rule6, rule7, same, verdict}

@@ -1,11 +1,11 @@
 -- Theorems. The refusals of a job say what its fields have to be: there is none exactly for
 -- accepted jobs, and of a call exactly if the SZs are handed whole too.
-use Rattle.std.specs.Prelude.{ℕ, ◌-◌, ◌≤◌, ◌≡◌, refl, Bool, true, not, ◌&&◌, ◌||◌, List, [], ◌∷◌, ◌↔◌, ◌⊎◌, length, get_or, T, leb, ltb, eqb}
+use Rattle.std.specs.Prelude.{ℕ, ◌≤◌, ◌≡◌, refl, Bool, not, ◌&&◌, List, [], ◌∷◌, ◌↔◌, length, get_or, T, leb, ltb, eqb}
 use Rattle.std.proofs.Common.{sym, ap, ◌∙◌, inl, inr, ⊎_elim, arith, T_not}
 use Rattle.std.proofs.Math.Dec.{not_T}
 use Rattle.theory_basics.specs.Tests.{All, all}
 use Rattle.theory_basics.specs.lemmas.Tests.{all_iff, leb_iff, ltb_iff, eqb_iff, T_or_iff, tests}
-use Rattle.theory_basics.specs.Refusals.{unless, ◌or_else◌}
+use Rattle.theory_basics.specs.Refusals.{◌or_else◌}
 use Rattle.theory_basics.specs.lemmas.Refusals.{and_as, unless_as, or_else_as, or_else_iff, or_else_none}
 use Rattle.job.specs.declared.Programme.{Programme}
 use Rattle.job.specs.Job.{Job, Override, Within, Named, OverrideBefore, Rising, Accepted, last_due}

@@ -1,5 +1,5 @@
 -- `core_sizes::write_over` meets its contract. Assumes nothing.
-use Prim.Native.Nat.{◌-◌, ◌≤◌, min}
+use Prim.Native.Nat.{◌≤◌, min}
 use mathlib.Core.Path.{◌≡◌}
 use lib.ListN.{length}
 use Rattle.job.specs.lemmas.Run.{from}

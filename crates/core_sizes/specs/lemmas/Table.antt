@@ -1,11 +1,10 @@
 -- Lemmas. The table of all sizes at each place, what an accepted job's table says, and the table
 -- filled place by place. Assumes nothing.
-use Rattle.std.specs.Prelude.{ℕ, zero, suc, ◌+◌, ◌*◌, ◌-◌, ◌/◌, ◌%◌, ◌≤◌, ◌<◌, ◌≡◌, refl, Bool, cond, ◌&&◌, List, [], ◌∷◌, ◌⊎◌, length, get_or, set, T, eqb, ltb}
+use Rattle.std.specs.Prelude.{ℕ, zero, suc, ◌+◌, ◌*◌, ◌-◌, ◌/◌, ◌%◌, ◌≤◌, ◌<◌, ◌≡◌, refl, Bool, ◌&&◌, List, [], ◌∷◌, ◌⊎◌, length, get_or, set, eqb, ltb}
 use Rattle.std.proofs.Common.{sym, ap, ◌∙◌, inl, inr, ⊎_elim, arith, length-set, get_or-set_same, get_or-set_other, ext_get_or, eqb→eq, ltb→lt, nltb→le, T_not}
 use Rattle.std.proofs.Math.ListN.{get_or-eq_default}
 use Rattle.theory_basics.specs.Tests.{All}
 use Rattle.theory_basics.specs.lemmas.Tests.{all_map, by_cond, and_T, T_and, eqb_iff, test}
-use Rattle.theory_basics.specs.Lists.{up_to}
 use Rattle.theory_basics.specs.lemmas.Lists.{length_up_to, get_d_up_to}
 use Rattle.theory_basics.specs.lemmas.Tables.{at_set, below_next}
 use Rattle.job.specs.Job.{Job, Override, Accepted, chunks, size, size_in}

@@ -1,5 +1,4 @@
 use mathlib.Core.Path.{◌≡◌, refl}
-use Prim.Native.Nat.{◌-◌}
 use native.Mathlib.Omega.{arith}
 use Rattle.core_slices.proofs.Laws.{copied_more}
 use Rattle.core_slices.proofs.copy16.Goals as goal

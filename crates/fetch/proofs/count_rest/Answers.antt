@@ -1,4 +1,3 @@
-use Prim.Native.Nat.{◌-◌}
 use native.Mathlib.Omega.{arith}
 use Rattle.fetch.proofs.Walk.{rest_start, rest_more, rest_end, counted_le}
 use Rattle.fetch.proofs.count_rest.Goals as goal

@@ -1,12 +1,12 @@
 -- Lemmas. Playing order by rows: where sizes are above 0, a list is in playing order exactly if by
 -- the slot of each of its rows each carried chunk that plays before its chunk is begun.
-use Rattle.std.specs.Prelude.{ℕ, ◌≤◌, ◌<◌, ◌≡◌, refl, ◌&&◌, List, [], ◌∷◌, ◌⊎◌, ◌↔◌, T, eqb, leb}
+use Rattle.std.specs.Prelude.{ℕ, ◌≤◌, ◌<◌, ◌≡◌, refl, ◌&&◌, List, [], ◌∷◌, ◌⊎◌, T, eqb, leb}
 use Rattle.std.proofs.Common.{inl, inr, ⊎_elim, arith, eqb→eq, leb→le, le→leb}
 use Rattle.std.proofs.Math.Dec.{nleb→lt}
 use Rattle.theory_basics.specs.Tests.{All, In, here, there}
 use Rattle.theory_basics.specs.lemmas.Tests.{and_T, any_row_lem, at_row, eqb_iff, T_and, test, neqb_ne}
 use Rattle.job.specs.Job.{Job, Layer, size}
-use Rattle.fetch.specs.Rows.{Row, begun, Carried, Permuted}
+use Rattle.fetch.specs.Rows.{Row, begun, Carried}
 use Rattle.fetch.specs.Rules.{BegunIn, PlayingOrder, RowInRange}
 use Rattle.fetch.specs.lemmas.Rows.{any_some, some_row}
 

@@ -1,14 +1,13 @@
 -- `job::in_order` meets its contract: the first test that fails settles all. Assumes nothing.
 use mathlib.Core.Path.{sym}
 use native.Mathlib.Omega.{arith}
-use Prim.Native.Nat.{◌≤◌, ◌<◌}
+use Prim.Native.Nat.{◌≤◌}
 use lib.ListN.{length, get_or}
-use borrow.Author.Tests.{le-ltb, lt-ltb, eq-eqb, ne_eqb}
-use Rattle.theory_basics.specs.lemmas.Tests.{answer_true, answer_false}
+use borrow.Author.Tests.{le-ltb, eq-eqb}
 use mathlib.Core.Bool.{not}
 use lib.Dec.{ltb, eqb}
-use Rattle.job.specs.Refusal.{within, comes, named}
-use Rattle.job.proofs.Orders.{no_layer, own_size, no_range}
+use Rattle.job.specs.Refusal.{within, comes}
+use Rattle.job.proofs.Orders.{no_layer, own_size}
 use Rattle.job.proofs.in_order.Goals as goal
 
 pub returns-then-sizes-n : goal.returns-then-sizes-n

@@ -1,10 +1,10 @@
-use Prim.Native.Nat.{◌+◌, ◌≤◌, ◌-◌, max}
+use Prim.Native.Nat.{◌+◌, ◌≤◌, max}
 use mathlib.Core.Path.{◌≡◌}
 use mathlib.Core.List.{[]}
 use native.Mathlib.Omega.{arith}
 use native.Mathlib.Numerals.{add-one}
 use lib.Bits.{and_le_l, and_le_r, or_add_and}
-use lib.ListN.{length, get_or, drop, drop_of_length-le}
+use lib.ListN.{get_or, drop, drop_of_length-le}
 use lib.Seq.{drop-cons}
 use Rattle.job.specs.lemmas.Greatest.{greatest}
 use Rattle.job.proofs.joined.Goals as goal

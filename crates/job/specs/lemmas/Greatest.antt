@@ -1,10 +1,9 @@
 -- Lemmas. The greatest of some numbers: each is at most a bound exactly if the greatest is. Assumes
 -- nothing.
-use Rattle.std.specs.Prelude.{ℕ, ◌≤◌, max, ◌≡◌, refl, List, [], ◌∷◌, ◌↔◌, leb}
+use Rattle.std.specs.Prelude.{ℕ, max, ◌≡◌, List, [], ◌∷◌, leb}
 use Rattle.std.proofs.Common.{arith}
 use Rattle.theory_basics.specs.Tests.{all}
 use Rattle.theory_basics.specs.lemmas.Tests.{leb_iff, same_test, T_and, and_T}
-use Rattle.job.specs.Job.{Within}
 use Rattle.job.specs.Refusal.{within}
 use Rattle.job.specs.Theorems.{within_iff}
 

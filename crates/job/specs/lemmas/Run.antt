@@ -1,7 +1,7 @@
 -- Lemmas. Refusal 18 in one pass: each SZ is named and sized, and stands after the one before it.
 -- Assumes nothing.
 use Rattle.std.specs.Prelude.{ℕ, ◌+◌, ◌≤◌, ◌<◌, min, ◌≡◌, refl, Bool, true, ◌&&◌, List, [], ◌∷◌, ◌↔◌, length, get_or, drop, T, leb}
-use Rattle.std.proofs.Common.{sym, ◌∙◌, inl, ⊎_elim, arith, add-one, drop_of_length-le, drop-cons, leb→le}
+use Rattle.std.proofs.Common.{inl, ⊎_elim, arith, add-one, drop_of_length-le, drop-cons, leb→le}
 use Rattle.std.proofs.Math.Dec.{nleb→lt}
 use Rattle.theory_basics.specs.Tests.{All, all}
 use Rattle.theory_basics.specs.lemmas.Tests.{same_test, test}

@@ -1,4 +1,3 @@
-use Prim.Native.Nat.{◌-◌}
 use mathlib.Core.Path.{◌≡◌, sym}
 use native.Mathlib.Omega.{arith}
 use Rattle.meter.proofs.Laws.{cell, found_in, found_out, looked_start, looked_more, looked_all, looked_broken, too_many}

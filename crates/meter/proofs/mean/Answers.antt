@@ -1,10 +1,9 @@
-use Prim.Native.Nat.{◌-◌}
 use native.Mathlib.Omega.{arith}
 use mathlib.Core.Path.{◌≡◌}
 use lib.ListN.{get_or}
 use Rattle.meter.specs.lemmas.Mean.{share_narrow}
 use Rattle.meter.proofs.Laws.{in_order_kept}
-use Rattle.meter.proofs.Sums.{Summed, summed_start, summed_more, summed_zero, summed_high, summed_all}
+use Rattle.meter.proofs.Sums.{summed_start, summed_more, summed_zero, summed_pos, summed_high, summed_all}
 use Rattle.meter.proofs.mean.Goals as goal
 
 pub loop-i-init : goal.loop-i-init
@@ -25,14 +24,17 @@ loop-i-preserved c =
     let more = summed_more c.args.m c.loop-i.sum c.loop-i.i w.1 (omega arith) in
     (omega arith, (w.0, rw c.share-sum.ensures more))
 
--- After the loop every sample is summed.
-whole : (c : tie.After-loop invariant-loop decreases-loop) → Summed c.args.m c.loop-i.sum c.args.m.kept
-whole c =
+pub nonzero_div-result : goal.nonzero_div-result
+nonzero_div-result c =
     let e : c.loop-i.i ≡ c.args.m.kept = omega arith in
-    rw e at c.loop-i.invariant.1.1
+    omega (arith, summed_pos c.args.m c.loop-i.sum c.requires.0 c.requires.1 (rw e at c.loop-i.invariant.1.1))
 
 pub overflow_cast-result : goal.overflow_cast-result
-overflow_cast-result c = omega (arith, summed_high c.args.m c.loop-i.sum c.requires.0 c.requires.1 (whole c))
+overflow_cast-result c =
+    let e : c.loop-i.i ≡ c.args.m.kept = omega arith in
+    omega (arith, summed_high c.args.m c.loop-i.sum c.requires.0 c.requires.1 (rw e at c.loop-i.invariant.1.1))
 
 pub returns : goal.returns
-returns c = summed_all c.args.m c.loop-i.sum c.requires.0 c.requires.1 (whole c)
+returns c =
+    let e : c.loop-i.i ≡ c.args.m.kept = omega arith in
+    summed_all c.args.m c.loop-i.sum c.requires.0 c.requires.1 (rw e at c.loop-i.invariant.1.1)

@@ -1,11 +1,11 @@
 -- Lemmas. The tests of the meter and what they say; samples added one by one; what is stored reads
 -- back.
-use Rattle.std.specs.Prelude.{ℕ, zero, suc, ◌+◌, ◌-◌, ◌≤◌, ◌<◌, ◌≡◌, refl, Bool, true, false, not, ◌&&◌, List, [], ◌∷◌, ◌++◌, map, ◌⊎◌, ◌↔◌, length, get_or, drop, T, leb, ltb}
+use Rattle.std.specs.Prelude.{ℕ, zero, suc, ◌-◌, ◌≤◌, ◌<◌, ◌≡◌, refl, Bool, true, false, ◌&&◌, List, [], ◌∷◌, ◌++◌, map, ◌↔◌, length, get_or, drop, T, leb, ltb}
 use Rattle.std.proofs.Common.{◌∙◌, ⊎_elim, arith, length-drop, ext_get_or}
 use Rattle.std.proofs.lemmas.List.{length-map}
 use Rattle.std.proofs.Math.ListN.{get_or-append, get_or-map}
 use Rattle.theory_basics.specs.Tests.{All, all}
-use Rattle.theory_basics.specs.lemmas.Tests.{all_iff, leb_iff, ltb_iff, tests, last, T_true, test}
+use Rattle.theory_basics.specs.lemmas.Tests.{all_iff, leb_iff, ltb_iff, tests, last, T_true}
 use Rattle.theory_basics.specs.Lists.{up_to}
 use Rattle.theory_basics.specs.lemmas.Lists.{length_up_to, get_d_up_to}
 use Rattle.theory_basics.specs.Refusals.{unless, ◌or_else◌}

@@ -1,10 +1,10 @@
 -- Lemmas. Reading a file from its front, a record a turn: what is left from here gives the whole
 -- file. Assumes nothing.
-use Rattle.std.specs.Prelude.{ℕ, zero, suc, ◌+◌, ◌-◌, ◌≤◌, ◌<◌, ◌≡◌, refl, Bool, true, false, cond, List, [], ◌∷◌, ◌++◌, length, drop, leb, eqb}
+use Rattle.std.specs.Prelude.{ℕ, zero, suc, ◌+◌, ◌-◌, ◌≤◌, ◌<◌, ◌≡◌, refl, true, false, List, [], ◌∷◌, ◌++◌, length, drop, eqb}
 use Rattle.std.proofs.Common.{sym, ap, ◌∙◌, append_assoc, append-nil, arith, length-drop, drop-drop}
 use Rattle.theory_basics.specs.Refusals.{unless, ◌or_else◌}
-use Rattle.theory_basics.specs.lemmas.Refusals.{or_else_none, or_else_some}
-use Rattle.records.specs.File.{Front, got, none, Format, Stop, ended, broken, Split, split_by, split_up_to, split, first_fault, stop_refusal, records_refusal}
+use Rattle.theory_basics.specs.lemmas.Refusals.{or_else_some}
+use Rattle.records.specs.File.{Front, got, none, Format, ended, Split, split_by, split_up_to, split, first_fault, stop_refusal, records_refusal}
 
 module _ {R : Type 0} (F : Format R) where
   -- The refusal from here on, after the records before.

@@ -1,14 +1,14 @@
 -- Lemmas. What is written reads back: a field, and a file record by record. Assumes nothing.
 use Prim.Native.Nat.{ℕ, zero, suc, ◌+◌, ◌*◌, ◌-◌, ◌/◌, ◌%◌, ◌≤◌, ◌<◌}
-use Rattle.std.specs.Prelude.{◌≡◌, refl, Bool, true, false, cond, leb, eqb}
-use Rattle.std.proofs.Common.{sym, ap, ◌∙◌, length-append}
+use Rattle.std.specs.Prelude.{◌≡◌, true, false, leb}
+use Rattle.std.proofs.Common.{length-append}
 use mathlib.Core.List.{List, [], ◌∷◌, ◌++◌, append_assoc, append-nil}
 use native.Mathlib.Omega.{arith}
 use Rattle.std.proofs.Math.ListN.{length, drop}
 use Rattle.std.proofs.Math.Seq.{drop-append_seam}
 use Rattle.theory_basics.specs.Tests.{All}
 use Rattle.theory_basics.specs.Refusals.{unless, ◌or_else◌}
-use Rattle.records.specs.File.{Front, got, none, Format, Stop, ended, broken, Split, split_by, split_up_to, split, first_fault, stop_refusal, records_refusal, file_refusal, encode_all}
+use Rattle.records.specs.File.{got, Format, ended, split_up_to, split, first_fault, file_refusal, encode_all}
 
 -- The bytes of a field give its value back.
 pub h_back : (x : ℕ) → x < 65536 → x % 256 + x / 256 % 256 * 256 ≡ x
