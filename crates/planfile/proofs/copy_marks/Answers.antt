@@ -1,4 +1,3 @@
-use Prim.Native.Nat.{◌-◌}
 use mathlib.Core.Path.{refl}
 use native.Mathlib.Omega.{arith}
 use Rattle.planfile.specs.lemmas.Scan.{mark_on, filled_start, filled_more, filled_end}

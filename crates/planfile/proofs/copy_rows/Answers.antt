@@ -1,10 +1,9 @@
-use Prim.Native.Nat.{ℕ, ◌+◌, ◌*◌, ◌-◌, ◌<◌}
-use mathlib.Core.List.{List}
+use Prim.Native.Nat.{◌+◌, ◌*◌, ◌<◌}
 use mathlib.Core.Path.{◌≡◌, refl, ◌∙◌}
 use native.Mathlib.Nat.{le_trans}
 use native.Mathlib.Omega.{arith}
 use Rattle.records.specs.lemmas.Places.{w_four}
-use Rattle.planfile.specs.lemmas.Scan.{row_on, filled_start, filled_more, filled_end}
+use Rattle.planfile.specs.lemmas.Scan.{filled_start, filled_more, filled_end}
 use Rattle.planfile.proofs.Reader.{slot_on, chunk_on, layer_on, bytes_on}
 use Rattle.planfile.proofs.copy_rows.Goals as goal
 

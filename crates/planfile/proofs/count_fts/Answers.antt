@@ -1,4 +1,3 @@
-use Prim.Native.Nat.{◌-◌}
 use native.Mathlib.Omega.{arith}
 use Rattle.theory_basics.specs.lemmas.Tests.{true_T}
 use Rattle.planfile.specs.lemmas.Scan.{ft_inside, fts_start, fts_more, fts_end}

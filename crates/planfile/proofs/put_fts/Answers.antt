@@ -1,11 +1,6 @@
-use Prim.Native.Nat.{ℕ, ◌-◌}
 use mathlib.Core.Path.{refl}
-use mathlib.Core.List.{List}
 use native.Mathlib.Omega.{arith}
-use Rattle.fetch.specs.Rows.{row_at}
-use Rattle.planfile.specs.PlanFile.{ft_of}
 use Rattle.planfile.specs.lemmas.Writing.{put_start, put_more, put_rows}
-use Rattle.planfile.specs.declared.Record.{Record}
 use Rattle.planfile.proofs.Writer.{ft_at}
 use Rattle.planfile.proofs.put_fts.Goals as goal
 

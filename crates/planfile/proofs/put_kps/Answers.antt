@@ -1,11 +1,7 @@
-use Prim.Native.Nat.{ℕ, ◌-◌, ◌+◌}
 use mathlib.Core.Path.{◌≡◌, refl}
-use mathlib.Core.List.{List}
 use native.Mathlib.Omega.{arith}
-use lib.ListN.{length, get_or}
+use lib.ListN.{length}
 use Rattle.planfile.specs.lemmas.Writing.{put_start, put_more}
-use Rattle.planfile.specs.declared.Record.{Record}
-use Rattle.planfile.specs.declared.Record.TheVariants.{Kp}
 use Rattle.planfile.proofs.Writer.{kp_at}
 use Rattle.planfile.proofs.put_kps.Goals as goal
 
