@@ -7,9 +7,6 @@ use Rattle.theory_basics.specs.lemmas.Refusals.{found_none}
 use Rattle.replan.specs.Answer.{replan_input}
 use Rattle.replan.specs.Theorems.{settled_afresh, standing_goes_on}
 use Rattle.replan.proofs.Outputs.{earlier_long, gather_from, output_laid, lay_from, none_left, not_kept, refused_asked, short_marks, some_slot}
-use borrow.Author.Tests.{not-true, not-false}
-use Rattle.std.proofs.Common.{ap}
-use mathlib.Core.Bool.{not}
 use Rattle.replan.proofs.replan.Goals as goal
 
 pub returns-then-no-gt0 : goal.returns-then-no-gt0
