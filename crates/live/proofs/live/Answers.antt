@@ -1,5 +1,4 @@
 -- `live` meets its contract: the refusals in their order, then the asks.
-use borrow.Author.Tests.{not-true, not-false}
 use Prim.Native.Nat.{ℕ}
 use native.Mathlib.Omega.{arith}
 use lib.ListN.{length-replicate}
@@ -10,8 +9,6 @@ use Rattle.live.specs.Answer.{live_input, piece_slices}
 use Rattle.live.specs.lemmas.Writing.{as_replan}
 use Rattle.live.proofs.Writing.{hand_from, promised_pieces, refused_asked, refused_kept}
 use Rattle.fetch.specs.Slices.{row_slices}
-use Rattle.std.proofs.Common.{ap}
-use mathlib.Core.Bool.{not}
 use Rattle.live.proofs.live.Goals as goal
 
 pub returns-then-no-gt0 : goal.returns-then-no-gt0
