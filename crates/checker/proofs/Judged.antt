@@ -2,12 +2,12 @@
 -- nothing.
 use Prim.Native.Nat.{ℕ, ◌+◌, ◌*◌, ◌-◌, ◌/◌, ◌≤◌, ◌<◌}
 use mathlib.Core.Path.{◌≡◌, sym, ap, ap₂, ◌∙◌}
-use mathlib.Core.Bool.{Bool, true, false, ◌&&◌, ◌||◌}
+use mathlib.Core.Bool.{Bool, true, false, ◌||◌}
 use mathlib.Core.List.{List, [], ◌∷◌}
 use mathlib.Core.Logic.{inl, inr, ⊎_elim}
 use native.Mathlib.Omega.{arith}
 use lib.ListN.{length, get_or}
-use lib.Dec.{T, leb, ltb, eqb}
+use lib.Dec.{leb}
 use Rattle.theory_basics.specs.Tests.{all_below, all_to}
 use Rattle.theory_basics.specs.lemmas.Tests.{T_or_iff, all_below_cong, all_to_cong, same_test}
 use Rattle.job.specs.Job.{Accepted, Job, chunks, job_of, last_due, layers, size}
@@ -17,11 +17,11 @@ use Rattle.job.specs.lemmas.Within.{size_most}
 use Rattle.fetch.specs.Rows.{Row, bytes_of_layer}
 use Rattle.fetch.specs.Verdict.{lowest, rule2}
 use Rattle.fetch.specs.Theorems.{rule2_iff, rule2_from_iff}
-use Rattle.fetch.specs.VerdictFrom.{layer_before, rule2_from, verdict_from, whole_from}
-use Rattle.core_rules.proofs.Exact.{carried_is, eqb_cap, ltb_cap, rule1_is, rule2_is, rule3_is, rule4_is, rule6_is, rule7_is}
+use Rattle.fetch.specs.VerdictFrom.{layer_before, rule2_from, verdict_from}
+use Rattle.core_rules.proofs.Exact.{eqb_cap, ltb_cap, rule1_is, rule2_is, rule3_is, rule4_is, rule6_is, rule7_is}
 use Rattle.core_rules.specs.declared.Layers.{Layers}
 use Rattle.core_rules.specs.declared.Pass.{Pass}
-use Rattle.core_rules.specs.lemmas.Tables.{TallyPost, SeeAllPost, Shown, Tallied, held_by}
+use Rattle.core_rules.specs.lemmas.Tables.{TallyPost, SeeAllPost, Tallied, held_by}
 use Rattle.checker.specs.lemmas.Judged.{Judged, MarkLatePost, allowed_by, allowed_sum, early}
 
 -- The flags say what the rows say.

@@ -8,12 +8,12 @@ use lib.ListN.{length, get_or, take, drop, replicate, length-drop, length-map, l
 use Rattle.theory_basics.specs.Sums.{pre}
 use Rattle.theory_basics.specs.Tests.{All}
 use Rattle.job.specs.declared.Programme.{Programme}
-use Rattle.job.specs.Job.{Job, Override, job_of, size_in, size, due, due_slot, held_most, layers, chunks}
+use Rattle.job.specs.Job.{Job, Override, job_of, size_in, size, due, due_slot, held_most}
 use Rattle.theory_plan.specs.lemmas.Ascending.{asc_within}
 use Rattle.theory_plan.specs.Plan.{by_moore_hodgson, kept, plan, after}
 use Rattle.theory_plan.specs.lemmas.MooreHodgson.{kept_by_after}
 use Rattle.core_moore_hodgson.specs.lemmas.Tables.{KeptIn}
-use Rattle.theory_plan.specs.lemmas.Trials.{bases, mark_of, kept_at, on_layers, based, decided_on, kept_bases, stacked}
+use Rattle.theory_plan.specs.lemmas.Trials.{mark_of, kept_at, on_layers, based, decided_on, kept_bases, stacked}
 use Rattle.theory_plan.specs.lemmas.Parts.{at, padded, padded_long, part_small}
 use Rattle.core_decide.specs.lemmas.Decision.{kept_of, Sums, Slot, SumTable, bases_in, SettleLayersPre, SettleLayersPost, SettleKeptPre, Decides, SettleKeptPost, job_from, DecidePre, DecidePost}
 use Rattle.theory_plan.specs.lemmas.Words.{due_slots}

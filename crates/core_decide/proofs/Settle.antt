@@ -5,8 +5,6 @@ use Prim.Native.Nat.{ℕ, suc, ◌+◌, ◌*◌, ◌-◌, ◌≤◌, ◌<◌}
 use native.Mathlib.Omega.{arith}
 use lib.ListN.{length, drop, length-drop}
 use Rattle.theory_basics.specs.Tests.{All}
-use Rattle.job.specs.Job.{layers}
-use Rattle.theory_plan.specs.Plan.{kept, after}
 use Rattle.theory_plan.specs.lemmas.Trials.{Kept, rooms, back, bytes_kept, mark_of, on_layer, on_layers}
 use Rattle.theory_plan.specs.lemmas.Parts.{at}
 use Rattle.core_decide.specs.lemmas.Decision.{kept_of, TryLayerPre, TryLayerPost, SettleLayersPre, SettleLayersPost}

@@ -9,7 +9,7 @@ use lib.ListN.{length, get_or, set, length-set, get_or-eq_default}
 use lib.Dec.{leb, ltb, ltb→lt, nltb→le}
 use borrow.Author.Tests.{le-leb, lt-leb, lt-ltb, le-ltb}
 use Rattle.theory_basics.specs.lemmas.Tests.{test}
-use Rattle.theory_plan.specs.lemmas.Parts.{at, padded, left_after, ForecastPart, left_before, left_none, padded_long, left_step, padded_at}
+use Rattle.theory_plan.specs.lemmas.Parts.{padded, left_after, ForecastPart, left_before, left_none, padded_long, left_step, padded_at}
 use Rattle.core_decide.specs.lemmas.Decision.{SetPlacesPost, SumTable}
 use Rattle.theory_basics.specs.lemmas.Tables.{at_set, above_next}
 

@@ -16,7 +16,7 @@ use Rattle.theory_plan.specs.lemmas.Fill.{QueuedPiece}
 use Rattle.theory_plan.specs.lemmas.Linear.{level_bit}
 use Rattle.theory_plan.specs.lemmas.Queue.{pieces}
 use Rattle.core_fill.specs.declared.Position.{Position}
-use Rattle.core_fill.specs.lemmas.Filling.{AllBy, begun, bytes_at, PutChunkPre, Fed, last_of, layers_of, left_at, level_of, Levels, load, Made, onward, piece, PutPiecesPre, PutPost, PutPiecePost, queue_by, PutPiecePre, Same}
+use Rattle.core_fill.specs.lemmas.Filling.{AllBy, begun, bytes_at, PutChunkPre, Fed, last_of, layers_of, left_at, level_of, load, Made, onward, piece, PutPiecesPre, PutPost, PutPiecePost, queue_by, PutPiecePre, Same}
 use Rattle.core_fill.proofs.Pieces.{jump, left_next, made_same, same_refl}
 use Rattle.theory_basics.specs.lemmas.Tables.{drop_next, all_from}
 

@@ -2,22 +2,16 @@
 use mathlib.Core.Path.{◌≡◌, refl, sym, ◌∙◌, ap, subst}
 use mathlib.Core.Bool.{Bool, true, false, cond}
 use mathlib.Core.List.{List, [], ◌∷◌, ◌++◌, append_assoc, append-nil}
-use mathlib.Core.Logic.{⊎_elim}
-use Prim.Native.Nat.{ℕ, zero, suc, ◌+◌, ◌*◌, ◌-◌, ◌≤◌, ◌<◌}
+use Prim.Native.Nat.{ℕ, zero, suc, ◌+◌, ◌-◌, ◌≤◌, ◌<◌}
 use native.Mathlib.Omega.{arith}
-use native.Mathlib.Numerals.{add-one}
-use lib.ListN.{get_or, drop, drop_of_length-le}
-use lib.Dec.{ltb, ltb→lt, nltb→le}
+use lib.Dec.{ltb}
 use borrow.Author.Tests.{lt-ltb, le-ltb, ltb-true, ltb-false}
-use Rattle.theory_basics.specs.lemmas.Tables.{all_from, drop_next}
-use Rattle.theory_basics.specs.lemmas.Tests.{test}
-use Rattle.job.specs.Job.{Within}
 use Rattle.fetch.specs.Marks.{bit}
 use Rattle.theory_plan.specs.lemmas.Fill.{QueuedPiece}
 use Rattle.theory_plan.specs.lemmas.Linear.{level_bit}
 use Rattle.core_fill.proofs.Chunks.{begun_by, begun_fits, begun_room, fed_append, puts_as, puts_begun, puts_both, puts_more, puts_none, puts_one, room_left}
 use Rattle.core_fill.specs.declared.Position.{Position}
-use Rattle.core_fill.specs.lemmas.Filling.{begun, bytes_at, Fed, last_of, left_at, level_of, load, Made, onward, piece, PutPiecesPre, PutPost, PutPiecePost, PutPiecePre, Same}
+use Rattle.core_fill.specs.lemmas.Filling.{begun, Fed, left_at, level_of, load, piece, PutPiecesPre, PutPost, PutPiecePost, PutPiecePre}
 use Rattle.core_fill.specs.lemmas.Left.{PutLeftPre, PutLayerPre, layers_by, layers_left, LevelsBy, pieces_left}
 
 -- ---- a piece from its release on

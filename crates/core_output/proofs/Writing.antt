@@ -13,7 +13,7 @@ use Rattle.theory_basics.specs.lemmas.Lent.{over_long}
 use Rattle.theory_basics.specs.lemmas.Lists.{length_up_to}
 use Rattle.fetch.specs.Counts.{mark_count}
 use Rattle.fetch.specs.Rows.{Row, row_slot, row_chunk, row_layer, row_bytes}
-use Rattle.theory_plan.specs.lemmas.Fill.{QueuedPiece, fill}
+use Rattle.theory_plan.specs.lemmas.Fill.{fill}
 use Rattle.core_decide.specs.lemmas.Marks.{mark_or}
 use Rattle.core_fill.proofs.Pieces.{same_refl}
 use Rattle.core_fill.specs.declared.Position.{Position}

@@ -4,17 +4,13 @@
 // too, if it has no SZ. One with an SZ has an unknown mark, 2.
 #![tactic(auto)]
 
-use libc::{STDIN_FILENO, STDOUT_FILENO};
-
-fn write_first(out: &[u8; programs::CONVERTED_BYTES], count: usize) {
-    io::write_all(STDOUT_FILENO, core_prefix::bytes(out, count));
-}
+use std::io;
 
 // One byte more than a file may have is read, so that a longer input is refused by 9.
-fn main() {
+fn main(rt: HostRuntime) -> io::Result<()> {
     let mut job = [0u8; programs::READ_BYTES];
-    let n = io::read_full(STDIN_FILENO, &mut job);
+    let n = core_input::read_full(&mut rt.stdin(), &mut job)?;
     let mut out = [0u8; programs::CONVERTED_BYTES];
     let count = programs::print_converted(core_prefix::bytes(&job, n), &mut out);
-    write_first(&out, count);
+    rt.write_all(core_prefix::bytes(&out, count))
 }

@@ -1,7 +1,7 @@
 -- Theorems. Job files in one sequence: demand 2, "Job and plan files read back as the job and plan
 -- written", and document 02, request 6, "Each job then has a single file". `file_refusal` and
 -- `job_of_file` are what the reader's contract cites, `job_file` what the writer's does.
-use Rattle.std.specs.Prelude.{ℕ, ◌+◌, ◌≤◌, ◌≡◌, refl, List, ◌++◌, ◌↔◌, length, take, drop}
+use Rattle.std.specs.Prelude.{ℕ, ◌≤◌, ◌≡◌, refl, List, ◌++◌, ◌↔◌, length, take, drop}
 use Rattle.std.proofs.Common.{sym, ap, subst, ◌∙◌, arith, le-leb}
 use Rattle.std.proofs.Math.Seq.{take-append_seam}
 use Rattle.theory_basics.specs.Lent.{over}

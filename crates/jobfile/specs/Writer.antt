@@ -14,7 +14,6 @@ use Rattle.jobrecords.specs.declared.Record.TheVariants.{Pg, Ly, Sz, Bw, En}
 use Rattle.records.specs.declared.Written.{Written}
 use Rattle.records.specs.declared.Written.TheVariants.{Bytes, Refused}
 use Rattle.jobrecords.specs.Records.{encode}
-use Rattle.jobrecords.specs.Refusal.{format}
 
 -- A run of equal slots.
 pub record Run : Type 0 where

@@ -199,7 +199,7 @@ fn put_layers(out: &mut [u8], at: usize, sizes: &[u32]) -> usize
 // The SZs, handed whole.
 fn put_overrides(out: &mut [u8], at: usize, cs: &[u16], ls: &[u8], bs: &[u32]) -> usize
     requires whole_sizes { WholeSizes cs.now ls.now bs.now }
-    requires bs_in_bounds { at + length (records_bytes (map override_record (overrides_of cs.now ls.now bs.now))) ≤ length
+    requires room { at + length (records_bytes (map override_record (overrides_of cs.now ls.now bs.now))) ≤ length
         out.old }
     ensures { Puts out.old at
         (records_bytes (map override_record (overrides_of cs.now ls.now bs.now)))
@@ -216,8 +216,8 @@ fn put_overrides(out: &mut [u8], at: usize, cs: &[u16], ls: &[u8], bs: &[u32]) -
 
 // One BW per longest run.
 fn put_runs(out: &mut [u8], at: usize, forecast: &[u32]) -> usize
-    requires forecast_in_bounds { at + length (records_bytes (map run_record (runs forecast.now))) ≤ length out.old }
-    requires forecast_len_bound { length forecast.now < 65536 }
+    requires room { at + length (records_bytes (map run_record (runs forecast.now))) ≤ length out.old }
+    requires few_slots { length forecast.now < 65536 }
     ensures { Puts out.old at (records_bytes (map run_record (runs forecast.now)))
         out.new result }
 {
@@ -243,11 +243,11 @@ fn put_job(
     out: &mut [u8],
 ) -> usize
     requires whole_sizes { WholeSizes size_chunks.now size_layers.now size_bytes.now }
-    requires forecast_in_bounds { length
+    requires room { length
         (job_file
         (job_in (job_input p sizes.now size_chunks.now size_layers.now size_bytes.now forecast.now)))
         ≤ length out.old }
-    requires forecast_len_bound { length forecast.now < 65536 }
+    requires few_slots { length forecast.now < 65536 }
     ensures { Puts out.old 0
         (job_file
         (job_in

@@ -1,15 +1,14 @@
 -- Lemmas. The SZs that the loop counts, a record more: they stand in the file one after the other.
 -- Assumes nothing.
-use Prim.Native.Nat.{ℕ, ◌+◌, ◌*◌, ◌-◌, ◌≤◌, ◌<◌}
+use Prim.Native.Nat.{ℕ, ◌+◌, ◌*◌, ◌-◌, ◌≤◌}
 use mathlib.Core.Path.{◌≡◌, refl, sym, ap, ◌∙◌}
-use mathlib.Core.Bool.{Bool, true, false, not, ◌&&◌, ◌||◌}
+use mathlib.Core.Bool.{Bool, true, false, ◌&&◌}
 use mathlib.Core.List.{List, [], ◌∷◌, ◌++◌, append-nil}
 use mathlib.Core.Logic.{◌⊎◌, inl, inr, ⊎_elim}
 use native.Mathlib.Omega.{arith}
 use native.Mathlib.Numerals.{add-one}
 use lib.ListN.{length, get_or, drop}
 use lib.Dec.{T, leb, eqb→eq}
-use Rattle.theory_basics.specs.Lists.{up_to}
 use Rattle.theory_basics.specs.lemmas.Lists.{length_up_to}
 use Rattle.theory_basics.specs.lemmas.Tests.{by_cond, last}
 use Rattle.theory_basics.specs.lemmas.Refusals.{unless_iff}
@@ -21,14 +20,14 @@ use Rattle.job.specs.Theorems.{within_iff}
 use Rattle.jobrecords.specs.declared.Record.{Record}
 use Rattle.jobrecords.specs.declared.Record.TheVariants.{Pg, Ly, Sz, Bw, En}
 use Rattle.jobrecords.specs.declared.Progress.{Progress}
-use Rattle.jobrecords.specs.Records.{PG, LY, SZ, BW, EN, whole, programme_at, layer_at, override_at, run_at, front, is_end}
+use Rattle.jobrecords.specs.Records.{PG, LY, SZ, BW, EN, override_at, front, is_end}
 use Rattle.jobrecords.specs.Says.{overrides_in}
 use Rattle.jobrecords.specs.Refusal.{mixed, previous, place, follows, sequence_refusal, fault, format}
 use Rattle.jobrecords.specs.lemmas.Joined.{overrides_append}
 use Rattle.jobrecords.specs.lemmas.Sequence.{previous_snoc, parts}
 use Rattle.jobrecords.specs.lemmas.Mixed.{none_mixed}
 use Rattle.jobrecords.proofs.Fronts.{byte_on, h_on, w_on}
-use Rattle.jobrecords.specs.lemmas.Reading.{no_records, override_on, overrides_on, counted, Counts, more_overrides, ends_after}
+use Rattle.jobrecords.specs.lemmas.Reading.{no_records, override_on, overrides_on, Counts, more_overrides, ends_after}
 
 -- ---- an SZ in front has 9 bytes, which say it
 

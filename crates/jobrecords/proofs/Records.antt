@@ -1,5 +1,5 @@
 -- Lemmas. The state of the loop that reads a job file, a record more. Assumes nothing.
-use Prim.Native.Nat.{ℕ, ◌+◌, ◌-◌, ◌≤◌, ◌<◌}
+use Prim.Native.Nat.{ℕ, ◌+◌, ◌≤◌, ◌<◌}
 use mathlib.Core.Path.{◌≡◌, refl, sym, ap, subst, ◌∙◌}
 use mathlib.Core.Bool.{true, false}
 use mathlib.Core.List.{List, [], ◌∷◌, ◌++◌, append-nil}
@@ -11,7 +11,7 @@ use Rattle.job.specs.declared.Programme.{Programme}
 use Rattle.jobrecords.specs.declared.Record.{Record}
 use Rattle.jobrecords.specs.declared.Record.TheVariants.{Pg, Ly, Sz, Bw, En}
 use Rattle.jobrecords.specs.declared.Progress.{Progress}
-use Rattle.jobrecords.specs.Says.{has_programme, programme_in, sizes_in, forecast_in}
+use Rattle.jobrecords.specs.Says.{has_programme, sizes_in, forecast_in}
 use Rattle.jobrecords.specs.Records.{is_end}
 use Rattle.jobrecords.specs.Refusal.{place}
 use Rattle.jobrecords.specs.lemmas.Reading.{run_bytes, with_programme, with_layers, with_overrides, with_runs, Fine, Sized, Room, StandsFor, TakeRecordPost}

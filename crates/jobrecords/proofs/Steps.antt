@@ -1,6 +1,6 @@
 -- Lemmas. A turn of the loop that reads a job file: a record read, judged and taken. Assumes
 -- nothing.
-use Prim.Native.Nat.{ℕ, ◌+◌, ◌*◌, ◌-◌, ◌≤◌, ◌<◌}
+use Prim.Native.Nat.{ℕ, ◌+◌, ◌-◌, ◌≤◌, ◌<◌}
 use mathlib.Core.Path.{◌≡◌, refl, sym, ap, ◌∙◌}
 use mathlib.Core.Bool.{Bool, true, false, cond}
 use mathlib.Core.List.{List, [], ◌∷◌, ◌++◌}
@@ -15,7 +15,6 @@ use Rattle.records.specs.File.{Front, got, none, records_refusal, split}
 use Rattle.records.specs.lemmas.Reading.{reads_start, reads_none, reads_end, reads_fault, reads_more}
 use Rattle.job.specs.Refusal.{overrides_refusal}
 use Rattle.jobrecords.specs.declared.Record.{Record}
-use Rattle.jobrecords.specs.declared.Record.TheVariants.{Pg, Ly, Sz, Bw, En}
 use Rattle.jobrecords.specs.declared.Read.TheVariants.{Got, Refused}
 use Rattle.jobrecords.specs.declared.Progress.{Progress}
 use Rattle.jobrecords.specs.declared.Step.{Step}

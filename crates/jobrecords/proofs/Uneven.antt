@@ -1,10 +1,10 @@
 -- Lemmas. Refusal 18 of SZs that stand in a file, by how many there are and by what was copied of
 -- them. Assumes nothing.
 use Prim.Native.Nat.{ℕ, ◌+◌, ◌*◌, ◌≤◌, ◌<◌}
-use mathlib.Core.Path.{◌≡◌, refl, sym, ap, ◌∙◌}
+use mathlib.Core.Path.{◌≡◌, sym, ap, ◌∙◌}
 use mathlib.Core.List.{List, map}
 use native.Mathlib.Omega.{arith}
-use lib.ListN.{length, take, drop, length-map}
+use lib.ListN.{length, take, length-map}
 use lib.Seq.{take_at}
 use Rattle.theory_basics.specs.Lent.{over}
 use Rattle.theory_basics.specs.lemmas.Lists.{length_up_to}

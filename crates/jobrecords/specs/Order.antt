@@ -1,7 +1,7 @@
 -- Theorems. 17 by pairs: which record may stand after which, a line a pair, and that the test of
 -- Refusal (`follows`) says this. EN before a record is none before it: EN never stands before
 -- another.
-use Rattle.std.specs.Prelude.{ℕ, suc, ◌≡◌, true, not, ◌↔◌, T, eqb}
+use Rattle.std.specs.Prelude.{ℕ, ◌≡◌, ◌↔◌, T, eqb}
 use Rattle.std.proofs.Common.{T_not, eqb→eq}
 use Rattle.std.proofs.Math.Dec.{not_T}
 use Rattle.theory_basics.specs.lemmas.Tests.{eqb_iff}

@@ -6,7 +6,6 @@
 use Rattle.std.specs.Prelude.{ℕ, ◌+◌, Bool, true, false, not, ◌&&◌, ◌||◌, List, [], ◌∷◌, length, leb, eqb}
 use Rattle.theory_basics.specs.Refusals.{unless, ◌or_else◌}
 use Rattle.records.specs.File.{Format, split, file_refusal}
-use Rattle.job.specs.declared.Programme.{Programme}
 use Rattle.job.specs.Job.{Job}
 use Rattle.job.specs.Refusal.{within, fields_refusal, last_due_refusal, overrides_refusal, slots_refusal}
 use Rattle.jobrecords.specs.declared.Record.{Record}

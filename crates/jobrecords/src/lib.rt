@@ -254,8 +254,8 @@ fn run_fault(slots: usize, count: u16, bytes: u32) -> u8
 
 // The n SZs that stand in a file from a place on go to the start of three buffers.
 fn gather(file: &[u8], from: usize, n: usize, cs: &mut [u16], ls: &mut [u8], bs: &mut [u32])
-    requires n_in_bounds { from + 9 * n ≤ length file.now }
-    requires n_in_bounds_2 { (n ≤ length cs.old) × (n ≤ length ls.old) × (n ≤ length bs.old) }
+    requires records_inside { from + 9 * n ≤ length file.now }
+    requires buffers_hold { (n ≤ length cs.old) × (n ≤ length ls.old) × (n ≤ length bs.old) }
     ensures chunks { cs.new ≡ over (override_chunks (overrides_on file.now from n))
         cs.old }
     ensures layers { ls.new ≡ over (override_layers (overrides_on file.now from n))
@@ -279,8 +279,8 @@ fn gather(file: &[u8], from: usize, n: usize, cs: &mut [u16], ls: &mut [u8], bs:
 // 18 of so many SZs that stand in a file from a place on. A file can hold more of them than a job
 // can have, which is 1,996.
 fn uneven_refusal(file: &[u8], p: Programme, sizes: &[u32], from: usize, n: usize) -> u8
-    requires n_in_bounds { from + 9 * n ≤ length file.now }
-    requires chunks_bound { (p.chunks ≤ 500) × (length sizes.now ≤ 4) }
+    requires records_inside { from + 9 * n ≤ length file.now }
+    requires few { (p.chunks ≤ 500) × (length sizes.now ≤ 4) }
     ensures { result ≡ overrides_refusal p sizes.now (overrides_on file.now from n) }
 {
     if n == 0 {

@@ -3,6 +3,7 @@
 use crate::print::{pair, said, shown, verdict_said, word};
 use job::Programme;
 use planner::Answer;
+use std::io;
 
 const CHECK: u8 = 0;
 
@@ -24,6 +25,7 @@ fn rows_of(answer: Answer) -> usize {
 
 // A list with its marks on the link's forecast.
 fn put(
+    rt: &impl Print,
     how: u8,
     p: Programme,
     sizes: &[u32],
@@ -36,58 +38,68 @@ fn put(
     chunks: &[u16],
     layers: &[u8],
     bytes: &[u32],
-) {
+) -> io::Result<()> {
     if how == CHECK {
-        word(b" rows checked: ");
-        verdict_said(checker::check(
-            p,
-            sizes,
-            size_chunks,
-            size_layers,
-            size_bytes,
-            forecast,
-            marks,
-            slots,
-            chunks,
-            layers,
-            bytes,
-        ));
-        return;
+        word(rt, b" rows checked: ")?;
+        verdict_said(
+            rt,
+            checker::check(
+                p,
+                sizes,
+                size_chunks,
+                size_layers,
+                size_bytes,
+                forecast,
+                marks,
+                slots,
+                chunks,
+                layers,
+                bytes,
+            ),
+        )?;
+        return Ok(());
     }
     if how == BOOK {
-        word(b" rows booked: ");
-        said(booking::book(
+        word(rt, b" rows booked: ")?;
+        said(
+            rt,
+            booking::book(
+                p,
+                sizes,
+                size_chunks,
+                size_layers,
+                size_bytes,
+                forecast,
+                marks,
+                slots,
+                chunks,
+                layers,
+                bytes,
+            ),
+        )?;
+        return Ok(());
+    }
+    word(rt, b" rows released: ")?;
+    said(
+        rt,
+        booking::release(
             p,
             sizes,
             size_chunks,
             size_layers,
             size_bytes,
             forecast,
-            marks,
             slots,
             chunks,
             layers,
             bytes,
-        ));
-        return;
-    }
-    word(b" rows released: ");
-    said(booking::release(
-        p,
-        sizes,
-        size_chunks,
-        size_layers,
-        size_bytes,
-        forecast,
-        slots,
-        chunks,
-        layers,
-        bytes,
-    ));
+        ),
+    )
 }
 
 // The film's plan on one forecast, put on the link's. The films here have plans of at most 16 rows.
 fn act(
+    rt: &impl Print,
     how: u8,
     p: Programme,
     sizes: &[u32],
@@ -96,7 +108,7 @@ fn act(
     size_bytes: &[u32],
     planned: &[u32; 6],
     forecast: &mut [u32; 6],
-) {
+) -> io::Result<()> {
     let mut marks = [0u8; 6];
     let mut slots = [0u16; 16];
     let mut chunks = [0u16; 16];
@@ -117,8 +129,9 @@ fn act(
     );
     let answer = plan.answer;
     let n = rows_of(answer);
-    pair(b" of ", n);
+    pair(rt, b" of ", n)?;
     put(
+        rt,
         how,
         p,
         sizes,
@@ -131,30 +144,41 @@ fn act(
         core_prefix::halves(&chunks, n),
         core_prefix::bytes(&layers, n),
         core_prefix::words(&bytes, n),
-    );
-    shown(forecast);
+    )?;
+    shown(rt, forecast)
 }
 
-fn main_film(how: u8, planned: &[u32; 6], forecast: &mut [u32; 6]) {
+fn main_film(
+    rt: &impl Print,
+    how: u8,
+    planned: &[u32; 6],
+    forecast: &mut [u32; 6],
+) -> io::Result<()> {
     let p = Programme {
         chunks: 3,
         span: 2,
         delay: 2,
         limit: 2,
     };
-    word(b"main film");
-    act(how, p, &[3, 1], &[], &[], &[], planned, forecast);
+    word(rt, b"main film")?;
+    act(rt, how, p, &[3, 1], &[], &[], &[], planned, forecast)
 }
 
-fn safety_film(how: u8, planned: &[u32; 6], forecast: &mut [u32; 6]) {
+fn safety_film(
+    rt: &impl Print,
+    how: u8,
+    planned: &[u32; 6],
+    forecast: &mut [u32; 6],
+) -> io::Result<()> {
     let p = Programme {
         chunks: 6,
         span: 1,
         delay: 1,
         limit: 2,
     };
-    word(b"safety film");
+    word(rt, b"safety film")?;
     act(
+        rt,
         how,
         p,
         &[1, 1],
@@ -163,31 +187,31 @@ fn safety_film(how: u8, planned: &[u32; 6], forecast: &mut [u32; 6]) {
         &[2, 3],
         planned,
         forecast,
-    );
+    )
 }
 
-pub(crate) fn together() {
+pub(crate) fn together(rt: &impl Print) -> io::Result<()> {
     let before = first();
     let mut forecast = before;
-    main_film(CHECK, &before, &mut forecast);
-    main_film(BOOK, &before, &mut forecast);
-    main_film(CHECK, &before, &mut forecast);
+    main_film(rt, CHECK, &before, &mut forecast)?;
+    main_film(rt, BOOK, &before, &mut forecast)?;
+    main_film(rt, CHECK, &before, &mut forecast)?;
     let rest = forecast;
-    safety_film(CHECK, &rest, &mut forecast);
-    safety_film(BOOK, &rest, &mut forecast);
-    safety_film(CHECK, &rest, &mut forecast);
-    main_film(BOOK, &before, &mut forecast);
-    main_film(RELEASE, &before, &mut forecast);
-    safety_film(RELEASE, &rest, &mut forecast);
+    safety_film(rt, CHECK, &rest, &mut forecast)?;
+    safety_film(rt, BOOK, &rest, &mut forecast)?;
+    safety_film(rt, CHECK, &rest, &mut forecast)?;
+    main_film(rt, BOOK, &before, &mut forecast)?;
+    main_film(rt, RELEASE, &before, &mut forecast)?;
+    safety_film(rt, RELEASE, &rest, &mut forecast)
 }
 
-pub(crate) fn other_way_round() {
+pub(crate) fn other_way_round(rt: &impl Print) -> io::Result<()> {
     let before = first();
     let mut forecast = before;
     let rest = [1u32, 0, 2, 2, 3, 4];
-    word(b"the other way round\n");
-    safety_film(BOOK, &rest, &mut forecast);
-    main_film(BOOK, &before, &mut forecast);
-    safety_film(RELEASE, &rest, &mut forecast);
-    main_film(RELEASE, &before, &mut forecast);
+    word(rt, b"the other way round\n")?;
+    safety_film(rt, BOOK, &rest, &mut forecast)?;
+    main_film(rt, BOOK, &before, &mut forecast)?;
+    safety_film(rt, RELEASE, &rest, &mut forecast)?;
+    main_film(rt, RELEASE, &before, &mut forecast)
 }

@@ -8,11 +8,13 @@ mod lists;
 mod order;
 mod print;
 
-fn main() {
-    films::together();
-    films::other_way_round();
-    lists::nineteen();
-    lists::twenty();
-    lists::room();
-    order::order();
+use std::io;
+
+fn main(rt: HostRuntime) -> io::Result<()> {
+    films::together(&rt)?;
+    films::other_way_round(&rt)?;
+    lists::nineteen(&rt)?;
+    lists::twenty(&rt)?;
+    lists::room(&rt)?;
+    order::order(&rt)
 }

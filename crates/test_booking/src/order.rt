@@ -2,6 +2,7 @@
 // released.
 use crate::print::{said, word};
 use job::Programme;
+use std::io;
 
 // How much is handed: chunks, layers and slots of job A, SZs of chunk 1, which it has none of,
 // marks, and of the row its chunk, layer and bytes.
@@ -33,49 +34,62 @@ fn room(s: &mut [u32], n: usize) -> &mut [u32] {
     &mut s[..n]
 }
 
-fn book(lengths: Lengths) {
+fn book(rt: &impl Print, lengths: Lengths) -> io::Result<()> {
     let mut forecast = [3u32, 0, 1, 0, 2, 0];
-    said(booking::book(
-        job_of(lengths.chunks),
-        core_prefix::words(&[2, 1], lengths.layers),
-        core_prefix::halves(&[1], lengths.uneven),
-        core_prefix::bytes(&[0], lengths.uneven),
-        core_prefix::words(&[1], lengths.uneven),
-        room(&mut forecast, lengths.slots),
-        core_prefix::bytes(&[0, 1, 0], lengths.marks),
-        &[7],
-        core_prefix::halves(&[2], lengths.chunk),
-        core_prefix::bytes(&[0], lengths.layer),
-        core_prefix::words(&[2], lengths.bytes),
-    ));
+    said(
+        rt,
+        booking::book(
+            job_of(lengths.chunks),
+            core_prefix::words(&[2, 1], lengths.layers),
+            core_prefix::halves(&[1], lengths.uneven),
+            core_prefix::bytes(&[0], lengths.uneven),
+            core_prefix::words(&[1], lengths.uneven),
+            room(&mut forecast, lengths.slots),
+            core_prefix::bytes(&[0, 1, 0], lengths.marks),
+            &[7],
+            core_prefix::halves(&[2], lengths.chunk),
+            core_prefix::bytes(&[0], lengths.layer),
+            core_prefix::words(&[2], lengths.bytes),
+        ),
+    )
 }
 
-fn release(lengths: Lengths) {
+fn release(rt: &impl Print, lengths: Lengths) -> io::Result<()> {
     let mut forecast = [3u32, 0, 1, 0, 2, 0];
-    said(booking::release(
-        job_of(lengths.chunks),
-        core_prefix::words(&[2, 1], lengths.layers),
-        core_prefix::halves(&[1], lengths.uneven),
-        core_prefix::bytes(&[0], lengths.uneven),
-        core_prefix::words(&[1], lengths.uneven),
-        room(&mut forecast, lengths.slots),
-        &[7],
-        core_prefix::halves(&[2], lengths.chunk),
-        core_prefix::bytes(&[0], lengths.layer),
-        core_prefix::words(&[2], lengths.bytes),
-    ));
+    said(
+        rt,
+        booking::release(
+            job_of(lengths.chunks),
+            core_prefix::words(&[2, 1], lengths.layers),
+            core_prefix::halves(&[1], lengths.uneven),
+            core_prefix::bytes(&[0], lengths.uneven),
+            core_prefix::words(&[1], lengths.uneven),
+            room(&mut forecast, lengths.slots),
+            &[7],
+            core_prefix::halves(&[2], lengths.chunk),
+            core_prefix::bytes(&[0], lengths.layer),
+            core_prefix::words(&[2], lengths.bytes),
+        ),
+    )
 }
 
-fn both(text: &[u8], lengths: Lengths) {
-    word(text);
-    book(lengths);
-    word(b", ");
-    release(lengths);
-    word(b"\n");
+fn both(rt: &impl Print, text: &[u8], lengths: Lengths) -> io::Result<()> {
+    word(rt, text)?;
+    book(rt, lengths)?;
+    word(rt, b", ")?;
+    release(rt, lengths)?;
+    word(rt, b"\n")
 }
 
 // The row's chunk is not handed, and a mark too few.
-fn short(text: &[u8], chunks: u16, layers: usize, uneven: usize, slots: usize) {
+fn short(
+    rt: &impl Print,
+    text: &[u8],
+    chunks: u16,
+    layers: usize,
+    uneven: usize,
+    slots: usize,
+) -> io::Result<()> {
     let lengths = Lengths {
         chunks,
         layers,
@@ -86,11 +100,11 @@ fn short(text: &[u8], chunks: u16, layers: usize, uneven: usize, slots: usize) {
         layer: 1,
         bytes: 1,
     };
-    both(text, lengths);
+    both(rt, text, lengths)
 }
 
 // The whole job A.
-fn whole(text: &[u8], marks: usize, layer: usize, bytes: usize) {
+fn whole(rt: &impl Print, text: &[u8], marks: usize, layer: usize, bytes: usize) -> io::Result<()> {
     let lengths = Lengths {
         chunks: 3,
         layers: 2,
@@ -101,17 +115,17 @@ fn whole(text: &[u8], marks: usize, layer: usize, bytes: usize) {
         layer,
         bytes,
     };
-    both(text, lengths);
+    both(rt, text, lengths)
 }
 
-pub(crate) fn order() {
-    short(b"5 first: ", 501, 0, 1, 5);
-    short(b"then 6: ", 3, 0, 1, 5);
-    short(b"then 18: ", 3, 2, 1, 5);
-    short(b"then 7: ", 3, 2, 0, 5);
-    short(b"then 8: ", 3, 2, 0, 6);
-    whole(b"8 for a layer: ", 3, 0, 1);
-    whole(b"8 for bytes: ", 3, 1, 0);
-    whole(b"8 for a mark in booking alone: ", 2, 1, 1);
-    whole(b"then 19 and 20: ", 3, 1, 1);
+pub(crate) fn order(rt: &impl Print) -> io::Result<()> {
+    short(rt, b"5 first: ", 501, 0, 1, 5)?;
+    short(rt, b"then 6: ", 3, 0, 1, 5)?;
+    short(rt, b"then 18: ", 3, 2, 1, 5)?;
+    short(rt, b"then 7: ", 3, 2, 0, 5)?;
+    short(rt, b"then 8: ", 3, 2, 0, 6)?;
+    whole(rt, b"8 for a layer: ", 3, 0, 1)?;
+    whole(rt, b"8 for bytes: ", 3, 1, 0)?;
+    whole(rt, b"8 for a mark in booking alone: ", 2, 1, 1)?;
+    whole(rt, b"then 19 and 20: ", 3, 1, 1)
 }

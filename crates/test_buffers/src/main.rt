@@ -9,9 +9,11 @@ mod plans;
 mod print;
 mod rooms;
 
-fn main() {
-    jobs::writes();
-    jobs::reads();
-    plans::files();
-    planned::rooms();
+use std::io;
+
+fn main(rt: HostRuntime) -> io::Result<()> {
+    jobs::writes(&rt)?;
+    jobs::reads(&rt)?;
+    plans::files(&rt)?;
+    planned::rooms(&rt)
 }

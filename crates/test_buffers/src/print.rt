@@ -1,36 +1,43 @@
 // Words and numbers to standard output.
-use libc::STDOUT_FILENO;
+use std::io;
 
-pub(crate) fn word(text: &[u8]) {
-    io::write_all(STDOUT_FILENO, text);
+pub(crate) fn word(rt: &impl Print, text: &[u8]) -> io::Result<()> {
+    rt.write_all(text)
 }
 
 // A word and a number.
-pub(crate) fn pair(text: &[u8], n: usize) {
-    word(text);
-    io::print_decimal(STDOUT_FILENO, n as u64);
+pub(crate) fn pair(rt: &impl Print, text: &[u8], n: usize) -> io::Result<()> {
+    word(rt, text)?;
+    rt.print(n as u64)
 }
 
 // A word, a number and a line feed.
-pub(crate) fn line(text: &[u8], n: usize) {
-    pair(text, n);
-    word(b"\n");
+pub(crate) fn line(rt: &impl Print, text: &[u8], n: usize) -> io::Result<()> {
+    pair(rt, text, n)?;
+    word(rt, b"\n")
 }
 
 // A space and a number.
-pub(crate) fn next(n: usize) {
-    pair(b" ", n);
+pub(crate) fn next(rt: &impl Print, n: usize) -> io::Result<()> {
+    pair(rt, b" ", n)
 }
 
 // A word and four numbers.
-pub(crate) fn four(text: &[u8], a: usize, b: usize, c: usize, d: usize) {
-    word(text);
-    next(a);
-    next(b);
-    next(c);
-    next(d);
+pub(crate) fn four(
+    rt: &impl Print,
+    text: &[u8],
+    a: usize,
+    b: usize,
+    c: usize,
+    d: usize,
+) -> io::Result<()> {
+    word(rt, text)?;
+    next(rt, a)?;
+    next(rt, b)?;
+    next(rt, c)?;
+    next(rt, d)
 }
 
-pub(crate) fn refused(n: u8) {
-    line(b"refused ", n as usize);
+pub(crate) fn refused(rt: &impl Print, n: u8) -> io::Result<()> {
+    line(rt, b"refused ", n as usize)
 }

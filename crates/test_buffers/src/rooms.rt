@@ -1,6 +1,7 @@
 // What the tests lend and say of it.
 use crate::print::{four, word};
 use job::Programme;
+use std::io;
 
 // Room for n elements at most.
 pub(crate) fn room8(s: &mut [u8], n: usize) -> &mut [u8] {
@@ -36,20 +37,21 @@ pub(crate) fn job_of(chunks: u16) -> Programme {
 }
 
 // Numbers of the lent slices after a call.
-pub(crate) fn then(a: usize, b: usize, c: usize, d: usize) {
-    four(b", then", a, b, c, d);
-    word(b"\n");
+pub(crate) fn then(rt: &impl Print, a: usize, b: usize, c: usize, d: usize) -> io::Result<()> {
+    four(rt, b", then", a, b, c, d)?;
+    word(rt, b"\n")
 }
 
 fn byte(x: u8) -> usize {
     x as usize
 }
 
-pub(crate) fn marks_shown(marks: &[u8; 4], layers: &[u8; 4]) {
+pub(crate) fn marks_shown(rt: &impl Print, marks: &[u8; 4], layers: &[u8; 4]) -> io::Result<()> {
     then(
+        rt,
         byte(marks[1]),
         byte(marks[3]),
         byte(layers[1]),
         byte(layers[3]),
-    );
+    )
 }

@@ -3,33 +3,35 @@
 ghost use Rattle.std.specs.Prelude.{◌≤◌};
 
 use crate::print::{next, pair, word};
+use std::io;
+use std::rt::Files;
 
-fn of_word(marks: u64, n: u8) {
-    next(fetch::count_word(marks, n) as usize);
+fn of_word(rt: &impl Print, marks: u64, n: u8) -> io::Result<()> {
+    next(rt, fetch::count_word(marks, n) as usize)
 }
 
-fn word_counts(text: &[u8], marks: u64) {
-    word(text);
-    of_word(marks, 0);
-    of_word(marks, 1);
-    of_word(marks, 2);
-    of_word(marks, 3);
-    of_word(marks, 4);
-    of_word(marks, 5);
-    of_word(marks, 6);
-    of_word(marks, 7);
-    of_word(marks, 8);
-    of_word(marks, 255);
-    word(b"\n");
+fn word_counts(rt: &impl Print, text: &[u8], marks: u64) -> io::Result<()> {
+    word(rt, text)?;
+    of_word(rt, marks, 0)?;
+    of_word(rt, marks, 1)?;
+    of_word(rt, marks, 2)?;
+    of_word(rt, marks, 3)?;
+    of_word(rt, marks, 4)?;
+    of_word(rt, marks, 5)?;
+    of_word(rt, marks, 6)?;
+    of_word(rt, marks, 7)?;
+    of_word(rt, marks, 8)?;
+    of_word(rt, marks, 255)?;
+    word(rt, b"\n")
 }
 
-pub(crate) fn words() {
-    word_counts(b"a word of ones:", 0xFFFF_FFFF_FFFF_FFFF);
-    word_counts(b"ones beside none:", 0xFF00_FF00_FF00_FF00);
-    word_counts(b"none beside ones:", 0x00FF_00FF_00FF_00FF);
-    word_counts(b"the highest byte:", 0xFF00_0000_0000_0000);
-    word_counts(b"the highest bits:", 0x8080_8080_8080_8080);
-    word_counts(b"a bit a byte:", 0x0102_0408_1020_4080);
+pub(crate) fn words(rt: &impl Print) -> io::Result<()> {
+    word_counts(rt, b"a word of ones:", 0xFFFF_FFFF_FFFF_FFFF)?;
+    word_counts(rt, b"ones beside none:", 0xFF00_FF00_FF00_FF00)?;
+    word_counts(rt, b"none beside ones:", 0x00FF_00FF_00FF_00FF)?;
+    word_counts(rt, b"the highest byte:", 0xFF00_0000_0000_0000)?;
+    word_counts(rt, b"the highest bits:", 0x8080_8080_8080_8080)?;
+    word_counts(rt, b"a bit a byte:", 0x0102_0408_1020_4080)
 }
 
 // 1 for a mark with bit n, else 0.
@@ -57,67 +59,62 @@ fn by_bytes(marks: &[u8], n: u8) -> usize {
 }
 
 // The count, if the one by bytes is the same.
-fn of_marks(marks: &[u8], n: u8) {
+fn of_marks(rt: &impl Print, marks: &[u8], n: u8) -> io::Result<()> {
     let count = fetch::count_marks(marks, n);
     if count == by_bytes(marks, n) {
-        next(count);
+        next(rt, count)
     } else {
-        word(b" wrong");
+        word(rt, b" wrong")
     }
 }
 
-fn mark_counts(text: &[u8], marks: &[u8]) {
-    pair(b"", marks.len());
-    word(text);
-    of_marks(marks, 0);
-    of_marks(marks, 1);
-    of_marks(marks, 2);
-    of_marks(marks, 3);
-    of_marks(marks, 4);
-    of_marks(marks, 5);
-    of_marks(marks, 6);
-    of_marks(marks, 7);
-    of_marks(marks, 8);
-    of_marks(marks, 255);
-    word(b"\n");
+fn mark_counts(rt: &impl Print, text: &[u8], marks: &[u8]) -> io::Result<()> {
+    pair(rt, b"", marks.len())?;
+    word(rt, text)?;
+    of_marks(rt, marks, 0)?;
+    of_marks(rt, marks, 1)?;
+    of_marks(rt, marks, 2)?;
+    of_marks(rt, marks, 3)?;
+    of_marks(rt, marks, 4)?;
+    of_marks(rt, marks, 5)?;
+    of_marks(rt, marks, 6)?;
+    of_marks(rt, marks, 7)?;
+    of_marks(rt, marks, 8)?;
+    of_marks(rt, marks, 255)?;
+    word(rt, b"\n")
 }
 
 // The first bytes of a file, as marks.
-fn first(file: &[u8; 65537], length: usize) {
-    mark_counts(b" marks:", core_prefix::bytes(file, length));
+fn first(rt: &impl Print, file: &[u8; 65537], length: usize) -> io::Result<()> {
+    mark_counts(rt, b" marks:", core_prefix::bytes(file, length))
 }
 
-fn short(file: &[u8; 65537]) {
+fn short(rt: &impl Print, file: &[u8; 65537]) -> io::Result<()> {
     let mut length: usize = 0;
     while length < 18 {
-        first(file, length);
+        first(rt, file, length)?;
         length = length + 1;
     }
+    Ok(())
 }
 
 // The bytes of data/q00 go to the start of file, at most as many as that has. If it can't be opened
 // it is read as empty.
-fn read_file(file: &mut [u8; 65537]) -> usize {
-    let fd = os::open_read(b"q00");
-    if fd < 0 {
-        return 0;
-    }
-    let n = io::read_full(fd, file);
-    libc::close(fd);
-    n
+fn read_file(rt: &impl Files, file: &mut [u8; 65537]) -> io::Result<usize> {
+    core_input::read_file(rt, b"q00", file)
 }
 
-fn mixed() {
+fn mixed(rt: &(impl Files + Print)) -> io::Result<()> {
     let mut file = [0u8; 65537];
-    let n = read_file(&mut file);
-    word(b"q00 as marks\n");
-    short(&file);
-    first(&file, 500);
-    first(&file, n);
+    let n = read_file(rt, &mut file)?;
+    word(rt, b"q00 as marks\n")?;
+    short(rt, &file)?;
+    first(rt, &file, 500)?;
+    first(rt, &file, n)
 }
 
-pub(crate) fn marks() {
-    mixed();
-    mark_counts(b" of ones:", &[255u8; 17]);
-    mark_counts(b" of ones:", &[255u8; 500]);
+pub(crate) fn marks(rt: &(impl Files + Print)) -> io::Result<()> {
+    mixed(rt)?;
+    mark_counts(rt, b" of ones:", &[255u8; 17])?;
+    mark_counts(rt, b" of ones:", &[255u8; 500])
 }

@@ -8,11 +8,13 @@ mod lists;
 mod meters;
 mod print;
 
-fn main() {
-    lists::lengths();
-    meters::samples();
-    meters::forecasts();
-    meters::means();
-    counts::words();
-    counts::marks();
+use std::io;
+
+fn main(rt: HostRuntime) -> io::Result<()> {
+    lists::lengths(&rt)?;
+    meters::samples(&rt)?;
+    meters::forecasts(&rt)?;
+    meters::means(&rt)?;
+    counts::words(&rt)?;
+    counts::marks(&rt)
 }

@@ -4,6 +4,8 @@ use crate::print::{line, refused};
 use job::Programme;
 use planfile::PlanRead;
 use records::Written;
+use std::io;
+use std::rt::Files;
 
 // A job of so many chunks, due in slots 1, 2, ..
 fn job_of(chunks: u16) -> Programme {
@@ -16,28 +18,28 @@ fn job_of(chunks: u16) -> Programme {
 }
 
 // The bytes written; 0 for a refusal.
-fn written(written: Written) -> usize {
+fn written(rt: &impl Print, written: Written) -> io::Result<usize> {
     match written {
         Written::Bytes(n) => {
-            line(b"written ", n);
-            n
+            line(rt, b"written ", n)?;
+            Ok(n)
         }
         Written::Refused(n) => {
-            refused(n);
-            0
+            refused(rt, n)?;
+            Ok(0)
         }
     }
 }
 
-fn rows_said(read: PlanRead) {
+fn rows_said(rt: &impl Print, read: PlanRead) -> io::Result<()> {
     match read {
-        PlanRead::Refused(n) => refused(n),
-        PlanRead::Rows(n) => line(b"rows ", n),
+        PlanRead::Refused(n) => refused(rt, n),
+        PlanRead::Rows(n) => line(rt, b"rows ", n),
     }
 }
 
 // Writes a plan of so many chunks and rows, and answers how many bytes it has; 0 for a refusal.
-fn write(chunks: u16, rows: usize, out: &mut [u8; 65537]) -> usize {
+fn write(rt: &impl Print, chunks: u16, rows: usize, out: &mut [u8; 65537]) -> io::Result<usize> {
     let sizes = [1u32];
     let forecast = [1u32; 8];
     let marks = [255u8; 8];
@@ -59,10 +61,10 @@ fn write(chunks: u16, rows: usize, out: &mut [u8; 65537]) -> usize {
         core_prefix::words(&bytes, rows),
         out,
     );
-    written(wrote)
+    written(rt, wrote)
 }
 
-fn read(chunks: u16, file: &[u8]) {
+fn read(rt: &impl Print, chunks: u16, file: &[u8]) -> io::Result<()> {
     let sizes = [1u32];
     let forecast = [1u32; 8];
     let mut marks = [0u8; 8];
@@ -84,29 +86,29 @@ fn read(chunks: u16, file: &[u8]) {
         &mut layers,
         &mut bytes,
     );
-    rows_said(read);
+    rows_said(rt, read)
 }
 
-fn written_and_read(chunks: u16, rows: usize) {
+fn written_and_read(rt: &impl Print, chunks: u16, rows: usize) -> io::Result<()> {
     let mut file = [0u8; 65537];
-    let n = write(chunks, rows, &mut file);
-    read_first(chunks, &file, n);
+    let n = write(rt, chunks, rows, &mut file)?;
+    read_first(rt, chunks, &file, n)
 }
 
-fn read_first(chunks: u16, file: &[u8; 65537], n: usize) {
-    read(chunks, core_prefix::bytes(file, n));
+fn read_first(rt: &impl Print, chunks: u16, file: &[u8; 65537], n: usize) -> io::Result<()> {
+    read(rt, chunks, core_prefix::bytes(file, n))
 }
 
 // The file of 6 chunks and 5,955 rows, which no call writes.
-fn too_long() {
+fn too_long(rt: &(impl Files + Print)) -> io::Result<()> {
     let mut file = [0u8; 65537];
-    let n = read_case(b'q', 0, &mut file);
-    read_first(6, &file, n);
+    let n = read_case(rt, b'q', 0, &mut file)?;
+    read_first(rt, 6, &file, n)
 }
 
-pub(crate) fn plan_files() {
-    written_and_read(8, 5954);
-    written_and_read(6, 5954);
-    written_and_read(6, 5955);
-    too_long();
+pub(crate) fn plan_files(rt: &(impl Files + Print)) -> io::Result<()> {
+    written_and_read(rt, 8, 5954)?;
+    written_and_read(rt, 6, 5954)?;
+    written_and_read(rt, 6, 5955)?;
+    too_long(rt)
 }

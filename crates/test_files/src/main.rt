@@ -8,8 +8,10 @@ mod files;
 mod large;
 mod print;
 
-fn main() {
-    files::job_files();
-    files::plan_files();
-    large::plan_files();
+use std::io;
+
+fn main(rt: HostRuntime) -> io::Result<()> {
+    files::job_files(&rt)?;
+    files::plan_files(&rt)?;
+    large::plan_files(&rt)
 }

@@ -16,7 +16,7 @@ ghost use Rattle.std.specs.Prelude.{◌≤◌};
 
 use crate::asked::Case;
 use crate::film::Film;
-use libc::STDOUT_FILENO;
+use std::io;
 
 // The rates tried, by number.
 const RATES: u16 = 5;
@@ -134,42 +134,46 @@ fn every_film(tally: &mut [u64]) {
 }
 
 // The words, and the numbers from one on and before another.
-fn say(words: &[u8], tally: &[u64], from: u16, to: u16) {
-    io::write_all(STDOUT_FILENO, words);
+fn say(rt: &impl Print, words: &[u8], tally: &[u64], from: u16, to: u16) -> io::Result<()> {
+    rt.write_all(words)?;
     let mut k = from;
     while k < to {
-        io::write_all(STDOUT_FILENO, b" ");
-        io::print_decimal(STDOUT_FILENO, tally::number(tally, k));
+        rt.write_all(b" ")?;
+        rt.print(tally::number(tally, k))?;
         k = k + 1;
     }
-    io::write_all(STDOUT_FILENO, b"\n");
+    rt.write_all(b"\n")
 }
 
-fn main() {
+fn main(rt: HostRuntime) -> io::Result<()> {
     let mut tally = [0u64; 11];
     every_film(&mut tally);
     say(
+        &rt,
         b"films; lists of rows fetched; refused by 22:",
         &tally,
         tally::FILMS,
         tally::ASKED,
-    );
+    )?;
     say(
+        &rt,
         b"asks; of nothing; pieces; asks of fewer pieces than at the largest rate:",
         &tally,
         tally::ASKED,
         tally::TURNED,
-    );
+    )?;
     say(
+        &rt,
         b"the same with the rows in another order; checksum over all answers:",
         &tally,
         tally::TURNED,
         tally::TAKEN,
-    );
+    )?;
     say(
+        &rt,
         b"first bytes of the asks as rows; that the next slot accepts:",
         &tally,
         tally::TAKEN,
         tally::ALL,
-    );
+    )
 }

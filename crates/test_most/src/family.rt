@@ -6,6 +6,7 @@ use crate::print::{pair, rows_of, word};
 use checker::Checked;
 use job::{Programme, ROWS};
 use most::MostPlan;
+use std::io;
 
 // Films; the bases of their plans, of the sets found, and of the two bounds; how many are exact,
 // and how many lists the checker passes.
@@ -230,18 +231,18 @@ fn every_forecast(p: Programme, t: Tally) -> Tally {
     tally
 }
 
-fn say(t: Tally) {
-    pair(b"family: films ", t.films);
-    pair(b", bases of the plans ", t.plan);
-    pair(b", found ", t.found);
-    pair(b", bounds ", t.bound);
-    pair(b" and ", t.bound_any);
-    pair(b", exact ", t.exact);
-    pair(b", passed ", t.passed);
-    word(b"\n");
+fn say(rt: &impl Print, t: Tally) -> io::Result<()> {
+    pair(rt, b"family: films ", t.films)?;
+    pair(rt, b", bases of the plans ", t.plan)?;
+    pair(rt, b", found ", t.found)?;
+    pair(rt, b", bounds ", t.bound)?;
+    pair(rt, b" and ", t.bound_any)?;
+    pair(rt, b", exact ", t.exact)?;
+    pair(rt, b", passed ", t.passed)?;
+    word(rt, b"\n")
 }
 
-pub(crate) fn all() {
+pub(crate) fn all(rt: &impl Print) -> io::Result<()> {
     let mut t = Tally {
         films: 0,
         plan: 0,
@@ -254,5 +255,5 @@ pub(crate) fn all() {
     for k in 0..64u16 {
         t = every_forecast(programme(k), t);
     }
-    say(t);
+    say(rt, t)
 }

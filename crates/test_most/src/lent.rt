@@ -3,6 +3,7 @@
 use crate::cases::WORK;
 use crate::print::{bytes_of, rows, said, word};
 use job::{Programme, ROWS};
+use std::io;
 
 // How much is handed over: chunks, layers and slots of the job, SZs of chunk 1, which it has none
 // of, and how long each slice of the caller's is.
@@ -49,17 +50,18 @@ fn front32(s: &mut [u32], n: usize) -> &mut [u32] {
 }
 
 // Says whether the work slice was written to: what it holds means nothing.
-fn changed(work: &[u64]) {
+fn changed(rt: &impl Print, work: &[u64]) -> io::Result<()> {
     for k in 0..work.len() {
         if work[k] != 7 {
-            word(b", work written");
-            return;
+            word(rt, b", work written")?;
+            return Ok(());
         }
     }
+    Ok(())
 }
 
 // Slices of 7s, so that what is left as it was can be told.
-fn ask(text: &[u8], lengths: Lengths) {
+fn ask(rt: &impl Print, text: &[u8], lengths: Lengths) -> io::Result<()> {
     let p = Programme {
         chunks: lengths.chunks,
         span: 2,
@@ -87,19 +89,20 @@ fn ask(text: &[u8], lengths: Lengths) {
         front8(&mut layers, lengths.row_layers),
         front32(&mut bytes, lengths.row_bytes),
     );
-    word(text);
-    word(b": ");
-    said(found);
-    word(b", marks");
-    bytes_of(&marks, 4);
-    word(b", list");
-    rows(&slots, &chunks, &layers, &bytes, 4);
-    changed(&work);
-    word(b"\n");
+    word(rt, text)?;
+    word(rt, b": ")?;
+    said(rt, found)?;
+    word(rt, b", marks")?;
+    bytes_of(rt, &marks, 4)?;
+    word(rt, b", list")?;
+    rows(rt, &slots, &chunks, &layers, &bytes, 4)?;
+    changed(rt, &work)?;
+    word(rt, b"\n")
 }
 
 // The job whole, with slices of these lengths.
 fn lend(
+    rt: &impl Print,
     text: &[u8],
     work: usize,
     marks: usize,
@@ -107,8 +110,9 @@ fn lend(
     row_chunks: usize,
     row_layers: usize,
     row_bytes: usize,
-) {
+) -> io::Result<()> {
     ask(
+        rt,
         text,
         Lengths {
             chunks: 3,
@@ -122,24 +126,32 @@ fn lend(
             row_layers,
             row_bytes,
         },
-    );
+    )
 }
 
-pub(crate) fn room() {
-    word(b"room\n");
-    lend(b"just enough", 2004, 3, ROWS, ROWS, ROWS, ROWS);
-    lend(b"more than enough", WORK, 4, ROWS, ROWS, ROWS, ROWS);
-    lend(b"work short", 2003, 4, ROWS, ROWS, ROWS, ROWS);
-    lend(b"a mark short", WORK, 2, ROWS, ROWS, ROWS, ROWS);
-    lend(b"a slot short", WORK, 4, 5598, ROWS, ROWS, ROWS);
-    lend(b"a chunk short", WORK, 4, ROWS, 5598, ROWS, ROWS);
-    lend(b"a layer short", WORK, 4, ROWS, ROWS, 5598, ROWS);
-    lend(b"bytes short", WORK, 4, ROWS, ROWS, ROWS, 5598);
+pub(crate) fn room(rt: &impl Print) -> io::Result<()> {
+    word(rt, b"room\n")?;
+    lend(rt, b"just enough", 2004, 3, ROWS, ROWS, ROWS, ROWS)?;
+    lend(rt, b"more than enough", WORK, 4, ROWS, ROWS, ROWS, ROWS)?;
+    lend(rt, b"work short", 2003, 4, ROWS, ROWS, ROWS, ROWS)?;
+    lend(rt, b"a mark short", WORK, 2, ROWS, ROWS, ROWS, ROWS)?;
+    lend(rt, b"a slot short", WORK, 4, 5598, ROWS, ROWS, ROWS)?;
+    lend(rt, b"a chunk short", WORK, 4, ROWS, 5598, ROWS, ROWS)?;
+    lend(rt, b"a layer short", WORK, 4, ROWS, ROWS, 5598, ROWS)?;
+    lend(rt, b"bytes short", WORK, 4, ROWS, ROWS, ROWS, 5598)
 }
 
 // A job wrong in what comes before, each later refusal waiting behind it, and too little room.
-fn wrong(text: &[u8], chunks: u16, layers: usize, uneven: usize, slots: usize) {
+fn wrong(
+    rt: &impl Print,
+    text: &[u8],
+    chunks: u16,
+    layers: usize,
+    uneven: usize,
+    slots: usize,
+) -> io::Result<()> {
     ask(
+        rt,
         text,
         Lengths {
             chunks,
@@ -153,14 +165,14 @@ fn wrong(text: &[u8], chunks: u16, layers: usize, uneven: usize, slots: usize) {
             row_layers: 2,
             row_bytes: 2,
         },
-    );
+    )
 }
 
-pub(crate) fn order() {
-    word(b"order\n");
-    wrong(b"5 first", 501, 0, 1, 5);
-    wrong(b"then 6", 3, 0, 1, 5);
-    wrong(b"then 18", 3, 2, 1, 5);
-    wrong(b"then 7", 3, 2, 0, 5);
-    wrong(b"then 11", 3, 2, 0, 6);
+pub(crate) fn order(rt: &impl Print) -> io::Result<()> {
+    word(rt, b"order\n")?;
+    wrong(rt, b"5 first", 501, 0, 1, 5)?;
+    wrong(rt, b"then 6", 3, 0, 1, 5)?;
+    wrong(rt, b"then 18", 3, 2, 1, 5)?;
+    wrong(rt, b"then 7", 3, 2, 0, 5)?;
+    wrong(rt, b"then 11", 3, 2, 0, 6)
 }

@@ -9,14 +9,16 @@ mod family;
 mod lent;
 mod print;
 
-fn main() {
-    cases::job_a();
-    cases::poor();
-    cases::in_any_order();
-    cases::lowered();
-    cases::none_held();
-    cases::refined();
-    lent::room();
-    lent::order();
-    family::all();
+use std::io;
+
+fn main(rt: HostRuntime) -> io::Result<()> {
+    cases::job_a(&rt)?;
+    cases::poor(&rt)?;
+    cases::in_any_order(&rt)?;
+    cases::lowered(&rt)?;
+    cases::none_held(&rt)?;
+    cases::refined(&rt)?;
+    lent::room(&rt)?;
+    lent::order(&rt)?;
+    family::all(&rt)
 }

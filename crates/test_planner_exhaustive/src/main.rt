@@ -21,7 +21,7 @@ mod tally;
 ghost use Rattle.std.specs.Prelude.{◌≤◌};
 
 use crate::film::Film;
-use libc::STDOUT_FILENO;
+use std::io;
 
 // 48 programmes, 81 forecasts of four slots, and 22 kinds of sizes, the last 11 of them uneven.
 const NUMBERS: u16 = 3888;
@@ -145,47 +145,51 @@ fn every_job(tally: &mut [u64]) {
 }
 
 // The words, and the numbers from one on and before another.
-fn say(words: &[u8], tally: &[u64], from: u16, to: u16) {
-    io::write_all(STDOUT_FILENO, words);
+fn say(rt: &impl Print, words: &[u8], tally: &[u64], from: u16, to: u16) -> io::Result<()> {
+    rt.write_all(words)?;
     let mut k = from;
     while k < to {
-        io::write_all(STDOUT_FILENO, b" ");
-        io::print_decimal(STDOUT_FILENO, tally::number(tally, k));
+        rt.write_all(b" ")?;
+        rt.print(tally::number(tally, k))?;
         k = k + 1;
     }
-    io::write_all(STDOUT_FILENO, b"\n");
+    rt.write_all(b"\n")
 }
 
-fn say_all(tally: &[u64]) {
+fn say_all(rt: &impl Print, tally: &[u64]) -> io::Result<()> {
     say(
+        rt,
         b"jobs; with three layers, four layers, uneven chunks, H 0, a limit no multiple of L, an empty slot, a limit that binds, bases settled by request 9:",
         tally,
         tally::JOBS,
         tally::LISTS,
-    );
-    say(b"bases, layers above, rows:", tally, tally::BASES, 27);
+    )?;
+    say(rt, b"bases, layers above, rows:", tally, tally::BASES, 27)?;
     say(
+        rt,
         b"lists that pass; bounds on bases, on layers 0 to 3 in playing order, with the whole held, for equal chunks; on bases of uneven film, with the whole held; lists that break one; of uneven film under a limit, that carry more bases than the plan:",
         tally,
         tally::LISTS,
         tally::SAME_MARKS,
-    );
+    )?;
     say(
+        rt,
         b"pairs of equal chunks that differ in one slot; with more bases, as many more as can be, other than promised:",
         tally,
         tally::PAIRS,
         31,
-    );
+    )?;
     say(
+        rt,
         b"plans with the same marks, counts, rows; that pass, in playing order:",
         tally,
         tally::SAME_MARKS,
         tally::BASES,
-    );
+    )
 }
 
-fn main() {
+fn main(rt: HostRuntime) -> io::Result<()> {
     let mut tally = [0u64; 31];
     every_job(&mut tally);
-    say_all(&tally);
+    say_all(&rt, &tally)
 }

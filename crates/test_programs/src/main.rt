@@ -7,7 +7,9 @@
 mod jobs;
 mod verdicts;
 
-fn main() {
-    jobs::all_cases();
-    verdicts::all_cases();
+use std::io;
+
+fn main(rt: HostRuntime) -> io::Result<()> {
+    jobs::all_cases(&rt)?;
+    verdicts::all_cases(&rt)
 }

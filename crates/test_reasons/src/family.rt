@@ -5,6 +5,7 @@ ghost use Rattle.std.specs.Prelude.{◌<◌};
 use crate::cases::{line, pair};
 use job::Programme;
 use records::Written;
+use std::io;
 
 // What is counted of the texts.
 #[derive(Clone, Copy)]
@@ -147,11 +148,11 @@ fn every_text() -> Tally {
     t
 }
 
-pub fn every_job() {
+pub fn every_job(rt: &impl Print) -> io::Result<()> {
     let t = every_text();
-    pair(b"jobs ", t.jobs);
-    line(b" without a line ", t.silent as usize);
-    pair(b"lines ", t.lines);
-    line(b" of the second kind ", t.lower as usize);
-    line(b"all texts as one number ", t.sum as usize);
+    pair(rt, b"jobs ", t.jobs)?;
+    line(rt, b" without a line ", t.silent as usize)?;
+    pair(rt, b"lines ", t.lines)?;
+    line(rt, b" of the second kind ", t.lower as usize)?;
+    line(rt, b"all texts as one number ", t.sum as usize)
 }

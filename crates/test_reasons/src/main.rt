@@ -8,13 +8,15 @@ mod cases;
 mod family;
 mod rooms;
 
-fn main() {
-    cases::texts();
-    rooms::exact();
-    rooms::longer();
-    rooms::one_short();
-    rooms::any();
-    rooms::refused_first();
-    rooms::nothing();
-    family::every_job();
+use std::io;
+
+fn main(rt: HostRuntime) -> io::Result<()> {
+    cases::texts(&rt)?;
+    rooms::exact(&rt)?;
+    rooms::longer(&rt)?;
+    rooms::one_short(&rt)?;
+    rooms::any(&rt)?;
+    rooms::refused_first(&rt)?;
+    rooms::nothing(&rt)?;
+    family::every_job(&rt)
 }

@@ -2,6 +2,7 @@
 use crate::cases::{line, word};
 use job::Programme;
 use records::Written;
+use std::io;
 
 fn programme(chunks: u16) -> Programme {
     Programme {
@@ -13,13 +14,13 @@ fn programme(chunks: u16) -> Programme {
 }
 
 // The answer; the bytes at the ends of the buffer tell what was written.
-fn answered(r: Written, first: u8, last: u8) {
+fn answered(rt: &impl Print, r: Written, first: u8, last: u8) -> io::Result<()> {
     match r {
-        Written::Bytes(n) => line(b"written ", n),
-        Written::Refused(n) => line(b"refused ", n as usize),
+        Written::Bytes(n) => line(rt, b"written ", n)?,
+        Written::Refused(n) => line(rt, b"refused ", n as usize)?,
     }
-    line(b"first ", first as usize);
-    line(b"last ", last as usize);
+    line(rt, b"first ", first as usize)?;
+    line(rt, b"last ", last as usize)
 }
 
 fn a_into(chunks: u16, out: &mut [u8]) -> Written {
@@ -28,39 +29,39 @@ fn a_into(chunks: u16, out: &mut [u8]) -> Written {
     reasons::reasons(programme(chunks), &sizes, &[], &[], &[], &forecast, out)
 }
 
-pub fn exact() {
+pub fn exact(rt: &impl Print) -> io::Result<()> {
     let mut out = [9u8; 128];
     let r = a_into(3, &mut out);
-    answered(r, out[0], out[127]);
+    answered(rt, r, out[0], out[127])
 }
 
-pub fn longer() {
+pub fn longer(rt: &impl Print) -> io::Result<()> {
     let mut out = [9u8; 129];
     let r = a_into(3, &mut out);
-    answered(r, out[0], out[128]);
+    answered(rt, r, out[0], out[128])
 }
 
-pub fn one_short() {
+pub fn one_short(rt: &impl Print) -> io::Result<()> {
     let mut out = [9u8; 127];
     let r = a_into(3, &mut out);
-    answered(r, out[0], out[126]);
+    answered(rt, r, out[0], out[126])
 }
 
-pub fn refused_first() {
+pub fn refused_first(rt: &impl Print) -> io::Result<()> {
     let mut out = [9u8; 1];
-    word(b"5 before 11: ");
+    word(rt, b"5 before 11: ")?;
     let r = a_into(501, &mut out);
-    answered(r, out[0], out[0]);
+    answered(rt, r, out[0], out[0])
 }
 
-pub fn any() {
+pub fn any(rt: &impl Print) -> io::Result<()> {
     let mut out = [9u8; 94000];
     let r = a_into(3, &mut out);
-    answered(r, out[0], out[128]);
+    answered(rt, r, out[0], out[128])
 }
 
 // A plan that lacks nothing, into a buffer of no bytes.
-pub fn nothing() {
+pub fn nothing(rt: &impl Print) -> io::Result<()> {
     let mut out = [9u8; 1];
     let forecast = [5u32];
     let p = Programme {
@@ -69,9 +70,9 @@ pub fn nothing() {
         delay: 1,
         limit: 0,
     };
-    word(b"nothing in no room: ");
+    word(rt, b"nothing in no room: ")?;
     match reasons::reasons(p, &forecast, &[], &[], &[], &forecast, &mut out[..0]) {
-        Written::Bytes(n) => line(b"written ", n),
-        Written::Refused(n) => line(b"refused ", n as usize),
+        Written::Bytes(n) => line(rt, b"written ", n),
+        Written::Refused(n) => line(rt, b"refused ", n as usize),
     }
 }

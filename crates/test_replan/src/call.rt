@@ -6,6 +6,7 @@ use crate::table::Places;
 use crate::{line, print, table};
 use job::Programme;
 use planner::Planned;
+use std::io;
 
 // How much is lent.
 #[derive(Clone, Copy)]
@@ -40,6 +41,7 @@ fn room32(s: &mut [u32], n: usize) -> &mut [u32] {
 
 // What came of a call, and what is lent afterwards.
 fn tell(
+    rt: &impl Print,
     plan: Planned,
     room: Room,
     marks: &[u8; 8],
@@ -47,16 +49,17 @@ fn tell(
     chunks: &[u16; 40],
     layers: &[u8; 40],
     bytes: &[u32; 40],
-) {
-    print::said(plan);
-    print::bytes(b", marks", core_prefix::bytes(marks, room.marks));
-    print::halves(b", slots", core_prefix::halves(slots, room.slots));
-    print::halves(b", chunks", core_prefix::halves(chunks, room.chunks));
-    print::bytes(b", layers", core_prefix::bytes(layers, room.layers));
-    print::words(b", bytes", core_prefix::words(bytes, room.bytes));
+) -> io::Result<()> {
+    print::said(rt, plan)?;
+    print::bytes(rt, b", marks", core_prefix::bytes(marks, room.marks))?;
+    print::halves(rt, b", slots", core_prefix::halves(slots, room.slots))?;
+    print::halves(rt, b", chunks", core_prefix::halves(chunks, room.chunks))?;
+    print::bytes(rt, b", layers", core_prefix::bytes(layers, room.layers))?;
+    print::words(rt, b", bytes", core_prefix::words(bytes, room.bytes))
 }
 
 fn replan(
+    rt: &impl Print,
     p: Programme,
     sizes: &[u32],
     size_chunks: &[u16],
@@ -70,7 +73,7 @@ fn replan(
     fetched_bytes: &[u32],
     onward: &[u32],
     room: Room,
-) {
+) -> io::Result<()> {
     let mut marks = [9u8; 8];
     let mut slots = [9u16; 40];
     let mut chunks = [9u16; 40];
@@ -95,10 +98,11 @@ fn replan(
         room8(&mut layers, room.layers),
         room32(&mut bytes, room.bytes),
     );
-    tell(plan, room, &marks, &slots, &chunks, &layers, &bytes);
+    tell(rt, plan, room, &marks, &slots, &chunks, &layers, &bytes)
 }
 
 fn plan(
+    rt: &impl Print,
     p: Programme,
     sizes: &[u32],
     size_chunks: &[u16],
@@ -106,7 +110,7 @@ fn plan(
     size_bytes: &[u32],
     forecast: &[u32],
     room: Room,
-) {
+) -> io::Result<()> {
     let mut marks = [9u8; 8];
     let mut slots = [9u16; 40];
     let mut chunks = [9u16; 40];
@@ -125,7 +129,7 @@ fn plan(
         &mut layers,
         &mut bytes,
     );
-    tell(plan, room, &marks, &slots, &chunks, &layers, &bytes);
+    tell(rt, plan, room, &marks, &slots, &chunks, &layers, &bytes)
 }
 
 // Five numbers; the remainder tells the prover that the place is small.
@@ -153,8 +157,15 @@ fn words(numbers: &[u32; 512], at: usize) -> &[u32] {
     table::words(numbers, at, table::small(numbers, at))
 }
 
-fn replan_case(at: Places, numbers: &[u32; 512], halves: &[u16; 512], bytes: &[u8; 512]) {
+fn replan_case(
+    rt: &impl Print,
+    at: Places,
+    numbers: &[u32; 512],
+    halves: &[u16; 512],
+    bytes: &[u8; 512],
+) -> io::Result<()> {
     replan(
+        rt,
         programme(halves),
         words(numbers, at.sizes),
         table::halves(
@@ -172,32 +183,48 @@ fn replan_case(at: Places, numbers: &[u32; 512], halves: &[u16; 512], bytes: &[u
         words(numbers, at.bytes),
         words(numbers, at.last),
         room_at(numbers, at.room),
-    );
+    )
 }
 
-fn check_case(at: Places, numbers: &[u32; 512], halves: &[u16; 512], bytes: &[u8; 512]) {
-    print::verdict_said(checker::check_from(
-        programme(halves),
-        words(numbers, at.sizes),
-        table::halves(
-            halves,
-            at.size_chunks,
-            table::small(numbers, at.size_chunks),
+fn check_case(
+    rt: &impl Print,
+    at: Places,
+    numbers: &[u32; 512],
+    halves: &[u16; 512],
+    bytes: &[u8; 512],
+) -> io::Result<()> {
+    print::verdict_said(
+        rt,
+        checker::check_from(
+            programme(halves),
+            words(numbers, at.sizes),
+            table::halves(
+                halves,
+                at.size_chunks,
+                table::small(numbers, at.size_chunks),
+            ),
+            table::bytes(bytes, at.size_layers, table::small(numbers, at.size_layers)),
+            words(numbers, at.size_bytes),
+            words(numbers, at.forecast),
+            table::half(halves, at.from),
+            table::bytes(bytes, at.last, table::small(numbers, at.last)),
+            table::halves(halves, at.slots, table::small(numbers, at.slots)),
+            table::halves(halves, at.chunks, table::small(numbers, at.chunks)),
+            table::bytes(bytes, at.layers, table::small(numbers, at.layers)),
+            words(numbers, at.bytes),
         ),
-        table::bytes(bytes, at.size_layers, table::small(numbers, at.size_layers)),
-        words(numbers, at.size_bytes),
-        words(numbers, at.forecast),
-        table::half(halves, at.from),
-        table::bytes(bytes, at.last, table::small(numbers, at.last)),
-        table::halves(halves, at.slots, table::small(numbers, at.slots)),
-        table::halves(halves, at.chunks, table::small(numbers, at.chunks)),
-        table::bytes(bytes, at.layers, table::small(numbers, at.layers)),
-        words(numbers, at.bytes),
-    ));
+    )
 }
 
-fn plan_case(at: Places, numbers: &[u32; 512], halves: &[u16; 512], bytes: &[u8; 512]) {
+fn plan_case(
+    rt: &impl Print,
+    at: Places,
+    numbers: &[u32; 512],
+    halves: &[u16; 512],
+    bytes: &[u8; 512],
+) -> io::Result<()> {
     plan(
+        rt,
         programme(halves),
         words(numbers, at.sizes),
         table::halves(
@@ -209,27 +236,32 @@ fn plan_case(at: Places, numbers: &[u32; 512], halves: &[u16; 512], bytes: &[u8;
         words(numbers, at.size_bytes),
         words(numbers, at.forecast),
         room_at(numbers, at.room),
-    );
+    )
 }
 
-fn by_tables(numbers: &[u32; 512], halves: &[u16; 512], bytes: &[u8; 512]) {
+fn by_tables(
+    rt: &impl Print,
+    numbers: &[u32; 512],
+    halves: &[u16; 512],
+    bytes: &[u8; 512],
+) -> io::Result<()> {
     let at = table::places_in(numbers);
     match bytes[0] {
-        0 => replan_case(at, numbers, halves, bytes),
-        1 => check_case(at, numbers, halves, bytes),
-        _ => plan_case(at, numbers, halves, bytes),
+        0 => replan_case(rt, at, numbers, halves, bytes)?,
+        1 => check_case(rt, at, numbers, halves, bytes)?,
+        _ => plan_case(rt, at, numbers, halves, bytes)?,
     }
-    word(b"\n");
+    word(rt, b"\n")
 }
 
 // The case whose line begins at a place and ends with the text.
-pub(crate) fn case(text: &[u8], at: usize) {
+pub(crate) fn case(rt: &impl Print, text: &[u8], at: usize) -> io::Result<()> {
     let mut numbers = [0u32; 512];
     let mut halves = [0u16; 512];
     let mut bytes = [0u8; 512];
     let colon = line::end_of(text, at, 58);
-    word(line::between(text, at, colon));
+    word(rt, line::between(text, at, colon))?;
     line::read_numbers(text, line::past(text, colon), &mut numbers);
     table::narrow(&numbers, &mut halves, &mut bytes);
-    by_tables(&numbers, &halves, &bytes);
+    by_tables(rt, &numbers, &halves, &bytes)
 }

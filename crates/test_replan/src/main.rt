@@ -7,29 +7,30 @@ mod line;
 mod print;
 mod table;
 
-use libc::STDIN_FILENO;
+use std::io;
 
-fn every_line(text: &[u8]) {
+fn every_line(rt: &impl Print, text: &[u8]) -> io::Result<()> {
     let mut at: usize = 0;
     while at < text.len() {
         let end = line::end_of(text, at, 10);
-        call::case(core_prefix::bytes(text, end), at);
+        call::case(rt, core_prefix::bytes(text, end), at)?;
         if end < at {
-            return;
+            return Ok(());
         }
         if text.len() <= end {
-            return;
+            return Ok(());
         }
         at = end + 1;
     }
+    Ok(())
 }
 
-fn read_first(file: &[u8; 65536], n: usize) {
-    every_line(core_prefix::bytes(file, n));
+fn read_first(rt: &impl Print, file: &[u8; 65536], n: usize) -> io::Result<()> {
+    every_line(rt, core_prefix::bytes(file, n))
 }
 
-fn main() {
+fn main(rt: HostRuntime) -> io::Result<()> {
     let mut file = [0u8; 65536];
-    let n = io::read_full(STDIN_FILENO, &mut file);
-    read_first(&file, n);
+    let n = core_input::read_full(&mut rt.stdin(), &mut file)?;
+    read_first(&rt, &file, n)
 }

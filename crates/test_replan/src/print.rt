@@ -1,21 +1,21 @@
 // Words, numbers and columns to standard output, and what the calls answer.
 use checker::Checked;
-use libc::STDOUT_FILENO;
 use planner::{Answer, Planned};
+use std::io;
 
-pub(crate) fn word(text: &[u8]) {
-    io::write_all(STDOUT_FILENO, text);
+pub(crate) fn word(rt: &impl Print, text: &[u8]) -> io::Result<()> {
+    rt.write_all(text)
 }
 
-fn next(n: u64) {
-    word(b" ");
-    io::print_decimal(STDOUT_FILENO, n);
+fn next(rt: &impl Print, n: u64) -> io::Result<()> {
+    word(rt, b" ")?;
+    rt.print(n)
 }
 
 // A word and a number.
-pub(crate) fn pair(text: &[u8], n: usize) {
-    word(text);
-    io::print_decimal(STDOUT_FILENO, n as u64);
+pub(crate) fn pair(rt: &impl Print, text: &[u8], n: usize) -> io::Result<()> {
+    word(rt, text)?;
+    rt.print(n as u64)
 }
 
 fn wide(x: u8) -> u64 {
@@ -30,46 +30,49 @@ fn whole(x: u32) -> u64 {
     x as u64
 }
 
-pub(crate) fn bytes(text: &[u8], column: &[u8]) {
-    word(text);
+pub(crate) fn bytes(rt: &impl Print, text: &[u8], column: &[u8]) -> io::Result<()> {
+    word(rt, text)?;
     let mut k: usize = 0;
     while k < column.len() {
-        next(wide(column[k]));
+        next(rt, wide(column[k]))?;
         k = k + 1;
     }
+    Ok(())
 }
 
-pub(crate) fn halves(text: &[u8], column: &[u16]) {
-    word(text);
+pub(crate) fn halves(rt: &impl Print, text: &[u8], column: &[u16]) -> io::Result<()> {
+    word(rt, text)?;
     let mut k: usize = 0;
     while k < column.len() {
-        next(half(column[k]));
+        next(rt, half(column[k]))?;
         k = k + 1;
     }
+    Ok(())
 }
 
-pub(crate) fn words(text: &[u8], column: &[u32]) {
-    word(text);
+pub(crate) fn words(rt: &impl Print, text: &[u8], column: &[u32]) -> io::Result<()> {
+    word(rt, text)?;
     let mut k: usize = 0;
     while k < column.len() {
-        next(whole(column[k]));
+        next(rt, whole(column[k]))?;
         k = k + 1;
     }
+    Ok(())
 }
 
-pub(crate) fn said(plan: Planned) {
+pub(crate) fn said(rt: &impl Print, plan: Planned) -> io::Result<()> {
     let answer = plan.answer;
     let counts = plan.counts;
     match answer {
-        Answer::Rows(n) => pair(b": rows ", n),
-        Answer::Refused(n) => pair(b": refused ", n as usize),
+        Answer::Rows(n) => pair(rt, b": rows ", n)?,
+        Answer::Refused(n) => pair(rt, b": refused ", n as usize)?,
     }
-    halves(b", counts", &counts);
+    halves(rt, b", counts", &counts)
 }
 
-pub(crate) fn verdict_said(checked: Checked) {
+pub(crate) fn verdict_said(rt: &impl Print, checked: Checked) -> io::Result<()> {
     match checked {
-        Checked::Verdict(v) => pair(b": verdict ", v as usize),
-        Checked::Refused(n) => pair(b": refused ", n as usize),
+        Checked::Verdict(v) => pair(rt, b": verdict ", v as usize),
+        Checked::Refused(n) => pair(rt, b": refused ", n as usize),
     }
 }

@@ -18,7 +18,7 @@ ghost use Rattle.std.specs.Prelude.{◌≤◌};
 
 use crate::asked::{Case, Got};
 use crate::film::Film;
-use libc::STDOUT_FILENO;
+use std::io;
 
 fn bits(word: u32) -> u32 {
     u32::count_ones(word) % 33
@@ -164,42 +164,46 @@ fn every_film(tally: &mut [u64]) {
 }
 
 // The words, and the numbers from one on and before another.
-fn say(words: &[u8], tally: &[u64], from: u16, to: u16) {
-    io::write_all(STDOUT_FILENO, words);
+fn say(rt: &impl Print, words: &[u8], tally: &[u64], from: u16, to: u16) -> io::Result<()> {
+    rt.write_all(words)?;
     let mut k = from;
     while k < to {
-        io::write_all(STDOUT_FILENO, b" ");
-        io::print_decimal(STDOUT_FILENO, tally::number(tally, k));
+        rt.write_all(b" ")?;
+        rt.print(tally::number(tally, k))?;
         k = k + 1;
     }
-    io::write_all(STDOUT_FILENO, b"\n");
+    rt.write_all(b"\n")
 }
 
-fn main() {
+fn main(rt: HostRuntime) -> io::Result<()> {
     let mut tally = [0u64; 16];
     every_film(&mut tally);
     say(
+        &rt,
         b"films; lists of rows fetched; refused by 22:",
         &tally,
         tally::FILMS,
         tally::PLANS,
-    );
+    )?;
     say(
+        &rt,
         b"plans made afresh; with H 0, a chunk due before p, a begun layer given up, one ended; bases, layers above, rows from p on; that pass the second call:",
         &tally,
         tally::PLANS,
         tally::TURNED,
-    );
+    )?;
     say(
+        &rt,
         b"the same with the rows in another order; checksum over all answers:",
         &tally,
         tally::TURNED,
         tally::STANDING,
-    );
+    )?;
     say(
+        &rt,
         b"standing plans, at each p; that go on as they were:",
         &tally,
         tally::STANDING,
         16,
-    );
+    )
 }

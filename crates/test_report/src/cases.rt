@@ -1,28 +1,30 @@
 // The case files: r.. are job files.
 use job::{OVERRIDES, Programme, SLOTS};
 use jobrecords::JobRead;
-use libc::STDOUT_FILENO;
 use records::Written;
+use std::io;
+use std::rt::Files;
 
-pub fn word(text: &[u8]) {
-    io::write_all(STDOUT_FILENO, text);
+pub fn word(rt: &impl Print, text: &[u8]) -> io::Result<()> {
+    rt.write_all(text)
 }
 
 // A word, a number and a line feed.
-pub fn line(text: &[u8], n: usize) {
-    word(text);
-    io::print_decimal(STDOUT_FILENO, n as u64);
-    word(b"\n");
+pub fn line(rt: &impl Print, text: &[u8], n: usize) -> io::Result<()> {
+    word(rt, text)?;
+    rt.print(n as u64)?;
+    word(rt, b"\n")
 }
 
 fn print_report(
+    rt: &impl Print,
     p: Programme,
     sizes: &[u32],
     size_chunks: &[u16],
     size_layers: &[u8],
     size_bytes: &[u32],
     forecast: &[u32],
-) {
+) -> io::Result<()> {
     let mut out = [0u8; 8192];
     match report::report(
         p,
@@ -33,16 +35,16 @@ fn print_report(
         forecast,
         &mut out,
     ) {
-        Written::Refused(n) => line(b"refused ", n as usize),
-        Written::Bytes(n) => print_first(&out, n),
+        Written::Refused(n) => line(rt, b"refused ", n as usize),
+        Written::Bytes(n) => print_first(rt, &out, n),
     }
 }
 
-fn print_first(out: &[u8; 8192], n: usize) {
-    word(core_prefix::bytes(out, n));
+fn print_first(rt: &impl Print, out: &[u8; 8192], n: usize) -> io::Result<()> {
+    word(rt, core_prefix::bytes(out, n))
 }
 
-fn report_of(file: &[u8; 1024], n: usize) {
+fn report_of(rt: &impl Print, file: &[u8; 1024], n: usize) -> io::Result<()> {
     let mut sizes = [0u32; 4];
     let mut size_chunks = [0u16; OVERRIDES];
     let mut size_layers = [0u8; OVERRIDES];
@@ -56,13 +58,14 @@ fn report_of(file: &[u8; 1024], n: usize) {
         &mut size_bytes,
         &mut forecast,
     ) {
-        JobRead::Refused(n) => line(b"refused ", n as usize),
+        JobRead::Refused(n) => line(rt, b"refused ", n as usize),
         JobRead::Job {
             programme,
             layers,
             overrides,
             slots,
         } => print_report(
+            rt,
             programme,
             core_prefix::words(&sizes, layers),
             core_prefix::halves(&size_chunks, overrides),
@@ -74,27 +77,22 @@ fn report_of(file: &[u8; 1024], n: usize) {
 }
 
 // A file that can't be opened is read as empty.
-fn read_case(i: u8, file: &mut [u8; 1024]) -> usize {
+fn read_case(rt: &(impl Files + Print), i: u8, file: &mut [u8; 1024]) -> io::Result<usize> {
     let path = [b'r', 48 + i / 10 % 10, 48 + i % 10];
-    word(&path);
-    word(b"\n");
-    let fd = os::open_read(&path);
-    if fd < 0 {
-        return 0;
-    }
-    let n = io::read_full(fd, file);
-    libc::close(fd);
-    n
+    word(rt, &path)?;
+    word(rt, b"\n")?;
+    core_input::read_file(rt, &path, file)
 }
 
-fn case(i: u8) {
+fn case(rt: &(impl Files + Print), i: u8) -> io::Result<()> {
     let mut file = [0u8; 1024];
-    let n = read_case(i, &mut file);
-    report_of(&file, n);
+    let n = read_case(rt, i, &mut file)?;
+    report_of(rt, &file, n)
 }
 
-pub fn reports() {
+pub fn reports(rt: &(impl Files + Print)) -> io::Result<()> {
     for i in 0u8..19 {
-        case(i);
+        case(rt, i)?;
     }
+    Ok(())
 }

@@ -6,10 +6,12 @@
 mod cases;
 mod rooms;
 
-fn main() {
-    cases::reports();
-    rooms::exact();
-    rooms::longer();
-    rooms::one_short();
-    rooms::refused_first();
+use std::io;
+
+fn main(rt: HostRuntime) -> io::Result<()> {
+    cases::reports(&rt)?;
+    rooms::exact(&rt)?;
+    rooms::longer(&rt)?;
+    rooms::one_short(&rt)?;
+    rooms::refused_first(&rt)
 }

@@ -2,6 +2,7 @@
 use crate::cases::{line, word};
 use job::Programme;
 use records::Written;
+use std::io;
 
 fn programme(chunks: u16) -> Programme {
     Programme {
@@ -13,13 +14,13 @@ fn programme(chunks: u16) -> Programme {
 }
 
 // The answer; the bytes at the ends of the buffer tell what was written.
-fn answered(r: Written, first: u8, last: u8) {
+fn answered(rt: &impl Print, r: Written, first: u8, last: u8) -> io::Result<()> {
     match r {
-        Written::Bytes(n) => line(b"written ", n),
-        Written::Refused(n) => line(b"refused ", n as usize),
+        Written::Bytes(n) => line(rt, b"written ", n)?,
+        Written::Refused(n) => line(rt, b"refused ", n as usize)?,
     }
-    line(b"first ", first as usize);
-    line(b"last ", last as usize);
+    line(rt, b"first ", first as usize)?;
+    line(rt, b"last ", last as usize)
 }
 
 fn a_into(chunks: u16, out: &mut [u8]) -> Written {
@@ -28,27 +29,27 @@ fn a_into(chunks: u16, out: &mut [u8]) -> Written {
     report::report(programme(chunks), &sizes, &[], &[], &[], &forecast, out)
 }
 
-pub fn exact() {
+pub fn exact(rt: &impl Print) -> io::Result<()> {
     let mut out = [9u8; 86];
     let r = a_into(3, &mut out);
-    answered(r, out[0], out[85]);
+    answered(rt, r, out[0], out[85])
 }
 
-pub fn longer() {
+pub fn longer(rt: &impl Print) -> io::Result<()> {
     let mut out = [9u8; 87];
     let r = a_into(3, &mut out);
-    answered(r, out[0], out[86]);
+    answered(rt, r, out[0], out[86])
 }
 
-pub fn one_short() {
+pub fn one_short(rt: &impl Print) -> io::Result<()> {
     let mut out = [9u8; 85];
     let r = a_into(3, &mut out);
-    answered(r, out[0], out[84]);
+    answered(rt, r, out[0], out[84])
 }
 
-pub fn refused_first() {
+pub fn refused_first(rt: &impl Print) -> io::Result<()> {
     let mut out = [9u8; 1];
-    word(b"5 before 11: ");
+    word(rt, b"5 before 11: ")?;
     let r = a_into(501, &mut out);
-    answered(r, out[0], out[0]);
+    answered(rt, r, out[0], out[0])
 }

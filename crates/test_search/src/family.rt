@@ -5,6 +5,7 @@ use crate::cases::within;
 use crate::print::{byte_at, half_at, pair, rows_of, word, word_at};
 use job::Programme;
 use search::Searched;
+use std::io;
 
 // Jobs, searches, those that ended, those cut with no shortfall, steps, bases, shortfalls, and a
 // number that every value handed over changes.
@@ -270,19 +271,19 @@ fn every_forecast(p: Programme, t: Tally) -> Tally {
     tally
 }
 
-fn say(t: Tally) {
-    pair(b"family: jobs ", t.jobs);
-    pair(b", searches ", t.searches);
-    pair(b", ended ", t.ended);
-    pair(b", cut without a shortfall ", t.sure);
-    pair(b", steps ", t.steps);
-    pair(b", bases ", t.bases);
-    pair(b", shortfalls ", t.short);
-    pair(b", check ", t.check);
-    word(b"\n");
+fn say(rt: &impl Print, t: Tally) -> io::Result<()> {
+    pair(rt, b"family: jobs ", t.jobs)?;
+    pair(rt, b", searches ", t.searches)?;
+    pair(rt, b", ended ", t.ended)?;
+    pair(rt, b", cut without a shortfall ", t.sure)?;
+    pair(rt, b", steps ", t.steps)?;
+    pair(rt, b", bases ", t.bases)?;
+    pair(rt, b", shortfalls ", t.short)?;
+    pair(rt, b", check ", t.check)?;
+    word(rt, b"\n")
 }
 
-pub(crate) fn all() {
+pub(crate) fn all(rt: &impl Print) -> io::Result<()> {
     let mut t = Tally {
         jobs: 0,
         searches: 0,
@@ -296,5 +297,5 @@ pub(crate) fn all() {
     for k in 0..48u16 {
         t = every_forecast(programme(k), t);
     }
-    say(t);
+    say(rt, t)
 }

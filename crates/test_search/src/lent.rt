@@ -1,6 +1,7 @@
 // The room lent, on job A, whose whole walk finds three rows, and the refusals in their order.
 use crate::print::{bytes_of, rows, said, word};
 use job::Programme;
+use std::io;
 
 // How much is handed: chunks, layers and slots of job A, SZs of chunk 1, which it has none of, and
 // how much of each slice is lent.
@@ -39,7 +40,7 @@ fn front32(s: &mut [u32], n: usize) -> &mut [u32] {
 }
 
 // Slices of 7s, so that what is left as it was can be told.
-fn ask(text: &[u8], lengths: Lengths) {
+fn ask(rt: &impl Print, text: &[u8], lengths: Lengths) -> io::Result<()> {
     let p = Programme {
         chunks: lengths.chunks,
         span: 2,
@@ -65,26 +66,28 @@ fn ask(text: &[u8], lengths: Lengths) {
         front8(&mut layers, lengths.row_layers),
         front32(&mut bytes, lengths.row_bytes),
     );
-    word(text);
-    word(b": ");
-    said(found);
-    word(b", marks");
-    bytes_of(&marks, 4);
-    word(b", list");
-    rows(&slots, &chunks, &layers, &bytes, 4);
-    word(b"\n");
+    word(rt, text)?;
+    word(rt, b": ")?;
+    said(rt, found)?;
+    word(rt, b", marks")?;
+    bytes_of(rt, &marks, 4)?;
+    word(rt, b", list")?;
+    rows(rt, &slots, &chunks, &layers, &bytes, 4)?;
+    word(rt, b"\n")
 }
 
 // Job A whole, with so much lent.
 fn lend(
+    rt: &impl Print,
     text: &[u8],
     marks: usize,
     row_slots: usize,
     row_chunks: usize,
     row_layers: usize,
     row_bytes: usize,
-) {
+) -> io::Result<()> {
     ask(
+        rt,
         text,
         Lengths {
             chunks: 3,
@@ -97,23 +100,31 @@ fn lend(
             row_layers,
             row_bytes,
         },
-    );
+    )
 }
 
-pub(crate) fn room() {
-    word(b"room\n");
-    lend(b"just enough", 3, 3, 3, 3, 3);
-    lend(b"more than enough", 4, 4, 4, 4, 4);
-    lend(b"a mark short", 2, 4, 4, 4, 4);
-    lend(b"a slot short", 4, 2, 4, 4, 4);
-    lend(b"a chunk short", 4, 4, 2, 4, 4);
-    lend(b"a layer short", 4, 4, 4, 2, 4);
-    lend(b"bytes short", 4, 4, 4, 4, 2);
+pub(crate) fn room(rt: &impl Print) -> io::Result<()> {
+    word(rt, b"room\n")?;
+    lend(rt, b"just enough", 3, 3, 3, 3, 3)?;
+    lend(rt, b"more than enough", 4, 4, 4, 4, 4)?;
+    lend(rt, b"a mark short", 2, 4, 4, 4, 4)?;
+    lend(rt, b"a slot short", 4, 2, 4, 4, 4)?;
+    lend(rt, b"a chunk short", 4, 4, 2, 4, 4)?;
+    lend(rt, b"a layer short", 4, 4, 4, 2, 4)?;
+    lend(rt, b"bytes short", 4, 4, 4, 4, 2)
 }
 
 // A job wrong in what comes before, each later refusal waiting behind it, and too little lent.
-fn wrong(text: &[u8], chunks: u16, layers: usize, uneven: usize, slots: usize) {
+fn wrong(
+    rt: &impl Print,
+    text: &[u8],
+    chunks: u16,
+    layers: usize,
+    uneven: usize,
+    slots: usize,
+) -> io::Result<()> {
     ask(
+        rt,
         text,
         Lengths {
             chunks,
@@ -126,14 +137,14 @@ fn wrong(text: &[u8], chunks: u16, layers: usize, uneven: usize, slots: usize) {
             row_layers: 2,
             row_bytes: 2,
         },
-    );
+    )
 }
 
-pub(crate) fn order() {
-    word(b"order\n");
-    wrong(b"5 first", 501, 0, 1, 5);
-    wrong(b"then 6", 3, 0, 1, 5);
-    wrong(b"then 18", 3, 2, 1, 5);
-    wrong(b"then 7", 3, 2, 0, 5);
-    wrong(b"then 11", 3, 2, 0, 6);
+pub(crate) fn order(rt: &impl Print) -> io::Result<()> {
+    word(rt, b"order\n")?;
+    wrong(rt, b"5 first", 501, 0, 1, 5)?;
+    wrong(rt, b"then 6", 3, 0, 1, 5)?;
+    wrong(rt, b"then 18", 3, 2, 1, 5)?;
+    wrong(rt, b"then 7", 3, 2, 0, 5)?;
+    wrong(rt, b"then 11", 3, 2, 0, 6)
 }

@@ -9,11 +9,13 @@ mod family;
 mod lent;
 mod print;
 
-fn main() {
-    cases::job_a();
-    cases::uneven();
-    cases::four();
-    lent::room();
-    lent::order();
-    family::all();
+use std::io;
+
+fn main(rt: HostRuntime) -> io::Result<()> {
+    cases::job_a(&rt)?;
+    cases::uneven(&rt)?;
+    cases::four(&rt)?;
+    lent::room(&rt)?;
+    lent::order(&rt)?;
+    family::all(&rt)
 }

@@ -8,10 +8,12 @@ mod print;
 mod reading;
 mod writing;
 
-fn main() {
-    reading::trace_files();
-    reading::slot_counts();
-    reading::rooms();
-    writing::forecasts();
-    writing::slots();
+use std::io;
+
+fn main(rt: HostRuntime) -> io::Result<()> {
+    reading::trace_files(&rt)?;
+    reading::slot_counts(&rt)?;
+    reading::rooms(&rt)?;
+    writing::forecasts(&rt)?;
+    writing::slots(&rt)
 }

@@ -1,20 +1,20 @@
 // Words and numbers to standard output.
-use libc::STDOUT_FILENO;
+use std::io;
 
-pub fn word(text: &[u8]) {
-    io::write_all(STDOUT_FILENO, text);
+pub fn word(rt: &impl Print, text: &[u8]) -> io::Result<()> {
+    rt.write_all(text)
 }
 
-pub fn number(n: usize) {
-    io::print_decimal(STDOUT_FILENO, n as u64);
+pub fn number(rt: &impl Print, n: usize) -> io::Result<()> {
+    rt.print(n as u64)
 }
 
 // A word and a number.
-pub fn pair(text: &[u8], n: usize) {
-    word(text);
-    number(n);
+pub fn pair(rt: &impl Print, text: &[u8], n: usize) -> io::Result<()> {
+    word(rt, text)?;
+    number(rt, n)
 }
 
-pub fn refused(n: u8) {
-    pair(b"refused ", n as usize);
+pub fn refused(rt: &impl Print, n: u8) -> io::Result<()> {
+    pair(rt, b"refused ", n as usize)
 }

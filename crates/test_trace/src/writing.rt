@@ -1,18 +1,19 @@
 // The writer.
 use crate::print::{pair, refused, word};
 use records::Written;
+use std::io;
 
-fn answered(answer: Written) {
+fn answered(rt: &impl Print, answer: Written) -> io::Result<()> {
     match answer {
-        Written::Bytes(n) => pair(b"written ", n),
-        Written::Refused(n) => refused(n),
+        Written::Bytes(n) => pair(rt, b"written ", n),
+        Written::Refused(n) => refused(rt, n),
     }
 }
 
 // How many bytes the forecast has when it is written.
-pub fn written(forecast: &[u32]) {
+pub fn written(rt: &impl Print, forecast: &[u32]) -> io::Result<()> {
     let mut out = [0u8; 65537];
-    answered(trace::write_trace(forecast, &mut out));
+    answered(rt, trace::write_trace(forecast, &mut out))
 }
 
 // Room for n bytes at most.
@@ -24,42 +25,42 @@ fn room(s: &mut [u8], n: usize) -> &mut [u8] {
 }
 
 // The forecast goes into room for so many bytes, after which all ten bytes show.
-fn write(forecast: &[u32], places: usize) {
+fn write(rt: &impl Print, forecast: &[u32], places: usize) -> io::Result<()> {
     let mut out = [b'.'; 10];
-    answered(trace::write_trace(forecast, room(&mut out, places)));
-    word(b", then ");
-    word(&out);
-    word(b"\n");
+    answered(rt, trace::write_trace(forecast, room(&mut out, places)))?;
+    word(rt, b", then ")?;
+    word(rt, &out)?;
+    word(rt, b"\n")
 }
 
-pub fn forecasts() {
+pub fn forecasts(rt: &impl Print) -> io::Result<()> {
     let forecast = [3000u32, 0, 1500];
-    write(&forecast, 10);
-    write(&forecast, 9);
-    word(b"no room for a byte: ");
-    write(&forecast, 8);
-    word(b"no slot: ");
-    write(core_prefix::words(&forecast, 0), 10);
-    word(b"no multiple of 1,500: ");
-    write(&[1500u32, 1499], 10);
-    word(b"above 16,777,216: ");
-    write(&[16777500u32], 10);
-    word(b"15 before 11: ");
-    write(&[1u32], 0);
-    word(b"11,184 lines, no room: ");
-    write(&[16776000u32], 10);
+    write(rt, &forecast, 10)?;
+    write(rt, &forecast, 9)?;
+    word(rt, b"no room for a byte: ")?;
+    write(rt, &forecast, 8)?;
+    word(rt, b"no slot: ")?;
+    write(rt, core_prefix::words(&forecast, 0), 10)?;
+    word(rt, b"no multiple of 1,500: ")?;
+    write(rt, &[1500u32, 1499], 10)?;
+    word(rt, b"above 16,777,216: ")?;
+    write(rt, &[16777500u32], 10)?;
+    word(rt, b"15 before 11: ")?;
+    write(rt, &[1u32], 0)?;
+    word(rt, b"11,184 lines, no room: ")?;
+    write(rt, &[16776000u32], 10)
 }
 
 // Forecasts of 3,600 slots, the last with a line, and of one more, which can't be written.
-pub fn slots() {
+pub fn slots(rt: &impl Print) -> io::Result<()> {
     let mut forecast = [0u32; 3601];
     forecast[3599] = 1500;
     forecast[3600] = 1;
-    slots_of(&forecast);
+    slots_of(rt, &forecast)
 }
 
-fn slots_of(forecast: &[u32; 3601]) {
-    write(core_prefix::words(forecast, 3600), 10);
-    word(b"3,601 slots, 7 before 15: ");
-    write(forecast, 10);
+fn slots_of(rt: &impl Print, forecast: &[u32; 3601]) -> io::Result<()> {
+    write(rt, core_prefix::words(forecast, 3600), 10)?;
+    word(rt, b"3,601 slots, 7 before 15: ")?;
+    write(rt, forecast, 10)
 }

@@ -7,10 +7,12 @@ mod calls;
 mod print;
 mod rooms;
 
-fn main() {
-    calls::sizes();
-    calls::ways();
-    calls::halves();
-    calls::order();
-    rooms::rooms();
+use std::io;
+
+fn main(rt: HostRuntime) -> io::Result<()> {
+    calls::sizes(&rt)?;
+    calls::ways(&rt)?;
+    calls::halves(&rt)?;
+    calls::order(&rt)?;
+    rooms::rooms(&rt)
 }

@@ -1,12 +1,12 @@
 // Words and numbers to standard output.
-use libc::STDOUT_FILENO;
+use std::io;
 
-pub(crate) fn word(text: &[u8]) {
-    io::write_all(STDOUT_FILENO, text);
+pub(crate) fn word(rt: &impl Print, text: &[u8]) -> io::Result<()> {
+    rt.write_all(text)
 }
 
 // A word and a number.
-pub(crate) fn pair(text: &[u8], n: usize) {
-    word(text);
-    io::print_decimal(STDOUT_FILENO, n as u64);
+pub(crate) fn pair(rt: &impl Print, text: &[u8], n: usize) -> io::Result<()> {
+    word(rt, text)?;
+    rt.print(n as u64)
 }

@@ -8,16 +8,18 @@ mod family;
 mod plans;
 mod tally;
 
-fn main() {
-    cases::small();
-    cases::binding();
-    cases::programmes();
-    cases::lengths();
-    cases::ranges();
-    cases::uneven_films();
-    cases::large();
+use std::io;
+
+fn main(rt: HostRuntime) -> io::Result<()> {
+    cases::small(&rt)?;
+    cases::binding(&rt)?;
+    cases::programmes(&rt)?;
+    cases::lengths(&rt)?;
+    cases::ranges(&rt)?;
+    cases::uneven_films(&rt)?;
+    cases::large(&rt)?;
     let mut tally = [0u64; 9];
     family::every_film(&mut tally);
-    tally::say_films(&tally);
-    tally::say_answers(&tally);
+    tally::say_films(&rt, &tally)?;
+    tally::say_answers(&rt, &tally)
 }

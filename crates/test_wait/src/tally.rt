@@ -1,5 +1,5 @@
 // What the family's tests count.
-use libc::STDOUT_FILENO;
+use std::io;
 
 pub const FILMS: usize = 0;
 
@@ -42,23 +42,23 @@ fn number(tally: &[u64], k: usize) -> u64 {
     0
 }
 
-fn say(word: &[u8], tally: &[u64], k: usize) {
-    io::write_all(STDOUT_FILENO, word);
-    io::print_decimal(STDOUT_FILENO, number(tally, k));
+fn say(rt: &impl Print, word: &[u8], tally: &[u64], k: usize) -> io::Result<()> {
+    rt.write_all(word)?;
+    rt.print(number(tally, k))
 }
 
-pub fn say_films(tally: &[u64]) {
-    say(b"films ", tally, FILMS);
-    say(b" with H 0 ", tally, NONE_HELD);
-    say(b" a longer wait worse ", tally, WORSE);
-    say(b"\nthe first s ", tally, FIRST);
-    say(b" a later one ", tally, LATER);
-    say(b" the last within the forecast ", tally, LAST);
+pub fn say_films(rt: &impl Print, tally: &[u64]) -> io::Result<()> {
+    say(rt, b"films ", tally, FILMS)?;
+    say(rt, b" with H 0 ", tally, NONE_HELD)?;
+    say(rt, b" a longer wait worse ", tally, WORSE)?;
+    say(rt, b"\nthe first s ", tally, FIRST)?;
+    say(rt, b" a later one ", tally, LATER)?;
+    say(rt, b" the last within the forecast ", tally, LAST)
 }
 
-pub fn say_answers(tally: &[u64]) {
-    say(b" none works ", tally, NONE_WORKS);
-    say(b" too short for s = 1 ", tally, TOO_SHORT);
-    say(b"\nthe same answer by plans ", tally, SAME);
-    io::write_all(STDOUT_FILENO, b"\n");
+pub fn say_answers(rt: &impl Print, tally: &[u64]) -> io::Result<()> {
+    say(rt, b" none works ", tally, NONE_WORKS)?;
+    say(rt, b" too short for s = 1 ", tally, TOO_SHORT)?;
+    say(rt, b"\nthe same answer by plans ", tally, SAME)?;
+    rt.write_all(b"\n")
 }

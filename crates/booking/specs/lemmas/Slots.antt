@@ -1,13 +1,13 @@
 -- Lemmas. A forecast changed slot by slot, and what a list that can be booked has in each slot.
 -- Assumes nothing.
-use Rattle.std.specs.Prelude.{ℕ, suc, ◌+◌, ◌-◌, ◌≤◌, ◌≡◌, Bool, List, [], ◌∷◌, ◌++◌, length, get_or}
+use Rattle.std.specs.Prelude.{ℕ, suc, ◌+◌, ◌-◌, ◌≤◌, ◌≡◌, List, [], ◌∷◌, length, get_or}
 use Rattle.std.proofs.Common.{subst, arith, ext_get_or}
 use Rattle.theory_basics.specs.Tests.{All}
 use Rattle.theory_basics.specs.lemmas.Lists.{length_up_to, get_d_up_to}
 use Rattle.theory_basics.specs.lemmas.Tables.{all_at}
 use Rattle.theory_basics.specs.lemmas.Tests.{all_map}
 use Rattle.job.specs.Job.{last_slot}
-use Rattle.fetch.specs.Rows.{Row, bytes_if, bytes_in_slot}
+use Rattle.fetch.specs.Rows.{Row, bytes_in_slot}
 use Rattle.fetch.specs.Rules.{RowInRange}
 use Rattle.booking.specs.Booking.{slot_has, slot_by_slot, taken_off, added_back, SlotsThere, Bookable}
 

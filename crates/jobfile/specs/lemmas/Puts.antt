@@ -7,7 +7,6 @@ use Rattle.records.specs.File.{encode_all}
 use Rattle.records.specs.lemmas.Puts.{length_written, written_append, written_none}
 use Rattle.jobrecords.specs.declared.Record.{Record}
 use Rattle.jobrecords.specs.Records.{encode}
-use Rattle.jobrecords.specs.Refusal.{format}
 
 -- The bytes are written at a place, and the next place follows them.
 pub record Puts (out : List ℕ) (at : ℕ) (bytes : List ℕ) (out' : List ℕ) (next : ℕ) : Type 0 where

@@ -1,8 +1,7 @@
 -- `jobrecords::end_refusal` meets its contract. Assumes nothing.
 use Prim.Native.Nat.{ℕ}
 use native.Mathlib.Omega.{arith}
-use mathlib.Core.Path.{sym, ap, ap₂, ◌∙◌}
-use lib.Seq.{length-take-le}
+use mathlib.Core.Path.{ap, ap₂, ◌∙◌}
 use lib.Dec.{eqb}
 use Rattle.theory_basics.specs.Refusals.{unless, ◌or_else◌}
 use Rattle.jobrecords.proofs.end_refusal.Goals as goal

@@ -1,6 +1,6 @@
-use Prim.Native.Nat.{◌+◌, ◌*◌, ◌-◌}
+use Prim.Native.Nat.{◌+◌, ◌*◌}
 use native.Mathlib.Omega.{arith}
-use mathlib.Core.Path.{◌≡◌, refl, ◌∙◌}
+use mathlib.Core.Path.{refl, ◌∙◌}
 use Rattle.job.specs.Job.{Override}
 use Rattle.jobrecords.proofs.Fronts.{w_says}
 use Rattle.jobrecords.proofs.Copies.{column_start, column_more}

@@ -1,6 +1,4 @@
-use Prim.Native.Nat.{◌-◌}
-use native.Mathlib.Omega.{arith}
-use Rattle.jobrecords.proofs.Steps.{going_start, turned_on, turned_done, turned_stop}
+use Rattle.jobrecords.proofs.Steps.{going_start}
 use Rattle.jobrecords.proofs.read_all.Goals as goal
 
 pub loop-more-init : goal.loop-more-init

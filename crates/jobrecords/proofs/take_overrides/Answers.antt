@@ -1,4 +1,3 @@
-use Prim.Native.Nat.{◌-◌}
 use native.Mathlib.Omega.{arith}
 use Rattle.jobrecords.proofs.Likes.{overrides_start, override_inside, overrides_more, overrides_end}
 use Rattle.jobrecords.proofs.take_overrides.Goals as goal

@@ -1,4 +1,3 @@
-use Prim.Native.Nat.{◌-◌}
 use native.Mathlib.Omega.{arith}
 use Rattle.jobrecords.proofs.Likes.{runs_start, sound_at, sound_inside, runs_more, runs_end}
 use Rattle.jobrecords.proofs.take_runs.Goals as goal
@@ -16,19 +15,19 @@ returns-in_default c =
     runs_end a.file.now a.from a.j a.slots.now l.at l.so_far l.last l.slots l.invariant c.with_runs.result c.with_runs.ensures
 
 pub overflow_add-end : goal.overflow_add-end
-overflow_add-end c = omega (arith, sound_inside _ _ _ _ _ _ (sound_at c.args.file.now c.loop-count.at c.loop-count.so_far c.loop-count.last c.sound_run-run.result c.sound_run-run.ensures c.run-1.given.0.0 c.run-1.given.0.1.0 c.run-1.given.1))
+overflow_add-end c = omega (arith, sound_inside _ _ _ _ _ _ (sound_at c.args.file.now c.loop-count.at c.loop-count.so_far c.loop-count.last c.sound_run-run.result c.sound_run-run.ensures c.in-Sound.count c.in-Sound.bytes c.in-Sound.is))
 
 pub put_run-requires : goal.put_run-requires
-put_run-requires c = omega (arith, sound_inside _ _ _ _ _ _ (sound_at c.args.file.now c.loop-count.at c.loop-count.so_far c.loop-count.last c.sound_run-run.result c.sound_run-run.ensures c.run-1.given.0.0 c.run-1.given.0.1.0 c.run-1.given.1), c.loop-count.invariant.slots_room)
+put_run-requires c = omega (arith, sound_inside _ _ _ _ _ _ (sound_at c.args.file.now c.loop-count.at c.loop-count.so_far c.loop-count.last c.sound_run-run.result c.sound_run-run.ensures c.in-Sound.count c.in-Sound.bytes c.in-Sound.is), c.loop-count.invariant.slots_room)
 
 pub overflow_add-at : goal.overflow_add-at
-overflow_add-at c = omega (arith, (sound_at c.args.file.now c.loop-count.at c.loop-count.so_far c.loop-count.last c.sound_run-run.result c.sound_run-run.ensures c.run-1.given.0.0 c.run-1.given.0.1.0 c.run-1.given.1).inside)
+overflow_add-at c = omega (arith, (sound_at c.args.file.now c.loop-count.at c.loop-count.so_far c.loop-count.last c.sound_run-run.result c.sound_run-run.ensures c.in-Sound.count c.in-Sound.bytes c.in-Sound.is).inside)
 
 pub loop-count-smaller : goal.loop-count-smaller
-loop-count-smaller c = omega (arith, (sound_at c.args.file.now c.loop-count.at c.loop-count.so_far c.loop-count.last c.sound_run-run.result c.sound_run-run.ensures c.run-1.given.0.0 c.run-1.given.0.1.0 c.run-1.given.1).inside)
+loop-count-smaller c = omega (arith, (sound_at c.args.file.now c.loop-count.at c.loop-count.so_far c.loop-count.last c.sound_run-run.result c.sound_run-run.ensures c.in-Sound.count c.in-Sound.bytes c.in-Sound.is).inside)
 
 pub loop-count-preserved : goal.loop-count-preserved
 loop-count-preserved c =
     let a = c.args in
     let l = c.loop-count in
-    runs_more a.file.now a.from a.j a.slots.now l.at l.so_far l.last l.slots l.invariant c.run-1.given.0.0 c.run-1.given.0.1.0 (sound_at c.args.file.now c.loop-count.at c.loop-count.so_far c.loop-count.last c.sound_run-run.result c.sound_run-run.ensures c.run-1.given.0.0 c.run-1.given.0.1.0 c.run-1.given.1) c.put_run.new.0 c.put_run.ensures
+    runs_more a.file.now a.from a.j a.slots.now l.at l.so_far l.last l.slots l.invariant c.in-Sound.count c.in-Sound.bytes (sound_at c.args.file.now c.loop-count.at c.loop-count.so_far c.loop-count.last c.sound_run-run.result c.sound_run-run.ensures c.in-Sound.count c.in-Sound.bytes c.in-Sound.is) c.put_run.new.slots c.put_run.ensures

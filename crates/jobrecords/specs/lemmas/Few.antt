@@ -1,6 +1,6 @@
 -- Lemmas. SZs past the 1,996 that a job can have are refused by 18, whatever they say. Assumes
 -- nothing.
-use Rattle.std.specs.Prelude.{ℕ, ◌*◌, ◌≤◌, ◌<◌, ◌≡◌, Bool, ◌&&◌, List, [], ◌∷◌, length}
+use Rattle.std.specs.Prelude.{ℕ, ◌≤◌, ◌<◌, ◌≡◌, Bool, ◌&&◌, List, [], ◌∷◌, length}
 use Rattle.std.proofs.Common.{arith}
 use Rattle.std.proofs.Math.Dec.{not_T}
 use Rattle.theory_basics.specs.Tests.{all}

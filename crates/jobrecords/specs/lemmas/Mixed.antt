@@ -1,6 +1,6 @@
 -- Lemmas. A file in one sequence, read as a mixed one: the same records up to the first SZ, whose
 -- mark a mixed file does not know. Assumes nothing.
-use Rattle.std.specs.Prelude.{ℕ, zero, suc, ◌+◌, refl, Bool, true, false, not, cond, ◌&&◌, length, drop, T, leb}
+use Rattle.std.specs.Prelude.{ℕ, zero, suc, ◌+◌, refl, Bool, true, false, not, cond, length, drop, T, leb}
 use Rattle.std.proofs.Math.Path.{◌≡◌, ap}
 use Rattle.std.proofs.Common.{◌∙◌, arith}
 use mathlib.Core.List.{List, [], ◌∷◌, ◌++◌}
@@ -10,7 +10,7 @@ use Rattle.records.specs.Fields.{marked}
 use Rattle.records.specs.File.{Front, got, none, Stop, ended, broken, Split, split_by, split_up_to, split, first_fault}
 use Rattle.jobrecords.specs.declared.Record.{Record}
 use Rattle.jobrecords.specs.declared.Record.TheVariants.{Pg, Ly, Sz, Bw, En}
-use Rattle.jobrecords.specs.Records.{PG, LY, SZ, BW, EN, whole, programme_at, layer_at, override_at, run_at, front, is_end}
+use Rattle.jobrecords.specs.Records.{PG, LY, SZ, BW, EN, whole, programme_at, layer_at, run_at, front, is_end}
 use Rattle.jobrecords.specs.Says.{has_programme, sizes_in, overrides_in, forecast_in}
 use Rattle.jobrecords.specs.Refusal.{one_sequence, mixed, previous, fault, format}
 use Rattle.jobrecords.specs.lemmas.Clean.{no_fault}

@@ -6,7 +6,7 @@ use Rattle.theory_basics.specs.Lists.{up_to}
 use Rattle.theory_basics.specs.Refusals.{unless, ◌or_else◌}
 use Rattle.theory_basics.specs.lemmas.Tests.{by_cond}
 use Rattle.records.specs.Fields.{h_at, w_at, marked}
-use Rattle.records.specs.File.{Front, none, split, records_refusal}
+use Rattle.records.specs.File.{Front, none, records_refusal}
 use Rattle.records.specs.lemmas.Reading.{Reads}
 use Rattle.job.specs.declared.Programme.{Programme}
 use Rattle.job.specs.Job.{Job, Override, job_of, last_due}

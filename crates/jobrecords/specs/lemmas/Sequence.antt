@@ -1,18 +1,16 @@
 -- Lemmas. Records of which none has a fault, as a sequence of neighbours. Assumes nothing.
-use Rattle.std.specs.Prelude.{ℕ, zero, suc, ◌+◌, ◌≤◌, ◌≡◌, refl, Bool, true, false, ◌&&◌, List, [], ◌∷◌, ◌++◌, length, drop, T, leb}
-use Rattle.std.proofs.Common.{subst, ap, ◌∙◌, arith}
+use Rattle.std.specs.Prelude.{ℕ, ◌+◌, ◌≤◌, ◌≡◌, refl, Bool, ◌&&◌, List, [], ◌∷◌, ◌++◌, length, T, leb}
+use Rattle.std.proofs.Common.{subst, arith}
 use Rattle.theory_basics.specs.Tests.{All}
 use Rattle.theory_basics.specs.lemmas.Tests.{and_T, leb_iff}
-use Rattle.theory_basics.specs.Refusals.{unless, ◌or_else◌}
 use Rattle.theory_basics.specs.lemmas.Refusals.{unless_iff, or_else_iff}
-use Rattle.records.specs.File.{Front, got, none, split_by, split_up_to, split, first_fault}
+use Rattle.records.specs.File.{first_fault}
 use Rattle.job.specs.Refusal.{within}
 use Rattle.jobrecords.specs.declared.Record.{Record}
 use Rattle.jobrecords.specs.declared.Record.TheVariants.{Pg, Ly, Sz, Bw, En}
-use Rattle.jobrecords.specs.Records.{front}
 use Rattle.jobrecords.specs.Says.{has_programme, sizes_in, forecast_in}
-use Rattle.jobrecords.specs.Refusal.{one_sequence, mixed, last_after, previous, follows, run_fault, range_fault, fault, format}
-use Rattle.jobrecords.specs.lemmas.Clean.{Faultless, faultless, no_fault}
+use Rattle.jobrecords.specs.Refusal.{one_sequence, last_after, previous, follows, range_fault, fault, format}
+use Rattle.jobrecords.specs.lemmas.Clean.{Faultless, faultless}
 
 -- ---- the record before
 
