@@ -1,5 +1,3 @@
-use Prim.Native.Nat.{◌-◌}
-use native.Mathlib.Omega.{arith}
 use Rattle.trace.proofs.Widths.{trying_start, trying_more, trying_no, trying_end}
 use Rattle.std.proofs.Common.{ap}
 use mathlib.Core.Bool.{not}

@@ -1,4 +1,3 @@
-use Prim.Native.Nat.{◌-◌}
 use native.Mathlib.Omega.{arith}
 use Rattle.trace.proofs.Scans.{scanning_start, scanning_end, scanning_empty, scanning_cut, scanning_other, scanning_falls, scanning_line}
 use Rattle.trace.proofs.count_lines.Goals as goal

@@ -1,4 +1,3 @@
-use Prim.Native.Nat.{◌-◌}
 use native.Mathlib.Omega.{arith}
 use lib.ListN.{get_or}
 use Rattle.trace.proofs.Scans.{reading_start, reading_stop, reading_more, reading_end, value_small, digit_low, digit_high}

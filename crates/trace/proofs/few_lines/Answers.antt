@@ -1,4 +1,3 @@
-use Prim.Native.Nat.{◌-◌}
 use native.Mathlib.Omega.{arith}
 use Rattle.trace.proofs.Counts.{testing_start, testing_more, testing_many, testing_end}
 use Rattle.trace.proofs.few_lines.Goals as goal

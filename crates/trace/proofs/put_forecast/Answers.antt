@@ -1,4 +1,3 @@
-use Prim.Native.Nat.{◌-◌}
 use native.Mathlib.Omega.{arith}
 use Rattle.trace.proofs.Counts.{putting_start, putting_more, putting_end, few_at}
 use Rattle.trace.proofs.put_forecast.Goals as goal

@@ -1,5 +1,3 @@
-use Prim.Native.Nat.{◌-◌}
-use native.Mathlib.Omega.{arith}
 use Rattle.trace.proofs.Writes.{writing_start, writing_more, writing_room, writing_end}
 use Rattle.trace.proofs.put_trace.Goals as goal
 

@@ -1,5 +1,3 @@
-use Prim.Native.Nat.{◌-◌}
-use native.Mathlib.Omega.{arith}
 use Rattle.trace.proofs.Repeats.{copying_start, copying_more, copying_end}
 use Rattle.trace.proofs.repeated.copy_on.Goals as goal
 

@@ -2,7 +2,7 @@
 use native.Mathlib.Omega.{arith}
 use mathlib.Core.List.{[], ◌∷◌}
 use Rattle.theory_basics.specs.Text.{digits}
-use Rattle.core_text.specs.lemmas.Places.{put_byte, put_room, put_then, room_first}
+use Rattle.core_text.specs.lemmas.Places.{put_room, room_first}
 use Rattle.trace.proofs.repeated.put_line.Goals as goal
 
 pub put_number-end-requires : goal.put_number-end-requires

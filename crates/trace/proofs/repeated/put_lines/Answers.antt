@@ -1,4 +1,3 @@
-use Prim.Native.Nat.{◌-◌}
 use native.Mathlib.Omega.{arith}
 use Rattle.theory_basics.specs.Text.{digits}
 use Rattle.trace.proofs.Repeats.{doubling_start, doubling_more, doubling_end, none_put, first_fits, out_long, apart, copy_fits}
