@@ -1,7 +1,7 @@
 -- Lemmas. The lines of a job's plan: what the functions of lib.rt ask for is there for an accepted
 -- job, and what they put is its text. The flag is whether request 9 settled the bases.
 use Prim.Native.Nat.{ℕ, zero, suc, ◌≤◌, min}
-use Rattle.std.specs.Prelude.{◌≡◌, refl, Bool, true, false, cond, List, map, length, get_or, drop, eqb, ltb}
+use Rattle.std.specs.Prelude.{◌≡◌, refl, Bool, true, false, cond, List, length, get_or, drop, eqb, ltb}
 use Rattle.std.proofs.Common.{sym, subst, ◌∙◌, arith, ne_eqb}
 use Rattle.std.proofs.Math.Path.{ap, fun_ext}
 use Rattle.theory_basics.specs.Tests.{All}
