@@ -1,13 +1,13 @@
 -- Laws on the flags of the chunks that are asked. Assumes nothing.
 use Prim.Native.Nat.{ℕ, ◌+◌, ◌-◌, ◌/◌, ◌≤◌, ◌<◌}
-use mathlib.Core.Path.{◌≡◌, refl, sym, ◌∙◌}
-use mathlib.Core.Bool.{Bool, cond, not, ◌&&◌, ◌||◌}
+use mathlib.Core.Path.{◌≡◌, ◌∙◌}
+use mathlib.Core.Bool.{cond, not, ◌&&◌, ◌||◌}
 use mathlib.Core.List.{List}
 use native.Mathlib.Omega.{arith}
 use lib.Dec.{eqb, leb, ltb}
-use lib.ListN.{length, get_or, set, length-set}
+use lib.ListN.{length, set, length-set}
 use Rattle.theory_basics.specs.Sums.{count}
-use Rattle.theory_basics.specs.lemmas.Ranges.{bit_le, count_more, count_small}
+use Rattle.theory_basics.specs.lemmas.Ranges.{count_more, count_small}
 use Rattle.theory_basics.specs.lemmas.Tables.{at_set, ne_lt}
 use Rattle.job.specs.Job.{due_slot}
 use Rattle.job.specs.declared.Programme.{Programme}

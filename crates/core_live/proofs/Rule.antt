@@ -2,28 +2,27 @@
 -- tables. Assumes nothing.
 use Prim.Native.Nat.{ℕ, zero, suc, ◌+◌, ◌/◌, ◌≤◌, ◌<◌}
 use mathlib.Core.Path.{◌≡◌, refl, sym, ◌∙◌, ap, ap₂, subst}
-use mathlib.Core.Bool.{Bool, true, false, cond, not, ◌&&◌, ◌||◌}
-use mathlib.Core.List.{List, [], ◌∷◌, ◌++◌}
-use mathlib.Core.Logic.{◌⊎◌, inl, inr, ⊎_elim}
+use mathlib.Core.Bool.{Bool, false, not, ◌&&◌, ◌||◌}
+use mathlib.Core.List.{List, ◌++◌}
+use mathlib.Core.Logic.{⊎_elim}
 use native.Mathlib.Omega.{arith}
 use lib.Dec.{T, T_not, eqb, leb, ltb, eqb→eq, leb→le, nleb→lt, ltb→lt, nltb→le, lt→ltb}
 use lib.ListN.{length}
-use borrow.Author.Tests.{lt-leb}
 use Rattle.theory_basics.specs.Sums.{count}
 use Rattle.theory_basics.specs.lemmas.Ranges.{count_cong}
-use Rattle.theory_basics.specs.lemmas.Tests.{and_T, any_row_lem, at_row, same_test, T_and, test, true_T}
-use Rattle.job.specs.Job.{Job, chunks, due, due_slot, job_of, Layer, layers, Override}
+use Rattle.theory_basics.specs.lemmas.Tests.{and_T, any_row_lem, at_row, same_test, test, true_T}
+use Rattle.job.specs.Job.{Job, due_slot, job_of, Override}
 use Rattle.job.specs.declared.Programme.{Programme}
 use Rattle.fetch.specs.Rows.{begun, has_row, held, held_count, Row}
 use Rattle.fetch.specs.lemmas.Rows.{any_some}
 use Rattle.theory_plan.specs.Own.{Piece}
 use Rattle.theory_replan.specs.Statement.{Acceptable}
 use Rattle.theory_replan.specs.lemmas.Held.{begun_by, begun_row, carries_row}
-use Rattle.theory_live.specs.Statement.{asked, asks, asks_below, begun_after, brings, could_come, first_lacking, first_that, fresh, has_room, in_line, in_time, is_open, lacks, layer_asks, missing, next_in_time, passed_over, passes_for, piece_of, remaining}
+use Rattle.theory_live.specs.Statement.{asked, asks, asks_below, begun_after, brings, could_come, first_lacking, first_that, fresh, has_room, in_line, in_time, is_open, lacks, layer_asks, missing, next_in_time, passed_over, passes_for, remaining}
 use Rattle.theory_live.specs.lemmas.Firsts.{found}
 use Rattle.core_replan_decide.specs.lemmas.Decision.{Tabled}
-use Rattle.core_replan_decide.specs.lemmas.Tables.{LastBegunPost, of}
-use Rattle.core_live.specs.lemmas.ByTables.{asked_at, AskedFlags, begun_at, brings_at, could_come_at, fresh_at, held_at, in_time_at, lacks_at, layer_at, line_at, open_at, passed_at, passes_for_at, piece_at, pieces_at, room_at, PiecesStand, PassedUntilPost}
+use Rattle.core_replan_decide.specs.lemmas.Tables.{LastBegunPost}
+use Rattle.core_live.specs.lemmas.ByTables.{asked_at, AskedFlags, begun_at, brings_at, could_come_at, fresh_at, held_at, in_time_at, lacks_at, layer_at, line_at, open_at, passed_at, passes_for_at, pieces_at, room_at, PiecesStand, PassedUntilPost}
 use Rattle.core_live.proofs.Passing.{six_T}
 
 -- Tests that agree on 1 .. n have the same first.

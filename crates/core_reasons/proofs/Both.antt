@@ -1,16 +1,14 @@
 -- Laws on both passes. Assumes nothing.
-use mathlib.Core.Path.{◌≡◌, refl, sym, ap, ◌∙◌}
-use mathlib.Core.Bool.{Bool, cond, ◌&&◌}
+use mathlib.Core.Path.{◌≡◌, refl, ap, ◌∙◌}
 use mathlib.Core.List.{List}
-use Prim.Native.Nat.{ℕ, zero, suc, ◌+◌, ◌-◌, ◌≤◌, ◌<◌}
+use Prim.Native.Nat.{ℕ, zero, suc, ◌+◌, ◌-◌, ◌≤◌}
 use native.Mathlib.Omega.{arith}
-use lib.ListN.{get_or, length}
-use lib.Dec.{ltb}
+use lib.ListN.{get_or}
 use Rattle.theory_reasons.specs.lemmas.First.{opens}
 use Rattle.theory_reasons.specs.lemmas.Search as Search
 use Rattle.core_reasons.specs.declared.passes.Begin.{Begin}
 use Rattle.core_reasons.specs.declared.passes.Stretch.{Stretch}
-use Rattle.core_reasons.specs.lemmas.Passes.{FindStretchPost, FindStretchPre, back_in, begun, late_in, place, search_in, spelled, up_to_in}
+use Rattle.core_reasons.specs.lemmas.Passes.{FindStretchPost, FindStretchPre, back_in, begun, late_in, place, search_in, up_to_in}
 use Rattle.core_reasons.specs.lemmas.Held.{tables_late, tables_stretch}
 
 -- The pass back looks at no due slot.
@@ -28,7 +26,12 @@ module _ (after dues ready bytes : List ℕ) (first : ℕ) (o : FindStretchPre a
       let x = late_in after dues ready bytes first in
       let k : m - first ≡ x = omega (arith, e) in
       let s : Search.Begin = Search.back (place first bytes) (place first dues) (place first ready) (up_to_in after) (up_to_in after (place first dues x)) 0 (suc x) in
-      let h : begun b ≡ s = g ∙ rw (k, f, e) (back_no_due (place first bytes) (λ q. 0) (place first dues) (place first ready) (up_to_in after) (up_to_in after (place first dues x)) 0 (suc x)) in
+      let i : most ≡ up_to_in after (place first dues x) = f ∙ ap (λ (z : ℕ). up_to_in after (get_or dues z 0)) e in
+      let h : begun b ≡ s =
+      g
+      ∙ ap (λ (n : ℕ). Search.back (place first bytes) (λ q. 0) (place first ready) (up_to_in after) n 0 (suc (m - first))) i
+      ∙ ap (λ (y : ℕ). Search.back (place first bytes) (λ q. 0) (place first ready) (up_to_in after) (up_to_in after (place first dues x)) 0 (suc y)) k
+      ∙ back_no_due (place first bytes) (λ q. 0) (place first dues) (place first ready) (up_to_in after) (up_to_in after (place first dues x)) 0 (suc x) in
       rw e (ap (λ (t : Search.Begin). record { first = t.first; last = place first dues x; carry = t.carry; need = t.need }) h)
 
   pub named_found : (b : Begin) (most : ℕ) → most ≡ up_to_in after (get_or dues m 0) → begun b ≡ back_in after ready bytes first most m → FindStretchPost after dues ready bytes first (record { first = b.first; last = get_or dues m 0; carry = b.carry; need = b.need })

@@ -2,21 +2,21 @@
 -- nothing.
 use mathlib.Core.Path.{◌≡◌, refl, sym, ◌∙◌, ap}
 use mathlib.Core.Bool.{Bool, cond, ◌&&◌}
-use mathlib.Core.List.{List, [], ◌∷◌, ◌++◌, map, append_assoc, append-nil}
+use mathlib.Core.List.{List, [], ◌∷◌, ◌++◌, append_assoc, append-nil}
 use mathlib.Core.Logic.{⊎_elim}
 use Prim.Native.Nat.{ℕ, zero, suc, ◌+◌, ◌-◌, ◌≤◌, ◌<◌}
 use native.Mathlib.Omega.{arith}
 use native.Mathlib.Numerals.{add-one}
 use lib.ListN.{length, get_or, length-append}
-use lib.Dec.{eqb, ltb, ltb→lt, nltb→le}
+use lib.Dec.{eqb, ltb}
 use borrow.Author.Tests.{le-leb, lt-leb, lt-ltb, le-ltb}
-use Rattle.theory_basics.specs.lemmas.Tests.{by_cond, last, test}
+use Rattle.theory_basics.specs.lemmas.Tests.{by_cond, last}
 use Rattle.job.specs.declared.Programme.{Programme}
 use Rattle.job.specs.Job as Job
 use Rattle.job.specs.Job.{Job, chunks}
 use Rattle.theory_plan.specs.lemmas.Words.{layer_of}
 use Rattle.theory_reasons.specs.Lines.{line_at, short_line}
-use Rattle.theory_reasons.specs.Statement.{Line, Place, lower, missing_of, missing_to, sentence}
+use Rattle.theory_reasons.specs.Statement.{Place, lower, missing_of, missing_to, sentence}
 use Rattle.core_reasons.specs.declared.passes.Stretch.{Stretch}
 use Rattle.core_reasons.specs.lemmas.All.{PutReasonsPost, PutReasonsPre, PutChunkPost, PutChunkPre, Facts, PutLinePost, PutLinePre, Scratch, against_by, cap_of, sentence_at, text_at}
 use Rattle.core_reasons.specs.lemmas.Tables.{FindShortPost}

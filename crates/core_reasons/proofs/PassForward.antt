@@ -1,5 +1,5 @@
 -- Laws on the pass forward. Assumes nothing.
-use mathlib.Core.Path.{◌≡◌, refl, sym, ap, ◌∙◌}
+use mathlib.Core.Path.{◌≡◌, ◌∙◌}
 use mathlib.Core.Bool.{Bool, true, false, cond}
 use mathlib.Core.List.{List}
 use Prim.Native.Nat.{ℕ, suc, ◌+◌, ◌*◌, ◌-◌, ◌≤◌, ◌<◌, max}
@@ -8,7 +8,7 @@ use lib.ListN.{get_or}
 use lib.Dec.{ltb}
 use borrow.Author.Tests.{lt-ltb, le-ltb}
 use Rattle.theory_reasons.specs.lemmas.Search.{forward}
-use Rattle.core_reasons.specs.lemmas.Passes.{FindStretchPre, late_in, place, up_to_in}
+use Rattle.core_reasons.specs.lemmas.Passes.{late_in, place, up_to_in}
 
 -- Place q - first is place q of the table.
 pub at_place : (first : ℕ) (table : List ℕ) (q : ℕ) → first ≤ q → place first table (q - first) ≡ get_or table q 0

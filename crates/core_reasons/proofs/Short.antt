@@ -2,18 +2,18 @@
 use mathlib.Core.Path.{◌≡◌, sym, ◌∙◌, ap}
 use mathlib.Core.Bool.{cond}
 use mathlib.Core.List.{List, ◌++◌, map}
-use Prim.Native.Nat.{ℕ, suc, ◌+◌, ◌*◌, ◌-◌, ◌/◌, ◌≤◌, ◌<◌, min}
+use Prim.Native.Nat.{ℕ, suc, ◌-◌, ◌/◌, ◌≤◌, min}
 use native.Mathlib.Omega.{arith}
-use lib.ListN.{length, get_or, take, drop}
+use lib.ListN.{length, take, drop}
 use lib.Dec.{eqb, leb, ltb, leb→le}
 use Rattle.theory_basics.specs.Sums.{sum}
 use Rattle.theory_basics.specs.Tests.{All}
 use Rattle.job.specs.declared.Programme.{Programme}
-use Rattle.job.specs.Job.{Accepted, Job, Within, chunks, due, due_slot, held_most, size}
-use Rattle.theory_plan.specs.Plan.{kept, picked}
+use Rattle.job.specs.Job.{Job, Within, chunks, due, due_slot, held_most, size}
+use Rattle.theory_plan.specs.Plan.{kept}
 use Rattle.theory_plan.specs.lemmas.Kept.{picked_cong, picked_each}
-use Rattle.theory_plan.specs.lemmas.Queue.{ones, releases, release_slots}
-use Rattle.theory_plan.specs.Statement.{CanCarry, Choice}
+use Rattle.theory_plan.specs.lemmas.Queue.{ones, release_slots}
+use Rattle.theory_plan.specs.Statement.{Choice}
 use Rattle.core_reasons.specs.declared.passes.Stretch.{Stretch}
 use Rattle.core_reasons.specs.lemmas.Tables.{Given, SetTablesPost, FindShortPost, FindShortPre, bytes_in, chunks_in, level_in, trial}
 use Rattle.core_reasons.specs.lemmas.Passes.{Holds, FindStretchPost, FindStretchPre}

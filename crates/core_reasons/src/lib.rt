@@ -47,7 +47,7 @@ fn put_line(
 ) -> usize
     requires { PutLinePre p held most sums.now after.now levels.now i n have dues.old ready.old bytes.old
         out.old at }
-    ensures put_line_post { PutLinePost p most sums.now after.now levels.now i n
+    ensures line { PutLinePost p most sums.now after.now levels.now i n
         out.old at
         out.new result }
     ensures room { Scratch dues.new ready.new bytes.new }
@@ -81,7 +81,7 @@ fn put_chunk(
 ) -> usize
     requires { PutChunkPre p held layers most sums.now after.now levels.now i dues.old ready.old bytes.old
         out.old at }
-    ensures put_chunk_post { PutChunkPost p layers most sums.now after.now levels.now i
+    ensures lines { PutChunkPost p layers most sums.now after.now levels.now i
         out.old at
         out.new result }
     ensures room { Scratch dues.new ready.new bytes.new }

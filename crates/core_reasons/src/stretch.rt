@@ -86,7 +86,7 @@ pub(crate) fn find_short(
     bytes: &mut [u32; CHUNKS],
 ) -> Stretch
     requires { FindShortPre p held sums.now after.now levels.now n cap dues.old ready.old bytes.old }
-    ensures find_short_post { FindShortPost p sums.now after.now levels.now i n cap result }
+    ensures stretch { FindShortPost p sums.now after.now levels.now i n cap result }
     ensures room { (length dues.new ≡ 500)
         × (length ready.new ≡ 500)
         × (length bytes.new ≡ 500) }

@@ -3,27 +3,25 @@
 use mathlib.Core.Path.{◌≡◌, refl, sym, ◌∙◌, ap, subst}
 use mathlib.Core.Bool.{Bool, true, false, cond, ◌&&◌}
 use mathlib.Core.List.{List, [], ◌∷◌, map}
-use mathlib.Core.Logic.{◌⊎◌, inl, inr, ⊎_elim}
-use Prim.Native.Nat.{ℕ, zero, suc, ◌+◌, ◌*◌, ◌-◌, ◌≤◌, ◌<◌, max}
+use mathlib.Core.Logic.{⊎_elim}
+use Prim.Native.Nat.{ℕ, zero, suc, ◌+◌, ◌-◌, ◌≤◌, ◌<◌, max}
 use native.Mathlib.Omega.{arith}
-use native.Mathlib.Nat.{mul-le-mul_right}
-use native.Mathlib.Numerals.{add-one}
-use lib.ListN.{length, get_or, set, drop, length-set, length-drop, drop_of_length-le, get_or-eq_default}
+use lib.ListN.{length, get_or, set, drop, length-set, drop_of_length-le, get_or-eq_default}
 use lib.Seq.{drop-set-lt, get_or-drop, get_or-set_other, get_or-set_same}
 use lib.Dec.{T, leb, eqb, ltb, leb→le, le→leb, ltb→lt, nltb→le}
 use borrow.Author.Tests.{le-leb, lt-leb, le-ltb, lt-ltb}
 use Rattle.theory_basics.specs.lemmas.Tables.{set_before, written_before}
 use Rattle.theory_basics.specs.lemmas.Tests.{and_T, same_test, T_and, test, true_T}
-use Rattle.job.specs.Job.{due_slot, last_due}
+use Rattle.job.specs.Job.{due_slot}
 use Rattle.job.specs.declared.Programme.{Programme}
 use Rattle.theory_plan.specs.Plan.{picked}
 use Rattle.theory_plan.specs.lemmas.Ascending.{asc_lower}
 use Rattle.theory_plan.specs.lemmas.Parts.{at}
 use Rattle.theory_plan.specs.lemmas.Words.{due_by}
 use Rattle.theory_plan.specs.lemmas.Trials.{candidate, keeps, Stack}
-use Rattle.theory_replan.specs.lemmas.Passes.{bases_new, front_ok, push_new}
+use Rattle.theory_replan.specs.lemmas.Passes.{bases_new, front_ok}
 use Rattle.core_replan_decide.proofs.Front.{front_rises, front_stays, front_test, Fronted, fronted_start}
-use Rattle.core_replan_decide.specs.lemmas.Tables.{base_of, bases_caps, cap_of, caps_ok, PlacesBelowPost, Fine, FindFrontPost, FindFrontPre, is_begun, keeps_caps, LastBegunPost, NewBasesPost, NewBasesPre, of, push_caps, NeedCapPost, CanKeepPost, CanKeepPre}
+use Rattle.core_replan_decide.specs.lemmas.Tables.{base_of, bases_caps, cap_of, caps_ok, PlacesBelowPost, Fine, FindFrontPost, FindFrontPre, is_begun, keeps_caps, NewBasesPost, NewBasesPre, of, NeedCapPost, CanKeepPost, CanKeepPre}
 use Rattle.theory_plan.specs.Bases.{Asc}
 
 -- ---- due slots

@@ -1,8 +1,7 @@
 -- Laws on the pass over the begun chunks. Assumes nothing.
 use mathlib.Core.Path.{◌≡◌, refl, sym, ◌∙◌, ap}
-use mathlib.Core.Bool.{Bool, true, false, cond}
-use mathlib.Core.List.{List, [], ◌∷◌, ◌++◌}
-use Prim.Native.Nat.{ℕ, suc, ◌+◌, ◌*◌, ◌-◌, ◌≤◌, ◌<◌, max}
+use mathlib.Core.List.{List, ◌∷◌, ◌++◌}
+use Prim.Native.Nat.{ℕ, ◌+◌, ◌-◌, ◌≤◌, ◌<◌, max}
 use native.Mathlib.Omega.{arith}
 use lib.ListN.{length, get_or, set, drop, length-set, drop_of_length-le}
 use lib.Dec.{leb, leb→le}
@@ -13,11 +12,11 @@ use Rattle.job.specs.Job.{due_slot, Within}
 use Rattle.job.specs.declared.Programme.{Programme}
 use Rattle.fetch.specs.Marks.{bit}
 use Rattle.theory_plan.specs.lemmas.Parts.{at}
-use Rattle.theory_plan.specs.lemmas.Trials.{Kept, Tried}
+use Rattle.theory_plan.specs.lemmas.Trials.{Tried}
 use Rattle.core_decide.specs.lemmas.Decision.{kept_of, Slot}
 use Rattle.core_replan_decide.proofs.Bases.{due_in}
 use Rattle.core_replan_decide.specs.declared.Chosen.{Chosen}
-use Rattle.core_replan_decide.specs.lemmas.Begun.{KeepBegunPost, KeepBegunPre, choose, front_one, scan_front}
+use Rattle.core_replan_decide.specs.lemmas.Begun.{KeepBegunPost, KeepBegunPre, choose, scan_front}
 use Rattle.core_replan_decide.specs.lemmas.Tables.{base_of, of}
 
 choose_small : (w z want all : ℕ) → want ≤ 60397977600 → all ≤ 60397977600 → z ≤ 16777216 → ((choose w z want all).need ≤ 60397977600) × ((choose w z want all).bytes ≤ 16777216)

@@ -1,46 +1,45 @@
 -- Laws on the whole decision: what the tables hold at its end is the plan made afresh. Assumes
 -- nothing.
 use mathlib.Core.Path.{◌≡◌, refl, sym, ◌∙◌, ap, subst, fun_ext}
-use mathlib.Core.Bool.{Bool, true, false, cond, ◌&&◌}
+use mathlib.Core.Bool.{Bool, false, cond, ◌&&◌}
 use mathlib.Core.List.{List, [], ◌∷◌, ◌++◌, map, map-id, map-map}
 use mathlib.Core.Logic.{◌⊎◌, inl, inr, ⊎_elim}
 use Prim.Native.Nat.{ℕ, zero, suc, ◌+◌, ◌-◌, ◌/◌, ◌≤◌, ◌<◌, max}
 use native.Mathlib.Omega.{arith}
 use lib.ListN.{length, get_or, take, drop, replicate, length-append, length-drop, length-map, length-replicate}
 use lib.Seq.{get_or-append-add, get_or-drop}
-use lib.Dec.{T, leb, ltb, eqb, eqb_refl, ltb→lt, nltb→le, leb→le}
+use lib.Dec.{T, leb, ltb, ltb→lt, nltb→le}
 use native.Mathlib.Nat.{mul-le-mul_right}
 use Rattle.theory_basics.specs.Sums.{pre}
-use Rattle.theory_basics.specs.Tests.{All, In}
+use Rattle.theory_basics.specs.Tests.{All}
 use Rattle.theory_basics.specs.lemmas.Ranges.{pre_mono}
 use Rattle.theory_basics.specs.lemmas.Tests.{all_map, at_row, each_row, test, true_T}
 use Rattle.theory_basics.specs.lemmas.Lists.{map_cong, each_of_map}
-use Rattle.job.specs.Job.{Accepted, chunks, due, due_slot, forecast, held_most, Job, last_due, last_slot, layers, Override, size, Within}
+use Rattle.job.specs.Job.{Accepted, chunks, due, due_slot, forecast, held_most, Job, layers, Override, size, Within}
 use Rattle.job.specs.declared.Programme.{Programme}
-use Rattle.fetch.specs.Rows.{bytes_of_layer, Row}
-use Rattle.theory_plan.specs.lemmas.Parts.{ForecastPart, at, left_before, left_after, padded, padded_long, part_small}
-use Rattle.theory_plan.specs.Plan.{after, picked}
+use Rattle.fetch.specs.Rows.{Row}
+use Rattle.theory_plan.specs.lemmas.Parts.{at, left_before, left_after, padded, part_small}
+use Rattle.theory_plan.specs.Plan.{picked}
 use Rattle.theory_plan.specs.lemmas.Feasible.{need_of}
 use Rattle.theory_plan.specs.lemmas.Ascending.{asc_lower, asc_within}
 use Rattle.theory_plan.specs.lemmas.Kept.{picked_cong, picked_each}
 use Rattle.theory_plan.specs.lemmas.Level.{level}
 use Rattle.theory_plan.specs.lemmas.Linear.{needs_at, needs_of_lem}
 use Rattle.theory_plan.specs.lemmas.Queue.{ones, releases, release_slots}
-use Rattle.theory_plan.specs.lemmas.Trials.{back, bytes_kept, candidate, chunk_of, Kept, level_mark, mark_of, on_layer, on_layers, rooms, Stack, Tried}
+use Rattle.theory_plan.specs.lemmas.Trials.{back, bytes_kept, chunk_of, Kept, level_mark, mark_of, on_layer, on_layers, rooms, Stack, Tried}
 use Rattle.theory_plan.specs.lemmas.Words.{carries, layer_of, due_slots}
-use Rattle.theory_replan.specs.Plan.{after_from, busy, bytes_left}
+use Rattle.theory_replan.specs.Plan.{after_from, busy}
 use Rattle.theory_replan.specs.Statement.{Acceptable, IsReplan}
 use Rattle.theory_replan.specs.lemmas.Criterion.{busy_from}
 use Rattle.theory_replan.specs.lemmas.Held.{carries_row}
 use Rattle.theory_replan.specs.lemmas.Linear.{new_bases}
-use Rattle.theory_replan.specs.lemmas.Passes.{bases_new, front_ok}
+use Rattle.theory_replan.specs.lemmas.Passes.{bases_new}
 use Rattle.core_decide.proofs.Settle.{marks_of_lem, same_long}
 use Rattle.core_decide.specs.lemmas.Decision.{kept_of, SettleLayersPost, SettleLayersPre, Slot, Sums, SumTable}
-use Rattle.core_replan_decide.specs.declared.Chosen.{Chosen}
 use Rattle.core_replan_decide.specs.lemmas.Decision.{Decided, DecidePre, DecidePost, job_from, Tabled}
-use Rattle.core_replan_decide.specs.lemmas.Begun.{KeepBegunPost, KeepBegunPre, choose, front_one, scan_front}
+use Rattle.core_replan_decide.specs.lemmas.Begun.{KeepBegunPost, KeepBegunPre, scan_front}
 use Rattle.core_replan_decide.specs.lemmas.Composed.{below, front_kept, kept_rest, layers_kept, new_kept, news, nothing_fetched, passes_are_plan, rest}
-use Rattle.core_replan_decide.specs.lemmas.Tables.{base_of, cap_of, Falls, Fine, FindFrontPost, FindFrontPre, is_begun, LastBegunPost, NewBasesPost, NewBasesPre, of}
+use Rattle.core_replan_decide.specs.lemmas.Tables.{base_of, cap_of, Falls, FindFrontPost, is_begun, LastBegunPost, NewBasesPost, of}
 use Rattle.theory_plan.specs.Bases.{Asc}
 use Rattle.theory_plan.specs.lemmas.Layers.{on_layers_take}
 

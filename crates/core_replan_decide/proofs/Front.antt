@@ -1,16 +1,15 @@
 -- Laws on what the begun chunks ask of the new ones, in constant time a push: a roof over the first
 -- need, a floor below which no place may be taken, and a place in the caps that only falls. Assumes
 -- nothing.
-use mathlib.Core.Path.{◌≡◌, refl, sym, ◌∙◌, ap}
-use mathlib.Core.Bool.{Bool, true, false, ◌&&◌}
+use mathlib.Core.Path.{◌≡◌, refl, ◌∙◌, ap}
 use mathlib.Core.List.{List, [], ◌∷◌}
 use mathlib.Core.Logic.{◌⊎◌, inl, inr, ⊎_elim, ◌↔◌}
 use Prim.Native.Nat.{ℕ, zero, suc, ◌+◌, ◌-◌, ◌≤◌, ◌<◌, max}
 use native.Mathlib.Omega.{arith}
-use lib.ListN.{length, get_or, drop, length-drop, get_or-eq_default}
+use lib.ListN.{length, get_or, drop, length-drop}
 use lib.Seq.{get_or-drop}
 use lib.Dec.{T, leb, leb→le, nleb→lt, le→leb, ltb, ltb→lt, nltb→le}
-use Rattle.theory_basics.specs.lemmas.Tests.{and_T, not_T_false, same_test, T_and, T_true, test}
+use Rattle.theory_basics.specs.lemmas.Tests.{and_T, T_and, test}
 use Rattle.core_replan_decide.specs.lemmas.Tables.{caps_ok, PlacesBelowPost, Falls, NeedCapPost}
 
 -- ---- what the caps say, place by place

@@ -14,7 +14,7 @@ use Rattle.job.specs.Job.{Accepted, Job, Override, chunks, forecast, last_due, l
 use Rattle.core_sizes.specs.Table.{spot, table_at}
 use Rattle.job.specs.declared.Programme.{Programme}
 use Rattle.job.specs.lemmas.Within.{all_most, size_most}
-use Rattle.fetch.specs.Rows.{Row, begun, bytes_in_slot, bytes_of_layer, carried, has_row, mark_byte}
+use Rattle.fetch.specs.Rows.{Row, bytes_in_slot, bytes_of_layer, carried, has_row, mark_byte}
 use Rattle.fetch.specs.Rules.{RowInRange, LowerCarried}
 use Rattle.fetch.specs.Verdict.{rule4}
 use Rattle.fetch.specs.lemmas.Marks.{mark_cong}

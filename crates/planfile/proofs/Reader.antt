@@ -44,6 +44,19 @@ answer_rows f m n e =
 
 -- ---- the values of a laid out file
 
+-- The four fields of the rows on file.
+abbrev pub slot_on : List ℕ → ℕ → ℕ → ℕ
+slot_on file count i = (row_on file count i).slot
+
+abbrev pub chunk_on : List ℕ → ℕ → ℕ → ℕ
+chunk_on file count i = (row_on file count i).chunk
+
+abbrev pub layer_on : List ℕ → ℕ → ℕ → ℕ
+layer_on file count i = (row_on file count i).layer
+
+abbrev pub bytes_on : List ℕ → ℕ → ℕ → ℕ
+bytes_on file count i = (row_on file count i).bytes
+
 over : (f : ℕ → ℕ) (n : ℕ) (vals old : List ℕ) → vals ≡ up_to f n → filled f n old ≡ vals ++ drop (length vals) old
 over f n vals old e = rw (e, length_up_to f n)
 

@@ -4,7 +4,7 @@ use Prim.Native.Nat.{ℕ, ◌+◌, ◌*◌, ◌≤◌, ◌<◌}
 use mathlib.Core.Path.{◌≡◌, sym, ap, ◌∙◌}
 use mathlib.Core.List.{List, ◌++◌, map}
 use native.Mathlib.Omega.{arith}
-use lib.ListN.{length, drop, length-append}
+use lib.ListN.{length, get_or, drop, length-append}
 use lib.Dec.{leb}
 use borrow.Author.Tests.{ne_eqb, le-leb, lt-leb}
 use Rattle.theory_basics.specs.lemmas.Lists.{length_up_to}
@@ -18,12 +18,26 @@ use Rattle.fetch.specs.Rows.{row_at, rows_of}
 use Rattle.fetch.specs.Input.{Whole, whole_iff}
 use Rattle.fetch.specs.Slices.{ListSlices, slices_refusal}
 use Rattle.planfile.specs.Records.{en}
+use Rattle.planfile.specs.declared.Record.{Record}
+use Rattle.planfile.specs.declared.Record.TheVariants.{Kp}
 use Rattle.planfile.specs.PlanFile.{kps, ft_of, file_of}
 use Rattle.planfile.specs.Calls.{PlanWritePromise, plan_of, write_rest, write_refusal, written_by}
 use Rattle.planfile.specs.lemmas.Writing.{plan_records_bytes, file_parts, length_file, length_kps, length_fts, two_puts}
 use Rattle.records.specs.lemmas.Puts.{written_whole}
 use Rattle.records.specs.declared.Written.{Written}
 use Rattle.records.specs.declared.Written.TheVariants.{Bytes, Refused}
+
+-- ---- the records to be written
+
+-- The KP at an index.
+abbrev pub kp_at : List ℕ → ℕ → Record
+kp_at marks k = Kp (k + 1) (get_or marks k 0)
+
+-- The FT at an index.
+abbrev pub ft_at : List ℕ → List ℕ → List ℕ → List ℕ → ℕ → Record
+ft_at slots chunks layers bytes k = ft_of (row_at slots chunks layers bytes k)
+
+-- ---- the answer and the buffer
 
 -- The length of the file by the handed slices.
 abbrev pub size_of : ListSlices → ℕ

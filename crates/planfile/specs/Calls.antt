@@ -2,7 +2,7 @@
 -- slices afterwards. "A plan reader checks the job it is handed by 5, 6, 7 before its file";
 -- "Direct calls without files check 5, 6, 7, then 8 .. and a writer then 9"; 18 "after 6 and before
 -- 7"; "11. A lent buffer is shorter than the whole result, after all input refusals".
-use Rattle.std.specs.Prelude.{ℕ, ◌≡◌, Bool, cond, ◌&&◌, List, map, length, leb, eqb}
+use Rattle.std.specs.Prelude.{ℕ, ◌≡◌, cond, List, map, length, leb, eqb}
 use Rattle.theory_basics.specs.Lent.{lent_after}
 use Rattle.theory_basics.specs.Refusals.{unless, ◌or_else◌}
 use Rattle.records.specs.File.{file_refusal}

@@ -1,6 +1,6 @@
 -- Lemmas. The rule of theory_live, Statement, over tables by chunk: what the rows fetched leave of
 -- each layer, flags of the chunks that they begin, and the last begun chunk. In the rule's order.
-use Rattle.std.specs.Prelude.{ℕ, zero, suc, ◌+◌, ◌*◌, ◌-◌, ◌/◌, ◌≤◌, ◌<◌, ◌≡◌, Bool, cond, not, ◌&&◌, ◌||◌, List, [], ◌∷◌, ◌++◌, map, leb, ltb, eqb, length, take}
+use Rattle.std.specs.Prelude.{ℕ, zero, suc, ◌+◌, ◌*◌, ◌-◌, ◌/◌, ◌≤◌, ◌≡◌, Bool, cond, not, ◌&&◌, ◌||◌, List, [], ◌∷◌, ◌++◌, map, leb, ltb, eqb, length, take}
 use Rattle.theory_basics.specs.Sums.{count}
 use Rattle.job.specs.Job.{Accepted, due_slot, job_of, Override}
 use Rattle.job.specs.declared.Programme.{Programme}

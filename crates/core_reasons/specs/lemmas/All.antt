@@ -1,12 +1,12 @@
 -- Lemmas. What the functions of lib.rt hand each other: the lines of a plan, one under each missing
 -- layer.
-use Rattle.std.specs.Prelude.{ℕ, suc, ◌+◌, ◌-◌, ◌/◌, ◌≤◌, ◌<◌, ◌≡◌, Bool, cond, ◌&&◌, List, map, length, get_or, eqb}
+use Rattle.std.specs.Prelude.{ℕ, ◌+◌, ◌-◌, ◌/◌, ◌≤◌, ◌<◌, ◌≡◌, Bool, cond, ◌&&◌, List, map, length, get_or, eqb}
 use Rattle.job.specs.declared.Programme.{Programme}
 use Rattle.job.specs.Job as Job
 use Rattle.job.specs.Job.{Accepted, Job, last_due}
 use Rattle.theory_plan.specs.Statement.{Choice}
 use Rattle.theory_reasons.specs.Lines.{line_at, lines_of}
-use Rattle.theory_reasons.specs.Statement.{Place, missing_of, missing_to, reasons_text, sentence}
+use Rattle.theory_reasons.specs.Statement.{Place, missing_of, reasons_text, sentence}
 use Rattle.theory_reasons.specs.lemmas.Refused.{Refuses}
 use Rattle.core_reasons.specs.lemmas.Tables.{Given, trial}
 use Rattle.core_text.specs.lemmas.Places.{Put}

@@ -1,6 +1,6 @@
 -- Lemmas. For tables that hold the kept chunks of a choice that can't be carried, a chunk is late,
 -- and the two passes over the tables give the stretch that is named.
-use Rattle.std.specs.Prelude.{ℕ, ◌-◌, ◌≤◌, ◌<◌, ◌≡◌, cond, List, length, get_or, take, drop}
+use Rattle.std.specs.Prelude.{ℕ, ◌-◌, ◌≤◌, ◌<◌, ◌≡◌, List, length, get_or}
 use Rattle.std.proofs.Common.{sym, ap, ◌∙◌, arith, length-drop, get_or-drop, get_or-take}
 use Rattle.std.proofs.lemmas.List.{length-map}
 use Rattle.theory_basics.specs.lemmas.Ranges.{pre_mono}
@@ -11,11 +11,12 @@ use Rattle.theory_plan.specs.lemmas.Choice.{fits_can_carry}
 use Rattle.theory_plan.specs.Statement.{CanCarry, Choice}
 use Rattle.theory_plan.specs.lemmas.Words.{accepted_sized}
 use Rattle.theory_plan.specs.lemmas.Queue.{releases, release_at}
-use Rattle.theory_reasons.specs.lemmas.Bridge.{begin_low, due_in, kept_bytes, kept_due, rising, up_to_slot}
+use Rattle.theory_reasons.specs.lemmas.Bridge.{due_in, kept_bytes, kept_due, rising, up_to_slot}
 use Rattle.theory_reasons.specs.Lines.{stretch_of}
 use Rattle.theory_reasons.specs.lemmas.Named.{passed, passed_late, stretch_passed}
+use Rattle.theory_reasons.specs.lemmas.Search as Search
 use Rattle.theory_reasons.specs.lemmas.Search.{Agrees, forward, forward_agrees, forward_is, search_agrees}
-use Rattle.theory_reasons.specs.lemmas.Kept.{can_begin, kept_chunk, kept_count}
+use Rattle.theory_reasons.specs.lemmas.Kept.{can_begin, kept_count}
 use Rattle.core_reasons.specs.lemmas.Passes.{Holds, late_in, place, search_in, up_to_in}
 
 module _ (j : Job) (a : Accepted j) (choice : ℕ → ℕ) (after dues ready bytes : List ℕ) (first : ℕ) (h : Holds j choice after dues ready bytes first) (long : length dues ≡ 500) where
@@ -66,7 +67,9 @@ module _ (j : Job) (a : Accepted j) (choice : ℕ → ℕ) (after dues ready byt
 
     tables_passed : search_in after dues ready bytes first ≡ passed j choice
     unfolding passed
-    tables_passed = rw count_is (sym (search_agrees (kept_bytes j choice) (kept_due j choice) (can_begin j choice) (up_to_slot j) (place first bytes) (place first dues) (place first ready) (up_to_in after) c tables_agree late))
+    tables_passed =
+        ap (Search.search (place first bytes) (place first dues) (place first ready) (up_to_in after)) count_is
+        ∙ sym (search_agrees (kept_bytes j choice) (kept_due j choice) (can_begin j choice) (up_to_slot j) (place first bytes) (place first dues) (place first ready) (up_to_in after) c tables_agree late)
 
     pub tables_stretch : search_in after dues ready bytes first ≡ stretch_of j choice
     tables_stretch = tables_passed ∙ sym (stretch_passed j a choice (λ f. never (fits_can_carry j (accepted_sized j a) choice ok f)))

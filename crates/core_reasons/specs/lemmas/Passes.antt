@@ -1,6 +1,6 @@
 -- Lemmas. What the two passes hand each other. The kept chunks stand in tables from a first place
 -- on; place q of the theory is place first + q.
-use Rattle.std.specs.Prelude.{ℕ, zero, suc, ◌+◌, ◌*◌, ◌-◌, ◌≤◌, ◌<◌, ◌≡◌, Bool, true, List, map, length, get_or, take, drop, ltb}
+use Rattle.std.specs.Prelude.{ℕ, zero, suc, ◌+◌, ◌-◌, ◌≤◌, ◌<◌, ◌≡◌, Bool, true, List, map, length, get_or, take, drop, ltb}
 use Rattle.job.specs.Job.{Accepted, Job, Within, due, held_most}
 use Rattle.theory_plan.specs.Plan as Plan
 use Rattle.theory_plan.specs.Plan.{kept}

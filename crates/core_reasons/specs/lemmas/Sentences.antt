@@ -1,6 +1,6 @@
 -- Lemmas. The sentences as the code puts them: words with a number after each.
-use Rattle.std.specs.Prelude.{ℕ, ◌+◌, ◌/◌, ◌%◌, ◌≤◌, ◌≡◌, List, [], ◌∷◌, ◌++◌, length}
-use Rattle.std.proofs.Common.{sym, ap, ◌∙◌, append_assoc, length-append}
+use Rattle.std.specs.Prelude.{ℕ, ◌≡◌, List, [], ◌∷◌, ◌++◌}
+use Rattle.std.proofs.Common.{sym, ap, ◌∙◌, append_assoc}
 use Rattle.theory_reasons.specs.Statement.{Line, lower, sentence, short}
 use Rattle.theory_basics.specs.Text.{ascii, digits}
 use Rattle.core_reasons.specs.declared.passes.Stretch.{Stretch}

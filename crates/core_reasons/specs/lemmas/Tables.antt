@@ -1,5 +1,5 @@
 -- Lemmas. What the functions of stretch.rt hand each other, and the choice that a trial is.
-use Rattle.std.specs.Prelude.{ℕ, suc, ◌+◌, ◌*◌, ◌-◌, ◌/◌, ◌≤◌, ◌<◌, min, ◌≡◌, Bool, cond, List, map, length, get_or, drop, leb, ltb, eqb}
+use Rattle.std.specs.Prelude.{ℕ, suc, ◌+◌, ◌*◌, ◌-◌, ◌/◌, ◌≤◌, min, ◌≡◌, cond, List, map, length, get_or, drop, leb, ltb, eqb}
 use Rattle.theory_basics.specs.Sums.{sum}
 use Rattle.job.specs.declared.Programme.{Programme}
 use Rattle.job.specs.Job.{Accepted, Job, chunks, due_slot, last_due, layers, size}

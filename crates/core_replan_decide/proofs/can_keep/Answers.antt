@@ -2,7 +2,6 @@
 use Rattle.core_replan_decide.proofs.Bases.{cand_is, cand_small, due_in, held_is, tested_early, tested_low, tested_not_all, tested_not_held, tested_roof}
 use native.Mathlib.Omega.{arith}
 use mathlib.Core.Path.{◌∙◌}
-use Prim.Native.Nat.{◌-◌}
 use Rattle.core_replan_decide.proofs.can_keep.Goals as goal
 
 pub size_in-requires : goal.size_in-requires

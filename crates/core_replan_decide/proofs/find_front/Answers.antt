@@ -1,8 +1,7 @@
 use Rattle.core_replan_decide.proofs.Bases.{due_in, fronting_end, fronting_keep, fronting_pass, fronting_start}
 use native.Mathlib.Omega.{arith}
 use mathlib.Core.Path.{◌∙◌, sym}
-use mathlib.Core.Bool.{true, false}
-use Prim.Native.Nat.{◌-◌, ◌≤◌}
+use Prim.Native.Nat.{◌≤◌}
 use Rattle.core_replan_decide.proofs.find_front.Goals as goal
 
 pub loop-i-init : goal.loop-i-init

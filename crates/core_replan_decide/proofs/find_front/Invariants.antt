@@ -1,6 +1,5 @@
 -- `find_front` meets its contract: the begun chunks behind i stand at the end of the tables.
 use Rattle.core_replan_decide.proofs.Bases.{Fronting}
-use Prim.Native.Nat.{◌-◌}
 use Rattle.core_replan_decide.proofs.find_front.Given as goal
 
 abbrev pub invariant-loop-i : goal.invariant-loop-i

@@ -1,7 +1,6 @@
 use Rattle.core_replan_decide.proofs.Bases.{due_in}
 use Rattle.core_replan_decide.proofs.Begun.{first_in, it_in, begun_end, begun_more, begun_start, want_small}
 use native.Mathlib.Omega.{arith}
-use Prim.Native.Nat.{◌-◌}
 use Rattle.core_replan_decide.proofs.keep_begun.Goals as goal
 
 pub bounds-after-0 : goal.bounds-after-0

@@ -1,7 +1,6 @@
 -- `keep_begun` meets its contract: from q on the begun chunks are settled.
 use Rattle.core_replan_decide.proofs.Begun.{Walking}
 use Rattle.core_sizes.specs.Table.{table_at}
-use Prim.Native.Nat.{◌-◌}
 use Rattle.core_replan_decide.proofs.keep_begun.Given as goal
 
 abbrev pub invariant-loop-q : goal.invariant-loop-q

@@ -1,7 +1,6 @@
 -- `need_cap` meets its contract.
 use Rattle.core_replan_decide.proofs.Front.{roof_at}
 use native.Mathlib.Omega.{arith}
-use Prim.Native.Nat.{◌-◌}
 use Rattle.core_replan_decide.proofs.need_cap.Goals as goal
 
 pub returns-then-back-lt-CHUNKS : goal.returns-then-back-lt-CHUNKS

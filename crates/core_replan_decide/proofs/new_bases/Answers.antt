@@ -1,7 +1,6 @@
 use Rattle.core_replan_decide.proofs.Bases.{basing_end, basing_keep, basing_pass, basing_start, due_in, needs_long, place}
 use native.Mathlib.Omega.{arith}
 use mathlib.Core.Path.{refl}
-use Prim.Native.Nat.{◌-◌}
 use Rattle.core_replan_decide.proofs.new_bases.Goals as goal
 
 pub need_cap-cap-requires : goal.need_cap-cap-requires

@@ -2,7 +2,6 @@
 -- chunks behind i, and roof and floor say what the begun ones ask.
 use Rattle.core_replan_decide.proofs.Bases.{Basing}
 use Rattle.core_sizes.specs.Table.{table_at}
-use Prim.Native.Nat.{◌-◌}
 use Rattle.core_replan_decide.proofs.new_bases.Given as goal
 
 abbrev pub invariant-loop-i : goal.invariant-loop-i

@@ -1,6 +1,5 @@
 use Rattle.core_replan_decide.proofs.Front.{fallen, falling_more}
 use native.Mathlib.Omega.{arith}
-use Prim.Native.Nat.{◌-◌}
 use Rattle.core_replan_decide.proofs.places_below.Goals as goal
 
 pub loop-edge-init : goal.loop-edge-init

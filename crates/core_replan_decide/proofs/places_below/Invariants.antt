@@ -1,6 +1,5 @@
 -- `places_below` meets its contract: from g on the caps are below the need.
 use Rattle.core_replan_decide.proofs.Front.{Falling}
-use Prim.Native.Nat.{◌-◌}
 use Rattle.core_replan_decide.proofs.places_below.Given as goal
 
 abbrev pub invariant-loop-edge : goal.invariant-loop-edge

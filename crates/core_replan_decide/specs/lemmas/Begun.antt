@@ -1,14 +1,13 @@
 -- Lemmas. The pass over the begun chunks, from the last to the first: what each keeps of its base,
 -- and its bytes and mark with it.
-use Rattle.std.specs.Prelude.{ℕ, suc, ◌+◌, ◌*◌, ◌-◌, ◌≤◌, ◌<◌, max, ◌≡◌, refl, Bool, true, false, cond, List, [], ◌∷◌, ◌++◌, map, length, get_or, drop, leb}
-use Rattle.std.proofs.Common.{ap}
+use Rattle.std.specs.Prelude.{ℕ, ◌+◌, ◌≤◌, max, ◌≡◌, refl, Bool, true, false, cond, List, [], ◌∷◌, ◌++◌, length, drop, leb}
 use Rattle.theory_basics.specs.Tests.{All}
 use Rattle.job.specs.Job.{due_slot, Within}
 use Rattle.job.specs.declared.Programme.{Programme}
 use Rattle.fetch.specs.Marks.{bit}
 use Rattle.theory_plan.specs.lemmas.Parts.{at}
 use Rattle.theory_plan.specs.lemmas.Trials.{Kept, Tried}
-use Rattle.theory_replan.specs.lemmas.Passes.{bases_begun, Begun, try_begun}
+use Rattle.theory_replan.specs.lemmas.Passes.{bases_begun, Begun}
 use Rattle.core_decide.specs.lemmas.Decision.{kept_of, Slot, Sums}
 use Rattle.core_replan_decide.specs.declared.Chosen.{Chosen}
 use Rattle.core_replan_decide.specs.lemmas.Tables.{base_of, Fine, of, Small}

@@ -1,7 +1,7 @@
 -- Lemmas. The decision made afresh at slot start, over tables by chunk: what the fetched rows leave
 -- of each layer, which chunks they begin, and the marks of the layers whole in them. For every job
 -- with these tables: the plan of theory_replan, Statement.
-use Rattle.std.specs.Prelude.{ℕ, suc, ◌+◌, ◌-◌, ◌≤◌, ◌≡◌, List, ◌++◌, map, eqb, length, take, drop}
+use Rattle.std.specs.Prelude.{ℕ, suc, ◌-◌, ◌≤◌, ◌≡◌, List, ◌++◌, map, eqb, length, take, drop}
 use Rattle.job.specs.Job.{Accepted, chunks, due, held_most, Job, job_of, Layer, Override, size}
 use Rattle.job.specs.declared.Programme.{Programme}
 use Rattle.fetch.specs.Rows.{bytes_of_layer, Row}

@@ -1,9 +1,8 @@
 -- Lemmas. What the functions hand each other: tables of 500 places whose end, from a first place
 -- on, holds chunks in playing order, and tables by chunk. The definitions behind them are those of
 -- theory_plan, Trials, and theory_replan, Passes.
-use Rattle.std.specs.Prelude.{ℕ, zero, suc, ◌+◌, ◌*◌, ◌-◌, ◌≤◌, ◌<◌, max, ◌≡◌, Bool, true, false, cond, ◌&&◌, List, [], ◌∷◌, map, ◌⊎◌, length, get_or, set, drop, leb, eqb}
-use Rattle.theory_basics.specs.Tests.{All}
-use Rattle.job.specs.Job.{due_slot, last_due, Within}
+use Rattle.std.specs.Prelude.{ℕ, zero, suc, ◌+◌, ◌-◌, ◌≤◌, ◌<◌, ◌≡◌, Bool, true, false, cond, ◌&&◌, List, [], ◌∷◌, map, ◌⊎◌, length, get_or, set, drop, leb, eqb}
+use Rattle.job.specs.Job.{due_slot, last_due}
 use Rattle.job.specs.declared.Programme.{Programme}
 use Rattle.theory_plan.specs.Plan.{picked}
 use Rattle.theory_plan.specs.lemmas.Parts.{at}

@@ -1,6 +1,6 @@
 -- Lemmas. The tables that the fetched rows make, and whether the rows keep what refusal 22 asks: by
 -- the sums and first slots of core_rules, Tables.
-use Rattle.std.specs.Prelude.{ℕ, suc, ◌+◌, ◌*◌, ◌-◌, ◌≤◌, ◌<◌, ◌≡◌, Bool, true, false, ◌&&◌, List, length, get_or, leb, ltb, eqb}
+use Rattle.std.specs.Prelude.{ℕ, suc, ◌+◌, ◌*◌, ◌-◌, ◌≤◌, ◌<◌, ◌≡◌, Bool, true, false, List, length, get_or, leb, ltb, eqb}
 use Rattle.theory_basics.specs.Tests.{All, all_below, all_to}
 use Rattle.job.specs.Job.{Override, last_due}
 use Rattle.core_sizes.specs.Table.{table_at}

@@ -4,7 +4,7 @@ use Prim.Native.Nat.{ℕ, zero, suc, ◌+◌, ◌*◌, ◌≤◌}
 use Rattle.std.specs.Prelude.{◌≡◌, refl, List, leb, length, drop}
 use native.Mathlib.Omega.{arith}
 use Rattle.std.proofs.Common.{leb→le, length-drop}
-use Rattle.theory_basics.specs.Refusals.{unless, ◌or_else◌}
+use Rattle.theory_basics.specs.Refusals.{unless}
 use Rattle.theory_basics.specs.lemmas.Refusals.{or_else_iff, unless_as}
 use Rattle.theory_basics.specs.lemmas.Tests.{by_cond, leb_iff}
 use Rattle.records.specs.Fields.{marked}

@@ -13,7 +13,7 @@ use Rattle.records.specs.File.{encode_all}
 use Rattle.records.specs.lemmas.Puts.{length_written, written_append, written_none}
 use Rattle.fetch.specs.Rows.{Row, row_at, rows_of}
 use Rattle.planfile.specs.Records.{encode}
-use Rattle.planfile.specs.PlanFile.{format, Plan, kps, ft_of, file_of}
+use Rattle.planfile.specs.PlanFile.{Plan, kps, ft_of, file_of}
 use Rattle.planfile.specs.declared.Record.{Record}
 use Rattle.planfile.specs.declared.Record.TheVariants.{Kp, En}
 
