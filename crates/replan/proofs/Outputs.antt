@@ -8,7 +8,7 @@ use native.Mathlib.Omega.{arith}
 use lib.ListN.{length, take}
 use lib.Seq.{length-take-le}
 use borrow.Author.Tests.{le-leb, lt-leb}
-use Rattle.theory_basics.specs.Refusals.{◌or_else◌, unless}
+use Rattle.theory_basics.specs.Refusals.{unless}
 use Rattle.theory_basics.specs.Tests.{All}
 use Rattle.theory_basics.specs.lemmas.Refusals.{or_else_none, or_else_some}
 use Rattle.job.specs.Input.{JobInput, job_in}
@@ -18,7 +18,6 @@ use Rattle.core_sizes.specs.Table.{sizes_table, table_at}
 use Rattle.core_sizes.specs.Theorems.{table_is}
 use Rattle.fetch.specs.Rows.{Row}
 use Rattle.fetch.specs.Slices.{ListSlices, slices_of}
-use Rattle.theory_replan.specs.Desk.{replans}
 use Rattle.theory_replan.specs.Refusal.{fetched_kept, joined_in, replan_refusal_iff, Replannable}
 use Rattle.core_rules.specs.lemmas.Tables.{Shown}
 use Rattle.core_replan_input.specs.lemmas.Gather.{GatherPost, GatherPre}

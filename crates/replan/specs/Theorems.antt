@@ -1,6 +1,6 @@
 -- Theorems. What holds of planning afresh as the desk calls it: the clauses `settled` and
 -- `standing` of the call, and that the handed rows may come in any order.
-use Rattle.std.specs.Prelude.{ℕ, ◌≡◌, cond, ◌&&◌, List, [], ◌∷◌, map, eqb, leb, length}
+use Rattle.std.specs.Prelude.{ℕ, ◌≡◌, cond, List, [], ◌∷◌, map, eqb, length}
 use Rattle.std.proofs.Common.{sym, ◌∙◌, ap, subst, ⊎_elim, eqb→eq}
 use Rattle.theory_basics.specs.Lent.{lent_after, over}
 use Rattle.theory_basics.specs.Refusals.{◌or_else◌, unless}
