@@ -57,4 +57,4 @@ module _ (j : Job) (a : Accepted j) where
       }
 
   pub plan_in_width : InWidth (plan_of_job j)
-  plan_in_width = record { marks_in_lem = marks_width; rows_in = each_row RowInWidth (plan_rows j) row_width }
+  plan_in_width = record { marks_in_lem = marks_width; rows_in_lem = each_row RowInWidth (plan_rows j) row_width }
