@@ -126,6 +126,7 @@ fn count_lines(trace: &[u8], counts: &mut [u32; SLOTS]) -> bool
 }
 
 // Whether the first so many counts are lines of at most 16,777,216 bytes.
+#[tactic(auto, using(crate::proofs::Counts::testing_many))]
 fn few_lines(counts: &[u32; SLOTS], slots: usize) -> bool
     requires { (slots ≤ 3600) × (length counts.now ≡ 3600) }
     ensures { result ≡ few_lines (take slots counts.now) }

@@ -1,21 +1,15 @@
 use native.Mathlib.Omega.{arith}
-use Rattle.trace.proofs.Counts.{testing_start, testing_more, testing_many, testing_end}
+use Rattle.trace.proofs.Counts.{testing_start, testing_more, testing_end}
 use Rattle.trace.proofs.few_lines.Goals as goal
 
 pub loop-k-init : goal.loop-k-init
 loop-k-init c = testing_start c.args.counts.now c.args.slots
 
-pub returns-then-counts-k-gt11184 : goal.returns-then-counts-k-gt11184
-returns-then-counts-k-gt11184 c =
-    let a = c.args in
-    let l = c.loop-k in
-    testing_many a.counts.now a.slots l.k l.invariant c.loop-k-test.true (omega (arith, c.requires.0, c.requires.1)) (omega (arith, c.if-counts-k-gt11184.true))
-
 pub loop-k-preserved : goal.loop-k-preserved
 loop-k-preserved c =
     let a = c.args in
     let l = c.loop-k in
-    testing_more a.counts.now a.slots l.k l.invariant c.loop-k-test.true (omega (arith, c.requires.0, c.requires.1)) (omega (arith, c.if-counts-k-gt11184.false))
+    testing_more a.counts.now a.slots l.k l.invariant c.loop-k-test.true (omega (arith, c.requires.0, c.requires.1)) (omega arith)
 
 pub returns : goal.returns
 returns c =

@@ -1,6 +1,4 @@
-use Prim.Native.Nat.{◌-◌}
-use native.Mathlib.Omega.{arith}
-use Rattle.wait.proofs.Searches.{searching_start, searching_found, searching_more, searching_end}
+use Rattle.wait.proofs.Searches.{searching_start, searching_end}
 use Rattle.wait.proofs.find_delay.Goals as goal
 
 pub loop-s-init : goal.loop-s-init
@@ -8,12 +6,6 @@ loop-s-init c = let a = c.args in searching_start a.chunks a.span a.held a.tries
 
 pub keeps_all-requires : goal.keeps_all-requires
 keeps_all-requires c = let l = c.loop-s in c.requires.each l.s l.invariant.low c.loop-s-test.true l.begins l.invariant.free l.invariant.long
-
-pub overflow_add-s : goal.overflow_add-s
-overflow_add-s c = omega (arith, c.loop-s-test.true, c.requires.few)
-
-pub loop-s-smaller : goal.loop-s-smaller
-loop-s-smaller c = omega (arith, c.loop-s-test.true)
 
 pub returns : goal.returns
 returns c =

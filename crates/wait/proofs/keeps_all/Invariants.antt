@@ -1,5 +1,4 @@
 -- `wait::keeps_all` meets its contract. Assumes nothing.
-use Prim.Native.Nat.{◌-◌}
 use Rattle.wait.proofs.Passes.{Passing}
 use Rattle.wait.proofs.keeps_all.Given as goal
 

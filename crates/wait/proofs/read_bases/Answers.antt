@@ -1,22 +1,8 @@
-use Prim.Native.Nat.{◌-◌}
-use native.Mathlib.Omega.{arith}
 use Rattle.wait.proofs.Sums.{based_start, based_more, based_end}
 use Rattle.wait.proofs.read_bases.Goals as goal
 
 pub loop-i-init : goal.loop-i-init
 loop-i-init c = let a = c.args in based_start a.chunks a.table.now a.bases.now c.requires.1
-
-pub overflow_add-next : goal.overflow_add-next
-overflow_add-next c = omega (arith, c.loop-i-test.true)
-
-pub offset_bounds-bases-q : goal.offset_bounds-bases-q
-offset_bounds-bases-q c = omega (arith, c.requires.0, c.loop-i-test.true)
-
-pub bounds-bases-q : goal.bounds-bases-q
-bounds-bases-q c = omega (arith, c.requires.0, c.loop-i-test.true, c.loop-i.invariant.long)
-
-pub loop-i-smaller : goal.loop-i-smaller
-loop-i-smaller c = omega (arith, c.loop-i-test.true)
 
 pub loop-i-preserved : goal.loop-i-preserved
 loop-i-preserved c =

@@ -1,6 +1,5 @@
 -- `wait::wait` meets its contract. Assumes nothing.
 use mathlib.Core.Path.{refl}
-use native.Mathlib.Omega.{arith}
 use Rattle.wait.specs.Answer.{wait_input}
 use Rattle.wait.proofs.Answers.{delayed, in_range_lem, refused_input, refused_sixteen}
 use Rattle.wait.proofs.wait.Goals as goal
@@ -19,9 +18,6 @@ pub returns-then-s-lt1 : goal.returns-then-s-lt1
 returns-then-s-lt1 c =
     let a = c.args in
     refused_sixteen (wait_input a.chunks a.span a.limit a.sizes.now a.size_chunks.now a.size_layers.now a.size_bytes.now a.forecast.now) c.input_refusal-no.result c.input_refusal-no.ensures c.if-no-gt0.false c.shortest_delay-s.result c.shortest_delay-s.ensures.0 c.if-s-lt1.true
-
-pub overflow_cast-delay : goal.overflow_cast-delay
-overflow_cast-delay c = omega (arith, c.shortest_delay-s.ensures.1)
 
 pub returns : goal.returns
 returns c =
