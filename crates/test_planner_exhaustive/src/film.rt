@@ -6,7 +6,7 @@ ghost use Rattle.std.specs.Prelude.{◌≤◌};
 use job::Programme;
 
 // Two bits for the size of each layer of each chunk, four for the forecast of each slot.
-#[derive(Drop)]
+#[derive(Clone, Copy)]
 pub(crate) struct Film {
     pub chunks: u16,
     pub span: u16,

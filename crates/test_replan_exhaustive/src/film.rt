@@ -6,7 +6,7 @@ ghost use Rattle.std.specs.Prelude.{◌≤◌};
 use job::Programme;
 
 // Its number, and four bits for the size of each part.
-#[derive(Drop)]
+#[derive(Clone, Copy)]
 pub(crate) struct Film {
     pub number: u16,
     pub chunks: u16,
