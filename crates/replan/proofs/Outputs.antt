@@ -18,7 +18,7 @@ use Rattle.core_sizes.specs.Table.{sizes_table, table_at}
 use Rattle.core_sizes.specs.Theorems.{table_is}
 use Rattle.fetch.specs.Rows.{Row}
 use Rattle.fetch.specs.Slices.{ListSlices, slices_of}
-use Rattle.theory_replan.specs.Desk.{replans}
+use Rattle.theory_replan.proofs.Desk.{replans}
 use Rattle.theory_replan.specs.Refusal.{fetched_kept, joined_in, replan_refusal_iff, Replannable}
 use Rattle.core_rules.specs.lemmas.Tables.{Shown}
 use Rattle.core_replan_input.specs.lemmas.Gather.{GatherPost, GatherPre}

@@ -7,7 +7,7 @@ use Rattle.fetch.specs.Rules.{Keeps}
 use Rattle.theory_plan.specs.Own.{own_list}
 use Rattle.theory_plan.specs.Plan.{plan}
 use Rattle.theory_plan.specs.Statement.{IsPlan, marks_of}
-use Rattle.theory_plan.specs.Theorems.{plan_carried, plan_exists}
+use Rattle.theory_plan.proofs.Theorems.{plan_carried, plan_exists}
 use Rattle.theory_plan.specs.lemmas.Words.{accepted_sized}
 use Rattle.planner.specs.Answer.{plan_rows}
 use Rattle.meter.specs.declared.Meter.{Meter}

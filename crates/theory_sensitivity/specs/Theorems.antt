@@ -12,7 +12,7 @@ use Rattle.fetch.specs.Rows.{Row}
 use Rattle.theory_plan.specs.Own.{own_list}
 use Rattle.theory_plan.specs.Plan.{plan}
 use Rattle.theory_plan.specs.Statement.{Best, IsPlan, count_of, counts_of, marks_of}
-use Rattle.theory_plan.specs.Theorems.{best, plan_exists}
+use Rattle.theory_plan.proofs.Theorems.{best, plan_exists}
 use Rattle.theory_plan.specs.lemmas.Level.{keeps_passes}
 use Rattle.theory_plan.specs.lemmas.Words.{accepted_sized, layer_of}
 use Rattle.theory_sensitivity.specs.Statement.{OneSlotMore, RisesLittle, Steady, equal_base_size}

@@ -8,7 +8,7 @@ use borrow.Author.Rules.{rules}
 use lib.ListN.{get_or}
 use lib.Dec.{leb}
 use Rattle.core_sizes.specs.Table.{table_at}
-use Rattle.theory_most.specs.lemmas.Bounds.{largest_le}
+use Rattle.theory_most.proofs.Bounds.{largest_le}
 use Rattle.core_bounds.proofs.Bounds.{AnyLoop, any_loop_end, any_loop_more, any_loop_start, few, held_small, row_from, slot_least, slot_most, sum_most}
 
 abbrev invariant-loop : tie.invariant-loop

@@ -3,7 +3,7 @@ use borrow.Author.Rules.{rules}
 use native.Mathlib.Omega.{arith}
 use Rattle.jobrecords.specs.Refusal.{one_sequence}
 use Rattle.theory_reasons.specs.Lines.{plan_text}
-use Rattle.theory_reasons.specs.Theorems.{text_fits}
+use Rattle.theory_reasons.proofs.Theorems.{text_fits}
 use Rattle.programs.proofs.Printing.{answer_printed}
 use Rattle.programs.proofs.print_reasons.Statement.{statement}
 use Rattle.programs.proofs.print_reasons.Tie as tie
