@@ -32,7 +32,7 @@ use Rattle.planner.specs.declared.Answer.TheVariants.{Rows, Refused}
 use Rattle.planner.specs.declared.Planned.{Planned}
 use Rattle.planner.specs.Answer.{plan_rows, holds, plan_refusal, OwnListCarries, Pictures, PlanOutput, PlanPromise}
 use Rattle.planner.specs.lemmas.Outputs.{Outputs, short_refusal}
-use Rattle.theory_sensitivity.specs.Theorems.{steady}
+use Rattle.theory_sensitivity.proofs.Theorems.{steady}
 
 -- ---- what is handed over, by the refusal
 

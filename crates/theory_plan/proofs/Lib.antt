@@ -8,3 +8,4 @@ pub mod Best
 pub mod OneSize
 pub mod OwnFill
 pub mod Shape
+pub mod PlanRows

@@ -114,9 +114,6 @@ own_list_rows = own_few_rows
 pub plan_keeps : (j : Job) → Accepted j → Keeps j (marks_of j (plan j)) (own_list j (plan j))
 plan_keeps j a = (plan_carried j (accepted_sized j a) (plan j) (plan_exists j a)).0
 
-pub plan_rows_few : (j : Job) → Accepted j → length (own_list j (plan j)) ≤ 5599
-plan_rows_few j a = own_list_rows j a (plan j) (plan_exists j a).choice
-
 -- ---- document 01's way by itself
 
 -- It too settles exactly one choice,

@@ -12,7 +12,7 @@ use Rattle.job.specs.Uneven.{equal_iff}
 use Rattle.theory_plan.specs.Plan.{plan}
 use Rattle.theory_plan.specs.Statement.{counts_of}
 use Rattle.theory_sensitivity.specs.Statement.{OneSlotMore, RisesLittle, Steady, equal_base_size, bases}
-use Rattle.theory_sensitivity.specs.Theorems.{steady}
+use Rattle.theory_sensitivity.proofs.Theorems.{steady}
 
 -- How many bases the plan of a job carries.
 abbrev pub plan_bases : Job → ℕ
