@@ -18,7 +18,7 @@ use Rattle.theory_plan.specs.Plan.{plan}
 use Rattle.theory_plan.specs.Statement.{IsPlan}
 use Rattle.theory_reasons.specs.Lines.{lines_of, plan_text}
 use Rattle.theory_reasons.specs.Statement.{Line, Place, Reason, Under, against, lower, missing, short}
-use Rattle.theory_reasons.specs.Theorems.{line_refused, missing_iff, plan_reasons, stretch_forbids, text_fits}
+use Rattle.theory_reasons.proofs.Theorems.{line_refused, missing_iff, plan_reasons, stretch_forbids, text_fits}
 use Rattle.core_text.specs.lemmas.Places.{Put, put_front, put_whole}
 use Rattle.reasons.specs.Answer.{LinesOfPlan, ReasonsPromise, TrueLine, TrueReason, refusal}
 use Rattle.reasons.specs.lemmas.Told.{Told}

@@ -3,7 +3,7 @@ use Prim.Native.Nat.{◌-◌}
 use native.Mathlib.Omega.{arith}
 use lib.ListN.{get_or}
 use lib.Dec.{leb}
-use Rattle.theory_most.specs.lemmas.Bounds.{largest_le}
+use Rattle.theory_most.proofs.Bounds.{largest_le}
 use Rattle.core_bounds.proofs.Bounds.{any_loop_end, any_loop_more, any_loop_start, few, held_small, row_from, slot_least, slot_most, sum_most}
 use Rattle.core_bounds.proofs.any_order.Goals as goal
 

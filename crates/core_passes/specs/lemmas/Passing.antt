@@ -6,8 +6,8 @@ use Rattle.theory_basics.specs.lemmas.Tests.{test}
 use Rattle.job.specs.Job.{Job, chunks}
 use Rattle.theory_plan.specs.Plan.{after}
 use Rattle.theory_most.specs.Statement.{Next, NoneAboveInOrder, Pass, Set, after_set, begin, bound, least, onward}
-use Rattle.theory_most.specs.Theorems.{bound_in_order, pass_ends}
-use Rattle.theory_most.specs.lemmas.Bounds.{largest_le}
+use Rattle.theory_most.proofs.Theorems.{bound_in_order, pass_ends}
+use Rattle.theory_most.proofs.Bounds.{largest_le}
 use Rattle.core_covering.specs.lemmas.Tables.{PlacedPost, RowOf}
 use Rattle.core_front.specs.declared.Front.{Front}
 use Rattle.core_front.specs.declared.Measure.{Measure}

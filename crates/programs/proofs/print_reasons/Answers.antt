@@ -2,7 +2,7 @@
 use native.Mathlib.Omega.{arith}
 use Rattle.jobrecords.specs.Refusal.{one_sequence}
 use Rattle.theory_reasons.specs.Lines.{plan_text}
-use Rattle.theory_reasons.specs.Theorems.{text_fits}
+use Rattle.theory_reasons.proofs.Theorems.{text_fits}
 use Rattle.programs.proofs.Printing.{answer_printed}
 use Rattle.programs.proofs.print_reasons.Goals as goal
 
