@@ -2,7 +2,7 @@
 // prototype, gives its answer and leaves every lent byte as the call does, refusals too. No proof.
 // What has to be looked up by more than one of them stands here.
 #pragma once
-#include "film_planner.h"
+#include "film_most.h"
 #include <string.h>
 
 __typeof__(film_read_job) plain_read_job;

@@ -5,7 +5,7 @@
 #include <unistd.h>
 
 // The header wants the archive it belongs to; nothing of it is linked here.
-uint64_t film_archive_of_version_2(void) { return FILM_VERSION; }
+uint64_t film_archive_of_version_1(void) { return FILM_VERSION; }
 
 static size_t read_full(uint8_t *at, size_t room)
 {

@@ -2,7 +2,7 @@
 // too little by one, for one and for none: between none and enough a plan is laid out aside and
 // copied. Each call runs on a stack that was painted before, and what is no longer painted
 // afterwards was used.
-#include "film_planner.h"
+#include "film_most.h"
 #include <pthread.h>
 #include <stdio.h>
 #include <stdlib.h>

@@ -1,7 +1,7 @@
 /* Shows the most pictures: uneven film in a small buffer, where the plan skips pictures that another
  * fetch list shows. Prints how many the plan and the search show, and how many no list can exceed.
  * examples/run runs it. */
-#include "film_planner.h"
+#include "film_most.h"
 #include <inttypes.h>
 #include <stdio.h>
 #include <stdlib.h>

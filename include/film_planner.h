@@ -4,9 +4,9 @@
  * `tools/archive` builds the archive, target/staticlib/libfilm_planner.a; `tools/install PREFIX`
  * installs it with this header, a shared object, and files for pkg-config and CMake. Link it after
  * your own files; nothing else is needed. Every call is proved to answer what is said here, for
- * every input, in its source, except where a comment says otherwise; the compiler that makes the
- * archive is trusted. No call has a precondition on the numbers and slices it is handed, none keeps
- * anything, none allocates, and each ends.
+ * every input, in its source; the compiler that makes the archive is trusted. No call has a
+ * precondition on the numbers and slices it is handed, none keeps anything, none allocates, and
+ * each ends.
  *
  * TWO LAYERS. The calls themselves take numbers and slices alone, a slice as a pointer and a
  * length, up to 37 arguments. At the end of this header stands an inline layer over structs, each
@@ -15,8 +15,8 @@
  *   - a `struct film_job` that is zero but for what the job has is right, without SZs for film of
  *     equal chunks: a slice of length 0 may be null;
  *   - what a call hands over goes to structs with room for the largest result, so that refusal 11
- *     arises for text and files alone, which go to buffers of the caller's, and for the work slice
- *     of film_most_of; the number of rows is set by the call that writes them;
+ *     arises for text and files alone, which go to buffers of the caller's, and the number of rows
+ *     is set by the call that writes them;
  *   - marks are handed as many as the job has chunks, which film_check wants exactly.
  *
  * WHAT THE CALLER OWES a call is what C owes any function: a pointer with at least so many elements
@@ -29,9 +29,9 @@
  * An answer that nobody looks at may be a refusal: compilers warn of that by themselves.
  * The calls may run on several threads at once, if no thread has a slice that another one's call is
  * lent for writing: a call's slices are its own until it returns. None takes more than 256 KiB of
- * stack (bench/run_stack measures it: film_most takes the most, 241 KiB). On any job each takes a
- * few hundredths of a second at the most, but for film_search and film_most, see there; time goes
- * by length where a link trace or a list may have any.
+ * stack (bench/run_stack measures it: film_reasons_file takes the most, 210 KiB). On any job each
+ * takes a few hundredths of a second at the most, but for film_search, see there; time goes by
+ * length where a link trace or a list may have any.
  *
  * ANSWERS. Every call answers one 64-bit number:
  *
@@ -41,9 +41,8 @@
  * Whatever else a call hands over, it writes to the start of slices that the caller lends: `T *x,
  * size_t x_len`, without const. If one of them is shorter than what is to be written to it, the
  * call refuses with 11, after all other refusals (the meter's calls, whose storage is lent, say
- * when); in a longer one the elements past the result stay as they are. film_most is the exception:
- * it asks for room for the longest result, and its work slice may hold anything afterwards. On a
- * refusal no lent byte is changed. How large the largest results are, say the constants below.
+ * when); in a longer one the elements past the result stay as they are. On a refusal no lent byte
+ * is changed. How large the largest results are, say the constants below.
  *
  * A JOB is handed as C, L, s and the limit (`chunks`, `span`, `delay`, `limit`), the layer sizes
  * (`sizes`, base first), the sizes that differ by chunk (`SZ`: `size_chunks`, `size_layers`,
@@ -82,7 +81,7 @@ extern "C" {
 /* ---- the version of this header and of the archive that it belongs to: raised whenever the
  * header's code changes, or what a call answers. It is the shared object's number too. */
 
-#define FILM_VERSION 2
+#define FILM_VERSION 1
 
 /* An answer is looked at; a slice of a call is not null. */
 #define FILM_ANSWER __attribute__((warn_unused_result)) uint64_t
@@ -94,8 +93,8 @@ FILM_ANSWER film_version(void);
 
 /* The same by a name that carries the version. Every file that includes this header names it, so a
  * program whose header is not the archive's does not link, or does not start where it is linked
- * with the shared object: "undefined reference to `film_archive_of_version_2'". */
-FILM_ANSWER film_archive_of_version_2(void);
+ * with the shared object: "undefined reference to `film_archive_of_version_1'". */
+FILM_ANSWER film_archive_of_version_1(void);
 
 #if defined(__has_attribute)
 #if __has_attribute(retain)
@@ -125,8 +124,6 @@ enum {
     FILM_LENGTHS = 2,          /* how many layers, how many SZs */
     FILM_COUNTS = 4,           /* counts of a plan */
     FILM_WALK = 3,             /* steps, ended, shortfall of a search */
-    FILM_BOUNDS = 3,           /* in playing order, in any order, exact: of most pictures */
-    FILM_MOST_WORK = 251001,   /* scratch of film_most for any job: 501 rows of 501 numbers */
     FILM_FILE = 65536,         /* bytes of any file that is read or written */
     FILM_FILE_ROWS = 5957,     /* rows of any plan file that is read: 11 bytes each */
     FILM_JOB_FILE = 46800,     /* bytes of a job file as written */
@@ -410,56 +407,6 @@ FILM_CALL film_search(
     uint16_t *counts, size_t counts_len,
     uint32_t *walk, size_t walk_len);
 
-/* Looks for the largest set of bases that a fetch list in playing order can carry, plans over it,
- * and says how many bases no fetch list can exceed. It is for any film, equal or uneven, and any
- * limit.
- *
- * Parameters:
- *   passes  at most so many passes; each looks for one number of bases, from the bound down
- *   work    scratch, at least 501 * (C + 1) numbers; FILM_MOST_WORK are enough for any job. It may
- *           hold anything before the call, and what it holds afterwards means nothing
- *   marks, row_slots, row_chunks, row_layers, row_bytes, counts
- *           the plan: at least C marks, FILM_ROWS of each part of a row, and four counts
- *   bounds  three numbers:
- *           [0] no passing list in playing order carries more bases
- *           [1] no passing list in any order carries more bases
- *           [2] 1 if the plan carries as many bases as [0], else 0
- *
- * Returns the number of rows, at most FILM_ROWS. With the marks, whose bit 0 is the set of bases,
- * they pass film_check and are in playing order. Upper layers, rows and counts follow document 01,
- * as after film_search.
- *
- * Refuses: 5, 6, 18, 7, 11. Which set is found is not fixed, so 11 does not depend on it: it is
- * returned if a slice is shorter than said above.
- *
- * Notes:
- *   - counts[0] is at least that of film_plan, and at most bounds[0] and bounds[1]. If bases have
- *     one size, or H is at least C, film_plan's count and these three are equal.
- *   - If bounds[2] is 1, no list in playing order shows more pictures. If counts[0] is bounds[1],
- *     no list in any order does. Else the bounds say how many more there could be at most.
- * Not promised:
- *   - With 0 passes and H at least 2, the bases are those of film_plan. If H is 0 or 1, no pass is
- *     needed and bounds[2] is 1.
- *   - Films with the sizes and links of practice mostly need 0 to 2 passes, and 16 are plenty. On
- *     500 chunks the bounds take about a millisecond and a pass up to a few hundredths of a second.
- *     Nothing stops the call on the way, so `passes` limits its time. */
-FILM_CALL film_most(
-    uint16_t chunks, uint16_t span, uint16_t delay, uint16_t limit,
-    const uint32_t *sizes, size_t sizes_len,
-    const uint16_t *size_chunks, size_t size_chunks_len,
-    const uint8_t *size_layers, size_t size_layers_len,
-    const uint32_t *size_bytes, size_t size_bytes_len,
-    const uint32_t *forecast, size_t forecast_len,
-    uint32_t passes,
-    uint64_t *work, size_t work_len,
-    uint8_t *marks, size_t marks_len,
-    uint16_t *row_slots, size_t row_slots_len,
-    uint16_t *row_chunks, size_t row_chunks_len,
-    uint8_t *row_layers, size_t row_layers_len,
-    uint32_t *row_bytes, size_t row_bytes_len,
-    uint16_t *counts, size_t counts_len,
-    uint16_t *bounds, size_t bounds_len);
-
 /* The shortest wait: from a job without s and a forecast of up to 3,600 slots the smallest s for
  * which the plan skips no base. Answers s. Refuses: 5 (C, L and the limit alone), 6, 18, 7, 16. */
 FILM_CALL film_wait(
@@ -657,12 +604,6 @@ struct film_plan {
 /* How far a search came. */
 struct film_walk {
     uint32_t steps, ended, shortfall;
-};
-
-/* How many bases no passing list can exceed. */
-struct film_bounds {
-    uint16_t in_order, any_order; /* in playing order; in any order */
-    uint16_t exact;               /* 1 if the plan carries in_order bases, else 0 */
 };
 
 /* What to ask the link for, one piece after the other. */
@@ -865,24 +806,6 @@ static inline FILM_ANSWER film_search_of(
     walk->steps = said[0];
     walk->ended = said[1];
     walk->shortfall = said[2];
-    return answer;
-}
-
-/* The work slice is the caller's: 2 MB for the largest job. Of a job of C chunks the call needs
- * 501 * (C + 1) numbers, and refuses with 11 if there are fewer. */
-static inline FILM_ANSWER film_most_of(
-    const struct film_job *job, uint32_t passes, uint64_t *work, size_t work_len,
-    struct film_plan *plan, struct film_bounds *bounds)
-{
-    uint16_t said[FILM_BOUNDS];
-    uint64_t answer = film_most(FILM_JOB(job), passes, FILM_SLICE(uint64_t, work, work_len),
-        plan->marks, FILM_MARKS, FILM_ROOM(&plan->list), plan->counts, FILM_COUNTS,
-        said, FILM_BOUNDS);
-    if (film_refused(answer)) return answer;
-    plan->list.rows = (size_t)answer;
-    bounds->in_order = said[0];
-    bounds->any_order = said[1];
-    bounds->exact = said[2];
     return answer;
 }
 

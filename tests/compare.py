@@ -73,8 +73,8 @@ CALLS = {
 
 
 def declared():
-    """The arguments of each call as include/film_planner.h declares them, in the letters of CALLS;
-    storage is lent room there. Without the calls that take nothing, the archive's version."""
+    """The arguments of each call as the headers declare them, in the letters of CALLS; storage is
+    lent room there. Without the calls that take nothing, the archive's version."""
     letters = {"uint8_t": "b", "uint16_t": "h", "uint32_t": "w", "uint64_t": "q", "size_t": "z"}
     slices = {"uint8_t": "B", "uint16_t": "H", "uint32_t": "I", "uint64_t": "Q"}
     calls = {}

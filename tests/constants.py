@@ -1,4 +1,4 @@
-"""The constants of include/film_planner.h against the theorems and definitions that bound them:
+"""The constants of the headers against the theorems and definitions that bound them:
 each constant's number has to stand in the statement that is named here for it, and in the sources
 where they name it too. A constant without a row is refused. That the statements hold is the proofs'
 work. Run it at the root of the repository: python3 tests/constants.py"""
@@ -11,38 +11,38 @@ import header
 # The constant; the crate and the name of what bounds it; its text, with {} for the number.
 BOUNDS = [
     ("LAYERS", "core_ffi", "JobSmall", "layers j ≤ {}"),
-    ("SLOTS", "core_ffi", "JobSmall", "length (j .forecast) ≤ {}"),
-    ("SZS", "core_ffi", "JobSmall", "length (j .overrides) ≤ {}"),
-    ("SLOTS", "core_ffi", "trace-read", "slots ≤ {}"),
-    ("MARKS", "core_ffi", "marks-few", "length (marksOf j choice) ≤ {}"),
-    ("ROWS", "core_ffi", "rows-planned", "length (planRows (jobIn h)) ≤ {}"),
-    ("ROWS", "core_ffi", "rows-afresh", "length (rowsOn h o) ≤ {}"),
-    ("ROWS", "core_ffi", "rows-found", "length (rowsFound (jobIn h) budget) ≤ {}"),
-    ("ROWS", "core_ffi", "rows-over", "length (rowsOver (jobIn h) set) ≤ {}"),
-    ("PIECES", "core_ffi", "pieces-asked", "length (pieces i) ≤ {}"),
-    ("FILE", "core_ffi", "plan-written", "length (fileOf (planOf s)) ≤ {}"),
-    ("FILE_ROWS", "core_ffi", "rows-read", "length (planIn count file .rows) ≤ {}"),
-    ("JOB_FILE", "core_ffi", "job-written", "length (jobFile (jobIn h)) ≤ {}"),
-    ("JOB_FILE", "core_ffi", "converted-small", "length (jobFile (jobOfFile mixed job)) ≤ {}"),
-    ("PLAN_FILE", "core_ffi", "FilesSmall", "length (fileOf (planOfJob (jobSaid job))) ≤ {}"),
-    ("REPORT", "core_ffi", "FilesSmall", "length (planReport (jobSaid job)) ≤ {}"),
-    ("REPORT", "core_ffi", "report-written", "length (planReport (jobIn h)) ≤ {}"),
-    ("REASONS", "core_ffi", "FilesSmall", "length (planText (jobSaid job)) ≤ {}"),
-    ("REASONS", "core_ffi", "reasons-written", "length (planText (jobIn h)) ≤ {}"),
-    ("TRACE", "trace", "trace-fits", "length (traceOf f) ≤ {}"),
+    ("SLOTS", "core_ffi", "JobSmall", "length j.forecast ≤ {}"),
+    ("SZS", "core_ffi", "JobSmall", "length j.overrides ≤ {}"),
+    ("SLOTS", "core_ffi", "trace_read", "slots ≤ {}"),
+    ("MARKS", "core_ffi", "marks_few", "length (marks_of j choice) ≤ {}"),
+    ("ROWS", "core_ffi", "rows_planned", "length (plan_rows (job_in h)) ≤ {}"),
+    ("ROWS", "core_ffi", "rows_afresh", "length (rows_on h o) ≤ {}"),
+    ("ROWS", "core_ffi", "rows_found_lem", "length (rows_found (job_in h) budget) ≤ {}"),
+    ("ROWS", "core_ffi", "rows_over_lem", "length (rows_over (job_in h) set) ≤ {}"),
+    ("PIECES", "core_ffi", "pieces_asked", "length (pieces i) ≤ {}"),
+    ("FILE", "core_ffi", "plan_written", "length (file_of (plan_of s)) ≤ {}"),
+    ("FILE_ROWS", "core_ffi", "rows_read", "length (plan_in count file).rows ≤ {}"),
+    ("JOB_FILE", "core_ffi", "job_written", "length (job_file (job_in h)) ≤ {}"),
+    ("JOB_FILE", "core_ffi", "converted_small", "length (job_file (job_of_file mixed job)) ≤ {}"),
+    ("PLAN_FILE", "core_ffi", "FilesSmall", "length (file_of (plan_of_job (job_said job))) ≤ {}"),
+    ("REPORT", "core_ffi", "FilesSmall", "length (plan_report (job_said job)) ≤ {}"),
+    ("REPORT", "core_ffi", "report_written", "length (plan_report (job_in h)) ≤ {}"),
+    ("REASONS", "core_ffi", "FilesSmall", "length (plan_text (job_said job)) ≤ {}"),
+    ("REASONS", "core_ffi", "reasons_written", "length (plan_text (job_in h)) ≤ {}"),
+    ("TRACE", "trace", "trace_fits", "length (trace_of f) ≤ {}"),
     # The slices beside the library's own: 11 exactly if they are shorter.
-    ("PROGRAMME", "core_ffi", "jobReturnRefusal", "leb {} (length (lent .programme))"),
-    ("LENGTHS", "core_ffi", "jobReturnRefusal", "leb {} (length (lent .lengths))"),
-    ("COUNTS", "core_ffi", "withCounts", "leb {} (length counts)"),
-    ("COUNTS", "core_ffi", "withWalk", "leb {} (length counts)"),
-    ("WALK", "core_ffi", "withWalk", "leb {} (length walk)"),
+    ("PROGRAMME", "core_ffi", "job_return_refusal", "leb {} (length lent.programme)"),
+    ("LENGTHS", "core_ffi", "job_return_refusal", "leb {} (length lent.lengths)"),
+    ("COUNTS", "core_ffi", "with_counts", "leb {} (length counts)"),
+    ("COUNTS", "core_ffi", "with_walk", "leb {} (length counts)"),
+    ("WALK", "core_ffi", "with_walk", "leb {} (length walk)"),
     # The bounds of most pictures have the walk's room.
-    ("BOUNDS", "core_ffi", "withWalk", "leb {} (length walk)"),
+    ("BOUNDS", "core_ffi", "with_walk", "leb {} (length walk)"),
     # Room for any plan, and so many numbers for each of C + 1 rows of needs.
-    ("ROWS", "most", "hasRoom", "leb {} slots"),
-    ("MOST_WORK", "most", "hasRoom", "leb ((count + 1) * {}) work"),
-    ("SAMPLES", "core_ffi", "cellsRefusal", "leb {} (length (s .slots))"),
-    ("SAMPLES", "core_ffi", "cellsRefusal", "leb {} (length (s .bytes))"),
+    ("ROWS", "most", "has_room", "leb {} slots"),
+    ("MOST_WORK", "most", "has_room", "leb ((count + 1) * {}) work"),
+    ("SAMPLES", "core_ffi", "cells_refusal", "leb {} (length s.slots)"),
+    ("SAMPLES", "core_ffi", "cells_refusal", "leb {} (length s.bytes)"),
 ]
 
 # The constant, and what the sources call it.

@@ -1,6 +1,6 @@
 """The documents against the tree: no document may name a file, a crate, a call, a definition or a
 must-fail edit that isn't there; docs/PROMISES.md has to name every edit, docs/CALLS.md every call of
-the header, docs/ARCHITECTURE.md every crate. No long line of a document may stand in it twice.
+the headers, docs/ARCHITECTURE.md every crate. No long line of a document may stand in it twice.
 A must-fail edit has to find what it replaces.
 Looked at are links, what stands in `code`, and paths in commands. The notes and the changelog tell
 what was, so of them only the links are looked at. In sources every file that a comment names has to
@@ -35,12 +35,17 @@ def read(path):
         return f.read()
 
 
+def made(path):
+    """Whether a file is what a build or a check left."""
+    return "target/" in path or "/out/" in path
+
+
 def tree():
     """The text in which a name has to stand, by word."""
     words = set()
     for pattern in SOURCES:
         for path in glob.glob(pattern, recursive=True):
-            if os.path.isfile(path) and "target/" not in path:
+            if os.path.isfile(path) and not made(path):
                 words.update(re.findall(r"[^\s(){}\[\]`,;:.\"]+", read(path)))
     return words
 
@@ -48,7 +53,7 @@ def tree():
 CRATES = {os.path.basename(path) for path in glob.glob("crates/*")}
 KIT_CRATES = {"std", "io", "os", "libc", "check", "bytes"}
 EDITS = {f"{path.split('/')[1]}/{os.path.basename(path)[:-5]}" for path in glob.glob("crates/*/must-fail/*.edit")}
-HEADER = read("include/film_planner.h")
+HEADERS = read("include/film_planner.h") + read("include/film_most.h")
 
 
 def modules():
@@ -120,7 +125,7 @@ def span_fault(span, document):
     if re.fullmatch(r"[\w-]+\.(?:py|md|h|rs|txt|svg|toml|job|trace|sh|c|cc|out)", span):
         return "" if glob.glob(f"**/{span}", recursive=True) else "there is no such file"
     if re.fullmatch(r"film_\w+|FILM_\w+", span):
-        return "" if span in CRATES or re.search(rf"\b{span}\b", HEADER) or span in WORDS_OF_TREE else "no crate, call or constant of that name"
+        return "" if span in CRATES or re.search(rf"\b{span}\b", HEADERS) or span in WORDS_OF_TREE else "no crate, call or constant of that name"
     if re.fullmatch(r"(?:core|theory|test)_\w+", span):
         return "" if span in CRATES else "there is no such crate"
     if "NAME" in span:
@@ -170,7 +175,7 @@ def source_faults():
     name = re.compile(r"(?<![\w./-])(?:tests|tools|bench|docs|samples|examples|include|crates)/[\w./-]*\w\.(?:py|md|txt|c|h|rs|job|trace|svg|out|antt)\b")
     for pattern in SOURCES:
         for path in sorted(glob.glob(pattern, recursive=True)):
-            if os.path.isfile(path) and "target/" not in path:
+            if os.path.isfile(path) and not made(path):
                 for found in set(name.findall(read(path))):
                     if not any(os.path.exists(os.path.join(place, found)) for place in ("", path.split("/")[0])):
                         yield f"{path}: {found}: there is no such file"
@@ -203,7 +208,7 @@ def main():
         for fault in dict.fromkeys(faults(document)):
             print(f"{document}: {fault}")
             count += 1
-    for document, what, wanted in (("docs/PROMISES.md", "an edit", EDITS), ("docs/CALLS.md", "a call of the header", set(header.calls())),
+    for document, what, wanted in (("docs/PROMISES.md", "an edit", EDITS), ("docs/CALLS.md", "a call of the headers", set(header.calls())),
                                    ("docs/ARCHITECTURE.md", "a crate", CRATES)):
         for lacking in sorted(wanted - set(re.findall(r"`([\w/]+)`", read(document)))):
             print(f"{document}: {lacking} is {what} that it does not name")

@@ -1,46 +1,46 @@
-"""A program at every level of the compiler, by `rt try`: interpreted, compiled at -O0 and at -O3,
-and with what the compiler assumes checked; each time what it writes is compared with its file
-stdout. Nothing is proved by that: it is evidence on the back end, which no proof covers.
+"""A program by `rt try`, without any proof: compiled with all that the compiler assumes checked, and
+interpreted too where the interpreter knows every function that the program calls. What it writes is
+compared with its file stdout. It is evidence on the back end, which no proof covers. The gate has
+more of it: rt ci runs each program as LLVM builds it and as Rattle's own compiler does.
 
-rt ends an interpreted run after ten million steps, and a compiled one after some seconds. A level
-that is cut short so is not wrong if all that it wrote until then is what is expected; the line says
-how far it came. The interpreter knows no files: a program that opens some runs compiled alone.
+rt ends an interpreted run after twenty million steps, and a compiled one after some minutes. A run
+that is cut short so is not wrong if all that it wrote until then is what is expected.
 Run it at the root of the repository: python3 tests/levels.py PROGRAM.."""
+import os
 import re
 import subprocess
 import sys
 
-LEVELS = {"interpreter": "interpreted", "at -O0": "-O0", "at -O3": "-O3", "assumptions": "checked"}
+SECONDS = 300
+# rt try's status where no run came to an end.
+CUT = 6
 
 
-def judged(block):
-    """How a level ended, and whether that is a fault."""
-    if block.startswith("ok:"):
-        return "whole", False
-    if block.startswith("skipped:"):
-        return "no files", False
-    cut = re.search(r"did not finish within \d+ steps|did not end within the time limit", block)
-    at = re.search(r'on standard output, at byte (\d+), expected .*, found ""$', block, re.M)
-    if cut and at:
-        return f"cut at {at[1]} bytes", False
-    return "NOT as expected", True
+def read(path):
+    if not os.path.exists(path):
+        return b""
+    with open(path, "rb") as f:
+        return f.read()
 
 
 def tried(program):
-    """Says how each level ended; whether all of them are right."""
-    out = subprocess.run(["rt", "try", program], stdout=subprocess.PIPE, stderr=subprocess.STDOUT).stdout.decode(errors="replace")
-    levels, wrong = {}, False
-    for block in re.split(r"^(?=ok:|skipped:|FAIL:)", out, flags=re.M):
-        level = next((name for word, name in LEVELS.items() if word in block.split("\n")[0]), None)
-        if level:
-            levels[level], fault = judged(block)
-            wrong = wrong or fault
-    right = not wrong and len(levels) == len(LEVELS)
-    if not right:
-        print(out)
-    print(f"{program}: " + ", ".join(f"{level} {levels.get(level, 'did not run')}" for level in LEVELS.values())
-          + ("" if "whole" in levels.values() else ": none came to the end, so the gate's run is the evidence"))
-    return right
+    """Says how the runs ended; whether what was written is right."""
+    folder = f"crates/{program}"
+    data = sorted(os.listdir(f"{folder}/data")) if os.path.isdir(f"{folder}/data") else []
+    words = ["rt", "try", "--seconds", str(SECONDS)] + [word for name in data for word in ("--data", f"{name}=data/{name}")]
+    ran = subprocess.run(words, cwd=folder, input=read(f"{folder}/stdin"), stdout=subprocess.PIPE, stderr=subprocess.PIPE)
+    said, wanted = ran.stderr.decode(errors="replace"), read(f"{folder}/stdout")
+    runners = re.search(r" runners=(\d)", said)
+    if ran.stdout == wanted and ran.returncode == int(read(f"{folder}/status") or 0):
+        print(f"{program}: as expected, {'interpreted and compiled' if runners and runners[1] == '2' else 'compiled'}")
+        return True
+    if ran.returncode == CUT and wanted.startswith(ran.stdout):
+        print(f"{program}: cut at {len(ran.stdout)} bytes: none came to the end, so the gate's run is the evidence")
+        return True
+    print(said)
+    at = next((k for k, (a, b) in enumerate(zip(ran.stdout, wanted)) if a != b), min(len(ran.stdout), len(wanted)))
+    print(f"{program}: NOT as expected: status {ran.returncode}, differs at byte {at} of {len(wanted)}")
+    return False
 
 
 right = [tried(program) for program in sys.argv[1:]]

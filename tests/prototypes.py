@@ -1,8 +1,8 @@
-"""The header against the sources of crate `film_planner`. Prints a C file that includes the header
-and declares each call once more from those sources, so that the compiler refuses a header with
-other types, and that names each, so that the linker refuses an archive that lacks one. Refused here,
-since the compiler takes it: arguments of other names, or two of one type in another order; a call
-with slices that the inline layer lacks; a version that is not the crate's; and a header whose code
+"""The headers against the sources of crate `film_planner`. Prints a C file that includes them and
+declares each call once more from those sources, so that the compiler refuses a header with other
+types, and that names each, so that the linker refuses an archive that lacks one. Refused here, since
+the compiler takes it: arguments of other names, or two of one type in another order; a call with
+slices that the inline layer lacks; a version that is not the crate's; and a film_planner.h whose code
 is not the one that include/versions.txt keeps for its version.
 Run it at the root of the repository: python3 tests/prototypes.py > target/kit/prototypes.c"""
 import glob
@@ -19,7 +19,7 @@ def calls():
     for path in sorted(glob.glob("crates/film_planner/src/*.rt")):
         with open(path) as f:
             source = f.read()
-        for name, args, result in re.findall(r'#\[no_mangle\]\s*pub extern "C" fn (\w+)\((.*?)\) -> (\w+)', source, re.S):
+        for name, args, result in re.findall(r'#\[unsafe\(no_mangle\)\]\s*pub extern "C" fn (\w+)\((.*?)\) -> (\w+)', source, re.S):
             yield name, [a.split(":") for a in args.split(",") if a.strip()], result
 
 
@@ -40,7 +40,7 @@ def check_version():
     every program links."""
     with open("crates/film_planner/src/version.rt") as f:
         source = f.read()
-    said = [int(n) for n in re.findall(r"pub const VERSION: u64 = (\d+);|r ≡ (\d+)|film_archive_of_version_(\d+)\(", source) for n in n if n]
+    said = [int(n) for n in re.findall(r"pub const VERSION: u64 = (\d+);|result ≡ (\d+)|film_archive_of_version_(\d+)\(", source) for n in n if n]
     if set(said) != {header.VERSION} or len(said) != 4:
         sys.exit(f"the header is of version {header.VERSION}, crates/film_planner/src/version.rt says {said}")
     with open("include/versions.txt") as f:
@@ -64,7 +64,7 @@ def main():
     if lacking:
         sys.exit(f"a call that the inline layer lacks, or the other way round: {', '.join(sorted(lacking))}")
     check_version()
-    print('#include "film_planner.h"\n')
+    print('#include "film_most.h"\n')
     for name, (args, result) in found.items():
         print(f"{TYPES[result]} {name}({args});")
     print("\n/* Every call, by its address: the archive has them all. */")

@@ -2,7 +2,7 @@
  * and without SZs, on jobs that are refused and on a zeroed one, whose slices are null. Answers and
  * every byte of every struct have to be the same, and no call may be handed null. examples/run
  * builds it with the compiler's sanitizers, which see that, and runs it. */
-#include "film_planner.h"
+#include "film_most.h"
 #include <inttypes.h>
 #include <stdio.h>
 #include <stdlib.h>

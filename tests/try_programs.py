@@ -1,7 +1,7 @@
 """The built programs on case files, damaged, truncated and oversized files, random small jobs and
 random mixed files; every output is compared with `reference.py` and `reasons.py`. Run it at the
-root of the repository after `rt check film_plan film_report film_verdict film_convert film_reasons`:
-python3 tests/try_programs.py [FOLDER OF THE PROGRAMS]"""
+root of the repository after `rt run` in the folders of `film_plan`, `film_report`, `film_verdict`,
+`film_convert` and `film_reasons`: python3 tests/try_programs.py [FOLDER OF THE PROGRAMS]"""
 import glob
 import os
 import random
@@ -13,12 +13,13 @@ from reference import Job, Override, Refused, bw, convert, ly, marks_given, pg, 
 from jobs import JOB_A, UNEVEN_A, plan_file
 from reasons import reasons
 
-BIN = os.path.abspath((sys.argv[1:] or ["target/bin"])[0])
+# Where rt leaves a program, or a folder that has them all.
+BIN = os.path.abspath(sys.argv[1] + "/{0}" if sys.argv[1:] else "crates/{0}/out/{0}")
 A, U = write_job(JOB_A), write_job(UNEVEN_A)
 
 
 def run(program, data=b"", folder=None):
-    return subprocess.run([f"{BIN}/{program}"], input=data, stdout=subprocess.PIPE, cwd=folder).stdout
+    return subprocess.run([BIN.format(program)], input=data, stdout=subprocess.PIPE, cwd=folder).stdout
 
 
 def planned(job):

@@ -1,7 +1,6 @@
 //! The words after a subcommand: `--name value`, `--name=value`, flags and positional words. After
-//! `--` every word is positional. A value that begins with `--` is given as `--name=value`.
+//! `--` every word is positional.
 use crate::failure::Failure;
-use crate::units::{self, Amount};
 use crate::words::{near, printable, thousands};
 use std::ffi::{OsStr, OsString};
 use std::ops::RangeInclusive;
@@ -26,28 +25,6 @@ impl Command {
     pub fn usage(&self) -> &'static str {
         self.help.lines().next().unwrap_or("")
     }
-
-    /// What the usage line calls positional word k, counted from 0.
-    fn argument(&self, k: usize) -> &'static str {
-        self.usage().split(' ').skip(2).take_while(|word| !word.starts_with('-')).nth(k).unwrap_or("an argument")
-    }
-
-    /// Whether its first word is a job.
-    pub fn takes_job(&self) -> bool {
-        let first = self.usage().split(' ').nth(2).unwrap_or("").trim_matches(['[', ']', '.']);
-        matches!(first, "JOB" | "TEXT" | "FLIGHT")
-    }
-}
-
-/// The options whose value is a file to read.
-pub const INPUTS: [&str; 2] = ["fetched", "trace"];
-
-/// The options that may be given several times, by their subcommand.
-const SEVERAL: [(&str, &str); 2] = [("rehearse", "trace"), ("rehearse", "link")];
-
-/// Whether the value of an option is a file to write.
-fn is_output(option: &str) -> bool {
-    option == "out" || option.starts_with("out-") || option == "page"
 }
 
 /// What was asked for, held against the subcommand's own options and number of words.
@@ -85,7 +62,7 @@ impl Args {
             let known = command.options.iter().find(|(own, _)| *own == name && text.starts_with("--"));
             let Some((own, count)) = known else {
                 let meant = near(name, command.options.iter().map(|(own, _)| *own));
-                let meant = meant.map_or(String::new(), |own| format!("; did you mean --{own}?"));
+                let meant = meant.map_or(String::new(), |own| format!("; is --{own} meant?"));
                 return Err(wrong(format!("{shown}: there is no such option{meant}")));
             };
             let mut values: Vec<OsString> = joined.into_iter().collect();
@@ -94,39 +71,20 @@ impl Args {
             }
             while values.len() < *count {
                 match given.next() {
-                    Some(value) if !value.as_encoded_bytes().starts_with(b"--") => values.push(value),
-                    Some(value) if *count == 1 => {
-                        let value = printable(&value.to_string_lossy());
-                        return Err(wrong(format!("--{own}: its value is missing; --{own}={value} if the value is {value}")));
-                    }
-                    _ => return Err(wrong(format!("--{own}: its value is missing"))),
+                    Some(value) => values.push(value),
+                    None => return Err(wrong(format!("--{own}: its value is missing"))),
                 }
-            }
-            if *count > 0 && args.flag(own) && !SEVERAL.contains(&(command.name, own)) {
-                return Err(wrong(format!("--{own} is given twice; it takes one value")));
-            }
-            if is_output(own) {
-                values.iter_mut().filter(|value| *value == "/dev/stdout").for_each(|value| *value = OsString::from("-"));
             }
             args.options.push((own, values));
         }
         if !command.words.contains(&args.words.len()) {
             let what = match args.words.len() < *command.words.start() {
-                true => format!("{} is missing", command.argument(args.words.len())),
-                false => format!("{}: unexpected argument", printable(&args.words[*command.words.end()].to_string_lossy())),
+                true => "a word is missing".to_string(),
+                false => format!("{}: one word too many", printable(&args.words[args.words.len() - 1].to_string_lossy())),
             };
             return Err(wrong(what));
         }
-        if args.reads_standard_input() > 1 {
-            return Err(wrong("- stands for standard input, which can be read once only".to_string()));
-        }
         Ok(Some(args))
-    }
-
-    /// How many inputs are `-`.
-    fn reads_standard_input(&self) -> usize {
-        let values = self.options.iter().filter(|(own, _)| INPUTS.contains(own)).flat_map(|(_, values)| values);
-        self.words.iter().chain(values).filter(|word| *word == "-").count()
     }
 
     /// The positional words.
@@ -149,7 +107,7 @@ impl Args {
         self.options.iter().filter(|(own, _)| *own == name).map(|(_, values)| values.as_slice()).collect()
     }
 
-    /// The value of an option, the last if it takes several.
+    /// The value of an option, the last if it was given more than once.
     pub fn value(&self, name: &str) -> Option<&OsStr> {
         self.all(name).last().copied().and_then(|values| values.first()).map(OsString::as_os_str)
     }
@@ -163,33 +121,15 @@ impl Args {
     pub fn number(&self, name: &str, range: RangeInclusive<u64>) -> Result<Option<u64>, Failure> {
         self.value(name).map(|value| number(&format!("--{name}"), &value.to_string_lossy(), range)).transpose()
     }
-
-    /// The value of an option as the bytes of a slot: digits, or a number with a unit.
-    pub fn bytes(&self, name: &str) -> Result<Option<u32>, Failure> {
-        let Some(word) = self.text(name) else { return Ok(None) };
-        let about = format!("--{name} {word}");
-        let bytes = match units::read(&word) {
-            None => number(&format!("--{name}"), &word, 0..=MOST)?,
-            Some(Err(fault)) => return Err(Failure::usage(format!("{about}: {fault}"))),
-            Some(Ok(Amount::Bytes(bytes) | Amount::Rate(bytes))) => bytes,
-        };
-        match bytes <= MOST {
-            true => Ok(Some(bytes as u32)),
-            false => Err(Failure::usage(format!("{about}: expected 0 to {} bytes, found {}", thousands(MOST), thousands(bytes)))),
-        }
-    }
 }
 
-/// The most bytes of a slot.
-const MOST: u64 = 1 << 24;
-
-/// A number of the command line: digits only, in a range.
+/// A number of the command line: digits alone, in a range.
 pub fn number(about: &str, word: &str, range: RangeInclusive<u64>) -> Result<u64, Failure> {
     let (low, high) = (thousands(*range.start()), thousands(*range.end()));
     let digits = !word.is_empty() && word.bytes().all(|b| b.is_ascii_digit());
     match word.parse::<u64>() {
         Ok(n) if digits && range.contains(&n) => Ok(n),
-        _ if digits => Err(Failure::usage(format!("{about} {}: expected {low} to {high}", printable(word)))),
-        _ => Err(Failure::usage(format!("{about} {}: this is not a number; expected digits only, {low} to {high}", printable(word)))),
+        _ if digits => Err(Failure::usage(format!("{about} {}: it is {low} to {high}", printable(word)))),
+        _ => Err(Failure::usage(format!("{about} {}: that is no number; numbers are digits alone, here {low} to {high}", printable(word)))),
     }
 }

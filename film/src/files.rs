@@ -1,11 +1,10 @@
 //! Files that people hand over: jobs as text or as records, told apart by their first bytes, plans,
 //! and traces of the link.
 use crate::failure::Failure;
-use crate::guard;
 use crate::out;
 use crate::words::{counted, printable, thousands};
 use crate::{programme, rows, text};
-use film_planner::{Job, Plan, Refusal, SLOTS};
+use film_planner::{Job, Plan, Refusal, FILE, SLOTS};
 use std::io::{ErrorKind, IsTerminal, Read};
 use std::path::Path;
 
@@ -56,17 +55,15 @@ pub fn open(path: &Path) -> Result<Box<dyn Read>, Failure> {
         if std::io::stdin().is_terminal() {
             out::note("reading standard input, which is a terminal; Ctrl-D ends it, `film --help` says more");
         }
-        guard::reads_stdin();
         return Ok(Box::new(std::io::stdin()));
     }
     let name = called(path);
     match std::fs::metadata(path) {
-        Ok(about) if about.is_dir() => Err(Failure::bad(format!("{name} is a folder; a file is expected"))),
+        Ok(about) if about.is_dir() => Err(Failure::bad(format!("{name} is a folder; a file is wanted"))),
         Err(e) if e.kind() == ErrorKind::NotFound => Err(Failure::bad(format!("{name}: there is no such file"))),
         Err(e) => Err(Failure::bad(format!("{name}: {}", said(&e)))),
         Ok(_) => {
             let file = std::fs::File::open(path).map_err(|e| Failure::bad(format!("{name}: {}", said(&e))))?;
-            guard::reads(&file, path);
             Ok(Box::new(file))
         }
     }
@@ -95,9 +92,9 @@ pub fn job_of(path: &Path, data: &[u8]) -> Result<Loaded, Failure> {
     let job = match is_records(data) {
         true => job_file(path, data)?,
         false => {
-            let (job, notes) = text::read(data, path, None)?;
-            for line in &notes {
-                out::note(line);
+            let (job, warnings) = text::read(data, path, None)?;
+            for line in &warnings {
+                out::note(&format!("warning: {line}"));
             }
             job
         }
@@ -122,61 +119,26 @@ fn job_file(path: &Path, data: &[u8]) -> Result<Job, Failure> {
     })
 }
 
-/// A plan file, or rows as text with the marks that they give. An empty file is told as one.
+/// A plan file of a job, whatever its verdict.
+pub fn plan(job: &Job, path: &Path) -> Result<Plan, Failure> {
+    let data = read(path, FILE)?;
+    job.read_plan(&data).map_err(|refusal| no_plan(path, refusal))
+}
+
+/// A plan file, or rows as text with the marks that they give.
 pub fn plan_or_rows(job: &Job, path: &Path) -> Result<Plan, Failure> {
     let data = read(path, TEXT)?;
-    match data.is_empty() {
-        true => Err(empty(path)),
-        false => plan_of(job, path, &data),
-    }
-}
-
-/// The rows fetched so far. Before the first one there are none: standard input and devices with
-/// nothing in them say that; an empty file is told as one.
-pub fn fetched(job: &Job, path: &Path) -> Result<Plan, Failure> {
-    let data = read(path, TEXT)?;
-    let is_file = path.as_os_str() != "-" && std::fs::metadata(path).is_ok_and(|about| about.is_file());
-    match data.is_empty() && is_file {
-        true => Err(empty(path).hint("If nothing is fetched yet, give --fetched /dev/null.")),
-        false => plan_of(job, path, &data),
-    }
-}
-
-fn empty(path: &Path) -> Failure {
-    Failure::bad(format!("{} is empty; a plan file or rows as text are expected", called(path)))
-}
-
-/// The plan that a file's bytes are.
-fn plan_of(job: &Job, path: &Path, data: &[u8]) -> Result<Plan, Failure> {
     if data.starts_with(b"KP") || data.starts_with(b"FT") || data.starts_with(b"EN") {
-        return job.read_plan(data).map_err(|refusal| no_plan(job, path, data, refusal));
+        return job.read_plan(&data).map_err(|refusal| no_plan(path, refusal));
     }
-    let list = rows::read(data, path)?;
+    let list = rows::read(&data, path)?;
     let marks = programme::marks_of(job, &list);
     let counts = [0, 1, 2, 3].map(|n| film_planner::count_marks(&marks, n) as u16);
     Ok(Plan { marks, list, counts })
 }
 
-fn no_plan(job: &Job, path: &Path, data: &[u8], refusal: Refusal) -> Failure {
-    let called = called(path);
-    Failure::refused(
-        match plan_chunks(data) {
-            Some(chunks) if chunks != usize::from(job.chunks) => {
-                let has = counted(chunks as u64, "chunk");
-                format!("{called}: this is a plan of {has}, but the job has {}; it seems to belong to another job", job.chunks)
-            }
-            _ => format!("{called}: this is not a plan file of the job"),
-        },
-        refusal,
-    )
-}
-
-/// How many chunks a plan file is for, if its `KP` records count up and an `FT` or `EN` follows.
-fn plan_chunks(data: &[u8]) -> Option<usize> {
-    let in_turn = |(k, record): &(usize, &[u8])| matches!(record, [b'K', b'P', low, high, _] if usize::from(u16::from_le_bytes([*low, *high])) == k + 1);
-    let chunks = data.chunks(5).enumerate().take_while(in_turn).count();
-    let rest = &data[5 * chunks..];
-    (rest.starts_with(b"FT") || rest.starts_with(b"EN")).then_some(chunks)
+fn no_plan(path: &Path, refusal: Refusal) -> Failure {
+    Failure::refused(format!("{}: this is no plan file of the job", called(path)), refusal)
 }
 
 /// The forecast that a trace gives for so many slots; a warning goes to standard error.
@@ -216,9 +178,7 @@ pub fn trace_told(path: &Path, slots: usize) -> Result<(Vec<u32>, Option<String>
             return Err(refused(format!(" line {} {fault}", thousands(lines + 1)), Refusal::TraceLine));
         }
         if end > 0 {
-            // Every line was judged above, so the only CRs are those before a line feed.
-            let lines: Vec<u8> = rest[..end].iter().copied().filter(|b| *b != b'\r').collect();
-            let piece = film_planner::read_trace(&lines, slots).map_err(|refusal| refused(String::new(), refusal))?;
+            let piece = film_planner::read_trace(&rest[..end], slots).map_err(|refusal| refused(String::new(), refusal))?;
             sums.iter_mut().zip(piece).for_each(|(sum, bytes)| *sum += u64::from(bytes));
         }
         rest.drain(..end);
@@ -247,7 +207,9 @@ fn time(line: &[u8], before: u32, first: bool) -> Result<u32, String> {
     if first && body.starts_with(b"\xef\xbb\xbf") {
         return Err("begins with a byte order mark; a trace is digits and line feeds alone".to_string());
     }
-    let body = body.strip_suffix(b"\r").unwrap_or(body);
+    if body.ends_with(b"\r") && body[..body.len() - 1].iter().all(u8::is_ascii_digit) {
+        return Err("ends in CR LF, as on Windows; a line ends in a line feed alone: `tr -d '\\r' < FILE > NEW` mends it".to_string());
+    }
     if body.is_empty() {
         return Err(format!("is empty; {WANTED}"));
     }

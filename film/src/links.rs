@@ -1,6 +1,5 @@
 //! Links to rehearse on: traces and texts that people hand over, and synthetic ones, seeded.
 use crate::failure::Failure;
-use crate::units::{self, Amount};
 use crate::words::{counted, printable, thousands};
 use crate::{files, out, text};
 use film_planner::Job;
@@ -26,10 +25,6 @@ pub fn read(path: &Path, slots: usize) -> Result<Link, Failure> {
     let mut start = Vec::new();
     let told = |e: std::io::Error| Failure::bad(format!("{}: {}", files::called(path), files::said(&e)));
     files::open(path)?.take(4096).read_to_end(&mut start).map_err(told)?;
-    if start.starts_with(b"KP") || start.starts_with(b"FT") {
-        let failure = Failure::bad(format!("{}: this is a plan file; a link is expected", files::called(path)));
-        return Err(failure.hint("A link is a trace, a text with lines `forecast BYTES BYTES ..` and `forecast SLOTS x BYTES`, or a job."));
-    }
     let form = form(&start);
     let mut bytes = match form {
         Form::Trace => files::trace(path, slots)?,
@@ -94,21 +89,20 @@ fn forecast_lines(name: &str, words: &str) -> Result<Vec<u32>, Failure> {
         match words.next() {
             None => continue,
             Some("forecast") => {}
-            Some(other) => return wrong(&format!("`{}` is not a statement of a link", printable(other))),
+            Some(other) => return wrong(&format!("`{}` is no statement of a link", printable(other))),
         }
-        let joined = units::joined(&words.collect::<Vec<_>>());
-        let words: Vec<&str> = joined.iter().map(String::as_str).collect();
+        let words: Vec<&str> = words.collect();
         let number = |word: &str, most: u64| match !word.is_empty() && word.bytes().all(|b| b.is_ascii_digit()) {
             true => word.parse::<u64>().ok().filter(|n| *n <= most),
             false => None,
         };
         let found: Option<Vec<u32>> = match words.as_slice() {
             [] => None,
-            [slots, "x", each] => match (number(slots, 3600), bytes_of(each)) {
-                (Some(slots), Some(each)) if slots > 0 => Some(vec![each; slots as usize]),
+            [slots, "x", each] => match (number(slots, 3600), number(each, SLOT_MOST.into())) {
+                (Some(slots), Some(each)) if slots > 0 => Some(vec![each as u32; slots as usize]),
                 _ => None,
             },
-            all => all.iter().map(|word| bytes_of(word)).collect(),
+            all => all.iter().map(|word| number(word, SLOT_MOST.into()).map(|b| b as u32)).collect(),
         };
         match found {
             Some(more) => bytes.extend(more),
@@ -119,16 +113,6 @@ fn forecast_lines(name: &str, words: &str) -> Result<Vec<u32>, Failure> {
         }
     }
     Ok(bytes)
-}
-
-/// The bytes of a slot: digits, or a number with a unit.
-fn bytes_of(word: &str) -> Option<u32> {
-    let bytes = match units::read(word) {
-        Some(Ok(Amount::Bytes(bytes) | Amount::Rate(bytes))) => Some(bytes),
-        Some(Err(_)) => None,
-        None => Some(word).filter(|word| word.bytes().all(|b| b.is_ascii_digit())).and_then(|word| word.parse().ok()),
-    };
-    bytes.filter(|bytes| *bytes <= SLOT_MOST.into()).map(|bytes| bytes as u32)
 }
 
 /// What is wrong with the words after `forecast`.
@@ -142,7 +126,7 @@ fn odd_numbers(words: &[&str]) -> &'static str {
         words if words.iter().any(joined) => "a run stands on a line of its own and has spaces: `forecast 6 x 3`",
         words if words.iter().any(parted) => "numbers are digits alone: 4000, not 4,000",
         words if words.contains(&"x") => "a run stands on a line of its own: `forecast SLOTS x BYTES`, 1 to 3,600 slots",
-        _ => "a slot carries 0 to 16,777,216 bytes, as in 6000, 76k or 1.5 Mbit/s",
+        _ => "a slot carries 0 to 16,777,216 bytes; numbers are digits alone",
     }
 }
 
@@ -243,8 +227,8 @@ pub fn synthetic(kind: &str, rate: u32, seed: u64, slots: usize) -> Option<Link>
     let share = |b: &u32| u64::from(*b) * u64::from(rate) * slots as u64 / all.max(1);
     let bytes = shape.iter().map(|b| share(b).min(SLOT_MOST.into()) as u32).collect();
     let name = match kind {
-        "steady" => format!("steady, {} bytes per slot", thousands(rate.into())),
-        _ => format!("{kind}, about {} bytes per slot, seed {seed}", thousands(rate.into())),
+        "steady" => format!("steady, {} bytes a slot", thousands(rate.into())),
+        _ => format!("{kind}, about {} bytes a slot, seed {seed}", thousands(rate.into())),
     };
     Some(Link { name, bytes })
 }
@@ -258,7 +242,7 @@ pub fn base_rate(job: &Job) -> u64 {
     sum / (u64::from(job.chunks) * u64::from(job.span)).max(1)
 }
 
-/// Bytes a slot, or so many per cent of what the bases take: `60000`, `76k`, `1.5Mbit/s`, `150%`.
+/// Bytes a slot, or so many per cent of what the bases take: `60000`, `150%`.
 pub fn rate(word: &str, job: &Job) -> Result<u32, Failure> {
     let (digits, percent) = match word.strip_suffix('%') {
         Some(digits) => (digits, true),
@@ -271,17 +255,12 @@ pub fn rate(word: &str, job: &Job) -> Result<u32, Failure> {
     let rate = match (number, percent) {
         (Some(n), true) if n <= 100_000 => Some(n * base_rate(job) / 100),
         (Some(n), false) => Some(n),
-        (None, false) => bytes_of(word).map(u64::from),
         _ => None,
     };
     rate.filter(|rate| *rate <= SLOT_MOST.into()).map(|rate| rate as u32).ok_or_else(|| {
         let bases = thousands(base_rate(job));
-        let text = format!(
-            "--link: `{}` is not a rate\nA rate is bytes per slot, as in 60000 or 76k, at most 16,777,216; bits per second, as in 1.5Mbit/s; \
-             or a per cent of what the bases take, as in 150%.",
-            printable(word)
-        );
-        Failure::usage(text).hint(&format!("The bases of this film take {bases} bytes per slot."))
+        let text = format!("--link: {} is no rate; it is 0 to 16,777,216 bytes a slot, or a per cent of the bases'", printable(word));
+        Failure::usage(text).hint(&format!("The bases of this film take {bases} bytes a slot: try 150%."))
     })
 }
 
@@ -340,7 +319,6 @@ mod tests {
     #[test]
     fn forecast_lines_are_read_as_in_a_job() {
         assert_eq!(forecast_lines("x", "# a\nforecast 1 2 # b\r\n\n forecast 3 x 0\nforecast 7").unwrap(), [1, 2, 0, 0, 0, 7]);
-        assert_eq!(forecast_lines("x", "forecast 2 x 1.5 Mbit/s\nforecast 76k 2 kB").unwrap(), [187_500, 187_500, 76_000, 2000]);
         assert_eq!(forecast_lines("x", "").unwrap(), [0u32; 0]);
         let bad = ["forecast", "forecast 6x3", "forecast 4,000", "forecast -1", "forecast 0 x 5", "forecast 3601 x 5", "forecast 16777217"];
         for line in bad.iter().chain(&["span 3", "forecast 1 x", "forecast x 1", "forecast 1 2 x 3", "forecast 99999999999999999999"]) {
@@ -354,7 +332,6 @@ mod tests {
     fn a_rate_is_bytes_or_a_share_of_the_bases() {
         let job = Job { chunks: 4, span: 2, sizes: vec![100, 50], ..Job::default() };
         assert_eq!((base_rate(&job), rate("150%", &job), rate("60000", &job)), (50, Ok(75), Ok(60_000)));
-        assert_eq!((rate("76k", &job), rate("1.5Mbit/s", &job), rate("17M", &job).is_err()), (Ok(76_000), Ok(187_500), true));
         for word in ["", "%", "-1", "1.5", "16777217", "1e3", "100001%", "99999999999999999999"] {
             assert!(rate(word, &job).is_err(), "{word}");
         }

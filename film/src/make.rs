@@ -6,7 +6,7 @@ use film_planner::convert_file;
 
 pub const MAKE: Command = Command {
     name: "make",
-    summary: "make the job file of a text; all faults in the text are reported at once",
+    summary: "make the job file of a text; all faults of the text are told in one go",
     help: "film make [TEXT] [--out FILE]
 
 Writes the job file of a job's text to FILE, or to standard output. Without TEXT, standard input is

@@ -1,13 +1,12 @@
 //! The page of a rehearsal: one file, with the picture of what was shown, a slider over the seconds
 //! of the act, and each skip with its reason. Nothing of it comes from outside.
-use crate::draw::canvas::{escape, px, Canvas, LEFT, VIEW};
+use crate::draw::canvas::{escape, px, Canvas, LEFT};
 use crate::draw::film::Film;
 use crate::draw::panels::{self, Link};
 use crate::draw::reasons::{self, Why, Whys};
-use crate::draw::sheet::{patterns, NARROW};
 use crate::rehearse::watch::{Skip, Slot, Watch};
 use crate::rehearse::ways::{on_link, Fetched, Figures};
-use crate::rehearse::{lines, mean, Rehearsal, WAYS};
+use crate::rehearse::{mean, Rehearsal, WAYS};
 use crate::words::{counted, thousands};
 use film_planner::Job;
 use std::fmt::Write;
@@ -18,30 +17,26 @@ const FORM: &str = include_str!("page.html");
 pub fn html(rehearsal: &Rehearsal, watch: &Watch, skips: &[Skip], figures: &[Figures; 3], title: &str) -> String {
     let job = &on_link(rehearsal.job, &rehearsal.link.bytes);
     let film = Film::new(job, &rehearsal.act.marks, &rehearsal.act.list);
-    let pictures = [
-        Picture::new(rehearsal, job, skips, "c", VIEW, crate::draw::natural(&film)),
-        Picture::new(rehearsal, job, skips, "n", NARROW, NARROW),
-    ];
+    let picture = Picture::new(rehearsal, job, skips);
     let shown = format!("{} of {} shown, {} skipped", film.chunks() - skips.len(), counted(film.chunks() as u64, "chunk"), skips.len());
     let sentence = format!("{title} on {}: {shown}", rehearsal.link.name);
     let parts = [
         ("TITLE", escape(&sentence)),
         ("ABOUT", escape(&about(&film))),
-        ("TABLE", table(job, &lines(figures, rehearsal.best_figures().as_ref()))),
+        ("TABLE", table(job, figures)),
         ("REFUSED", refused(rehearsal)),
         ("LAST", film.last.to_string()),
         ("SKIPS", listed(skips)),
-        ("DATA", data(&film, rehearsal, &watch.slots, skips, &pictures)),
-        ("PATTERNS", patterns()),
+        ("DATA", data(&film, rehearsal, &watch.slots, skips, &picture)),
+        ("PICTURE", picture.svg),
     ];
-    let [wide, narrow] = pictures.map(|picture| picture.svg);
-    filled(FORM, &[&parts[..], &[("WIDE", wide), ("NARROW", narrow)]].concat())
+    filled(&parts)
 }
 
-/// A form with each part in its places. A part is put in once and not looked into again.
-pub fn filled(form: &str, parts: &[(&str, String)]) -> String {
+/// The form with each part in its places. A part is put in once and not looked into again.
+fn filled(parts: &[(&str, String)]) -> String {
     let mut out = String::new();
-    for (k, piece) in form.split("[[").enumerate() {
+    for (k, piece) in FORM.split("[[").enumerate() {
         let (name, rest) = if k == 0 { ("", piece) } else { piece.split_once("]]").unwrap_or(("", piece)) };
         out.push_str(parts.iter().find(|(own, _)| *own == name).map_or("", |(_, text)| text));
         out.push_str(rest);
@@ -56,14 +51,14 @@ fn about(film: &Film) -> String {
     format!("{chunks}, {due}; {limit}. The act sees in each second what came, and nothing of the link to come.")
 }
 
-fn table(job: &Job, lines: &[(&str, &Figures)]) -> String {
+fn table(job: &Job, figures: &[Figures; 3]) -> String {
     let heads = ["", "skipped", "longest freeze", "chunks by layer", "switch sum", "bytes wasted"];
     let mut out = format!("<thead><tr>{}</tr></thead><tbody>", heads.map(|head| format!("<th>{head}</th>")).concat());
-    for (way, figures) in lines {
+    for (k, (way, figures)) in WAYS.iter().zip(figures).enumerate() {
         let layers: Vec<String> = figures.layers[..job.sizes.len().min(4)].iter().map(|n| mean(*n, 1)).collect();
         let freeze = format!("{} s", thousands(figures.freeze));
         let cells = [thousands(figures.skipped), freeze, layers.join(" "), thousands(figures.switch), thousands(figures.wasted)];
-        let own = if *way == WAYS[1] { " class=\"own\"" } else { "" };
+        let own = if k == 1 { " class=\"own\"" } else { "" };
         let _ = write!(out, "<tr{own}><td>{way}</td>{}</tr>", cells.map(|cell| format!("<td>{cell}</td>")).concat());
     }
     out + "</tbody>"
@@ -74,7 +69,7 @@ fn refused(rehearsal: &Rehearsal) -> String {
         None => String::new(),
         Some((slot, refusal)) => {
             let times = counted(rehearsal.refused.len() as u64, "slot");
-            let words = format!("Replanning was refused in {times}, first in slot {slot}, and fetched nothing there. {refusal}");
+            let words = format!("Planning afresh was refused in {times}, first in slot {slot}, and fetched nothing there. {refusal}");
             format!("<p class=\"grey\">{}</p>", escape(&words))
         }
     }
@@ -83,7 +78,7 @@ fn refused(rehearsal: &Rehearsal) -> String {
 fn listed(skips: &[Skip]) -> String {
     let one = |skip: &Skip| {
         let place = format!("<button type=\"button\" data-slot=\"{}\">slot {}</button>", skip.due, thousands(skip.due as u64));
-        format!("<li><b>chunk {}</b> {place} <span>{}</span></li>\n", skip.chunk, escape(&skip.sentence()))
+        format!("<li><b>chunk {}</b> {place} {}</li>\n", skip.chunk, escape(&skip.sentence()))
     };
     match skips.len() {
         0 => "<li>It skipped nothing.</li>".to_string(),
@@ -91,17 +86,16 @@ fn listed(skips: &[Skip]) -> String {
     }
 }
 
-/// The picture in one width, what its tiles are called, and where in it the slots are.
+/// The picture, and where in it the slots are.
 struct Picture {
     svg: String,
-    id: &'static str,
     each: f64,
     top: f64,
     bottom: f64,
 }
 
 impl Picture {
-    fn new(rehearsal: &Rehearsal, job: &Job, skips: &[Skip], id: &'static str, view: f64, natural: f64) -> Picture {
+    fn new(rehearsal: &Rehearsal, job: &Job, skips: &[Skip]) -> Picture {
         let film = |way: &Fetched| Film::new(job, &way.marks, &way.list);
         let (known, act, afresh) = (film(&rehearsal.known), film(&rehearsal.act), film(&rehearsal.afresh));
         let mut whys = came(&act);
@@ -110,20 +104,19 @@ impl Picture {
             whys.insert((skip.chunk, 0), Why { line, stretch: None, limit: None });
         }
         let known_whys = reasons::read(&known, &job.reasons().unwrap_or_default());
-        let mut c = Canvas::new(&act, view);
+        let mut c = Canvas::new(&act);
         panels::legend(&mut c, &act, Link::Carried);
-        panels::film(&mut c, &act, &whys, "The act", Some(id));
+        panels::film(&mut c, &act, &whys, "The act", Some("c"));
         panels::film(&mut c, &known, &known_whys, "The plan that knew the link", None);
-        panels::film(&mut c, &afresh, &came(&afresh), "The meter, replanning", None);
+        panels::film(&mut c, &afresh, &came(&afresh), "The meter, planning afresh", None);
         let top = c.y + 14.0;
         panels::link(&mut c, &act, Link::Carried);
         panels::held(&mut c, &act);
         panels::chunks(&mut c, &act, &whys);
         let bottom = c.y - 16.0;
-        c.add(&format!("<path id=\"{id}-cursor\" class=\"cursor\" d=\"M0 0\"/>"));
-        c.add(&format!("<rect id=\"{id}-tile\" class=\"tile\" width=\"0\" height=\"0\" visibility=\"hidden\"/>"));
+        c.add("<path id=\"cursor\" d=\"M0 0\"/><rect id=\"tile\" width=\"0\" height=\"0\" visibility=\"hidden\"/>");
         let each = c.wide(1);
-        Picture { svg: c.whole("What was shown", natural), id, each, top, bottom }
+        Picture { svg: c.whole("What was shown", crate::draw::natural(&act)), each, top, bottom }
     }
 }
 
@@ -139,8 +132,8 @@ fn came(film: &Film) -> Whys {
     whys
 }
 
-/// What the slider shows, as the page's script reads it: numbers, and the names of the pictures.
-fn data(film: &Film, rehearsal: &Rehearsal, slots: &[Slot], skips: &[Skip], pictures: &[Picture]) -> String {
+/// What the slider shows, as the page's script reads it: numbers alone.
+fn data(film: &Film, rehearsal: &Rehearsal, slots: &[Slot], skips: &[Skip], picture: &Picture) -> String {
     let list = |numbers: &mut dyn Iterator<Item = String>| format!("[{}]", numbers.collect::<Vec<_>>().join(","));
     let sizes = list(&mut (1..=film.chunks()).map(|i| list(&mut (0..film.layers()).map(|n| film.size(i, n).to_string()))));
     let shown = list(&mut (1..=film.chunks()).map(|i| film.level(i).to_string()));
@@ -158,9 +151,9 @@ fn data(film: &Film, rehearsal: &Rehearsal, slots: &[Slot], skips: &[Skip], pict
     for (name, value) in places {
         let _ = write!(out, "\"{name}\":{value},");
     }
-    let place = |p: &Picture| format!("{{\"id\":\"{}\",\"each\":{:.6},\"top\":{},\"bottom\":{}}}", p.id, p.each, px(p.top), px(p.bottom));
-    let pictures = list(&mut pictures.iter().map(place));
-    let _ = write!(out, "\"left\":{LEFT},\"pictures\":{pictures},");
+    for (name, value) in [("left", LEFT), ("each", picture.each), ("top", picture.top), ("bottom", picture.bottom)] {
+        let _ = write!(out, "\"{name}\":{},", if name == "each" { format!("{value:.6}") } else { px(value) });
+    }
     let _ = write!(
         out,
         "\"sizes\":{sizes},\"shown\":{shown},\"link\":{link},\"rate\":{rate},\"rows\":{rows},\"asks\":{asks},\"skips\":{skips}}}"

@@ -1,5 +1,6 @@
 //! What the subcommands ask of a job and a plan beside the calls: due slots, sizes, skips, and the
 //! place at which a list breaks a rule.
+use crate::failure::Failure;
 use crate::words::{counted, thousands};
 use film_planner::{FetchList, Job, Plan, Rule, Verdict};
 
@@ -74,6 +75,17 @@ pub fn skips(plan: &Plan) -> String {
 pub fn counts(job: &Job, plan: &Plan) -> String {
     let own: Vec<String> = plan.counts.iter().take(job.sizes.len()).map(u16::to_string).collect();
     own.join(" ")
+}
+
+/// The lines of `Job::reasons` that tell of skipped bases, the first few, indented.
+pub fn base_reasons(job: &Job, most: usize) -> Result<String, Failure> {
+    let text = job.reasons().map_err(|refusal| Failure::refused("the reasons", refusal))?;
+    let lines: Vec<&str> = text.lines().filter(|line| line.contains(" layer 0: ")).collect();
+    let mut out: String = lines.iter().take(most).map(|line| format!("  {line}\n")).collect();
+    if lines.len() > most {
+        out.push_str(&format!("  and {} more; `film reasons` has all of a job\n", thousands((lines.len() - most) as u64)));
+    }
+    Ok(out)
 }
 
 /// The marks that some rows give: bit n of a chunk's byte if layer n sums to its size.

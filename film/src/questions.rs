@@ -1,15 +1,14 @@
 //! `film wait`, `limit`, `margin` and `what-if`: the questions of the office, answered by plans.
-use crate::answer::{base_reasons, holding, plan_of, smallest_held, told, Reason};
 use crate::args::{self, Args, Command};
 use crate::failure::Failure;
-use crate::format::{Answer, Format, Table};
-use crate::most::{self, Best};
-use crate::programme::{counts, has_even_bases, held, last, skipped, skips};
+use crate::programme::{base_reasons, counts, has_even_bases, held, last, skipped, skips};
 use crate::words::{counted, printable, thousands};
-use crate::{files, link, out};
+use crate::{files, out};
 use film_planner::{Job, Plan, Refusal, SLOTS};
 use std::path::Path;
 
+/// The most bytes of a slot.
+const MOST: u64 = 1 << 24;
 /// So many reasons are told under an answer.
 const TOLD: usize = 6;
 /// So many rows a table has at most.
@@ -18,12 +17,11 @@ const ROWS: usize = 2000;
 pub const WAIT: Command = Command {
     name: "wait",
     summary: "the shortest wait (delay) that skips no picture, and why not shorter",
-    help: "film wait [JOB] [--then BYTES] [--trace FILE] [--format text|csv|json]
+    help: "film wait JOB [--then BYTES] [--trace FILE]
 
 How long must the film wait before its first chunk is due, so that no base picture is skipped? The
-answer is the smallest delay, whatever the job's own is; no shorter one does, and the last lines say
-what a wait of one slot less would skip, and why. Where `film plan --most` shows more pictures than
-the plan, a line says how many.
+answer is the smallest delay, whatever the job's own is; no shorter one does, and the last line says
+what a wait of one slot less would skip, and why.
 
 A longer wait needs slots that the job's forecast does not have: it ends where the last chunk is
 due. Beyond its end a slot is taken to carry as many bytes as its last one, or as --then says; an
@@ -34,7 +32,7 @@ A longer wait can be worse where the buffer is small, so every one is tried, fro
 
   film wait samples/flight.txt
   film wait samples/flight.txt --then 100000",
-    options: &[("then", 1), ("trace", 1), ("format", 1)],
+    options: &[("then", 1), ("trace", 1)],
     words: 0..=1,
     run: wait,
 };
@@ -42,15 +40,14 @@ A longer wait can be worse where the buffer is small, so every one is tried, fro
 pub const LIMIT: Command = Command {
     name: "limit",
     summary: "the smallest limit of the buffer that skips no picture, and why not smaller",
-    help: "film limit [JOB] [--format text|csv|json]
+    help: "film limit JOB
 
 How large must the buffer be, in slots of film (`limit`), so that no base picture is skipped? Every
 number of chunks that it can hold is tried, from none up to the whole programme. If no limit does,
-it says so, and why. Where `film plan --most` shows more pictures than the plan, a line says how
-many.
+it says so, and why.
 
   film limit samples/flight.txt",
-    options: &[("format", 1)],
+    options: &[],
     words: 0..=1,
     run: limit,
 };
@@ -58,7 +55,7 @@ many.
 pub const MARGIN: Command = Command {
     name: "margin",
     summary: "by how much the link may fall before a picture more is lost",
-    help: "film margin [JOB] [--format text|csv|json]
+    help: "film margin JOB
 
 By how much may every slot of the forecast fall before the plan shows a picture less than now? The
 answer is in whole permille, each slot rounded down to whole bytes.
@@ -69,39 +66,35 @@ uneven bases, a limit that binds and a plan that skips, nothing of the kind is p
 whole permille up to the answer was tried, and what lies between them was not.
 
   film margin samples/flight.txt",
-    options: &[("format", 1)],
+    options: &[],
     words: 0..=1,
     run: margin,
 };
 
 pub const WHAT_IF: Command = Command {
     name: "what-if",
-    summary: "a table: pictures and layers for other limits, delays, layers and links",
-    help: "film what-if [JOB] [--limit LIST] [--delay LIST] [--layers LIST] [--link LIST] [--format NAME]
+    summary: "a table: pictures and layers for other limits, delays and numbers of layers",
+    help: "film what-if JOB [--limit LIST] [--delay LIST] [--layers LIST] [--then BYTES]
 
-Plans the job for every combination of the limits, delays, numbers of layers and shares of the link
-named, and prints a table: chunks shown and skipped, the longest run of skipped ones, how many
-chunks carry each layer, and the bytes of the forecast left over. Where `film plan --most` shows
-more, a column `best` says how many.
-
-A LIST is numbers with commas between them, each a number or a range: 12,24,36 or 12..36 or
-12..60/12 (in steps of 12). What is not named is the job's own; without any option, some limits
-around the job's own are tried. The job's own row is always there, marked *; it is the first one if
-it is not among those named.
-
---link takes shares of the forecast, each with %: 80%, 112.5% or 80%..120%/10%. Every slot is
-scaled, rounded down to whole bytes, and carries at most 16,777,216.
+Plans the job for every combination of the limits, delays and numbers of layers named, and prints a
+table: chunks shown and skipped, the longest run of skipped ones, how many chunks carry each layer,
+and the bytes of the forecast left over. A LIST is numbers with commas between them, each a number
+or a range: 12,24,36 or 12..36 or 12..60/12 (in steps of 12). What is not named is the job's own;
+without any option, some limits around the job's own are tried.
 
 A delay below the job's own uses the first slots of its forecast. A longer one needs more slots:
-they carry as many bytes as the forecast's last one, or as --then says, times the share of --link.
+they carry as many bytes as the forecast's last one, or as --then says.
 
   film what-if samples/flight.txt --limit 12..48/6
-  film what-if samples/flight.txt --link 80%..120%/10%
   film what-if samples/flight.txt --limit 24,36 --delay 6..18/6 --layers 1..3",
-    options: &[("limit", 1), ("delay", 1), ("layers", 1), ("link", 1), ("then", 1), ("format", 1)],
+    options: &[("limit", 1), ("delay", 1), ("layers", 1), ("then", 1)],
     words: 0..=1,
     run: what_if,
 };
+
+fn plan_of(job: &Job) -> Result<Plan, Failure> {
+    job.plan().map_err(|refusal| Failure::refused("the plan", refusal))
+}
 
 /// The job with another delay: its forecast is cut, or drawn out by slots of so many bytes.
 fn delayed(job: &Job, delay: u16, then: u32) -> Job {
@@ -113,7 +106,7 @@ fn delayed(job: &Job, delay: u16, then: u32) -> Job {
 /// What a slot beyond the forecast's end carries.
 fn then(args: &Args, job: &Job) -> Result<u32, Failure> {
     let own = job.forecast.last().copied().unwrap_or(0);
-    Ok(args.bytes("then")?.unwrap_or(own))
+    Ok(args.number("then", 0..=MOST)?.map_or(own, |bytes| bytes as u32))
 }
 
 /// The forecast that a trace gives as far as it goes.
@@ -129,7 +122,6 @@ fn wait(args: Args) -> Result<(), Failure> {
         return Err(Failure::usage("--then and --trace: one of them; behind a trace's end nothing is assumed"));
     }
     let loaded = files::job(args.path(0))?;
-    let format = Format::of(&args)?;
     let own = &loaded.job;
     let then = then(&args, own)?;
     let link = match args.value("trace") {
@@ -161,25 +153,6 @@ fn wait(args: Args) -> Result<(), Failure> {
         ),
         false => String::new(),
     };
-    let (mut own_skipped, mut own_best) = (None, None);
-    if last(own) as usize <= link.len() {
-        let (job, plan) = (at(own.delay), plan_of(&at(own.delay))?);
-        (own_skipped, own_best) = (Some(skipped(&plan)), Some(Best::of(&job, &plan)?.0));
-    }
-    let fields = |delay: Option<u16>, slots: u32, why: &[Reason]| {
-        let assumed = u64::from(slots).saturating_sub(known as u64);
-        Answer::of_fields()
-            .with("job", loaded.title.as_str())
-            .with("delay", delay)
-            .with("known", known)
-            .with("assumed", assumed)
-            .with("assumed_bytes", (assumed > 0).then_some(then))
-            .with("own_delay", own.delay)
-            .with("own_skipped", own_skipped.clone())
-            .with("own_best_shown", own_best.map(|best| best.shown))
-            .with("own_best_proved", own_best.map(Best::is_proved))
-            .table(Reason::table("why", why))
-    };
     match answer {
         Ok(delay) => {
             let job = at(delay);
@@ -190,95 +163,74 @@ fn wait(args: Args) -> Result<(), Failure> {
             }
             text += &assumed(last(&job));
             if own.delay != delay && last(own) as usize <= link.len() {
-                let (job, plan) = (at(own.delay), plan_of(&at(own.delay))?);
-                text += &format!("the job's own delay is {}: {}\n{}", own.delay, skips(&plan), most::line(&job, &plan)?);
+                text += &format!("the job's own delay is {}: {}\n", own.delay, skips(&plan_of(&at(own.delay))?));
             }
-            let mut why = Vec::new();
             text += &match delay {
                 1 => "why not shorter: 1 is the shortest there is\n".to_string(),
                 _ => {
                     let less = at(delay - 1);
-                    why = base_reasons(&less)?;
-                    let plan = plan_of(&less)?;
-                    format!("why not {}: {}\n{}{}", delay - 1, skips(&plan), told(&why, TOLD), most::line(&less, &plan)?)
+                    format!("why not {}: {}\n{}", delay - 1, skips(&plan_of(&less)?), base_reasons(&less, TOLD)?)
                 }
             };
-            out::text(&fields(Some(delay), last(&job), &why).told(format, || text))
-        }
-        Err(Refusal::NoWait) if longest == 0 => {
-            let film = counted(u64::from(own.chunks), "chunk");
-            let need = counted(u64::from(last(&at(1))), "slot");
-            let known = counted(known as u64, "slot");
-            let text = format!("no wait works: {film} need {need} even with a wait of 1, and the link is known for {known}\n");
-            out::text(&fields(None, 0, &[]).told(format, || text))
+            out::text(&text)
         }
         Err(Refusal::NoWait) => {
+            let none = Failure::refused(format!("{}: no wait works", loaded.called), Refusal::NoWait);
+            if longest == 0 {
+                let film = counted(u64::from(own.chunks), "chunk");
+                let need = counted(u64::from(last(&at(1))), "slot");
+                return Err(
+                    none.hint(&format!("{film} need {need} with a wait of 1, and the link is known for {}", thousands(known as u64)))
+                );
+            }
             let job = at(longest as u16);
             let mut text = format!("no wait works: from 1 to {} slots, each skips a picture\n", thousands(u64::from(longest)));
             text += &assumed(last(&job));
-            let why = base_reasons(&job)?;
-            let plan = plan_of(&job)?;
-            text += &format!("with a wait of {}: {}\n{}", thousands(u64::from(longest)), skips(&plan), told(&why, TOLD));
-            text += &most::line(&job, &plan)?;
-            text += "`film limit` asks whether a larger buffer does, `film link` whether more link does\n";
-            out::text(&fields(None, last(&job), &why).told(format, || text))
+            text += &format!("with a wait of {}: {}\n{}", thousands(u64::from(longest)), skips(&plan_of(&job)?), base_reasons(&job, TOLD)?);
+            out::text(&text)?;
+            Err(none.hint("`film limit` asks whether a larger buffer does"))
         }
         Err(refusal) => Err(Failure::refused(loaded.called, refusal)),
     }
 }
 
+/// The job with a limit that holds so many chunks and no slot more.
+fn holding(job: &Job, chunks: u16) -> Job {
+    Job { limit: chunks.saturating_mul(job.span), ..job.clone() }
+}
+
 fn limit(args: Args) -> Result<(), Failure> {
     let loaded = files::job(args.path(0))?;
-    let format = Format::of(&args)?;
     let job = &loaded.job;
     let plan = plan_of(job)?;
     let own = format!("the job's own limit is {}, {} held: {}\n", job.limit, counted(u64::from(held(job)), "chunk"), skips(&plan));
-    let own = own + &most::line(job, &plan)?;
-    let (best, _) = Best::of(job, &plan)?;
-    let found = smallest_held(job)?;
-    // Why not smaller; where no limit does, why not even the largest.
-    let asked = match found {
-        Some(0) => None,
-        Some(chunks) => Some(holding(job, chunks - 1)),
-        None => Some(holding(job, job.chunks)),
-    };
-    let why = asked.as_ref().map_or(Ok(Vec::new()), base_reasons)?;
-    let (asked_skips, asked_best) = match &asked {
-        Some(asked) => {
-            let plan = plan_of(asked)?;
-            (skips(&plan), most::line(asked, &plan)?)
+    for chunks in 0..=job.chunks {
+        let tried = holding(job, chunks);
+        if !skipped(&plan_of(&tried)?).is_empty() {
+            continue;
         }
-        None => Default::default(),
-    };
-    let text = match (found, &asked) {
-        (Some(chunks), None) => format!("{}{own}why not smaller: 0 is the smallest there is\n", smallest(job, chunks)),
-        (Some(chunks), Some(less)) => {
-            let fewer = counted(u64::from(chunks - 1), "chunk");
-            let reasons = told(&why, TOLD);
-            format!("{}{own}why not {} ({fewer} held): {asked_skips}\n{reasons}{asked_best}", smallest(job, chunks), less.limit)
-        }
-        (None, whole) => format!(
-            "no limit does: with a buffer that holds the whole programme (limit {}), {asked_skips}\n{}{own}",
-            thousands(whole.as_ref().map_or(0, |whole| u64::from(whole.limit))),
-            told(&why, TOLD)
-        ),
-    };
-    let answer = Answer::of_fields()
-        .with("job", loaded.title.as_str())
-        .with("limit", found.map(|chunks| holding(job, chunks).limit))
-        .with("held", found)
-        .with("own_limit", job.limit)
-        .with("own_held", held(job))
-        .with("own_skipped", skipped(&plan))
-        .with("own_best_shown", best.shown)
-        .with("own_best_proved", best.is_proved())
-        .table(Reason::table("why", &why));
-    out::text(&answer.told(format, || text))
-}
-
-fn smallest(job: &Job, chunks: u16) -> String {
-    let limit = thousands(u64::from(holding(job, chunks).limit));
-    format!("smallest limit that skips no picture: {limit} ({} held)\n", counted(u64::from(chunks), "chunk"))
+        let mut text = format!(
+            "smallest limit that skips no picture: {} ({} held)\n{own}",
+            thousands(u64::from(tried.limit)),
+            counted(u64::from(chunks), "chunk")
+        );
+        text += &match chunks {
+            0 => "why not smaller: 0 is the smallest there is\n".to_string(),
+            _ => {
+                let less = holding(job, chunks - 1);
+                let why = base_reasons(&less, TOLD)?;
+                format!("why not {} ({} held): {}\n{why}", less.limit, counted(u64::from(chunks - 1), "chunk"), skips(&plan_of(&less)?))
+            }
+        };
+        return out::text(&text);
+    }
+    let whole = holding(job, job.chunks);
+    out::text(&format!(
+        "no limit does: with a buffer that holds the whole programme (limit {}), {}\n{}{own}",
+        thousands(u64::from(whole.limit)),
+        skips(&plan_of(&whole)?),
+        base_reasons(&whole, TOLD)?
+    ))
 }
 
 /// The job on a link that has fallen by so many permille, each slot rounded down.
@@ -294,26 +246,12 @@ fn percent(permille: u64) -> String {
 
 fn margin(args: Args) -> Result<(), Failure> {
     let loaded = files::job(args.path(0))?;
-    let format = Format::of(&args)?;
     let job = &loaded.job;
     let now = plan_of(job)?;
     let shown = now.counts[0];
     let of = counted(u64::from(job.chunks), "chunk");
-    let fields = |permille: Option<u64>, below: Option<&Plan>, certain: Option<bool>, why: &[Reason]| {
-        Answer::of_fields()
-            .with("job", loaded.title.as_str())
-            .with("permille", permille)
-            .with("pictures", job.chunks)
-            .with("shown", shown)
-            .with("shown_below", below.map(|plan| plan.counts[0]))
-            .with("skipped_below", below.map(skipped))
-            .with("certain", certain)
-            .table(Reason::table("why", why))
-    };
     if shown == 0 {
-        let why = base_reasons(job)?;
-        let text = || format!("nothing to lose: of {of} none is shown on this link\n{}", told(&why, TOLD));
-        return out::text(&fields(None, None, None, &why).told(format, text));
+        return out::text(&format!("nothing to lose: of {of} none is shown on this link\n{}", base_reasons(job, TOLD)?));
     }
     let mut first = None;
     for permille in 1..=1000 {
@@ -341,16 +279,17 @@ fn margin(args: Args) -> Result<(), Failure> {
         ),
     };
     text += &format!("at {} a picture is lost: {} shown, {}\n", percent(permille), plan.counts[0], skips(&plan));
-    let why: Vec<Reason> = base_reasons(&less)?.into_iter().filter(|reason| lost.iter().any(|i| usize::from(*i) == reason.chunk)).collect();
-    text += &why.iter().take(TOLD).map(|reason| format!("  {}\n", reason.words())).collect::<String>();
-    let certain = has_even_bases(job) || before.is_empty() || held(job) >= job.chunks;
-    text += match (has_even_bases(job), certain) {
+    let why = less.reasons().map_err(|refusal| Failure::refused("the reasons", refusal))?;
+    for line in why.lines().filter(|line| lost.iter().any(|i| line.starts_with(&format!("chunk {i} layer 0: ")))).take(TOLD) {
+        text += &format!("  {line}\n");
+    }
+    text += match (has_even_bases(job), before.is_empty() || held(job) >= job.chunks) {
         _ if permille == 1 => "",
         (true, _) => "all bases have one size, so every smaller fall loses nothing either (request 10)\n",
         (false, true) => "every smaller fall loses nothing either\n",
         (false, false) => "bases are uneven and the limit binds: each whole permille was tried, what lies between them was not\n",
     };
-    out::text(&fields(Some(permille - 1), Some(&plan), Some(certain), &why).told(format, || text))
+    out::text(&text)
 }
 
 /// The numbers of a list: `12,24,36`, `12..36`, `12..60/12`.
@@ -359,7 +298,7 @@ fn list(name: &str, words: &str, low: u64, high: u64) -> Result<Vec<u64>, Failur
     let mut numbers = Vec::new();
     for part in words.split(',') {
         let (range, step) = match part.split_once('/') {
-            Some((range, step)) => (range, args::number(&format!("{about} {}: step", printable(part)), step, 1..=high.max(1))?),
+            Some((range, step)) => (range, args::number(&about, step, 1..=high.max(1))?),
             None => (part, 1),
         };
         match range.split_once("..") {
@@ -382,8 +321,8 @@ fn list(name: &str, words: &str, low: u64, high: u64) -> Result<Vec<u64>, Failur
     Ok(numbers)
 }
 
-/// The job with only its first layers.
-pub fn layered(job: &Job, layers: u64) -> Job {
+/// The job with its first layers alone.
+fn layered(job: &Job, layers: u64) -> Job {
     let mut other = job.clone();
     other.sizes.truncate(layers as usize);
     other.overrides.retain(|o| u64::from(o.layer) < layers);
@@ -392,7 +331,6 @@ pub fn layered(job: &Job, layers: u64) -> Job {
 
 fn what_if(args: Args) -> Result<(), Failure> {
     let loaded = files::job(args.path(0))?;
-    let format = Format::of(&args)?;
     let job = &loaded.job;
     let then = then(&args, job)?;
     let longest = SLOTS as u64 - u64::from(last(job) - u32::from(job.delay));
@@ -403,112 +341,50 @@ fn what_if(args: Args) -> Result<(), Failure> {
     let mut limits = named("limit", u64::from(job.limit), 0, 65535)?;
     let delays = named("delay", u64::from(job.delay), 1, longest)?;
     let layers = named("layers", job.sizes.len() as u64, 1, job.sizes.len() as u64)?;
-    let shares = args.text("link").map_or(Ok(vec![1000]), |words| link::shares(&words))?;
-    if !["limit", "delay", "layers", "link"].iter().any(|name| args.flag(name)) {
+    if !["limit", "delay", "layers"].iter().any(|name| args.flag(name)) {
         let (own, span) = (u64::from(held(job)), u64::from(job.span));
         limits = (own.saturating_sub(2)..=(own + 4).min(u64::from(job.chunks)).max(own)).map(|chunks| (chunks * span).min(65535)).collect();
     }
-    if limits.len() * delays.len() * layers.len() * shares.len() > ROWS {
+    if limits.len() * delays.len() * layers.len() > ROWS {
         return Err(Failure::usage(format!("a table has at most {} rows", thousands(ROWS as u64))));
     }
     let drawn_out = delays.iter().max().is_some_and(|delay| *delay > u64::from(job.delay));
-    let mut tried: Vec<(Job, u64)> = Vec::new();
+    let mut text = String::from("limit  held  delay  layers  shown  skipped  longest  carried                     bytes left\n");
     for limit in &limits {
         for delay in &delays {
             for count in &layers {
-                let other = Job { limit: *limit as u16, ..delayed(&layered(job, *count), *delay as u16, then) };
-                tried.extend(shares.iter().map(|share| (link::scaled(&other, *share), *share)));
+                let tried = Job { limit: *limit as u16, ..delayed(&layered(job, *count), *delay as u16, then) };
+                text += &table_row(job, &tried)?;
             }
         }
     }
-    if !tried.iter().any(|(other, share)| other == job && *share == 1000) {
-        tried.insert(0, (job.clone(), 1000));
-    }
-    let mut rows = Table::new("rows", WHAT_IF_ROW);
-    let mut lines = Vec::new();
-    for (other, share) in &tried {
-        lines.push(table_row(job, other, *share, &mut rows)?);
-    }
-    // The column is there only if it says something.
-    let wide = lines.iter().map(|(_, best, _)| best.len()).max().filter(|wide| *wide > 0).map(|wide| wide.max(4));
-    let cell = |best: &str| wide.map_or(String::new(), |wide| format!("  {best:>wide$}"));
-    let mut text = format!(
-        "limit  held  delay  layers      link  shown{}  skipped  longest  carried                     bytes left\n",
-        cell("best")
-    );
-    for (start, best, end) in &lines {
-        text += &format!("{start}{}{end}", cell(best));
-    }
     text += "longest: the longest run of skipped chunks; * the job as it is\n";
-    if wide.is_some() {
-        text += "best: where `film plan --most` shows more; a number behind a hyphen is not ruled out\n";
-    }
     if drawn_out {
         text += &format!(
             "assumed: slots after the forecast's end of {} each (--then BYTES says otherwise)\n",
             counted(u64::from(then), "byte")
         );
     }
-    let answer = Answer::of_table().with("job", loaded.title.as_str()).table(rows);
-    out::text(&answer.told(format, || text))
+    out::text(&text)
 }
 
-const WHAT_IF_ROW: &[&str] = &[
-    "limit",
-    "held",
-    "delay",
-    "layer_count",
-    "link",
-    "shown",
-    "skipped",
-    "longest",
-    "layers",
-    "left",
-    "own",
-    "best_shown",
-    "best_proved",
-];
-
-/// A line of the table, in parts: up to the pictures shown, those of the best plan where they are more,
-/// and the rest. The same as a row for programs.
-fn table_row(own: &Job, tried: &Job, share: u64, rows: &mut Table) -> Result<(String, String, String), Failure> {
+fn table_row(own: &Job, tried: &Job) -> Result<String, Failure> {
     let plan = plan_of(tried)?;
-    let (best, better) = Best::of(tried, &plan)?;
     let skipped = skipped(&plan);
     let longest = crate::programme::runs(&skipped).iter().map(|(a, b)| b - a + 1).max().unwrap_or(0);
     let fetched: u64 = plan.list.rows().map(|row| u64::from(row.bytes)).sum();
     let left = tried.forecast.iter().map(|bytes| u64::from(*bytes)).sum::<u64>() - fetched;
-    rows.push([
-        tried.limit.into(),
-        held(tried).into(),
-        tried.delay.into(),
-        tried.sizes.len().into(),
-        share.into(),
-        plan.counts[0].into(),
-        skipped.len().into(),
-        longest.into(),
-        plan.counts[..tried.sizes.len()].to_vec().into(),
-        left.into(),
-        (tried == own && share == 1000).into(),
-        best.shown.into(),
-        best.is_proved().into(),
-    ]);
-    let start = format!(
-        "{:>5}  {:>4}  {:>5}  {:>6}  {:>8}  {:>5}",
+    Ok(format!(
+        "{:>5}  {:>4}  {:>5}  {:>6}  {:>5}  {:>7}  {:>7}  {:<18}  {:>18}{}\n",
         tried.limit,
         held(tried),
         tried.delay,
         tried.sizes.len(),
-        link::percent(share).replace(' ', ""),
         plan.counts[0],
-    );
-    let end = format!(
-        "  {:>7}  {:>7}  {:<18}  {:>18}{}\n",
         skipped.len(),
         longest,
         counts(tried, &plan),
         thousands(left),
-        if tried == own && share == 1000 { " *" } else { "" }
-    );
-    Ok((start, better.map_or(String::new(), |_| best.cell()), end))
+        if tried == own { " *" } else { "" }
+    ))
 }

@@ -10,27 +10,23 @@ use std::path::Path;
 
 pub const COMMAND: Command = Command {
     name: "replan",
-    summary: "replan at slot P, from what is fetched and what the link is now thought to bring",
-    help: "film replan [JOB] --at P --fetched FILE [--rate BYTES | --trace FILE] [--text] [--out-.. FILE]
+    summary: "plan afresh at slot P, from what is fetched and what the link is now thought to bring",
+    help: "film replan JOB --at P --fetched FILE [--rate BYTES | --trace FILE] [--text] [--out PLAN]
 
 The act is at slot P and the link is not as forecast. FILE has the rows fetched: a plan file, or
-text as `film plan --text` prints it, or lines SLOT CHUNK LAYER BYTES; `-` is standard input. If
-nothing is fetched yet, give /dev/null. Of rows from slot P on it says that they are left out. Slots
-before P keep the job's forecast; from P on every slot brings BYTES (--rate), or what the slots P
-and later of a trace of the act say (--trace), or what the job's forecast says.
+text as `film plan --text` prints it, or lines SLOT CHUNK LAYER BYTES; `-` is standard input. Of
+rows from slot P on it says that they are left out. Slots before P keep the job's forecast; from P
+on every slot brings BYTES (--rate), or what the slots P and later of a trace of the act say
+(--trace), or what the job's forecast says.
 
-It prints what the new plan carries, then what the plan of the whole job does, and with --text the
-new rows from P on. --out writes the rows fetched and the new ones as a plan file, and --out-job the
-job with the link that it was made for: as forecast before P, and from P on what --rate or --trace
-says.
-`film check`, `report`, `draw` and `compare` take the two with --from P.
+It prints what the plan afresh carries beside the plan of the whole job, with --text also its rows
+from P on. --out writes the rows fetched and the new ones as a plan file, which
+`film check JOB PLAN --from P` judges. That judges by the forecast of JOB: after --rate or --trace,
+give it a text whose forecast says from P on what that link brings.
 
   film plan samples/flight.txt --text > flight.rows
-  film replan samples/flight.txt --at 60 --fetched flight.rows --rate 50k
-  film replan samples/flight.txt --at 60 --fetched flight.rows --out new.plan --out-job new.job
-  film check new.job new.plan --from 60
-  film draw new.job new.plan --from 60 --out new.svg",
-    options: &[("at", 1), ("fetched", 1), ("rate", 1), ("trace", 1), ("text", 0), ("out", 1), ("out-job", 1)],
+  film replan samples/flight.txt --at 60 --fetched flight.rows --rate 50000",
+    options: &[("at", 1), ("fetched", 1), ("rate", 1), ("trace", 1), ("text", 0), ("out", 1)],
     words: 0..=1,
     run,
 };
@@ -78,30 +74,29 @@ fn run(args: Args) -> Result<(), Failure> {
     let job = &loaded.job;
     let end = last(job);
     let p = args.number("at", 1..=u64::from(end))?.unwrap_or(1) as u16;
-    let all = files::fetched(job, Path::new(fetched))?.list;
+    let all = files::plan_or_rows(job, Path::new(fetched))?.list;
     let before: FetchList = all.rows().filter(|row| row.slot < p).collect();
     if before.len() < all.len() {
         out::note(&format!("{} from slot {p} on are left out", counted((all.len() - before.len()) as u64, "row")));
     }
     let from = usize::from(p) - 1;
-    let onward = match (args.bytes("rate")?, args.value("trace")) {
-        (Some(rate), _) => vec![rate; job.forecast.len() - from],
+    let onward = match (args.number("rate", 0..=1 << 24)?, args.value("trace")) {
+        (Some(rate), _) => vec![rate as u32; job.forecast.len() - from],
         (None, Some(path)) => files::trace(Path::new(path), end as usize)?.split_off(from),
         (None, None) => job.forecast[from..].to_vec(),
     };
-    let (target, job_target) = (out::target(&args, "out")?, out::target(&args, "out-job")?);
     let plan = job.replan(p, &before, &onward).map_err(|refusal| refused_rows(job, p, &before, refusal))?;
     let joined_job = Job { forecast: job.forecast[..from].iter().chain(&onward).copied().collect(), ..job.clone() };
     let joined: FetchList = before.rows().chain(plan.list.rows()).collect();
     let refused = |refusal| Failure::refused(loaded.called.clone(), refusal);
     let verdict = joined_job.check_from(p, &plan.marks, &joined).map_err(refused)?;
     if verdict != Verdict::Passes {
-        return Err(Failure::bad(format!("the new plan gets verdict {}", verdict.number())));
+        return Err(Failure::bad(format!("the plan afresh gets verdict {}", verdict.number())));
     }
     let whole = job.plan().map_err(refused)?;
     let bytes: u64 = plan.list.rows().map(|row| u64::from(row.bytes)).sum();
     let mut text = format!(
-        "new plan from slot {p}: layers {}, {}\nplan of the whole job: layers {}, {}\nto fetch from slot {p} on: {} bytes of the {} that the link brings\n",
+        "plan afresh at slot {p}: layers {}, {}\nplan of the whole job:  layers {}, {}\nto fetch from slot {p} on: {} bytes of the {} that the link brings\n",
         counts(job, &plan),
         skips(&plan),
         counts(job, &whole),
@@ -112,11 +107,8 @@ fn run(args: Args) -> Result<(), Failure> {
     if args.flag("text") {
         text += &by_slot(&plan.list);
     }
-    if let Some(target) = target {
-        target.write(&joined_job.write_plan(&plan.marks, &joined).map_err(refused)?)?;
-    }
-    if let Some(target) = job_target {
-        target.write(&joined_job.write().map_err(refused)?)?;
+    if let Some(path) = args.value("out") {
+        out::file(Path::new(path), &joined_job.write_plan(&plan.marks, &joined).map_err(refused)?)?;
     }
     out::text(&text)
 }

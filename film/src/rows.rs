@@ -1,7 +1,7 @@
 //! Rows of a fetch list as text: what `film plan --text` prints, or four numbers a line.
 use crate::failure::Failure;
+use crate::files;
 use crate::words::{printable, thousands};
-use crate::{files, text};
 use film_planner::{FetchList, Row};
 use std::path::Path;
 
@@ -22,14 +22,14 @@ fn numbers(line: &str) -> Option<Vec<&str>> {
 }
 
 fn row(line: &str) -> Result<Row, String> {
-    let words = numbers(line).ok_or("this is not a row")?;
+    let words = numbers(line).ok_or("this is no row")?;
     let number = |word: &str, what: &str, most: u64| {
         let digits = word.replace(',', "");
         let plain = !digits.is_empty() && digits.bytes().all(|b| b.is_ascii_digit());
         match digits.parse::<u64>() {
             Ok(n) if plain && n <= most => Ok(n),
-            _ if plain => Err(format!("{what} {}: expected at most {}", printable(word), thousands(most))),
-            _ => Err(format!("`{}` is not a number", printable(word))),
+            _ if plain => Err(format!("{what} {}: it is at most {}", printable(word), thousands(most))),
+            _ => Err(format!("`{}` is no number", printable(word))),
         }
     };
     Ok(Row::new(
@@ -40,29 +40,16 @@ fn row(line: &str) -> Result<Row, String> {
     ))
 }
 
-/// Whether the first statement is one of a job's text.
-fn is_job_text(text: &str) -> bool {
-    let first =
-        text.trim_start_matches('\u{feff}').lines().map(|line| line.split('#').next().unwrap_or("").trim()).find(|line| !line.is_empty());
-    first.and_then(|line| line.split_whitespace().next()).is_some_and(text::is_keyword)
-}
-
 /// Rows as text, all faults in one go. From # to the end of a line is a comment.
 pub fn read(data: &[u8], path: &Path) -> Result<FetchList, Failure> {
     let called = files::called(path);
     if data.len() > files::TEXT {
-        return Err(Failure::bad(format!("{called}: rows of more than {} bytes", thousands(files::TEXT as u64))));
-    }
-    if files::is_records(data) && !data.starts_with(b"EN") {
-        return Err(Failure::bad(format!("{called}: this is a job file; a plan is expected, as a plan file or as rows")));
+        return Err(Failure::bad(format!("{called}: rows above {} bytes", thousands(files::TEXT as u64))));
     }
     let text = match std::str::from_utf8(data) {
         Ok(text) if !text.contains('\0') => text,
         _ => return Err(Failure::bad(format!("{called}: this is neither a plan file, which begins with KP, nor rows as text"))),
     };
-    if is_job_text(text) {
-        return Err(Failure::bad(format!("{called}: this is a job's text; a plan is expected, as a plan file or as rows")));
-    }
     let (mut list, mut faults, mut more) = (FetchList::new(), Vec::new(), 0);
     for (k, line) in text.lines().enumerate() {
         let statement = line.split('#').next().unwrap_or("").trim();
@@ -76,7 +63,7 @@ pub fn read(data: &[u8], path: &Path) -> Result<FetchList, Failure> {
         }
     }
     if more > 0 {
-        faults.push(format!("{called}: and {} more faults", thousands(more)));
+        faults.push(format!("{called}: and {} faults more", thousands(more)));
     }
     match faults.is_empty() {
         true => Ok(list),

@@ -1,11 +1,9 @@
 //! The text form of a job: one statement a line, read with all its faults in one go, and written as
 //! the one text that a job has.
 use crate::failure::{sentence, Failure};
-use crate::units::{self, Amount};
-use crate::words::{counted, near, printable, thousands};
-use crate::{files, foreign};
+use crate::files;
+use crate::words::{counted, printable, thousands};
 use film_planner::{Job, Override, Refusal, LAYERS, SLOTS};
-use std::collections::BTreeMap;
 use std::path::{Path, PathBuf};
 
 /// The most bytes of a layer or a slot.
@@ -17,51 +15,46 @@ const KEPT: usize = 1000;
 /// Slots that stand on a line of `show`, and how many alike make a run.
 const ROW: usize = 10;
 const RUN: usize = 3;
-/// So many amounts with a unit are shown back.
-const SHOWN_BACK: usize = 6;
 
 /// Each statement, its form, and the fewest and most words after the first.
 const FORMS: [(&str, &str, usize, usize); 8] = [
-    ("chunks", "`chunks NUMBER`", 1, 1),
-    ("span", "`span SLOTS`", 1, 1),
-    ("delay", "`delay SLOTS`", 1, 1),
-    ("limit", "`limit SLOTS`", 1, 1),
-    ("layer", "`layer BYTES`", 1, 1),
-    ("size", "`size CHUNK LAYER BYTES`", 3, 3),
-    ("forecast", "`forecast BYTES BYTES ..` or `forecast SLOTS x BYTES`", 1, usize::MAX),
-    ("trace", "`trace FILE SLOTS`, or `trace FILE` for as many as the job needs", 1, usize::MAX),
+    ("chunks", "chunks NUMBER", 1, 1),
+    ("span", "span SLOTS", 1, 1),
+    ("delay", "delay SLOTS", 1, 1),
+    ("limit", "limit SLOTS", 1, 1),
+    ("layer", "layer BYTES", 1, 1),
+    ("size", "size CHUNK LAYER BYTES", 3, 3),
+    ("forecast", "forecast BYTES BYTES .. or forecast SLOTS x BYTES", 1, usize::MAX),
+    ("trace", "trace FILE SLOTS, or trace FILE for what the job needs", 1, usize::MAX),
 ];
 const FIELDS: [(&str, i64, i64); 4] = [("chunks", 1, 500), ("span", 1, 60), ("delay", 1, 3600), ("limit", 0, 65535)];
 
 /// What `--help` says of the text form.
 pub const HELP: &str = "\
-The text of a job has one statement per line. From # to the end of a line is a comment.
+The text of a job has one statement a line. From # to the end of a line is a comment.
 
   chunks 30             chunks of film, 1 to 500
-  span 6                slots (seconds) of film per chunk, 1 to 60
+  span 6                slots (seconds) of film a chunk, 1 to 60
   delay 12              slots before the first chunk is due, 1 to 3,600
   limit 24              slots of film that the buffer takes, 0 to 65,535
   layer 240000          bytes of layer 0 of a chunk; the next `layer` is layer 1, and so on,
                         up to four
-  size 21 0 330000      chunk 21 has a layer 0 of 330,000 bytes instead; chunk 1 has the sizes of
-                        `layer`
+  size 21 0 330000      chunk 21 has a layer 0 of 330,000 bytes instead; rising by chunk, then
+                        layer, from chunk 2
   forecast 3000 0 1500  bytes that the link carries, slot after slot
   forecast 34 x 6000    34 slots of 6,000 bytes each
   trace van.txt 186     the first 186 slots of a trace of the link; its place is seen from the
                         text's folder
-  trace van.txt         as many slots of it as the job still needs after the other statements
+  trace van.txt         as many slots of it as the job needs beside the other statements
   trace \"van #3.txt\"    a name with a # in it stands in quotes, \" or '
 
-`forecast` and `trace` follow one another up to the slot in which the last chunk is due:
-(chunks - 1) x span + delay slots. Otherwise the order of the lines does not matter.
-
-Numbers are digits only: 6000, not 6,000. Bytes may have a unit: 76k or 76 kB is 76,000 bytes, M and
-MB are millions, KiB and MiB are 1,024 and 1,048,576. A slot of the forecast may also be a rate:
-1.5 Mbit/s is 187,500 bytes per slot. `film` says how it read them, and `film show` prints bytes.
+What `forecast` and `trace` give stands one after the other, up to the slot in which the last chunk
+is due: (chunks - 1) x span + delay slots. The kinds of statement may stand in any order. Numbers
+are digits alone: 6000, not 6,000.
 
 A trace has one line for every 1,500 bytes that got through: the time in milliseconds since the
-start, 1 to 7 digits, never below the line before, ended by LF or CR LF. So the line 2340 says that
-1,500 bytes came in slot 3, and slot 3 gets 1,500 times its lines from 2000 to 2999.";
+start, 1 to 7 digits, never below the line before, ended by a line feed (no CR). So the line 2340
+says that 1,500 bytes came in slot 3, and slot 3 gets 1,500 times its lines from 2000 to 2999.";
 
 /// A fault: its line, none if a statement is absent, and what there is to say.
 struct Fault {
@@ -96,8 +89,6 @@ struct Text<'a> {
     faults: Vec<Fault>,
     faults_more: usize,
     warnings: Vec<String>,
-    /// Words with a unit and what they were read as, each once.
-    amounts: Vec<(String, Amount)>,
 }
 
 /// A statement that is not taken; its fault is written down already.
@@ -122,7 +113,7 @@ fn shown(statement: &str) -> String {
     }
 }
 
-/// What may be meant by a word that is not a number.
+/// What may be meant by a word that is no number.
 fn meant(word: &str) -> String {
     let digits: String = word.chars().filter(char::is_ascii_digit).collect();
     let parts: Vec<&str> = word.split([',', '.', '_', '\'', '\u{a0}', '\u{202f}']).collect();
@@ -142,36 +133,6 @@ fn meant(word: &str) -> String {
     }
 }
 
-/// Whether a word begins a statement of a job's text.
-pub fn is_keyword(word: &str) -> bool {
-    FORMS.iter().any(|form| form.0 == word)
-}
-
-/// What is expected of a statement with too few or too many words. `delay 2 slots` needs no unit.
-fn expected(kind: &str, form: &str, words: &[&str]) -> String {
-    let digits = |word: &str| word.bytes().all(|b| b.is_ascii_digit());
-    match words {
-        [number, unit] if FIELDS.iter().any(|field| field.0 == kind) && digits(number) && !digits(unit) => {
-            format!("expected a number without a unit: `{kind} {}`", shown(number))
-        }
-        _ => format!("expected {form}"),
-    }
-}
-
-/// The run that is meant by `6x1,5 Mbit/s`: an amount with a unit or a decimal comma behind an x
-/// without spaces.
-fn run_meant(words: &[&str]) -> Option<String> {
-    let (first, unit) = match words {
-        [first] => (*first, ""),
-        [first, unit] => (*first, *unit),
-        _ => return None,
-    };
-    let (slots, amount) = first.split_once(['x', 'X', '*', '\u{d7}'])?;
-    let amount = format!("{amount} {unit}").trim_end().replace(',', ".");
-    let is_run = !slots.is_empty() && slots.bytes().all(|b| b.is_ascii_digit()) && matches!(units::read(&amount), Some(Ok(_)));
-    is_run.then(|| format!("{slots} x {amount}"))
-}
-
 impl Text<'_> {
     fn fault(&mut self, message: impl Into<String>, refusal: Option<Refusal>) -> Faulty {
         self.fault_at(Some(self.line), message, refusal)
@@ -188,7 +149,7 @@ impl Text<'_> {
     fn number(&mut self, word: &str) -> Result<i64, Faulty> {
         let digits = word.strip_prefix('-').unwrap_or(word);
         if digits.is_empty() || !digits.bytes().all(|b| b.is_ascii_digit()) {
-            return Err(self.fault(format!("`{}` is not a number; numbers are digits only{}", shown(word), meant(word)), None));
+            return Err(self.fault(format!("`{}` is no number; numbers are digits alone{}", shown(word), meant(word)), None));
         }
         // No number of a job has twelve digits: what is longer is as far out of range.
         let digits = digits.trim_start_matches('0');
@@ -204,39 +165,6 @@ impl Text<'_> {
         }
     }
 
-    /// A number of bytes, plain or with a unit; `rate` says whether it may be one of a second.
-    fn bytes(&mut self, what: &str, word: &str, low: i64, refusal: Refusal, rate: bool) -> Result<i64, Faulty> {
-        let amount = match units::read(word) {
-            None => return self.ranged(what, word, low, MOST, refusal),
-            Some(Err(fault)) => return Err(self.fault(fault, None)),
-            Some(Ok(amount)) => amount,
-        };
-        let value = match amount {
-            Amount::Rate(_) if !rate => {
-                return Err(self.fault(format!("`{}` is a rate; {what} is in bytes, as in 240k", shown(word)), None));
-            }
-            Amount::Bytes(value) | Amount::Rate(value) => value,
-        };
-        if !(low as u64..=MOST as u64).contains(&value) {
-            let range = format!("{what} is {} to {} bytes", thousands(low as u64), thousands(MOST as u64));
-            return Err(self.fault(format!("{range}, and {} is {}", shown(word), units::shown(amount)), Some(refusal)));
-        }
-        if self.amounts.len() <= SHOWN_BACK && !self.amounts.iter().any(|(known, _)| known == word) {
-            self.amounts.push((word.to_string(), amount));
-        }
-        Ok(value as i64)
-    }
-
-    /// How the amounts with a unit were read, on one line.
-    fn shown_back(&self) -> Option<String> {
-        let one = |(word, amount): &(String, Amount)| format!("{word} is {}", units::shown(*amount));
-        let mut told: Vec<String> = self.amounts.iter().take(SHOWN_BACK).map(one).collect();
-        if self.amounts.len() > SHOWN_BACK {
-            told.push("and so on".to_string());
-        }
-        (!told.is_empty()).then(|| told.join(", "))
-    }
-
     fn take(&mut self, statement: &str) -> Result<(), Faulty> {
         let mut words = statement.split_whitespace();
         let Some(kind) = words.next() else { return Ok(()) };
@@ -244,11 +172,9 @@ impl Text<'_> {
         let Some((kind, form, fewest, most)) = FORMS.into_iter().find(|form| form.0 == kind) else {
             return Err(self.unknown(kind));
         };
-        let joined = if matches!(kind, "layer" | "size" | "forecast") { units::joined(&words) } else { Vec::new() };
-        let words: Vec<&str> = if joined.is_empty() { words } else { joined.iter().map(String::as_str).collect() };
         let whole = (fewest..=most).contains(&words.len());
         let taken = match kind {
-            _ if !whole => Err(self.fault(expected(kind, form, &words), None)),
+            _ if !whole => Err(self.fault(format!("the form is {form}"), None)),
             "layer" => self.take_layer(words[0]),
             "size" => self.take_size(&words),
             "forecast" => self.take_forecast(&words),
@@ -272,19 +198,18 @@ impl Text<'_> {
 
     fn unknown(&mut self, kind: &str) -> Faulty {
         let low = kind.to_lowercase();
-        // Of very many faults only the first are kept, so only they are looked up.
-        let meant = (self.faults.len() < KEPT).then(|| near(&low, FORMS.iter().map(|form| form.0))).flatten();
+        let near = FORMS.iter().find(|form| low == form.0 || low.trim_end_matches('s') == form.0.trim_end_matches('s'));
         // What is meant stands there, so it is not told as absent as well.
-        match FORMS.iter().find(|form| Some(form.0) == meant) {
+        match near {
             Some((name, form, ..)) => {
                 self.field_given(name);
                 self.layers_bad |= *name == "layer";
                 self.forecast_bad |= *name == "forecast" || *name == "trace";
-                self.fault(format!("`{}` is not a statement; did you mean {form}?", shown(kind)), None)
+                self.fault(format!("`{}` is no statement; is {form} meant?", shown(kind)), None)
             }
             None => {
                 let names: Vec<&str> = FORMS.iter().map(|form| form.0).collect();
-                self.fault(format!("`{}` is not a statement; the statements are {}", shown(kind), names.join(", ")), None)
+                self.fault(format!("`{}` is no statement; the statements are {}", shown(kind), names.join(", ")), None)
             }
         }
     }
@@ -292,7 +217,7 @@ impl Text<'_> {
     fn take_field(&mut self, kind: &str, word: &str) -> Result<(), Faulty> {
         let Some(k) = FIELDS.iter().position(|field| field.0 == kind) else { return Ok(()) };
         if let Some((first, _)) = self.fields[k] {
-            return Err(self.fault(format!("`{kind}` is given twice; the first is on line {first}"), None));
+            return Err(self.fault(format!("a second {kind}; the first is on line {first}"), None));
         }
         self.fields[k] = Some((self.line, None));
         let value = self.ranged(kind, word, FIELDS[k].1, FIELDS[k].2, Refusal::ProgrammeField)?;
@@ -306,7 +231,7 @@ impl Text<'_> {
         }
         // A faulty one keeps its place, so that a fifth is told as one.
         self.layers.push(0);
-        let value = self.bytes("a layer's size", word, 1, Refusal::LayerSize, false)?;
+        let value = self.ranged("a layer's size", word, 1, MOST, Refusal::LayerSize)?;
         if let Some(last) = self.layers.last_mut() {
             *last = value;
         }
@@ -316,7 +241,7 @@ impl Text<'_> {
     /// Which chunks and layers there are is known at the end.
     fn take_size(&mut self, words: &[&str]) -> Result<(), Faulty> {
         let (chunk, layer) = (self.number(words[0])?, self.number(words[1])?);
-        let bytes = self.bytes("a size", words[2], 1, Refusal::Sz, false)?;
+        let bytes = self.ranged("a size", words[2], 1, MOST, Refusal::Sz)?;
         self.sizes.push((self.line, [chunk, layer, bytes]));
         Ok(())
     }
@@ -326,13 +251,9 @@ impl Text<'_> {
             if words.len() == 3 && matches!(words[1], "X" | "*" | "\u{d7}") {
                 return Err(self.fault(format!("a run has a small x: forecast {} x {}", shown(words[0]), shown(words[2])), None));
             }
-            if let Some(run) = run_meant(words) {
-                let found = shown(&words.join(" "));
-                return Err(self.fault(format!("`{found}` is not a number; did you mean `forecast {run}`?"), None));
-            }
             let mut slots = Vec::new();
             for word in words {
-                slots.push(self.bytes("a slot of the forecast", word, 0, Refusal::Forecast, true)? as u32);
+                slots.push(self.ranged("a slot's bytes", word, 0, MOST, Refusal::Forecast)? as u32);
             }
             return self.add(Part::Slots(slots));
         }
@@ -340,7 +261,7 @@ impl Text<'_> {
             return Err(self.fault("a run stands on a line of its own: forecast SLOTS x BYTES", None));
         }
         let slots = self.ranged("a run's number of slots", words[0], 1, SLOTS as i64, Refusal::Forecast)?;
-        let bytes = self.bytes("a slot of the forecast", words[2], 0, Refusal::Forecast, true)?;
+        let bytes = self.ranged("a slot's bytes", words[2], 0, MOST, Refusal::Forecast)?;
         self.add(Part::Slots(vec![bytes as u32; slots as usize]))
     }
 
@@ -357,11 +278,9 @@ impl Text<'_> {
             },
         };
         if name.is_empty() {
-            return Err(self.fault("expected `trace FILE SLOTS`, or `trace FILE` for as many as the job needs", None));
+            return Err(self.fault("the form is trace FILE SLOTS, or trace FILE for what the job needs", None));
         }
         let path = self.folder.join(name);
-        // Read or not, what a text names is not written over.
-        crate::guard::will_read(&path);
         if slots.is_empty() {
             return self.add(Part::Open(path));
         }
@@ -406,7 +325,7 @@ impl Text<'_> {
 
     fn absent(&mut self, kind: &str, refusal: Option<Refusal>) {
         let form = FORMS.iter().find(|form| form.0 == kind).map_or("", |form| form.1);
-        self.fault_at(None, format!("`{kind}` is missing; add a line {form}"), refusal);
+        self.fault_at(None, format!("there is no {kind}; a line `{form}` is needed"), refusal);
     }
 
     /// What is to be seen once all statements are read; the job, if there is no fault.
@@ -425,7 +344,7 @@ impl Text<'_> {
         if self.layers.is_empty() && !self.layers_bad {
             self.absent("layer", Some(Refusal::LayerSize));
         }
-        let overrides = self.overrides(chunks);
+        self.check_sizes(chunks);
         self.open_trace(last);
         if let Some(last) = last {
             self.check_slots(last);
@@ -437,18 +356,17 @@ impl Text<'_> {
             return Err((self.faults, self.faults_more));
         };
         let forecast = self.parts.iter().flat_map(|(_, part)| if let Part::Slots(slots) = part { slots.clone() } else { Vec::new() });
+        let overrides = self.sizes.iter().map(|(_, [i, n, z])| Override { chunk: *i as u16, layer: *n as u8, bytes: *z as u32 });
         let job = Job {
             chunks: chunks as u16,
             span: span as u16,
             delay: delay as u16,
             limit: limit as u16,
             sizes: self.layers.iter().map(|z| *z as u32).collect(),
-            overrides,
+            overrides: overrides.collect(),
             forecast: forecast.collect(),
         };
-        let mut notes: Vec<String> = self.warnings.iter().map(|line| format!("warning: {line}")).collect();
-        notes.extend(self.shown_back());
-        Ok((job, notes))
+        Ok((job, self.warnings))
     }
 
     /// The slot in which the last chunk is due, if it is one.
@@ -467,35 +385,27 @@ impl Text<'_> {
         None
     }
 
-    /// The sizes that differ from their layer's own, in the order that a job has them. A size that is
-    /// the layer's own, or given twice alike, says nothing new.
-    fn overrides(&mut self, chunks: Option<i64>) -> Vec<Override> {
-        let mut found: BTreeMap<(i64, i64), (usize, i64)> = BTreeMap::new();
+    fn check_sizes(&mut self, chunks: Option<i64>) {
+        let mut before = [1, 3];
         for (line, [chunk, layer, bytes]) in self.sizes.clone() {
             let layers = self.layers.len() as i64;
             let own = usize::try_from(layer).ok().and_then(|n| self.layers.get(n)).copied();
-            let before = found.get(&(chunk, layer)).copied();
-            let fault = if chunk < 1 || chunks.is_some_and(|chunks| chunk > chunks) || chunk > 500 {
+            let fault = if chunk == 1 {
+                "chunk 1 has the sizes of `layer`".to_string()
+            } else if chunk < 1 || chunks.is_some_and(|chunks| chunk > chunks) || chunk > 500 {
                 format!("there is no chunk {chunk}")
             } else if layer < 0 || layer >= layers && !self.layers_bad || layer > 3 {
                 format!("there is no layer {layer}; the job has {layers}, counted from 0")
-            } else if chunk == 1 && own.is_some_and(|own| own != bytes) {
-                "chunk 1 has the sizes of `layer`; change that line, and give the other chunks a `size`".to_string()
-            } else if let Some((first, _)) = before.filter(|(_, other)| *other != bytes) {
-                format!("chunk {chunk} layer {layer} has another size on line {first}; leave one of them out")
+            } else if own == Some(bytes) {
+                format!("{} bytes are layer {layer}'s own size; leave the line out", thousands(bytes as u64))
+            } else if [chunk, layer] <= before {
+                format!("sizes rise by chunk, then layer, and chunk {} layer {} stands before", before[0], before[1])
             } else {
-                found.entry((chunk, layer)).or_insert((line, bytes));
+                before = [chunk, layer];
                 continue;
             };
             self.fault_at(Some(line), fault, Some(Refusal::Sz));
         }
-        let differs = |(_, layer): &(i64, i64), bytes: i64| self.layers.get(*layer as usize) != Some(&bytes);
-        let one = |((chunk, layer), (_, bytes)): ((i64, i64), (usize, i64))| Override {
-            chunk: chunk as u16,
-            layer: layer as u8,
-            bytes: bytes as u32,
-        };
-        found.into_iter().filter(|(place, (_, bytes))| differs(place, *bytes)).map(one).collect()
     }
 
     /// A trace without a number takes what the other statements leave.
@@ -548,11 +458,11 @@ impl Text<'_> {
             None => self.absent("forecast", Some(Refusal::Forecast)),
             Some(_) if slots != last && self.lent => {
                 let message = format!(
-                    "its last chunk is due in slot {}, the first film's in slot {}; both films need the same last due slot",
+                    "the last chunk is due in slot {}, and the link that is lent has {} slots; both films need the same last due slot",
                     thousands(last as u64),
                     thousands(slots as u64)
                 );
-                self.fault_at(None, message, None);
+                self.fault_at(None, message, Some(Refusal::Forecast));
             }
             Some((line, _)) if slots != last => {
                 let what = match slots < last {
@@ -571,18 +481,15 @@ impl Text<'_> {
     }
 }
 
-/// The job that a text says, and lines to tell beside it; all faults in one go. Traces are looked for from the
+/// The job that a text says, and warnings; all faults in one go. Traces are looked for from the
 /// text's folder. A link that is lent stands in for a text's own forecast, which may be absent.
 pub fn read(data: &[u8], path: &Path, link: Option<&[u32]>) -> Result<(Job, Vec<String>), Failure> {
     let called = files::called(path);
     if data.len() > files::TEXT {
-        return Err(Failure::bad(format!("{called}: a text of more than {} bytes", thousands(files::TEXT as u64))));
+        return Err(Failure::bad(format!("{called}: a text above {} bytes", thousands(files::TEXT as u64))));
     }
     if data.is_empty() {
-        return Err(Failure::bad(format!("{called} is empty; a job's text or a job file is expected (`film make --help`)")));
-    }
-    if let Some(failure) = foreign::told(data, path) {
-        return Err(failure);
+        return Err(Failure::bad(format!("{called} is empty; a job's text or its file is wanted (`film make --help`)")));
     }
     let data = data.strip_prefix(b"\xef\xbb\xbf").unwrap_or(data);
     let mut text = Text {
@@ -599,7 +506,6 @@ pub fn read(data: &[u8], path: &Path, link: Option<&[u32]>) -> Result<(Job, Vec<
         faults: Vec::new(),
         faults_more: 0,
         warnings: Vec::new(),
-        amounts: Vec::new(),
     };
     if let Some(link) = link {
         text.lent = true;
@@ -617,7 +523,7 @@ pub fn read(data: &[u8], path: &Path, link: Option<&[u32]>) -> Result<(Job, Vec<
             }
             _ => {
                 lines.push("");
-                text.fault(foreign::line_told(line), None);
+                text.fault("this is no text; a job file begins with PG, a text is UTF-8", None);
                 // Of what is no text the first line is enough.
                 return Err(told(&called, &lines, (text.faults, text.faults_more)));
             }
@@ -633,19 +539,14 @@ fn told(called: &str, lines: &[&str], (faults, more): (Vec<Fault>, usize)) -> Fa
     for fault in faults.iter().take(TOLD) {
         let place = fault.line.map_or(String::new(), |line| {
             let statement = lines.get(line - 1).map_or(String::new(), |words| shown(words));
-            // A line that cannot be shown is not: what is wrong follows at once.
-            if statement.is_empty() {
-                format!(" line {line}:")
-            } else {
-                format!(" line {line}: {statement}\n ")
-            }
+            format!(" line {line}: {statement}\n ")
         });
         let place = if place.is_empty() { ":".to_string() } else { place };
         let refusal = fault.refusal.map_or(String::new(), |refusal| format!("\n  {}", sentence(refusal)));
         blocks.push(format!("{called}{place} {}{refusal}", fault.message.replace('\n', "\n  ")));
     }
     if more > 0 {
-        blocks.push(format!("{called}: and {} more faults", thousands(more as u64)));
+        blocks.push(format!("{called}: and {} faults more", thousands(more as u64)));
     }
     Failure::bad(blocks.join("\n"))
 }

@@ -134,7 +134,7 @@ fn only_a_passing_plan_is_drawn() {
         folder.put("bad", job.write_plan(&marks, &list).unwrap());
         folder.film(&["draw", "job", "bad"]).bad(
             1,
-            &["bad: this is not a passing plan of the job", &format!("rule {rule}: ")],
+            &["bad: this is no passing plan of the job", &format!("rule {rule}: ")],
             "a broken rule",
         );
     }
@@ -144,12 +144,11 @@ fn only_a_passing_plan_is_drawn() {
     folder.film(&["draw", "job", "bad"]).bad(1, &["rule 6: "], "the plan of A with limit 6");
     for k in 0..file.len() {
         folder.put("bad", &file[..k]);
-        let answer = folder.film(&["draw", "job", "bad"]).bad(1, &["bad"], "a plan cut short");
-        let told = ["bad is empty", "bad line 1: K\n  this is not a row", "refusal 1: ", "refusal 8: "];
-        assert!(told.iter().any(|words| answer.err.contains(words)) && (k < 2 || answer.err.contains("refusal ")), "{}", answer.err);
+        let answer = folder.film(&["draw", "job", "bad"]).bad(1, &["refusal "], "a plan cut short");
+        assert!(answer.err.contains("refusal 1: ") || answer.err.contains("refusal 8: "), "{}", answer.err);
     }
     folder.put("bad", job.write().unwrap());
-    folder.film(&["draw", "job", "bad"]).bad(1, &["bad: this is a job file; a plan is expected"], "a job as a plan");
+    folder.film(&["draw", "job", "bad"]).bad(1, &["refusal 2: "], "a job as a plan");
     for words in [&["draw"][..], &["draw", "job", "plan", "plan"], &["draw", "job", "--paint"]] {
         folder.film(words).bad(2, &["film draw JOB"], "wrong words");
     }
@@ -189,21 +188,6 @@ fn seen(colour: &str, sight: &[[f64; 3]; 3]) -> [f64; 3] {
     [116.0 * y - 16.0, 500.0 * (x - y), 200.0 * (y - z)]
 }
 
-/// How much lighter one colour is than another, as WCAG counts it.
-fn contrast(a: &str, b: &str) -> f64 {
-    let light = |colour: &str| {
-        let lightness = seen(colour, &SIGHTS[0])[0];
-        let y = (lightness + 16.0) / 116.0;
-        if y > 6.0 / 29.0 {
-            y.powi(3)
-        } else {
-            lightness / 903.3
-        }
-    };
-    let (a, b) = (light(a), light(b));
-    (a.max(b) + 0.05) / (a.min(b) + 0.05)
-}
-
 /// The fill of a class in a style, the last that is given.
 fn fill(style: &str, class: &str) -> String {
     let (_, after) = style.rsplit_once(&format!(".{class}{{fill:")).unwrap_or_else(|| panic!("no {class}"));
@@ -230,104 +214,7 @@ fn colours_are_told_apart_with_any_kind_of_cone_absent() {
         }
         let lightness: Vec<f64> = colours[..4].iter().map(|colour| seen(colour, &SIGHTS[0])[0]).collect();
         println!("{name}: colours at least {least:.0} apart where 2 can just be seen; lightness of the layers {lightness:.0?}");
-        assert!(least >= 20.0, "{name}: {least}");
-        let contrasts: Vec<f64> = colours[..4].iter().map(|colour| contrast(colour, &colours[5])).collect();
-        assert!(contrasts.iter().all(|c| *c >= 3.0), "{name}: contrast of the layers to the paper {contrasts:.2?}");
+        assert!(least >= 20.0, "{name}: {least} (#0e4578 #2d76c1 #f19125 #f7de75 are 21 apart, and evenly in grey)");
         assert!(lightness.windows(2).all(|w| w[1] - w[0] >= 8.0), "{name}: {lightness:?}");
     }
-}
-
-/// A number of an element's attribute.
-fn number(element: &str, name: &str) -> f64 {
-    element.split(&format!(" {name}=\"")).nth(1).unwrap().split('"').next().unwrap().parse().unwrap()
-}
-
-#[test]
-fn reasons_stand_in_a_column_with_their_bars_on_the_slots() {
-    let folder = Folder::new();
-    let flight = root().join("samples/flight.txt");
-    for (words, view) in [(vec![], 700.0), (vec!["--width", "400"], 400.0_f64)] {
-        let picture = folder.film(&[vec!["draw", flight.to_str().unwrap()], words].concat()).good("the sample").text();
-        let why = picture.split("Why skipped").nth(1).unwrap().split("Link: bytes").next().unwrap();
-        let plain = |line: &&str| line.starts_with("<text") && line.contains(" text-anchor=\"start\"") && !line.contains("bold");
-        let sentences: Vec<f64> = why.lines().filter(plain).map(|line| number(line, "x")).collect();
-        assert!(sentences.len() >= 4 && sentences.iter().all(|x| (x - 62.0).abs() < 0.01), "{why}");
-        // The slots of the picture: 186, and the six that the last chunk plays.
-        let place = |slot: f64| 62.0 + (slot - 1.0) * (view - 74.0) / 192.0;
-        let bars: Vec<&str> = why.lines().filter(|line| line.starts_with("<rect class=\"in\"")).collect();
-        for (bar, (first, last)) in bars.iter().zip([(78.0, 108.0), (84.0, 108.0)]) {
-            assert!((number(bar, "x") - place(first)).abs() < 0.02, "{bar}");
-            assert!((number(bar, "width") - (place(last + 1.0) - place(first))).abs() < 0.02, "{bar}");
-        }
-        assert_eq!(bars.len(), 2);
-        assert!(why.contains(">slot</text>"), "an axis under the reasons");
-    }
-}
-
-/// A shell line with only these programs to be found.
-fn with_path(folder: &Folder, path: &str, words: &str) -> Answer {
-    folder.shell(&format!("PATH='{path}' '{}' {words}", env!("CARGO_BIN_EXE_film")))
-}
-
-#[test]
-fn png_and_pdf_come_from_a_converter_that_is_named_where_none_is() {
-    let folder = Folder::new();
-    folder.put("job", job_a().write().unwrap());
-    for form in ["png", "pdf"] {
-        let words = ["found no program that makes", "rsvg-convert", "librsvg2-bin", "chromium"];
-        with_path(&folder, "/nowhere", &format!("draw job --format {form}")).bad(1, &words, form);
-        with_path(&folder, "/nowhere", &format!("draw job --out a.{form}")).bad(1, &words, form);
-        assert!(!folder.0.join(format!("a.{form}")).exists());
-    }
-    // A converter that fails, and one that answers with what it was given.
-    std::fs::create_dir(folder.0.join("bin")).unwrap();
-    let program = |text: &str| {
-        folder.put("bin/rsvg-convert", text);
-        folder.shell("chmod +x bin/rsvg-convert").good("chmod");
-    };
-    program("#!/bin/sh\necho 'cannot' >&2\nexit 3\n");
-    with_path(&folder, "bin", "draw job --format png").bad(
-        1,
-        &["rsvg-convert could not convert the picture: cannot"],
-        "a converter that fails",
-    );
-    program("#!/bin/sh\necho \"$@\"\n/bin/cat\n");
-    let svg = folder.film(&["draw", "job"]).text();
-    let png = with_path(&folder, "bin", "draw job --format png --width 900").good("png").text();
-    assert!(png.starts_with("-f png -w 900\n<svg ") && png.contains("width=\"900\""), "{png}");
-    let pdf = with_path(&folder, "bin", "draw job --format pdf").good("pdf").text();
-    assert!(pdf.starts_with("-f pdf --page-width 210mm --page-height 297mm ") && pdf.ends_with(&svg), "{pdf}");
-    // What is installed here.
-    let png = folder.film(&["draw", "job", "--width", "500", "--format", "png"]);
-    match png.status {
-        0 => {
-            let wide = u32::from_be_bytes(png.out[16..20].try_into().unwrap());
-            assert!(png.out.starts_with(b"\x89PNG\r\n") && wide == 500, "{wide}");
-            let pdf = folder.film(&["draw", "job", "--format", "pdf"]).good("pdf").out;
-            assert!(pdf.starts_with(b"%PDF"));
-        }
-        _ => println!("no converter: {}", png.err),
-    }
-}
-
-#[test]
-fn the_form_and_the_width_of_a_picture() {
-    let folder = Folder::new();
-    folder.put("job", job_a().write().unwrap());
-    let svg = folder.film(&["draw", "job"]).good("svg").out;
-    for words in [&["--format", "svg"][..], &["--out", "-x.svg"], &["--out", "x.picture"]] {
-        let answer = folder.film(&[&["draw", "job"], words].concat()).good("svg");
-        let file = words.last().filter(|_| words[0] == "--out").map(|name| folder.get(name));
-        assert_eq!(file.unwrap_or(answer.out), svg);
-    }
-    let phone = folder.film(&["draw", "job", "--width", "400"]).good("for a phone").text();
-    assert!(phone.contains(" viewBox=\"0 0 400 ") && phone.contains(" width=\"400\""));
-    let large = folder.film(&["draw", "job", "--width", "1600"]).good("large").text();
-    assert!(large.contains(" viewBox=\"0 0 700 ") && large.contains(" width=\"1600\""));
-    folder.film(&["draw", "job", "--out", "a.html"]).good("a page");
-    let page = String::from_utf8(folder.get("a.html")).unwrap();
-    assert!(page.contains(" viewBox=\"0 0 700 ") && page.contains(" viewBox=\"0 0 400 ") && page.contains("@page{size:A4"));
-    assert!(!page.contains("<script") && !page.contains("src=") && !page.contains("href="));
-    folder.film(&["draw", "job", "--format", "pgn"]).bad(2, &["--format pgn: expected svg, html, png or pdf; did you mean png?"], "pgn");
-    folder.film(&["draw", "job", "--width", "100"]).bad(2, &["expected 320 to 4,000"], "too narrow");
 }

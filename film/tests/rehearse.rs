@@ -109,6 +109,7 @@ fn wrong_links_are_told() {
     let folder = with_samples();
     std::fs::create_dir(folder.0.join("folder")).unwrap();
     let texts = [
+        ("crlf", "1\n2\r\n"),
         ("open", "1\n2"),
         ("falls", "5\n4\n"),
         ("six", "forecast 5\nforecast 6x3\n"),
@@ -120,12 +121,13 @@ fn wrong_links_are_told() {
     for (name, text) in &texts {
         folder.put(name, text);
     }
-    let cases: [(&str, i32, &str); 26] = [
+    let cases: [(&str, i32, &str); 27] = [
         ("", 2, "--trace FILE or --link KIND RATE is needed"),
         ("--trace", 2, "its value is missing"),
         ("--trace nothing", 1, "nothing: there is no such file"),
         ("--trace folder", 1, "folder is a folder"),
         ("--trace -", 2, "standard input is for the job"),
+        ("--trace crlf", 1, "crlf line 2 ends in CR LF"),
         ("--trace open", 1, "lacks its line feed"),
         ("--trace falls", 1, "falls line 2"),
         ("--trace six", 1, "six line 2: forecast 6x3\na run stands on a line of its own and has spaces"),
@@ -135,17 +137,17 @@ fn wrong_links_are_told() {
         ("--trace halfjob", 1, "halfjob line 2"),
         ("--link 5g 100", 2, "there are 3g, lte, walk, tunnel, steady"),
         ("--link 3g", 2, "its value is missing"),
-        ("--link 3g fast", 2, "A rate is bytes per slot"),
-        ("--link 3g -5", 2, "is not a rate"),
-        ("--link 3g 16777217", 2, "is not a rate"),
-        ("--link 3g 1 --links 0", 2, "expected 1 to 1,000,000"),
-        ("--link 3g 1 --links many", 2, "this is not a number"),
-        ("--link 3g 1 --seed -1", 2, "this is not a number"),
+        ("--link 3g fast", 2, "try 150%"),
+        ("--link 3g -5", 2, "is no rate"),
+        ("--link 3g 16777217", 2, "is no rate"),
+        ("--link 3g 1 --links 0", 2, "it is 1 to 1,000,000"),
+        ("--link 3g 1 --links many", 2, "that is no number"),
+        ("--link 3g 1 --seed -1", 2, "that is no number"),
         ("--links 3", 2, "there is no --link KIND RATE"),
         ("--link 3g 1 --page-of 1", 2, "--page FILE is needed too"),
-        ("--link 3g 1 --page-of 2 --page x.html", 2, "expected 1 to 1"),
-        ("--link 3g 1 --page samples/../samples/flight.txt", 2, "would be overwritten"),
-        ("--trace six --page six", 2, "would be overwritten"),
+        ("--link 3g 1 --page-of 2 --page x.html", 2, "it is 1 to 1"),
+        ("--link 3g 1 --page samples/../samples/flight.txt", 2, "would be written over"),
+        ("--trace six --page six", 2, "would be written over"),
         ("--link 3g 1 --paint", 2, "there is no such option"),
     ];
     for (words, status, message) in cases {
@@ -210,11 +212,11 @@ fn a_text_may_go_without_a_forecast() {
     folder.put("bare.txt", &bare);
     let lines = |job: &str| {
         let table = folder.film(&["rehearse", job, "--link", "walk", "150%"]).good(job).text();
-        table.lines().filter(|line| !line.contains("replanning")).map(String::from).collect::<Vec<_>>()
+        table.lines().filter(|line| !line.contains("planning afresh")).map(String::from).collect::<Vec<_>>()
     };
     assert_eq!(lines("bare.txt"), lines(FLIGHT));
     folder.put("bare.txt", bare.replace("span 6", "span 0"));
     folder.film(&["rehearse", "bare.txt", "--link", "walk", "150%"]).bad(1, &["bare.txt line 3: span 0"], "a text with a fault");
     folder.put("bare.txt", bare.replace("delay 12", ""));
-    folder.film(&["rehearse", "bare.txt", "--link", "walk", "150%"]).bad(1, &["`delay` is missing"], "a text without a delay");
+    folder.film(&["rehearse", "bare.txt", "--link", "walk", "150%"]).bad(1, &["there is no delay"], "a text without a delay");
 }

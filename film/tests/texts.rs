@@ -115,8 +115,7 @@ fn traces_give_the_forecast_of_the_proved_reader() {
             .put("a van.txt", &data)
             .put("text", format!("chunks 1\nspan 1\ndelay {delay}\nlimit 1\nlayer 1\ntrace a van.txt {slots} # the van\n"));
         let answer = folder.film(&["make", "text"]);
-        // A line may end in CR LF, which the proved reader does not take.
-        match read_trace(data.replace("\r\n", "\n").as_bytes(), slots as usize) {
+        match read_trace(data.as_bytes(), slots as usize) {
             Ok(forecast) => {
                 assert_eq!(Job::read(&answer.out).unwrap().forecast, forecast, "{}", answer.err);
                 let reached = times_reached(&data);
@@ -161,8 +160,9 @@ fn a_long_trace_is_read_in_pieces() {
 fn faults_of_a_trace_are_told_by_name() {
     let folder = Folder::new();
     folder.put("text", "chunks 1\nspan 1\ndelay 3\nlimit 1\nlayer 1\ntrace van.trace 3\n");
-    let cases: [(&str, &str); 11] = [
-        ("1\r\n2\r3\r\n", "van.trace line 2 is `2 3`"),
+    let cases: [(&str, &str); 12] = [
+        ("1\r\n2\r\n", "van.trace line 1 ends in CR LF, as on Windows"),
+        ("1\n2\r\n", "van.trace line 2 ends in CR LF"),
         ("1\n2", "van.trace line 2 is the last and lacks its line feed"),
         ("2\n\n3\n", "van.trace line 2 is empty"),
         ("5\n3\n", "van.trace line 2 has the time 3, below 5"),
@@ -230,10 +230,10 @@ fn names_of_traces_and_slots_that_the_job_needs() {
         ("trace van.txt\ntrace van.txt", "line 7: trace van.txt\n  a second trace without its number of slots, after that on line 6"),
         ("forecast 4 x 1\ntrace van.txt", "line 7: trace van.txt\n  the other lines give 4 slots"),
         ("trace \"van.txt 4", "line 6: trace \"van.txt 4\n  the name's second quote is missing"),
-        ("trace \"\" 4", "expected `trace FILE SLOTS`"),
+        ("trace \"\" 4", "the form is trace FILE SLOTS"),
         ("trace van #3.txt", "van: there is no such file"),
-        ("trace \"van.txt\" four", "`four` is not a number"),
-        ("trace deep", "deep is a folder; a file is expected"),
+        ("trace \"van.txt\" four", "`four` is no number"),
+        ("trace deep", "deep is a folder; a file is wanted"),
     ] {
         folder.put("text", format!("{head}{lines}\n"));
         folder.film(&["make", "text"]).bad(1, &[words], lines);
@@ -261,25 +261,13 @@ const FAULTS: &[(usize, &str, usize, u8, &str)] = &[
     (6, "size 1 0 5", 6, 18, "chunk 1 has the sizes of `layer`"),
     (6, "size 4 0 5", 6, 18, "there is no chunk 4"),
     (6, "size 2 1 5", 6, 18, "there is no layer 1; the job has 1, counted from 0"),
+    (6, "size 2 0 2", 6, 18, "2 bytes are layer 0's own size; leave the line out"),
     (6, "size 2 0 0", 6, 18, "a size is 1 to 16,777,216"),
     (6, "size 2 0 16777217", 6, 18, "a size is 1 to 16,777,216"),
     (6, "size -2 0 5", 6, 18, "there is no chunk -2"),
     (6, "size 2 -1 5", 6, 18, "there is no layer -1"),
-    (6, "size 2 0 5\nsize 2 0 6", 7, 18, "chunk 2 layer 0 has another size on line 6; leave one of them out"),
-    (6, "size 1 0 3", 6, 18, "chunk 1 has the sizes of `layer`"),
-    (6, "size 2 0 5 Mbit/s", 6, 0, "`5 Mbit/s` is a rate; a size is in bytes, as in 240k"),
-    (6, "layer 1.5 Mbit/s", 6, 0, "`1.5 Mbit/s` is a rate; a layer's size is in bytes"),
-    (6, "layer 17M", 6, 6, "a layer's size is 1 to 16,777,216 bytes, and 17M is 17,000,000 bytes"),
-    (6, "layer 0k", 6, 6, "a layer's size is 1 to 16,777,216 bytes"),
-    (6, "layer 2.0005k", 6, 0, "`2.0005k` is not a whole number of bytes"),
-    (6, "layer 7 kilo", 6, 0, "`kilo` is not a unit"),
-    (6, "layer 1,5 MB", 6, 0, "`1,5 MB` is not a number; did you mean 1.5 MB?"),
-    (6, "layer 76,000 bytes", 6, 0, "did you mean 76000 bytes?"),
-    (7, "forecast 6 x 2 mbit/s", 7, 0, "`mbit/s` is not a unit; did you mean 2 Mbit/s?"),
-    (7, "forecast 6 x 200 Mbit/s", 7, 7, "and 200 Mbit/s is 25,000,000 bytes per slot"),
-    (7, "forcast 6 x 1", 7, 0, "`forcast` is not a statement; did you mean `forecast BYTES BYTES ..` or `forecast SLOTS x BYTES`?"),
-    (5, "leyer 2", 5, 0, "`leyer` is not a statement; did you mean `layer BYTES`?"),
-    (2, "spam 2", 2, 0, "did you mean `span SLOTS`?"),
+    (6, "size 3 0 5\nsize 2 0 5", 7, 18, "sizes rise by chunk, then layer, and chunk 3 layer 0 stands before"),
+    (6, "size 2 0 5\nsize 2 0 6", 7, 18, "sizes rise by chunk, then layer"),
     (6, "size 65538 0 5", 6, 18, "there is no chunk 65538"),
     (6, "size 2 256 5", 6, 18, "there is no layer 256"),
     (7, "forecast 3 0 1 0 2", 7, 7, "the last chunk is due in slot 6: 1 slot missing"),
@@ -287,53 +275,50 @@ const FAULTS: &[(usize, &str, usize, u8, &str)] = &[
     (7, "forecast 0 x 1", 7, 7, "a run's number of slots is 1 to 3,600"),
     (7, "forecast 3601 x 1", 7, 7, "a run's number of slots is 1 to 3,600"),
     (7, "forecast -1 x 1", 7, 7, "a run's number of slots is 1 to 3,600"),
-    (7, "forecast 6 x 16777217", 7, 7, "a slot of the forecast is 0 to 16,777,216"),
-    (7, "forecast 1 2 3 4 5 16777217", 7, 7, "a slot of the forecast is 0 to 16,777,216"),
-    (7, "forecast -1 2 3 4 5 6", 7, 7, "a slot of the forecast is 0 to 16,777,216"),
+    (7, "forecast 6 x 16777217", 7, 7, "a slot's bytes is 0 to 16,777,216"),
+    (7, "forecast 1 2 3 4 5 16777217", 7, 7, "a slot's bytes is 0 to 16,777,216"),
+    (7, "forecast -1 2 3 4 5 6", 7, 7, "a slot's bytes is 0 to 16,777,216"),
     (7, "forecast 3600 x 1\nforecast 1", 8, 7, "the forecast has 3,601 slots by this line"),
     (7, "forecast 6 x 1\nforecast 1", 8, 7, "the last chunk is due in slot 6: 1 slot too many"),
     (7, "trace nothing 0", 7, 7, "a trace's number of slots is 1 to 3,600"),
     (7, "trace nothing 3601", 7, 7, "a trace's number of slots is 1 to 3,600"),
-    (1, "chunk 3", 1, 0, "`chunk` is not a statement; did you mean `chunks NUMBER`?"),
-    (1, "Chunks 3", 1, 0, "did you mean `chunks NUMBER`?"),
+    (1, "chunk 3", 1, 0, "`chunk` is no statement; is chunks NUMBER meant?"),
+    (1, "Chunks 3", 1, 0, "is chunks NUMBER meant?"),
     (1, "frames 3", 1, 0, "the statements are chunks, span, delay, limit, layer, size, forecast, trace"),
-    (1, "chunks", 1, 0, "expected `chunks NUMBER`"),
-    (1, "chunks 3 3", 1, 0, "expected `chunks NUMBER`"),
-    (1, "chunks three", 1, 0, "`three` is not a number; numbers are digits only"),
-    (1, "chunks 3.0", 1, 0, "`3.0` is not a number"),
-    (1, "chunks \u{0663}", 1, 0, "is not a number"),
-    (1, "chunks 1_0", 1, 0, "`1_0` is not a number"),
+    (1, "chunks", 1, 0, "the form is chunks NUMBER"),
+    (1, "chunks 3 3", 1, 0, "the form is chunks NUMBER"),
+    (1, "chunks three", 1, 0, "`three` is no number; numbers are digits alone"),
+    (1, "chunks 3.0", 1, 0, "`3.0` is no number"),
+    (1, "chunks \u{0663}", 1, 0, "is no number"),
+    (1, "chunks 1_0", 1, 0, "`1_0` is no number"),
     (1, "chunks 1_000", 1, 0, "without separators: 1000"),
-    (2, "span 2\nspan 2", 3, 0, "`span` is given twice; the first is on line 2"),
-    (3, "delay 2 slots", 3, 0, "expected a number without a unit: `delay 2`"),
-    (6, "size 2 0", 6, 0, "expected `size CHUNK LAYER BYTES`"),
-    (6, "size 2 0 5 5", 6, 0, "expected `size CHUNK LAYER BYTES`"),
-    (6, "layer", 6, 0, "expected `layer BYTES`"),
+    (2, "span 2\nspan 2", 3, 0, "a second span; the first is on line 2"),
+    (6, "size 2 0", 6, 0, "the form is size CHUNK LAYER BYTES"),
+    (6, "size 2 0 5 5", 6, 0, "the form is size CHUNK LAYER BYTES"),
+    (6, "layer", 6, 0, "the form is layer BYTES"),
     (6, "layer 240.000", 6, 0, "without separators: 240000"),
     (6, "layer 1'000'000", 6, 0, "without separators: 1000000"),
-    (7, "forecast", 7, 0, "expected `forecast BYTES BYTES ..` or `forecast SLOTS x BYTES`"),
+    (7, "forecast", 7, 0, "the form is forecast BYTES"),
     (7, "forecast 6x1", 7, 0, "a run has spaces around its x, forecast 6 x 1"),
     (7, "forecast 6\u{d7}1", 7, 0, "a run has spaces around its x, forecast 6 x 1"),
-    (7, "forecast 6x1,5 Mbit/s", 7, 0, "`6x1,5 Mbit/s` is not a number; did you mean `forecast 6 x 1.5 Mbit/s`?"),
-    (7, "forecast 6x1.5Mbit/s", 7, 0, "did you mean `forecast 6 x 1.5Mbit/s`?"),
     (7, "forecast 6 X 1", 7, 0, "a run has a small x: forecast 6 x 1"),
     (7, "forecast 6 * 1", 7, 0, "a run has a small x: forecast 6 x 1"),
     (7, "forecast 3 3 x 1", 7, 0, "a run stands on a line of its own: forecast SLOTS x BYTES"),
     (7, "forecast 6 x", 7, 0, "a run stands on a line of its own"),
     (7, "forecast x 6", 7, 0, "a run stands on a line of its own"),
-    (7, "forecast 6 x x", 7, 0, "is not a number"),
+    (7, "forecast 6 x x", 7, 0, "is no number"),
     (7, "forecast 6 x 1 x 1", 7, 0, "a run stands on a line of its own"),
     (7, "forecast 4,000", 7, 0, "without separators: 4000"),
     (7, "forecast 1,234,567 1 2 3 4 5", 7, 0, "without separators: 1234567"),
     (7, "forecast 3, 0, 1, 0, 2, 0", 7, 0, "with spaces between them and no comma"),
-    (7, "trace", 7, 0, "expected `trace FILE SLOTS`, or `trace FILE` for as many as the job needs"),
+    (7, "trace", 7, 0, "the form is trace FILE SLOTS, or trace FILE for what the job needs"),
     (7, "trace 6", 7, 0, "6: there is no such file"),
     (7, "trace nothing 6", 7, 0, "nothing: there is no such file"),
     (7, "trace nothing", 7, 0, "nothing: there is no such file"),
-    (7, "trace / 6", 7, 0, "/ is a folder; a file is expected"),
-    (7, "trace . 6", 7, 0, " is a folder; a file is expected"),
+    (7, "trace / 6", 7, 0, "/ is a folder; a file is wanted"),
+    (7, "trace . 6", 7, 0, " is a folder; a file is wanted"),
     (7, "trace nothing six", 7, 0, "nothing six: there is no such file"),
-    (7, "a\0b 6", 7, 0, "this is not text"),
+    (7, "a\0b 6", 7, 0, "this is no text"),
 ];
 
 #[test]
@@ -358,20 +343,12 @@ fn faulty_texts_are_told_by_line_and_sentence() {
         lines[place - 1] = "# nothing";
         folder.put("bad.txt", lines.join("\n"));
         let kind = form.split(' ').next().unwrap();
-        let answer = folder.film(&["make", "bad.txt"]).bad(1, &[&format!("bad.txt: `{kind}` is missing; add a line `{form}")], form);
+        let answer = folder.film(&["make", "bad.txt"]).bad(1, &[&format!("bad.txt: there is no {kind}; a line `{form}")], form);
         assert!(number == 0 || answer.err.contains(&format!("refusal {number}: ")), "{}", answer.err);
     }
     let lacking: String = A_TEXT.lines().filter(|line| !line.contains("layer")).map(|line| format!("{line}\n")).collect();
-    folder.film_on(&["make"], lacking.as_bytes()).bad(
-        1,
-        &["standard input: `layer` is missing; add a line `layer BYTES`", "refusal 6: "],
-        "no layer",
-    );
-    folder.film_on(&["make"], b"chunks 3\nspan \xff\n").bad(
-        1,
-        &["standard input line 2: this line is in Latin-1; a text is in UTF-8"],
-        "no UTF-8",
-    );
+    folder.film_on(&["make"], lacking.as_bytes()).bad(1, &["standard input: there is no layer", "refusal 6: "], "no layer");
+    folder.film_on(&["make"], b"chunks 3\nspan \xff\n").bad(1, &["standard input line 2:", "UTF-8"], "no UTF-8");
     println!("{} faulty texts are refused with their line and sentence", FAULTS.len() + absent.len() + 2);
 }
 
@@ -379,14 +356,14 @@ fn faulty_texts_are_told_by_line_and_sentence() {
 fn all_faults_of_a_text_come_in_one_go() {
     let folder = Folder::new();
     folder.put("bad.txt", "chunks 501\nspan 2\ndelay two\nlayer 0\nlayer 1\nsize 1 0 5\nsize 9 1 4\nforecast 4,000\ntrace nothing\nfilm\n");
-    let answer = folder.film(&["make", "bad.txt"]).bad(1, &["bad.txt: `limit` is missing"], "all faults");
+    let answer = folder.film(&["make", "bad.txt"]).bad(1, &["bad.txt: there is no limit"], "all faults");
     for line in [1, 3, 4, 6, 8, 9, 10] {
         assert!(answer.err.contains(&format!("bad.txt line {line}: ")), "line {line}: {}", answer.err);
     }
     let at: Vec<usize> = answer.err.match_indices("bad.txt line ").map(|(k, _)| k).collect();
     assert!(at.len() >= 7 && at.windows(2).all(|w| w[0] < w[1]));
     let many = "film\n".repeat(500);
-    let answer = folder.film_on(&["make"], many.as_bytes()).bad(1, &["more faults"], "500 faults");
+    let answer = folder.film_on(&["make"], many.as_bytes()).bad(1, &["faults more"], "500 faults");
     assert!(answer.err.lines().count() < 50, "{}", answer.err);
 }
 
@@ -422,8 +399,7 @@ fn damaged_texts_and_files_never_panic() {
     for line in ["forecast 1\n", "size 2 0 5\n", "layer 7\n", "chunks 3\n", "film\n", "trace nothing\n", "\n", "\"\n", "trace \"\n"] {
         let text = format!("{A_TEXT}{}", line.repeat((10_000_000 - A_TEXT.len()) / line.len()));
         let answer = folder.film_on(&["make"], text.as_bytes());
-        let harmless = ["\n", "size 2 0 5\n"].contains(&line);
-        assert!(harmless && answer.status == 0 || answer.status == 1 && answer.err.len() < 10_000, "{line}: {}", answer.err.len());
+        assert!(line == "\n" && answer.status == 0 || answer.status == 1 && answer.err.len() < 10_000, "{line}: {}", answer.err.len());
     }
     assert!(start.elapsed().as_secs() < 300, "long texts take too long");
     println!("3,000 damaged texts and files: {kept} still jobs, the others refused");

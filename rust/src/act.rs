@@ -145,7 +145,7 @@ impl Act {
     ///
     /// Then the chunks from c to before m are not asked and those from m on are, as far as there
     /// are places. No chunk from c on is begun, so playing order and rule 6 hold as for the rule's
-    /// own asks: these are safe whichever chunks are passed over (`Asked.safe-beside` in
+    /// own asks: these are safe whichever chunks are passed over (`Asked.safe_beside` in
     /// `theory_live`).
     fn with_a_later_one(&self, asks: &[Piece]) -> Option<Vec<Piece>> {
         let samples = &self.meter.bytes[..usize::from(self.meter.kept)];

@@ -1,19 +1,17 @@
-//! The calls of `include/film_planner.h`, declared and wrapped, and at the end Ctrl-C: the only file
-//! with `unsafe`. A slice crosses as its pointer and its length, so each wrapper hands on exactly what
-//! Rust lent it, and no two of its `&mut` slices overlap.
+//! The calls of `include/film_planner.h`, declared and wrapped: the only file with `unsafe`, which
+//! `most.rs` has by the macro of this file. A slice crosses as its pointer and its length, so each
+//! wrapper hands on exactly what Rust lent it, and no two of its `&mut` slices overlap.
 #![allow(unsafe_code)]
 // The calls have up to 21 numbers and slices.
 #![allow(clippy::too_many_arguments)]
 
-use std::sync::atomic::{AtomicU32, Ordering};
-
 extern "C" {
-    fn film_archive_of_version_2() -> u64;
+    fn film_archive_of_version_1() -> u64;
 }
 
 /// The archive's version by name, as the header has it: a wrapper of another version does not link.
 #[used]
-static ARCHIVE: unsafe extern "C" fn() -> u64 = film_archive_of_version_2;
+static ARCHIVE: unsafe extern "C" fn() -> u64 = film_archive_of_version_1;
 
 /// Declares the calls and wraps each: a number crosses as it is, a slice as pointer and length.
 macro_rules! calls {
@@ -112,11 +110,6 @@ calls! {
         size_layers: handed u8, size_bytes: handed u32, forecast: handed u32, budget: number u32, marks: lent u8,
         row_slots: lent u16, row_chunks: lent u16, row_layers: lent u8, row_bytes: lent u32, counts: lent u16, walk: lent u32,
     );
-    fn most = film_most(
-        chunks: number u16, span: number u16, delay: number u16, limit: number u16, sizes: handed u32, size_chunks: handed u16,
-        size_layers: handed u8, size_bytes: handed u32, forecast: handed u32, passes: number u32, work: lent u64, marks: lent u8,
-        row_slots: lent u16, row_chunks: lent u16, row_layers: lent u8, row_bytes: lent u32, counts: lent u16, bounds: lent u16,
-    );
     fn reasons = film_reasons(
         chunks: number u16, span: number u16, delay: number u16, limit: number u16, sizes: handed u32, size_chunks: handed u16,
         size_layers: handed u8, size_bytes: handed u32, forecast: handed u32, out: lent u8,
@@ -151,36 +144,4 @@ calls! {
     fn meter_new = film_meter_new(slots: lent u16, bytes: lent u32, kept: lent u8);
     fn meter_take = film_meter_take(slots: lent u16, bytes: lent u32, kept: lent u8, slot: number u16, sample: number u32);
     fn meter_forecast = film_meter_forecast(slots: handed u16, bytes: handed u32, kept: handed u8);
-}
-
-/// SIGINT, what Ctrl-C sends, and the handler that stands for the system's own.
-const INTERRUPT: i32 = 2;
-const SYSTEMS_OWN: usize = 0;
-
-/// How often there was a Ctrl-C.
-static INTERRUPTS: AtomicU32 = AtomicU32::new(0);
-
-extern "C" {
-    fn signal(number: i32, handler: usize) -> usize;
-}
-
-/// Counts two of them and leaves the third to the system, which ends the program. The second is none
-/// of a person: `timeout` and others send a program two at once, and its answer would be lost.
-extern "C" fn on_interrupt(_: i32) {
-    if INTERRUPTS.fetch_add(1, Ordering::Relaxed) > 0 {
-        // SAFETY: `signal` may be called in a handler, and is given a handler of the system.
-        unsafe { signal(INTERRUPT, SYSTEMS_OWN) };
-    }
-}
-
-/// From now on a Ctrl-C does not end the program; [`is_interrupted`] reports it. The third one does.
-pub(crate) fn on_interrupt_go_on() {
-    // SAFETY: the handler is a function of the type that `signal` asks for, lives as long as the
-    // program, and does only what a handler may do: an atomic count and a call of `signal`.
-    unsafe { signal(INTERRUPT, on_interrupt as extern "C" fn(i32) as usize) };
-}
-
-/// Whether there was a Ctrl-C since [`on_interrupt_go_on`].
-pub(crate) fn is_interrupted() -> bool {
-    INTERRUPTS.load(Ordering::Relaxed) > 0
 }

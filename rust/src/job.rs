@@ -1,7 +1,7 @@
 //! Jobs: what is fetched, by when, over which link; and every call that takes one.
 use crate::{
-    ffi, FetchList, Found, Most, Piece, Plan, Refusal, Verdict, BOUNDS, COUNTS, FILE, FILE_ROWS, JOB_FILE, LAYERS, LENGTHS, MARKS,
-    MOST_WORK, PIECES, PROGRAMME, REASONS, REPORT, ROWS, SLOTS, SZS, WALK,
+    ffi, FetchList, Found, Piece, Plan, Refusal, Verdict, COUNTS, FILE, FILE_ROWS, JOB_FILE, LAYERS, LENGTHS, MARKS, PIECES, PROGRAMME,
+    REASONS, REPORT, ROWS, SLOTS, SZS, WALK,
 };
 
 /// A size of one layer of one chunk that differs from the layer's own (`SZ`).
@@ -259,62 +259,6 @@ impl Job {
         )?;
         marks.truncate(usize::from(self.chunks));
         Ok(Found { plan: Plan { marks, list: list.cut(rows), counts }, steps: walk[0], ended: walk[1] == 1, shortfall: walk[2] as u16 })
-    }
-
-    /// Returns a plan over the most bases that at most `passes` passes find, and two bounds that no
-    /// fetch list exceeds. It is for any film, equal or uneven, and any limit.
-    ///
-    /// Each pass looks for one number of bases, from the bound down, so `passes` limits the time.
-    /// Films with the sizes and links of practice mostly need 0 to 2 passes, and 16 are plenty. On 500 chunks a pass takes up to a few
-    /// hundredths of a second. The scratch of the call, 2 MB for the largest job, is allocated here.
-    ///
-    /// If [`Most::exact`] is true, no list in playing order shows more pictures than the plan. If
-    /// the plan carries [`Most::bound_any`] bases, no list in any order does. Both hold if all bases
-    /// have one size, or if the limit holds the whole programme.
-    ///
-    /// # Errors
-    ///
-    /// In this order: [`Refusal::ProgrammeField`], [`Refusal::LayerSize`], [`Refusal::Sz`],
-    /// [`Refusal::Forecast`].
-    ///
-    /// # Examples
-    ///
-    /// ```
-    /// use film_planner::{Job, Override, Refusal};
-    ///
-    /// let job = Job {
-    ///     chunks: 3,
-    ///     span: 1,
-    ///     delay: 1,
-    ///     limit: 2,
-    ///     sizes: vec![1],
-    ///     overrides: vec![Override { chunk: 3, layer: 0, bytes: 3 }],
-    ///     forecast: vec![1, 1, 1],
-    /// };
-    /// let most = job.most(16)?;
-    /// assert_eq!((job.plan()?.counts[0], most.plan.counts[0]), (1, 2));
-    /// assert_eq!((most.bound, most.bound_any, most.exact), (2, 2, true));
-    /// # Ok::<(), Refusal>(())
-    /// ```
-    pub fn most(&self, passes: u32) -> Result<Most, Refusal> {
-        let (mut work, mut bounds) = (vec![0; MOST_WORK], [0; BOUNDS]);
-        let (mut marks, mut list, mut counts) = (vec![0; MARKS], FetchList::room(ROWS), [0; COUNTS]);
-        let rows = with_job!(
-            most,
-            self,
-            &self.forecast,
-            passes,
-            &mut work,
-            &mut marks,
-            &mut list.slots,
-            &mut list.chunks,
-            &mut list.layers,
-            &mut list.bytes,
-            &mut counts,
-            &mut bounds
-        )?;
-        marks.truncate(usize::from(self.chunks));
-        Ok(Most { plan: Plan { marks, list: list.cut(rows), counts }, bound: bounds[0], bound_any: bounds[1], exact: bounds[2] == 1 })
     }
 
     /// Judges a fetch list with its marks, one a chunk.

@@ -1,9 +1,9 @@
 //! The layered film planner of the winch desk, proved in Rattle, for callers in Rust. A call
 //! answers a value or a [`Refusal`], which carries document 01's or 02's number and sentence; nothing
 //! is changed by a call that refuses. `include/film_planner.h` says what every call needs and
-//! answers; here buffers are of the largest size a result can have, so that
-//! [`Refusal::ShortBuffer`] never arises. No call panics: what is expected of the archive in this
-//! crate is proved of it.
+//! answers, and `include/film_most.h` says it of [`Job::most`]; here buffers are of the largest size
+//! a result can have, so that [`Refusal::ShortBuffer`] never arises. No call panics: what is expected
+//! of the archive in this crate is proved of it.
 //!
 //! ```
 //! use film_planner::{Job, Refusal, Verdict};
@@ -34,12 +34,13 @@
 // Nothing is lost where the answer of a getter is dropped; both arms of a test read as one table.
 #[allow(clippy::must_use_candidate, clippy::match_bool)]
 mod act;
+#[macro_use]
 mod ffi;
 mod files;
-pub mod interrupt;
 mod job;
 mod list;
 mod meter;
+mod most;
 mod refusal;
 mod trace;
 
@@ -50,11 +51,12 @@ pub use files::{convert_file, plan_file, reasons_file, report_file, verdict_file
 pub use job::{Job, Override};
 pub use list::{FetchList, Piece, Row};
 pub use meter::Meter;
+pub use most::{Most, BOUNDS, MOST_WORK};
 pub use refusal::Refusal;
 pub use trace::{read_trace, write_trace};
 
 /// The version of the header that this crate was written for: the archive's, or it does not link.
-pub const VERSION: u32 = 2;
+pub const VERSION: u32 = 1;
 
 /// The largest results, each with its name and its place in the header (`FILM_ROWS` and so on).
 macro_rules! largest {
@@ -87,10 +89,6 @@ largest! {
     COUNTS = 4;
     /// Steps, ended, shortfall of a search.
     WALK = 3;
-    /// In playing order, in any order, exact: of most pictures.
-    BOUNDS = 3;
-    /// Scratch of most pictures for any job: 501 rows of 501 numbers.
-    MOST_WORK = 251_001;
     /// Bytes of any file that is read or written.
     FILE = 65536;
     /// Rows of any plan file that is read.
@@ -132,20 +130,6 @@ pub struct Found {
     pub ended: bool,
     /// How many bases more a passing list in playing order can carry at the most.
     pub shortfall: u16,
-}
-
-/// The plan with the most pictures that a search found, and how many pictures no fetch list can
-/// exceed.
-#[derive(Clone, Debug, PartialEq, Eq)]
-pub struct Most {
-    /// The plan over the set of bases found. It carries at least as many bases as [`Job::plan`]'s.
-    pub plan: Plan,
-    /// No passing list in playing order carries more bases.
-    pub bound: u16,
-    /// No passing list in any order carries more bases.
-    pub bound_any: u16,
-    /// The plan carries `bound` bases: no list in playing order shows more pictures.
-    pub exact: bool,
 }
 
 /// What the checker says of a list: it passes, or the lowest rule it breaks.

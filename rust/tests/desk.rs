@@ -70,45 +70,6 @@ fn a_search_within_a_budget() {
     assert_eq!(Job { span: 0, ..uneven }.search(1), Err(Refusal::ProgrammeField));
 }
 
-/// One layer, L 1, H 2.
-fn uneven(delay: u16, bases: &[u32], forecast: &[u32]) -> Job {
-    let differs = |(chunk, &bytes): (u16, &u32)| (bytes != bases[0]).then_some(Override { chunk, layer: 0, bytes });
-    let overrides = (1..).zip(bases).filter_map(differs).collect();
-    let chunks = u16::try_from(bases.len()).expect("few chunks");
-    Job { chunks, span: 1, delay, limit: 2, sizes: vec![bases[0]], overrides, forecast: forecast.to_vec() }
-}
-
-#[test]
-fn most_pictures_of_uneven_film() {
-    // The plan keeps the last base, which leaves no room for the two before it.
-    let poor = uneven(1, &[1, 1, 3], &[1, 1, 1]);
-    assert_eq!(poor.plan().unwrap().counts, [1, 0, 0, 0]);
-    let most = poor.most(16).unwrap();
-    assert_eq!(most.plan.marks, [1, 1, 0]);
-    assert_eq!(most.plan.list, rows(&[(1, 1, 0, 1), (2, 2, 0, 1)]));
-    assert_eq!((most.plan.counts, most.bound, most.bound_any, most.exact), ([2, 0, 0, 0], 2, 2, true));
-    assert_eq!(poor.check(&most.plan.marks, &most.plan.list), Ok(Verdict::Passes));
-    // Without a pass nothing is found, and the bound says how many more there could be.
-    let none = poor.most(0).unwrap();
-    assert_eq!((none.plan.counts[0], none.bound, none.exact), (1, 2, false));
-    // A pass lowers this film's bound.
-    let lowered = uneven(2, &[1, 3, 1, 2], &[3, 0, 1, 0, 0]);
-    let (first, then) = (lowered.most(0).unwrap(), lowered.most(16).unwrap());
-    assert_eq!((first.bound, then.bound, then.plan.counts[0], then.exact), (3, 2, 2, true));
-    assert_eq!(Job { span: 0, ..poor }.most(1), Err(Refusal::ProgrammeField));
-}
-
-#[test]
-fn most_pictures_are_the_plans_where_it_is_best() {
-    // Chunks of one size, and a limit that holds the whole programme.
-    let all_held = Job { limit: 3, ..uneven(1, &[1, 1, 3], &[1, 1, 1]) };
-    for job in [job_a(), all_held] {
-        let (plan, most) = (job.plan().unwrap(), job.most(0).unwrap());
-        assert_eq!((most.bound, most.bound_any, most.exact), (plan.counts[0], plan.counts[0], true));
-        assert_eq!(most.plan.counts[0], plan.counts[0]);
-    }
-}
-
 #[test]
 fn the_limit_decides() {
     let six = Job { limit: 6, ..job_a() };

@@ -15,9 +15,9 @@ use Rattle.fetch.specs.Rules.{Keeps}
 use Rattle.fetch.specs.Verdict.{verdict}
 use Rattle.fetch.specs.Theorems.{verdict_iff}
 use Rattle.theory_plan.specs.Statement.{Best, IsPlan, MostPictures, marks_of}
-use Rattle.theory_plan.specs.Pictures.{most_pictures}
+use Rattle.theory_plan.proofs.Pictures.{most_pictures}
 use Rattle.theory_plan.specs.Own.{own_list}
-use Rattle.theory_plan.specs.Theorems.{best, plan_carried}
+use Rattle.theory_plan.proofs.Theorems.{best, plan_carried}
 use Rattle.theory_plan.specs.lemmas.Words.{accepted_sized}
 use Rattle.booking.specs.Booking.{slot_has, taken_off, added_back, pass_refusal, slot_there, room_refusal, SlotsThere, Releasable, Bookable, Without, Run, start, booking, Balanced}
 use Rattle.booking.specs.Booking

@@ -19,9 +19,9 @@ use Rattle.theory_plan.specs.Plan.{after}
 use Rattle.theory_plan.specs.lemmas.Parts.{part_small}
 use Rattle.theory_plan.specs.lemmas.Words.{due_by}
 use Rattle.theory_most.specs.Statement.{any_row, bound, bound_any, largest, least, most_from, no_chunks, too_much, with_or_without}
-use Rattle.theory_most.specs.Theorems.{least_at, least_at_end, least_of_none}
+use Rattle.theory_most.proofs.Theorems.{least_at, least_at_end, least_of_none}
 use Rattle.theory_most.specs.lemmas.InTables.{EachJob, RowsFrom, Says}
-use Rattle.theory_most.specs.lemmas.Rising.{any_top, least_top}
+use Rattle.theory_most.proofs.Rising.{any_top, least_top}
 use Rattle.core_decide.specs.lemmas.Accepted.{left_is, part_in}
 use Rattle.core_bounds.specs.lemmas.Tables.{AnyOrderPost, BoundPre, ClearRowPost, CutAbovePost, FillRowPost, FillRowPre, InFrontPost, InOrderPost, InOrderPre, RowPre}
 

@@ -15,9 +15,9 @@ use Rattle.job.specs.Job.{Job, chunks, held_most}
 use Rattle.theory_plan.specs.Bases.{base_size}
 use Rattle.theory_most.specs.Statement.{State, after_set, end_of, keep, open_of, release, used_with}
 use Rattle.theory_most.specs.Search.{forward}
-use Rattle.theory_most.specs.Theorems.{set_state}
+use Rattle.theory_most.proofs.Theorems.{set_state}
 use Rattle.theory_most.specs.lemmas.Forward.{release_own, release_wait, waits_last}
-use Rattle.theory_most.specs.lemmas.Search.{forward_set}
+use Rattle.theory_most.proofs.Search.{forward_set}
 use Rattle.core_covering.specs.lemmas.Tables.{ForwardFor, ForwardOf, ForwardPre}
 use Rattle.core_covering.specs.lemmas.Levels.{base_small, open_small, set_used, set_wait_small}
 

@@ -18,11 +18,11 @@ use Rattle.checker.specs.Checked.{check_from_refusal, check_refusal}
 use Rattle.planfile.specs.lemmas.Back.{field}
 use Rattle.theory_plan.specs.Plan.{plan}
 use Rattle.theory_plan.specs.Statement.{marks_of}
-use Rattle.theory_plan.specs.Theorems.{plan_carried, plan_exists, marks_long}
+use Rattle.theory_plan.proofs.Theorems.{plan_carried, plan_exists, marks_long}
 use Rattle.theory_plan.specs.lemmas.Words.{accepted_sized}
 use Rattle.planner.specs.Answer.{plan_rows}
 use Rattle.theory_search.specs.Search.{found, plan_over}
-use Rattle.theory_search.specs.Theorems.{found_is_found, good_enough, over_exists}
+use Rattle.theory_search.proofs.Theorems.{found_is_found, good_enough, over_exists}
 use Rattle.search.specs.Answer.{plan_found, rows_found}
 use Rattle.most.specs.Promise.{Finds, rows_over}
 use Rattle.theory_replan.specs.Refusal.{joined_accepted, replan_refusal_iff, replan_refusal}

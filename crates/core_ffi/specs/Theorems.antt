@@ -23,17 +23,17 @@ use Rattle.planfile.specs.lemmas.Back.{accepts}
 use Rattle.planfile.specs.lemmas.Few.{rows_inside}
 use Rattle.theory_plan.specs.Plan.{plan}
 use Rattle.theory_plan.specs.Statement.{marks_of}
-use Rattle.theory_plan.specs.Theorems.{own_list_rows, plan_exists, marks_long}
+use Rattle.theory_plan.proofs.Theorems.{own_list_rows, plan_exists, marks_long}
 use Rattle.planner.specs.Answer.{plan_rows}
-use Rattle.theory_replan.specs.Desk.{replans}
+use Rattle.theory_replan.proofs.Desk.{replans}
 use Rattle.theory_replan.specs.Refusal.{replan_refusal}
 use Rattle.replan.specs.Answer.{ReplanInput, fetched, input_refusal, rows_on}
 use Rattle.theory_search.specs.Search.{found, plan_over}
-use Rattle.theory_search.specs.Theorems.{over_exists}
+use Rattle.theory_search.proofs.Theorems.{over_exists}
 use Rattle.search.specs.Answer.{plan_found, rows_found}
 use Rattle.most.specs.Promise.{rows_over}
 use Rattle.theory_reasons.specs.Lines.{plan_text}
-use Rattle.theory_reasons.specs.Theorems.{text_fits}
+use Rattle.theory_reasons.proofs.Theorems.{text_fits}
 use Rattle.report.specs.Answer.{plan_report_fits, plan_report}
 use Rattle.trace.specs.Theorems.{read_iff}
 use Rattle.trace.specs.Trace.{trace_refusal}

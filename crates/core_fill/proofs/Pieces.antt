@@ -16,7 +16,7 @@ use Rattle.theory_plan.specs.lemmas.Fill.{QueuedPiece, row, less, fill}
 use Rattle.core_fill.specs.declared.Position.{Position}
 use Rattle.theory_plan.specs.lemmas.Parts.{padded, left_none, left_step, padded_long, padded_at}
 use Rattle.core_fill.specs.lemmas.Filling.{last_of, bytes_at, left_at, onward, Made, Same, Goes, PutPiecePre, piece, PutPiecePost}
-use Rattle.theory_basics.specs.lemmas.Lent.{length_snoc, stored}
+use Rattle.theory_basics.proofs.Lent.{length_snoc, stored}
 
 -- ---- the rest of a list
 

@@ -21,10 +21,10 @@ use Rattle.theory_plan.specs.Plan.{kept, after}
 use Rattle.theory_plan.specs.lemmas.Fill.{QueuedPiece, Ready, fill, needs}
 use Rattle.theory_plan.specs.lemmas.Kept.{picked_each}
 use Rattle.theory_plan.specs.lemmas.Linear.{level_of_lem, mark_level}
-use Rattle.theory_plan.specs.lemmas.OwnFill.{own_list_is}
+use Rattle.theory_plan.proofs.OwnFill.{own_list_is}
 use Rattle.theory_plan.specs.lemmas.Queue.{feas_relok, pieces, queue, ready_queue, releases, weight, all_ones}
 use Rattle.theory_plan.specs.Statement.{Choice, counts_of, marks_of}
-use Rattle.theory_plan.specs.Theorems.{own_list_rows}
+use Rattle.theory_plan.proofs.Theorems.{own_list_rows}
 use Rattle.theory_plan.specs.lemmas.Sufficiency.{fetch}
 use Rattle.theory_plan.specs.lemmas.Trials.{level_mark}
 use Rattle.theory_plan.specs.lemmas.Words.{accepted_sized, due_by}

@@ -11,7 +11,7 @@ use lib.Dec.{eqb}
 use borrow.Author.Tests.{eq-eqb, ne_eqb}
 use Rattle.theory_basics.specs.Lent.{over}
 use Rattle.theory_basics.specs.Lists.{up_to}
-use Rattle.theory_basics.specs.lemmas.Lent.{over_long}
+use Rattle.theory_basics.proofs.Lent.{over_long}
 use Rattle.theory_basics.specs.lemmas.Lists.{get_d_up_to, length_up_to}
 use Rattle.theory_basics.specs.lemmas.Tables.{at_set, drop_next}
 use Rattle.theory_plan.specs.Bases.{Asc}

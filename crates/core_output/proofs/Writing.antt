@@ -9,7 +9,7 @@ use lib.ListN.{length, get_or, take, drop}
 use lib.Seq.{take_at}
 use Rattle.theory_basics.specs.Lent.{over}
 use Rattle.theory_basics.specs.Lists.{up_to}
-use Rattle.theory_basics.specs.lemmas.Lent.{over_long}
+use Rattle.theory_basics.proofs.Lent.{over_long}
 use Rattle.theory_basics.specs.lemmas.Lists.{length_up_to}
 use Rattle.fetch.specs.Counts.{mark_count}
 use Rattle.fetch.specs.Rows.{Row, row_slot, row_chunk, row_layer, row_bytes}

@@ -15,7 +15,7 @@ use Rattle.theory_plan.specs.lemmas.Parts.{at}
 use Rattle.theory_plan.specs.lemmas.Trials.{Stack, candidate, keeps}
 use Rattle.theory_search.specs.Search.{Walked, better, cut, goes_on, meet, spend}
 use Rattle.theory_search.specs.lemmas.Stack.{in_front, search_keeps, search_skips, search_stops, search_stack}
-use Rattle.theory_search.specs.lemmas.Walk.{better_stays}
+use Rattle.theory_search.proofs.Walk.{better_stays}
 use Rattle.core_search.specs.lemmas.Tables.{base_of, of, stack_at, best_at, walked, CopyEndPost, Given, KeepBestPost, CanKeepPost, CanKeepPre, SearchPre, SearchPost}
 
 -- ---- the end of a table

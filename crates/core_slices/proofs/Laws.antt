@@ -10,7 +10,7 @@ use lib.Seq.{take-suc, take_at, length-take-le}
 use lib.Dec.{leb}
 use borrow.Author.Tests.{le-leb}
 use Rattle.theory_basics.specs.Lent.{over}
-use Rattle.theory_basics.specs.lemmas.Lent.{over_long, over_next}
+use Rattle.theory_basics.proofs.Lent.{over_long, over_next}
 use Rattle.theory_basics.specs.lemmas.Tests.{tests, true_T}
 use Rattle.fetch.specs.Rows.{Row, row_bytes, row_chunk, row_layer, row_slot}
 use Rattle.core_slices.specs.lemmas.Slices.{Result, rows_hold, Stands}

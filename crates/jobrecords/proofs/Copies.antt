@@ -8,7 +8,7 @@ use native.Mathlib.Omega.{arith}
 use lib.ListN.{length, take, drop, set, get_or, replicate, length-set}
 use lib.Seq.{paste, paste-zero, paste-suc}
 use Rattle.theory_basics.specs.Lent.{over}
-use Rattle.theory_basics.specs.lemmas.Lent.{stored}
+use Rattle.theory_basics.proofs.Lent.{stored}
 use Rattle.theory_basics.specs.lemmas.Lists.{length_up_to}
 use Rattle.job.specs.Job.{Override}
 use Rattle.jobrecords.specs.lemmas.Reading.{override_on, overrides_on}

@@ -1,22 +1,21 @@
 -- Laws on what the call hands over: its refusals in their order, then the pieces. Assumes nothing.
 use Prim.Native.Nat.{ℕ, ◌-◌, ◌≤◌, ◌<◌}
 use mathlib.Core.Path.{◌≡◌, refl, sym, ◌∙◌, ap, subst}
-use mathlib.Core.Bool.{Bool, true, false, cond, ◌&&◌}
-use mathlib.Core.List.{List, map}
+use mathlib.Core.Bool.{Bool, true, false, ◌&&◌}
+use mathlib.Core.List.{List}
 use native.Mathlib.Omega.{arith}
 use lib.Dec.{eqb, leb}
-use lib.ListN.{length, drop, take, take-append-drop}
+use lib.ListN.{length, take, take-append-drop}
 use borrow.Author.Tests.{ne_eqb}
 use Rattle.theory_basics.specs.Lent.{over}
-use Rattle.theory_basics.specs.Refusals.{◌or_else◌, unless}
+use Rattle.theory_basics.specs.Refusals.{unless}
 use Rattle.theory_basics.specs.lemmas.Refusals.{or_else_none, or_else_some}
 use Rattle.theory_basics.specs.lemmas.Tests.{tests, true_T}
-use Rattle.job.specs.Input.{JobInput, job_in}
-use Rattle.job.specs.Job.{Accepted, chunks, job_of}
+use Rattle.job.specs.Input.{job_in}
+use Rattle.job.specs.Job.{job_of}
 use Rattle.core_sizes.specs.Table.{sizes_table, table_at}
 use Rattle.theory_plan.specs.Own.{Piece}
 use Rattle.theory_replan.specs.Refusal.{fetched_kept}
-use Rattle.theory_live.specs.Statement.{piece_bytes, piece_chunk, piece_layer}
 use Rattle.core_replan_input.specs.lemmas.Gather.{GatherPost}
 use Rattle.core_replan_decide.specs.lemmas.Decision.{Tabled}
 use Rattle.core_live.specs.lemmas.ByTables.{PiecesStand}

@@ -4,7 +4,7 @@ use Rattle.std.specs.Prelude.{ℕ, suc, ◌≤◌, ◌<◌, ◌≡◌, Bool, con
 use Rattle.theory_basics.specs.Lent.{lent_after}
 use Rattle.theory_basics.specs.Refusals.{◌or_else◌, unless}
 use Rattle.job.specs.Input.{JobInput, job_in, job_refusal}
-use Rattle.job.specs.Job.{Job, forecast, last_slot}
+use Rattle.job.specs.Job.{forecast, last_slot}
 use Rattle.fetch.specs.Input.{list_refusal}
 use Rattle.fetch.specs.Rows.{Row}
 use Rattle.fetch.specs.Slices.{RowSlices, rows_in}

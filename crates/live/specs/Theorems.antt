@@ -1,6 +1,6 @@
 -- Theorems. The refusals of the call are those of planning afresh with the job's forecast
 -- unchanged; where there is none, the asks are few and safe whatever the link brings.
-use Rattle.std.specs.Prelude.{ℕ, suc, ◌-◌, ◌≤◌, ◌<◌, ◌≡◌, List, [], ◌++◌, eqb, length}
+use Rattle.std.specs.Prelude.{ℕ, suc, ◌≤◌, ◌<◌, ◌≡◌, List, [], ◌++◌, eqb, length}
 use Rattle.std.proofs.Common.{sym, ◌∙◌, ap, ap₂, ⊎_elim, eqb→eq}
 use Rattle.theory_basics.specs.Refusals.{◌or_else◌}
 use Rattle.theory_basics.specs.lemmas.Refusals.{or_else_iff, or_else_none, or_else_some}

@@ -17,7 +17,7 @@ use Rattle.core_decide.proofs.Decided.{kept_from, sums_are}
 use Rattle.core_search.specs.lemmas.Tables.{PlaceBestPre}
 use Rattle.theory_search.specs.Search.{plan_over}
 use Rattle.theory_search.specs.Statement.{bases_of}
-use Rattle.theory_search.specs.Theorems.{over_exists}
+use Rattle.theory_search.proofs.Theorems.{over_exists}
 use Rattle.theory_search.specs.lemmas.Fitting.{bases_choice}
 use Rattle.theory_search.specs.lemmas.Over.{over_decided, over_kept, planned_fits}
 use Rattle.theory_most.specs.Statement.{Most, bound_any}

@@ -19,7 +19,7 @@ use Rattle.core_decide.specs.lemmas.Accepted.{left_is, part_in}
 use Rattle.core_decide.specs.lemmas.Decision.{SettleBasesPre, Sums, bases_in}
 use Rattle.theory_most.specs.Statement.{Most, NoneAboveInOrder, Set, bound}
 use Rattle.theory_most.specs.Search.{forward}
-use Rattle.theory_most.specs.Theorems.{bound_in_order, forward_is_set, forward_most, set_within}
+use Rattle.theory_most.proofs.Theorems.{bound_in_order, forward_is_set, forward_most, set_within}
 use Rattle.theory_most.specs.lemmas.InTables.{Says}
 use Rattle.core_covering.specs.lemmas.Tables.{ForwardFor, ForwardOf, ForwardPre, LevelsOf, PlacedPost, SetLevelsPost}
 use Rattle.core_bounds.specs.lemmas.Tables.{InOrderOf, InOrderPost}

@@ -17,7 +17,7 @@ use Rattle.fetch.specs.Slices.{ListSlices, slices_of}
 use Rattle.theory_plan.specs.Own.{own_list}
 use Rattle.theory_plan.specs.Plan.{kept, plan}
 use Rattle.theory_plan.specs.Statement.{count_of, counts_of, marks_of}
-use Rattle.theory_plan.specs.Theorems.{own_list_rows}
+use Rattle.theory_plan.proofs.Theorems.{own_list_rows}
 use Rattle.theory_plan.specs.lemmas.Words.{accepted_sized}
 use Rattle.fetch.specs.Marks.{with_layer}
 use Rattle.core_decide.specs.lemmas.Accepted.{decide_from}
@@ -25,7 +25,7 @@ use Rattle.core_output.specs.declared.Output.{Output}
 use Rattle.core_output.specs.lemmas.Writing.{Decided, own_result, WritePost}
 use Rattle.planner.specs.declared.Answer.TheVariants.{Rows}
 use Rattle.theory_search.specs.Search.{plan_over}
-use Rattle.theory_search.specs.Theorems.{over_exists}
+use Rattle.theory_search.proofs.Theorems.{over_exists}
 use Rattle.theory_search.specs.lemmas.Fitting.{count_kept}
 use Rattle.theory_search.specs.lemmas.Over.{over_kept}
 use Rattle.theory_most.specs.Statement.{Most, bound}

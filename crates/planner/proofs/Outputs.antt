@@ -21,8 +21,9 @@ use Rattle.theory_plan.specs.Statement.{IsPlan}
 use Rattle.theory_plan.specs.lemmas.Level.{count_carried}
 use Rattle.theory_plan.specs.lemmas.Plan.{plan_choice, plan_fits}
 use Rattle.theory_plan.specs.lemmas.Words.{accepted_sized}
-use Rattle.theory_plan.specs.Theorems.{best, elsewhere_iff, own_list_ascending, plan_carried, plan_exists, plan_rows_few, plan_unique}
-use Rattle.theory_plan.specs.Pictures.{most_pictures, plan_moore_hodgson}
+use Rattle.theory_plan.proofs.Theorems.{best, elsewhere_iff, own_list_ascending, plan_carried, plan_exists, plan_unique}
+use Rattle.theory_plan.proofs.PlanRows.{plan_rows_few}
+use Rattle.theory_plan.proofs.Pictures.{most_pictures, plan_moore_hodgson}
 use Rattle.core_decide.specs.lemmas.Decision.{Decides}
 use Rattle.core_slices.specs.lemmas.Slices.{Result, rows_hold, Stands}
 use Rattle.core_output.specs.declared.Output.{Output}
@@ -32,7 +33,7 @@ use Rattle.planner.specs.declared.Answer.TheVariants.{Rows, Refused}
 use Rattle.planner.specs.declared.Planned.{Planned}
 use Rattle.planner.specs.Answer.{plan_rows, holds, plan_refusal, OwnListCarries, Pictures, PlanOutput, PlanPromise}
 use Rattle.planner.specs.lemmas.Outputs.{Outputs, short_refusal}
-use Rattle.theory_sensitivity.specs.Theorems.{steady}
+use Rattle.theory_sensitivity.proofs.Theorems.{steady}
 
 -- ---- what is handed over, by the refusal
 

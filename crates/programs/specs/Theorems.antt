@@ -19,7 +19,7 @@ use Rattle.planfile.specs.PlanFile.{Plan, file_of, format, plan_in}
 use Rattle.planfile.specs.Theorems.{ReadsBackAs, plan_reads_back}
 use Rattle.theory_plan.specs.Plan.{plan}
 use Rattle.theory_plan.specs.Statement.{marks_of}
-use Rattle.theory_plan.specs.Theorems.{plan_keeps}
+use Rattle.theory_plan.proofs.Theorems.{plan_keeps}
 use Rattle.planner.specs.Answer.{plan_rows}
 use Rattle.whole_files.specs.Files.{files_refusal, job_file_refusal, job_said, plan_of_job, verdict_of_files, verdict_of_plan}
 use Rattle.programs.specs.Printed.{convert_printed, plan_printed, reasons_printed, refused_text, report_printed, verdict_printed, verdict_text}

@@ -16,8 +16,8 @@ use records::Written;
 // What a program reads of a file: one byte more than a file may have, so that a longer one is 9.
 pub const READ_BYTES: usize = 65537;
 
-// What each program prints at most, by theorem: lemmas.Plans.plan-file-fits, report's
-// Answer.plan-report-fits, theory_reasons' text-fits, jobfile's file-short; a word and three
+// What each program prints at most, by theorem: whole_files' lemmas.Plans.plan_file_fits, report's
+// Answer.plan_report_fits, theory_reasons' text_fits, jobfile's file_short; a word and three
 // digits.
 pub const PLAN_BYTES: usize = 64091;
 

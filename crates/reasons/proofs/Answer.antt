@@ -1,12 +1,12 @@
 -- Laws on what the call hands over: a refusal by the job, 11, or the text in front of the old
 -- bytes. Assumes nothing.
-use Prim.Native.Nat.{ℕ, ◌+◌, ◌≤◌, ◌<◌}
+use Prim.Native.Nat.{ℕ, ◌≤◌, ◌<◌}
 use mathlib.Core.Path.{◌≡◌, refl, sym, ap, subst, ◌∙◌}
 use mathlib.Core.List.{List, [], ◌∷◌, ◌++◌}
 use native.Mathlib.Omega.{arith}
 use lib.ListN.{length, drop, take}
 use lib.Dec.{leb}
-use borrow.Author.Tests.{eq-eqb, le-leb, lt-leb, ne_eqb}
+use borrow.Author.Tests.{le-leb, lt-leb, ne_eqb}
 use Rattle.theory_basics.specs.Refusals.{unless}
 use Rattle.theory_basics.specs.Tests.{All, In, here, there}
 use Rattle.theory_basics.specs.lemmas.Refusals.{or_else_none, or_else_some}
@@ -18,7 +18,7 @@ use Rattle.theory_plan.specs.Plan.{plan}
 use Rattle.theory_plan.specs.Statement.{IsPlan}
 use Rattle.theory_reasons.specs.Lines.{lines_of, plan_text}
 use Rattle.theory_reasons.specs.Statement.{Line, Place, Reason, Under, against, lower, missing, short}
-use Rattle.theory_reasons.specs.Theorems.{line_refused, missing_iff, plan_reasons, stretch_forbids, text_fits}
+use Rattle.theory_reasons.proofs.Theorems.{line_refused, missing_iff, plan_reasons, stretch_forbids, text_fits}
 use Rattle.core_text.specs.lemmas.Places.{Put, put_front, put_whole}
 use Rattle.reasons.specs.Answer.{LinesOfPlan, ReasonsPromise, TrueLine, TrueReason, refusal}
 use Rattle.reasons.specs.lemmas.Told.{Told}

@@ -14,10 +14,10 @@ use Rattle.fetch.specs.Rows.{Permuted, Row, row_bytes, row_chunk, row_layer, row
 use Rattle.fetch.specs.Theorems.{verdict_from_iff}
 use Rattle.fetch.specs.Slices.{ListSlices, room, slices_of}
 use Rattle.theory_plan.specs.Statement.{Same, counts_of, marks_of}
-use Rattle.theory_plan.specs.Theorems.{same_counts, same_marks}
+use Rattle.theory_plan.proofs.Theorems.{same_counts, same_marks}
 use Rattle.planner.specs.declared.Answer.TheVariants.{Refused, Rows}
 use Rattle.planner.specs.declared.Planned.{Planned}
-use Rattle.theory_replan.specs.Desk.{replans, standing_continues}
+use Rattle.theory_replan.proofs.Desk.{replans, standing_continues}
 use Rattle.theory_replan.specs.Promised.{Continues}
 use Rattle.theory_replan.specs.Refusal.{replan_refusal}
 use Rattle.theory_replan.specs.Theorems.{order_free}

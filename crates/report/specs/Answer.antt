@@ -11,7 +11,7 @@ use Rattle.job.specs.Input.{JobInput, job_in, job_refusal}
 use Rattle.theory_plan.specs.Own.{own_list}
 use Rattle.theory_plan.specs.Plan.{plan}
 use Rattle.theory_plan.specs.Statement.{IsPlan}
-use Rattle.theory_plan.specs.Theorems.{plan_carried, plan_exists, plan_rows_unique}
+use Rattle.theory_plan.proofs.Theorems.{plan_carried, plan_exists, plan_rows_unique}
 use Rattle.theory_plan.specs.lemmas.Words.{accepted_sized}
 use Rattle.report.specs.Report.{report_of}
 use Rattle.report.specs.Theorems.{report_fits}

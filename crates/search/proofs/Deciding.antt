@@ -20,7 +20,7 @@ use Rattle.core_decide.specs.lemmas.Decision.{DecidePre, Decides, SettleKeptPost
 use Rattle.core_decide.proofs.Decided.{sums_are, sums_small}
 use Rattle.theory_search.specs.Search.{Walked, fitting, found, plan_over, search, start}
 use Rattle.theory_search.specs.Statement.{bases_of, most_without_limit, shortfall_of}
-use Rattle.theory_search.specs.Theorems.{found_carried, found_is_found, over_exists}
+use Rattle.theory_search.proofs.Theorems.{found_carried, found_is_found, over_exists}
 use Rattle.theory_search.specs.lemmas.Fitting.{bases_choice, fitting_good, good_nil}
 use Rattle.theory_search.specs.lemmas.Over.{over_decided, over_kept, planned_fits}
 use Rattle.theory_search.specs.lemmas.Stack.{stack_same}

@@ -29,7 +29,7 @@ use Rattle.core_output.proofs.Writing.{unlaid}
 use Rattle.planner.specs.declared.Answer.TheVariants.{Rows}
 use Rattle.theory_search.specs.Search.{found, plan_over}
 use Rattle.theory_search.specs.Statement.{IsPlanOver}
-use Rattle.theory_search.specs.Theorems.{as_document_01, equal_plan, found_is_found, found_unique, good_enough, larger_budget, over_exists, over_unique}
+use Rattle.theory_search.proofs.Theorems.{as_document_01, equal_plan, found_is_found, found_unique, good_enough, larger_budget, over_exists, over_unique}
 use Rattle.search.specs.declared.Searched.{Searched}
 use Rattle.search.specs.Answer.{FoundByWalk, GoodEnoughFound, MoreSteps, SearchOutput, SearchPromise, given, holds_found, plan_found, rows_found, search_refusal}
 use Rattle.search.specs.lemmas.Deciding.{AllOf, AnsweredPost, OnlyNumber}

@@ -11,7 +11,7 @@ use Rattle.fetch.specs.Verdict.{verdict}
 use Rattle.theory_plan.specs.Own.{own_list}
 use Rattle.theory_plan.specs.Plan.{fits, plan}
 use Rattle.theory_plan.specs.Statement.{CanCarry, CarriesBelow, Choice, IsPlan, count_of}
-use Rattle.theory_plan.specs.Theorems.{decision, own_carries, passes_iff}
+use Rattle.theory_plan.proofs.Theorems.{decision, own_carries, passes_iff}
 use Rattle.theory_plan.specs.lemmas.Words.{accepted_sized}
 use Rattle.theory_examples.specs.Plans.{A_plan, PlanIs, planned}
 use Rattle.theory_examples.specs.Worked.{A, better, row}

@@ -11,7 +11,7 @@ use Rattle.fetch.specs.Rows.{Row, Carried, bytes_if, bytes_in_slot, bytes_of_lay
 use Rattle.fetch.specs.Rules.{OnTime, Passes, RowInRange}
 use Rattle.theory_plan.specs.Plan.{fits}
 use Rattle.theory_plan.specs.Statement.{CanCarry, Choice}
-use Rattle.theory_plan.specs.Theorems.{decision}
+use Rattle.theory_plan.proofs.Theorems.{decision}
 use Rattle.theory_plan.specs.lemmas.Count.{bytes_mono}
 use Rattle.theory_plan.specs.lemmas.Words.{accepted_sized}
 use Rattle.job.specs.Theorems.{accepted_iff}

@@ -12,7 +12,7 @@ use Rattle.fetch.specs.Verdict.{verdict}
 use Rattle.theory_plan.specs.Own.{own_list}
 use Rattle.theory_plan.specs.Plan.{plan}
 use Rattle.theory_plan.specs.Statement.{IsPlan, count_of, counts_of, marks_of}
-use Rattle.theory_plan.specs.Theorems.{passes_iff, plan_counts_unique, plan_exists, plan_marks_unique, plan_rows_unique}
+use Rattle.theory_plan.proofs.Theorems.{passes_iff, plan_counts_unique, plan_exists, plan_marks_unique, plan_rows_unique}
 use Rattle.theory_examples.specs.Worked.{A, A_rows, better, row, uneven, uneven_rows}
 
 -- The job is accepted, and its plan has these marks, counts and rows.

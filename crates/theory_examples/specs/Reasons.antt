@@ -9,7 +9,7 @@ use Rattle.theory_plan.specs.Plan.{plan}
 use Rattle.theory_plan.specs.Statement.{IsPlan}
 use Rattle.theory_reasons.specs.Lines.{plan_text, stretch_of}
 use Rattle.theory_reasons.specs.Statement.{Line, Reasons, against, carry, need, reasons_text, sentence}
-use Rattle.theory_reasons.specs.Theorems.{plan_text_lem}
+use Rattle.theory_reasons.proofs.Theorems.{plan_text_lem}
 use Rattle.theory_examples.specs.Worked.{A, A_accepted}
 
 abbrev listing : List ℕ

@@ -1,11 +1,2 @@
-pub mod Bounds
-pub mod InOrder
-pub mod AnyOrder
 pub mod Forward
-pub mod Covering
-pub mod Front
-pub mod Rising
-pub mod Met
-pub mod Equal
-pub mod Search
 pub mod InTables

@@ -1,8 +1,6 @@
-pub mod AllBases
 pub mod AnyOrder
 pub mod Ascending
 pub mod Base
-pub mod Best
 pub mod Choice
 pub mod Count
 pub mod Decided
@@ -16,15 +14,12 @@ pub mod Layers
 pub mod Linear
 pub mod Necessity
 pub mod Need
-pub mod OneSize
 pub mod Order
-pub mod OwnFill
 pub mod Parts
 pub mod Plan
 pub mod Prefixes
 pub mod Queue
 pub mod Release
-pub mod Shape
 pub mod Stretches
 pub mod Sufficiency
 pub mod Sweep

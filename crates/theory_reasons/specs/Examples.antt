@@ -2,7 +2,7 @@
 -- all bases kept. Job A's lines stand in crate theory_examples.
 use Rattle.std.specs.Prelude.{◌≡◌, refl, [], ◌∷◌}
 use Rattle.job.specs.Job.{Job, job_of, size_in}
-use Rattle.theory_plan.specs.Examples.{poor, with_limit}
+use Rattle.theory_plan.proofs.Examples.{poor, with_limit}
 use Rattle.theory_plan.specs.Plan.{plan}
 use Rattle.theory_reasons.specs.Lines.{lines_of, stretch_of}
 use Rattle.theory_reasons.specs.Statement.{against, carry, need, short}

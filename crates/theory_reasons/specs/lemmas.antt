@@ -1,11 +1,3 @@
 pub mod Runs
 pub mod First
-pub mod Kept
 pub mod Search
-pub mod Bridge
-pub mod Named
-pub mod Refused
-pub mod Agree
-pub mod Places
-pub mod Readback
-pub mod Widths

@@ -5,7 +5,7 @@ use Rattle.std.specs.Prelude.{ℕ, ◌≡◌, refl, List, [], ◌∷◌, ◌++�
 use Rattle.job.specs.Job.{Job, size_in}
 use Rattle.fetch.specs.Rows.{Row}
 use Rattle.fetch.specs.VerdictFrom.{slot_refusal, verdict_from}
-use Rattle.theory_plan.specs.Examples.{poor}
+use Rattle.theory_plan.proofs.Examples.{poor}
 use Rattle.theory_plan.specs.Plan.{plan}
 use Rattle.theory_plan.specs.lemmas.Feasible.{feas}
 use Rattle.theory_plan.specs.Statement.{marks_of}

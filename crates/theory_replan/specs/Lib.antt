@@ -4,6 +4,5 @@ pub mod Plan
 pub mod Refusal
 pub mod Promised
 pub mod Theorems
-pub mod Desk
 pub mod Examples
 pub mod lemmas

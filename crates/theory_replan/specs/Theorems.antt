@@ -13,7 +13,7 @@ use Rattle.fetch.specs.Rules.{RowInRange, PlayingOrder}
 use Rattle.fetch.specs.RulesFrom.{KeepsFrom}
 use Rattle.theory_plan.specs.Own.{own_list}
 use Rattle.theory_plan.specs.Statement.{CarriesExactly, Choice, SettledByTrials, Same, count_of, marks_of}
-use Rattle.theory_plan.specs.Theorems.{trials_carried}
+use Rattle.theory_plan.proofs.Theorems.{trials_carried}
 use Rattle.theory_plan.specs.lemmas.Level.{count_carried}
 use Rattle.theory_plan.specs.lemmas.Words.{accepted_sized}
 use Rattle.theory_replan.specs.Own.{own_rest}

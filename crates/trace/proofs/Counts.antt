@@ -11,7 +11,7 @@ use lib.Seq.{drop-cons, get_or-take, length-take-le, set_out, take-suc}
 use lib.Dec.{leb, leb→le}
 use borrow.Author.Tests.{le-leb, lt-leb}
 use Rattle.theory_basics.specs.Lent.{over}
-use Rattle.theory_basics.specs.lemmas.Lent.{map_snoc, over_next}
+use Rattle.theory_basics.proofs.Lent.{map_snoc, over_next}
 use Rattle.theory_basics.specs.lemmas.Tables.{all_at}
 use Rattle.theory_basics.specs.lemmas.Tests.{all_All, true_T}
 use Rattle.trace.specs.lemmas.Tally.{bump}

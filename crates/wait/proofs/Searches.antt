@@ -16,7 +16,7 @@ use Rattle.core_sizes.specs.Table.{sizes_table}
 use Rattle.core_sizes.specs.lemmas.Table.{table_says}
 use Rattle.job.specs.lemmas.Within.{all_most}
 use Rattle.theory_plan.specs.Plan.{plan}
-use Rattle.theory_plan.specs.Theorems.{plan_exists}
+use Rattle.theory_plan.proofs.Theorems.{plan_exists}
 use Rattle.theory_plan.specs.lemmas.Parts.{Small}
 use Rattle.theory_plan.specs.lemmas.Trials.{candidate}
 use Rattle.theory_plan.specs.lemmas.Words.{accepted_sized}
@@ -27,7 +27,7 @@ use Rattle.wait.specs.lemmas.First.{first_below, first_same}
 use Rattle.wait.specs.lemmas.Scan.{keeps_all, kept_with_iff, kept_with, left, needs_from}
 use Rattle.wait.proofs.Passes.{due_in}
 use Rattle.wait.specs.lemmas.Table.{BaseTable, Free, KeepsAllPost, FindDelayPre, SumTable, due_at, kept_by, left_at, never, size_at}
-use Rattle.theory_plan.specs.lemmas.AllBases.{no_skip_iff}
+use Rattle.theory_plan.proofs.AllBases.{no_skip_iff}
 
 -- ---- one s after the other
 

@@ -19,14 +19,14 @@ use Rattle.job.specs.Job.{Accepted, EqualChunks, Named, Within, chunks, last_due
 use Rattle.job.specs.Refusal.{bytes_refusal, named, rising, sized, within}
 use Rattle.theory_plan.specs.Plan.{plan}
 use Rattle.theory_plan.specs.Statement.{CanCarry, IsPlan, NoSkip}
-use Rattle.theory_plan.specs.Theorems.{plan_exists, plan_unique}
+use Rattle.theory_plan.proofs.Theorems.{plan_exists, plan_unique}
 use Rattle.theory_plan.specs.lemmas.Words.{accepted_sized}
 use Rattle.wait.specs.declared.Answer.TheVariants.{Delay, Refused}
 use Rattle.wait.specs.Answer.{DelayMeans, WaitInput, WholeSizesIn, SixteenMeans, answer_of, eighteen_refusal, film_in, five_refusal, input_refusal, numbers_refusal, seven_refusal, shortest, six_refusal, sixteen_refusal, skips_none, slots_refusal, tries, wait_refusal}
 use Rattle.wait.specs.Wait.{Film, FilmInRange, NoneWorks, ShortestWait, SomeList, SomeOrdered, Tried, Works, job_at, programme_at}
 use Rattle.wait.specs.lemmas.Bases.{no_skip_any, no_skip_can_carry, no_skip_ordered}
 use Rattle.wait.specs.lemmas.First.{first_none, first_some}
-use Rattle.theory_plan.specs.lemmas.AllBases.{bases_alone}
+use Rattle.theory_plan.proofs.AllBases.{bases_alone}
 
 -- ---- the input
 

@@ -24,7 +24,7 @@ use Rattle.records.specs.declared.Written.{Written}
 use Rattle.records.specs.declared.Written.TheVariants as planFile
 use Rattle.theory_plan.specs.Plan.{plan}
 use Rattle.theory_plan.specs.Statement.{marks_of}
-use Rattle.theory_plan.specs.Theorems.{plan_rows_few}
+use Rattle.theory_plan.proofs.PlanRows.{plan_rows_few}
 use Rattle.planner.specs.Answer.{PlanOutput, answer_of, holds, plan_refusal, plan_rows}
 use Rattle.planner.specs.declared.Answer.{Answer}
 use Rattle.planner.specs.declared.Answer.TheVariants.{Rows, Refused}

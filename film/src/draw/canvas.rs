@@ -2,34 +2,26 @@
 use super::film::Film;
 use std::fmt::Write;
 
-/// A picture is drawn in this width unless it is for a narrow screen. At 600 px its texts then have
-/// eleven pixels; a larger one is scaled, a smaller one is scrolled.
+/// All is drawn in this width. A picture of 600 px then has texts of eleven; a larger one is scaled.
 pub const VIEW: f64 = 700.0;
-const READABLE: f64 = 600.0;
 pub const LEFT: f64 = 62.0;
+pub const WIDTH: f64 = VIEW - LEFT - 12.0;
 /// Where head, captions and reasons begin.
 pub const EDGE: f64 = 10.0;
 pub const SMALL: f64 = 13.0;
 
 /// Colours by what they stand for. Layers go from dark to light, so that they are told apart in
-/// grey as well, lie between the paper and the ink, and have a contrast of 3 to the paper at least:
-/// so light and dark have colours of their own. Paper that is printed on is light.
+/// grey as well, and lie between the paper and the ink of either mode.
 pub const STYLE: &str = "\
-.fp{background:#fff}.pa{fill:#fff}.in{fill:#1b1d20}.gr{fill:#565c64}.l0{fill:#143a5c}.l1{fill:#1866ae}.l2{fill:#c25f36}.l3{fill:#c08a00}\
-.mi{fill:#fff}.ha{stroke:#7d848d}.li{fill:#f6f7f8}.he{fill:#8b929c}.fu{fill:#565c64}.wa{fill:url(#waste)}.hi{fill:transparent}\
+.fp{background:#fff}.pa{fill:#fff}.in{fill:#1b1d20}.gr{fill:#565c64}.l0{fill:#0e4578}.l1{fill:#2d76c1}.l2{fill:#f19125}.l3{fill:#f7de75}\
+.mi{fill:#fff}.ha{stroke:#9298a0}.li{fill:#f6f7f8}.he{fill:#a3aab3}.fu{fill:#6d747d}.wa{fill:url(#waste)}.hi{fill:transparent}\
 .si{stroke:#1b1d20}.sg{stroke:#565c64}.sp{stroke:#dcdfe3}.sa{stroke:#fff}\
-@media screen and (prefers-color-scheme:dark){.fp{background:#15181c}.pa{fill:#15181c}.in{fill:#eef0f2}.gr{fill:#aab1ba}\
-.l0{fill:#2b62d8}.l1{fill:#3ba8dd}.l2{fill:#ffa159}.l3{fill:#fed522}\
-.mi{fill:#15181c}.ha{stroke:#7d848d}.li{fill:#1f2329}.he{fill:#6b727c}.fu{fill:#a3aab3}.si{stroke:#eef0f2}.sg{stroke:#aab1ba}.sp{stroke:#32373e}\
-.sa{stroke:#15181c}}";
-
-/// On paper a picture that is a document of its own takes one sheet, whole.
-const SHEET: &str = "@page{size:A4;margin:12mm}\
-@media print{svg.fp:root{width:100vw!important;height:100vh!important;min-width:0!important;max-width:none!important}}";
+@media (prefers-color-scheme:dark){.fp{background:#15181c}.pa{fill:#15181c}.in{fill:#eef0f2}.gr{fill:#aab1ba}.mi{fill:#15181c}.ha{stroke:#69707a}\
+.li{fill:#1f2329}.he{fill:#6b727c}.fu{fill:#a3aab3}.si{stroke:#eef0f2}.sg{stroke:#aab1ba}.sp{stroke:#32373e}.sa{stroke:#15181c}}";
 
 /// What is missing is hatched, what was fetched for nothing has lines: told from the layers without
 /// any colour. One pattern each over the plane, so that narrow neighbours make one field.
-pub const PATTERNS: &str = "<defs><pattern id=\"hatch\" width=\"4\" height=\"4\" patternUnits=\"userSpaceOnUse\" \
+const PATTERNS: &str = "<defs><pattern id=\"hatch\" width=\"4\" height=\"4\" patternUnits=\"userSpaceOnUse\" \
 patternTransform=\"rotate(45)\"><rect class=\"mi\" width=\"4\" height=\"4\"/><path class=\"ha\" d=\"M0 0v4\" stroke-width=\"1.4\"/></pattern>\
 <pattern id=\"waste\" width=\"4\" height=\"3\" patternUnits=\"userSpaceOnUse\"><rect class=\"mi\" width=\"4\" height=\"3\"/>\
 <path class=\"sg\" d=\"M0 1.5h4\" stroke-width=\"1\"/></pattern></defs>";
@@ -40,20 +32,13 @@ pub struct Canvas {
     pub y: f64,
     slots: usize,
     last: usize,
-    /// The width of the plane.
-    pub view: f64,
 }
 
 impl Canvas {
     /// The last chunk's film reaches past the last slot; of a long chunk so much as leaves the slots
     /// their room.
-    pub fn new(film: &Film, view: f64) -> Canvas {
-        Canvas { parts: String::new(), y: 0.0, slots: film.last + film.span().min(1 + film.last / 8), last: film.last, view }
-    }
-
-    /// The width of all slots.
-    pub fn width(&self) -> f64 {
-        self.view - LEFT - 12.0
+    pub fn new(film: &Film) -> Canvas {
+        Canvas { parts: String::new(), y: 0.0, slots: film.last + film.span().min(1 + film.last / 8), last: film.last }
     }
 
     /// Where slot t ends, and the next begins.
@@ -63,7 +48,7 @@ impl Canvas {
 
     /// The width of so many slots.
     pub fn wide(&self, slots: usize) -> f64 {
-        slots as f64 * self.width() / self.slots.max(1) as f64
+        slots as f64 * WIDTH / self.slots.max(1) as f64
     }
 
     pub fn add(&mut self, element: &str) {
@@ -115,7 +100,7 @@ impl Canvas {
 
     /// Lines of text from the left edge on, broken where they are too long.
     pub fn words(&mut self, words: &str, size: f64, class: &str, bold: bool) {
-        for line in broken(words, size, bold, self.view - 2.0 * EDGE) {
+        for line in broken(words, size, bold, VIEW - 2.0 * EDGE) {
             self.y += size * 1.32;
             self.text((EDGE, self.y), &line, size, "start", class, bold);
         }
@@ -133,7 +118,7 @@ impl Canvas {
         let mut taken: Vec<(f64, f64)> = Vec::new();
         for (x, words, bold) in wanted {
             let half = wide(words, SMALL, *bold) / 2.0 + 2.0;
-            let x = x.min(self.view - half).max(LEFT - 6.0 + half);
+            let x = x.min(VIEW - half).max(LEFT - 6.0 + half);
             if taken.iter().all(|(a, b)| x + half <= *a || *b <= x - half) {
                 taken.push((x - half, x + half));
                 self.text((x, y), words, SMALL, "middle", if *bold { "in" } else { "gr" }, *bold);
@@ -152,8 +137,8 @@ impl Canvas {
 
     /// Slots, under the panel that ends at y.
     pub fn axis(&mut self) {
-        self.line((LEFT, self.y), (LEFT + self.width(), self.y), "sg", 1.0, "");
-        let step = step_of(62.0 * self.slots as f64 / self.width(), &[1, 2, 5, 10, 15, 30, 60, 120, 300, 600]);
+        self.line((LEFT, self.y), (LEFT + WIDTH, self.y), "sg", 1.0, "");
+        let step = step_of(62.0 * self.slots as f64 / WIDTH, &[1, 2, 5, 10, 15, 30, 60, 120, 300, 600]);
         let far = step - step * 3 / 10;
         let mut shown = vec![1];
         shown.extend((1..=self.last / step).map(|k| k * step).filter(|t| *t > far && *t + far <= self.last));
@@ -163,7 +148,7 @@ impl Canvas {
             let x = (self.x(t - 1) + self.x(t)) / 2.0;
             self.line((x, self.y), (x, self.y + 5.0), "sg", 1.0, "");
             let words = thousands(t as u64);
-            let inside = self.view - wide(&words, SMALL, false) / 2.0 - 2.0;
+            let inside = VIEW - wide(&words, SMALL, false) / 2.0 - 2.0;
             self.text((x.min(inside), self.y + 18.0), &words, SMALL, "middle", "gr", false);
         }
         self.text((LEFT - 14.0, self.y + 18.0), "slot", SMALL, "end", "gr", false);
@@ -175,7 +160,7 @@ impl Canvas {
         let mut value = 0.0;
         while value <= most * 1.0001 && step > 0.0 {
             let y = self.y + height - value * height / most;
-            self.line((LEFT, y), (LEFT + self.width(), y), "sp", 0.7, "");
+            self.line((LEFT, y), (LEFT + WIDTH, y), "sp", 0.7, "");
             self.text((LEFT - 8.0, y + 4.5), &named(value), SMALL, "end", "gr", false);
             value += step;
         }
@@ -197,31 +182,22 @@ impl Canvas {
         path
     }
 
-    /// The whole picture, so many pixels wide where it has room. It is scaled down no further than it
-    /// can be read.
+    /// The whole picture. Many chunks want a larger one, where there is room.
     pub fn whole(self, title: &str, natural: f64) -> String {
         let height = (self.y + 12.0).ceil();
-        let (wide, high) = (px(natural.ceil()), px((height * natural / self.view).ceil()));
-        let least = px((self.view * READABLE / VIEW).ceil());
+        let (wide, high) = (px(natural.ceil()), px((height * natural / VIEW).ceil()));
         let mut out = format!(
             "<svg xmlns=\"http://www.w3.org/2000/svg\" viewBox=\"0 0 {} {}\" width=\"{wide}\" height=\"{high}\" role=\"img\" \
-             class=\"fp\" style=\"min-width:{least}px;max-width:100%;height:auto\" \
-             font-family=\"system-ui, -apple-system, Arial, sans-serif\" fill=\"none\">\n",
-            px(self.view),
+             class=\"fp\" style=\"max-width:100%;height:auto\" font-family=\"system-ui, -apple-system, Arial, sans-serif\" fill=\"none\">\n",
+            px(VIEW),
             px(height)
         );
-        let _ = writeln!(out, "<title>{}</title>\n<style>{STYLE}{SHEET}</style>\n{PATTERNS}", escape(title));
-        let _ = writeln!(out, "<rect class=\"pa\" width=\"{}\" height=\"{}\"/>", px(self.view), px(height));
+        let _ = writeln!(out, "<title>{}</title>\n<style>{STYLE}</style>\n{PATTERNS}", escape(title));
+        let _ = writeln!(out, "<rect class=\"pa\" width=\"{}\" height=\"{}\"/>", px(VIEW), px(height));
         out.push_str(&self.parts);
         out.push_str("</svg>\n");
         out
     }
-}
-
-/// The height of a whole picture in pixels, as it says itself.
-pub fn height(svg: &str) -> u32 {
-    let named = svg.split(" height=\"").nth(1).and_then(|rest| rest.split('"').next());
-    named.and_then(|digits| digits.parse().ok()).unwrap_or(1000)
 }
 
 /// A number of the plane, two places at most.

@@ -1,5 +1,5 @@
 //! The panels of a picture: head, film, reasons, link, buffer, chunks.
-use super::canvas::{broken, nice, px, short_bytes, step_of, thousands, wide, Canvas, EDGE, LEFT, SMALL};
+use super::canvas::{broken, nice, px, short_bytes, step_of, thousands, wide, Canvas, EDGE, LEFT, SMALL, VIEW, WIDTH};
 use super::film::{runs, Film, LAYERS};
 use super::reasons::{title, Stretch, Whys};
 use crate::words::counted;
@@ -11,6 +11,7 @@ const LANES: usize = 6;
 const TALL: f64 = 13.0;
 /// The narrowest tile of a chunk in the film; narrower ones are broken into lines.
 const TILE: f64 = 6.0;
+const LINE: usize = 100;
 /// Small neighbours overlap a little, or the paper would shine through between them.
 const SEAM: f64 = 0.3;
 
@@ -48,9 +49,11 @@ fn longest(mut found: Vec<(usize, usize)>) -> Vec<(usize, usize)> {
     found
 }
 
-/// The answer and what the picture is of; the sentence is the picture's title.
-pub fn head(c: &mut Canvas, film: &Film, called: &str, answer: &str) -> String {
-    let sentence = if called.is_empty() { answer.to_string() } else { format!("{called}: {answer}") };
+/// What is shown and what the picture is of; the sentence is the picture's title.
+pub fn head(c: &mut Canvas, film: &Film, called: &str) -> String {
+    let skipped = film.skipped().len();
+    let sentence = format!("{} of {} shown, {skipped} skipped", film.chunks() - skipped, count(film.chunks(), "chunk"));
+    let sentence = if called.is_empty() { sentence } else { format!("{called}: {sentence}") };
     c.y = 6.0;
     c.words(&sentence, 20.0, "in", true);
     c.y += 2.0;
@@ -84,7 +87,7 @@ pub fn legend(c: &mut Canvas, film: &Film, link: Link) {
     let mut x = EDGE;
     for (kind, words) in entries {
         let room = 21.0 + wide(&words, SMALL, false) + 12.0;
-        if x + room > c.view {
+        if x + room > VIEW {
             (x, c.y) = (EDGE, c.y + 20.0);
         }
         swatch(c, &kind, x, c.y - 11.0);
@@ -123,17 +126,17 @@ struct Tiles {
     places: Vec<(f64, f64)>,
 }
 
-/// In line with the slots where a tile has room enough; else lines with a scale of their own, of a
-/// hundred tiles in a picture of the usual width.
+/// In line with the slots where a tile has room enough; else lines of a hundred with a scale of their
+/// own.
 fn tiles(c: &Canvas, film: &Film) -> (Vec<Tiles>, bool) {
     let all = film.chunks();
     if c.wide(film.span()) >= TILE {
         let places = (1..=all).map(|i| (c.x(film.due(i)), c.x(film.due(i) + film.span()))).collect();
         return (vec![Tiles { chunks: (1, all), places }], true);
     }
-    let lines = all.div_ceil((c.width() / (TILE + 0.2)) as usize);
+    let lines = all.div_ceil(LINE);
     let each = all.div_ceil(lines.max(1)).max(1);
-    let tile = (c.width() / each as f64).min(24.0);
+    let tile = (WIDTH / each as f64).min(24.0);
     let line = |k: usize| {
         let (first, last) = (k * each + 1, ((k + 1) * each).min(all));
         Tiles {
@@ -271,8 +274,6 @@ pub fn why(c: &mut Canvas, film: &Film, whys: &Whys) {
         chunks.sort_unstable();
         lane(c, &stretch, limit, &chunks);
     }
-    c.y += 7.0;
-    c.axis();
     if skipped.len() > named {
         let more = count(skipped.len() - named, "chunk");
         c.y += 4.0;
@@ -280,8 +281,7 @@ pub fn why(c: &mut Canvas, film: &Film, whys: &Whys) {
     }
 }
 
-/// The stretch as a bar on the slots, which is a block where it is one slot, and its sentences under
-/// it, in one column with those of the others.
+/// The stretch as a bar, which is a block where it is one slot, and its sentences under it.
 fn lane(c: &mut Canvas, stretch: &Stretch, limit: Option<String>, chunks: &[usize]) {
     let of: Vec<String> = runs(chunks).iter().map(|(a, b)| named(*a, *b, " to ")).collect();
     let more = if of.len() > 3 { ", .." } else { "" };
@@ -294,13 +294,15 @@ fn lane(c: &mut Canvas, stretch: &Stretch, limit: Option<String>, chunks: &[usiz
     };
     let limit = limit.unwrap_or_else(|| "The link is the cause: no limit plays a part.".to_string());
     let (x, end) = (c.x(stretch.first.saturating_sub(1)), c.x(stretch.last));
-    let x = x.min(LEFT + c.width() - 3.0);
-    c.y += 14.0;
-    c.line((LEFT, c.y - 3.5), (LEFT + c.width(), c.y - 3.5), "sp", 1.0, "");
-    c.rect((x, c.y - 7.0), ((end - x).max(3.0), 7.0), "in", Some(&format!("{words}\n{limit}")));
-    for line in broken(&format!("{words} {limit}"), SMALL, false, c.view - LEFT - EDGE) {
+    let x = x.min(LEFT + WIDTH - 3.0);
+    c.y += 11.0;
+    c.rect((x, c.y - 5.0), ((end - x).max(3.0), 5.0), "in", Some(&format!("{words}\n{limit}")));
+    let lines: Vec<String> = broken(&format!("{words} {limit}"), SMALL, false, VIEW - 2.0 * EDGE);
+    let widest = lines.iter().map(|line| wide(line, SMALL, false)).fold(0.0, f64::max);
+    let at = x.min(VIEW - EDGE - widest).max(EDGE);
+    for line in lines {
         c.y += 15.5;
-        c.text((LEFT, c.y), &line, SMALL, "start", "in", false);
+        c.text((at, c.y), &line, SMALL, "start", "in", false);
     }
     c.y += 3.0;
 }
@@ -324,7 +326,7 @@ pub fn link(c: &mut Canvas, film: &Film, link: Link) {
     let together = bins.first().map_or(1, |(a, b)| b - a);
     let mean = if together > 1 { format!(", in means of {together}") } else { String::new() };
     let outline = if link == Link::Forecast { "forecast" } else { "carried" };
-    c.panel(&format!("Link: bytes per slot {outline} (outline) and fetched{mean}"));
+    c.panel(&format!("Link: bytes a slot {outline} (outline) and fetched{mean}"));
     c.y += 8.0;
     let over = |a: usize, b: usize, of: &dyn Fn(usize) -> u64| (a + 1..=b).map(of).sum::<u64>() as f64 / (b - a).max(1) as f64;
     let carried: Vec<(usize, f64)> = bins.iter().map(|(a, b)| (*a, over(*a, *b, &|t| film.carries(t)))).collect();
@@ -406,10 +408,10 @@ pub fn held(c: &mut Canvas, film: &Film) {
     }
     if inside {
         let y = c.y + high - film.places as f64 * high / most;
-        c.line((LEFT, y), (LEFT + c.width(), y), "si", 1.4, " stroke-dasharray=\"6 4\" pointer-events=\"none\"");
+        c.line((LEFT, y), (LEFT + WIDTH, y), "si", 1.4, " stroke-dasharray=\"6 4\" pointer-events=\"none\"");
     }
     c.y += high;
-    c.line((LEFT, c.y), (LEFT + c.width(), c.y), "sg", 1.0, "");
+    c.line((LEFT, c.y), (LEFT + WIDTH, c.y), "sg", 1.0, "");
     c.y += 2.0;
 }
 
@@ -491,7 +493,7 @@ fn skips(c: &mut Canvas, film: &Film, row: f64) {
         let (middle, words) = ((a + b) / 2, format!("{} skipped", named(a, b, " to ")));
         let y = c.y + row * (middle - 1) as f64 + if row >= TALL { row / 2.0 + 4.5 } else { row - 3.0 };
         let x = c.x(film.due(middle)) + 9.0;
-        if taken.iter().all(|other| (y - other).abs() >= TALL) && x + wide(&words, SMALL, false) <= c.view {
+        if taken.iter().all(|other| (y - other).abs() >= TALL) && x + wide(&words, SMALL, false) <= VIEW {
             c.text((x, y), &words, SMALL, "start", "in", false);
             taken.push(y);
         }

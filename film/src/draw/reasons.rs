@@ -55,7 +55,7 @@ pub fn read(film: &Film, lines: &str) -> Whys {
 }
 
 /// Chunk, layer and the stretch, if one is named.
-pub fn understood(line: &str) -> Option<(usize, usize, Option<Stretch>)> {
+fn understood(line: &str) -> Option<(usize, usize, Option<Stretch>)> {
     let words: Vec<&str> = line.split_whitespace().collect();
     let number = |k: usize| words.get(k).and_then(|word| word.trim_end_matches([',', ':']).parse::<u64>().ok());
     let (Some(&"chunk"), Some(&"layer")) = (words.first(), words.get(2)) else { return None };

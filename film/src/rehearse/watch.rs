@@ -1,9 +1,9 @@
 //! An act, watched: what it asked in each slot, whom it passed over, and in the end why each skipped
 //! chunk was skipped.
-use super::ways::{self, Fetched, Halt};
+use super::ways::{self, Fetched};
 use crate::draw::film::Film;
 use crate::words::{counted, thousands};
-use film_planner::{Act, Job, Piece};
+use film_planner::{Act, Job, Piece, Refusal};
 
 /// The most pieces of a slot that are kept; of the others their number is.
 const PIECES: usize = 12;
@@ -80,7 +80,7 @@ pub fn rule(film: &Film, slot: usize, rate: u64) -> Rule {
 impl<'a> Watch<'a> {
     /// The limit is named as a cause where an act with room for the whole programme shows the chunk;
     /// so one is run here.
-    pub fn new(job: &'a Job, link: &[u32]) -> Result<Watch<'a>, Halt> {
+    pub fn new(job: &'a Job, link: &[u32]) -> Result<Watch<'a>, Refusal> {
         let roomy = ways::act(&Job { limit: u16::MAX, ..job.clone() }, link, |_| {})?.marks;
         Ok(Watch { job, slots: Vec::new(), stories: vec![Story::default(); usize::from(job.chunks)], roomy })
     }
@@ -164,7 +164,7 @@ fn told(passed: &Passed, due: usize) -> String {
     let slots = due + 1 - passed.slot.min(due);
     let brings = passed.rate.saturating_mul(slots as u64);
     format!(
-        "in slot {} it lacked {}; at {} per slot {} of them would come by its due slot, and all of chunk {}",
+        "in slot {} it lacked {}; at {} a slot {} of them would come by its due slot, and all of chunk {}",
         thousands(passed.slot as u64),
         counted(passed.missing, "byte"),
         counted(passed.rate, "byte"),

@@ -2,29 +2,7 @@
 //! slot what came, and by planning afresh with the meter in every slot.
 use crate::draw::film::Film;
 use crate::programme::marks_of;
-use film_planner::{interrupt, Act, FetchList, Job, Meter, Plan, Refusal, Row};
-
-/// Why a way did not come to the end of the link.
-#[derive(Clone, Copy, Debug, PartialEq, Eq)]
-pub enum Halt {
-    Refused(Refusal),
-    /// Ctrl-C.
-    Interrupted,
-}
-
-impl From<Refusal> for Halt {
-    fn from(refusal: Refusal) -> Halt {
-        Halt::Refused(refusal)
-    }
-}
-
-/// Ctrl-C ends a way between two slots.
-fn go_on() -> Result<(), Halt> {
-    match interrupt::is_asked() {
-        true => Err(Halt::Interrupted),
-        false => Ok(()),
-    }
-}
+use film_planner::{Act, FetchList, Job, Meter, Refusal, Row};
 
 /// What one way fetched, and the marks of what is whole.
 pub struct Fetched {
@@ -71,20 +49,16 @@ pub fn on_link(job: &Job, link: &[u32]) -> Job {
     Job { forecast: link.to_vec(), ..job.clone() }
 }
 
-/// The plan that knew the link, and the best one for it where that shows more.
-pub fn known(job: &Job, link: &[u32]) -> Result<(Fetched, Option<Fetched>), Refusal> {
-    let job = on_link(job, link);
-    let plan = job.plan()?;
-    let fetched = |plan: Plan| Fetched { marks: plan.marks, list: plan.list };
-    let best = crate::most::better(&job, &plan)?.map(fetched);
-    Ok((fetched(plan), best))
+/// The plan that knew the link.
+pub fn known(job: &Job, link: &[u32]) -> Result<Fetched, Refusal> {
+    let plan = on_link(job, link).plan()?;
+    Ok(Fetched { marks: plan.marks, list: plan.list })
 }
 
 /// The act, slot by slot; `seen` is called in each slot, before the link brings anything.
-pub fn act(job: &Job, link: &[u32], mut seen: impl FnMut(&Act)) -> Result<Fetched, Halt> {
+pub fn act(job: &Job, link: &[u32], mut seen: impl FnMut(&Act)) -> Result<Fetched, Refusal> {
     let mut act = Act::new(job.clone())?;
     for carries in link {
-        go_on()?;
         seen(&act);
         act.brought(*carries);
     }
@@ -95,11 +69,10 @@ pub fn act(job: &Job, link: &[u32], mut seen: impl FnMut(&Act)) -> Result<Fetche
 /// gets what each slot carried, its forecast stands for every slot to come, and what the plan says for
 /// this slot is fetched as far as the link goes. Before the first sample the job's own forecast
 /// stands. In a slot whose plan is refused nothing is fetched; these slots are handed back.
-pub fn afresh(job: &Job, link: &[u32]) -> Result<(Fetched, Vec<(u16, Refusal)>), Halt> {
+pub fn afresh(job: &Job, link: &[u32]) -> Result<(Fetched, Vec<(u16, Refusal)>), Refusal> {
     let (mut now, mut list, mut meter, mut refused) = (job.clone(), FetchList::new(), Meter::new(), Vec::new());
     now.plan()?;
     for (k, carries) in link.iter().enumerate() {
-        go_on()?;
         let slot = k as u16 + 1;
         let onward = match meter.forecast() {
             Ok(rate) => vec![rate; link.len() - k],

@@ -1,9 +1,7 @@
-//! What the tests share: the program run on files of a folder of its own, and random jobs.
+//! What the trials share: the program run on files of a folder of its own, and random jobs.
 #![allow(dead_code)]
 // Random numbers are drawn from within the range that they are cut to.
 #![allow(clippy::cast_possible_truncation, clippy::cast_precision_loss, clippy::cast_sign_loss)]
-pub mod json;
-
 use film_planner::{Job, Override};
 use std::fs::File;
 use std::path::{Path, PathBuf};
@@ -221,32 +219,5 @@ pub fn largest_job(limit: u16) -> Job {
             .collect(),
         sizes,
         forecast: (0..3600u32).map(|t| 30_000 + 100 * random.from(0, 300) as u32 + t % 2).collect(),
-    }
-}
-
-/// 7000 as `7,000`.
-pub fn grouped(n: u32) -> String {
-    let digits = n.to_string();
-    let parts: Vec<&str> = digits.as_bytes().rchunks(3).rev().map(|part| std::str::from_utf8(part).unwrap()).collect();
-    parts.join(",")
-}
-
-/// A line of the proved reasons, in words.
-pub fn in_words(line: &str) -> String {
-    let numbers: Vec<u32> = line.split(|c: char| !c.is_ascii_digit()).filter_map(|word| word.parse().ok()).collect();
-    let [chunk, layer, ..] = numbers[..] else { panic!("{line}") };
-    let with = if layer == 0 { format!("chunk {chunk}") } else { format!("layer {layer} of chunk {chunk}") };
-    let bytes = |n: u32| format!("{} byte{}", grouped(n), if n == 1 { "" } else { "s" });
-    match numbers[2..] {
-        [below] => format!("layer {layer} of chunk {chunk} needs layer {below}, which is missing"),
-        [first, last, carry, need] => {
-            let slots = if first == last {
-                format!("slot {} needs", grouped(first))
-            } else {
-                format!("slots {}\u{2013}{} need", grouped(first), grouped(last))
-            };
-            format!("with {with}, {slots} {}; the link brings {}: {} short", bytes(need), grouped(carry), grouped(need - carry))
-        }
-        _ => panic!("{line}"),
     }
 }

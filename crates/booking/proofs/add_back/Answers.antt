@@ -2,10 +2,8 @@ use Prim.Native.Nat.{◌+◌, ◌-◌, ◌≤◌}
 use mathlib.Core.Path.{sym, ◌∙◌}
 use native.Mathlib.Omega.{arith}
 use lib.ListN.{length, get_or}
-use borrow.Author.Tests.{not-true, not-false, leb-true}
+use borrow.Author.Tests.{leb-true}
 use Rattle.booking.proofs.Rows.{adding_start, adding_low, adding_high, adding_full, adding_more, adding_end}
-use Rattle.std.proofs.Common.{ap}
-use mathlib.Core.Bool.{not}
 use Rattle.booking.proofs.add_back.Goals as goal
 
 pub loop-i-init : goal.loop-i-init
@@ -21,19 +19,19 @@ pub bounds-bytes-i : goal.bounds-bytes-i
 bounds-bytes-i c = omega (arith, c.requires.0)
 
 pub returns-then-not-has_room : goal.returns-then-not-has_room
-returns-then-not-has_room c = adding_full c.loop-i.invariant c.loop-i-test.true c.wide-slot.result c.wide-slot.ensures.0 c.if-slot-lt1.false c.if-forecast-slot.false (sym c.has_room.ensures ∙ not-true _ (ap not c.if-not-has_room.true))
+returns-then-not-has_room c = adding_full c.loop-i.invariant c.loop-i-test.true c.wide-slot.result c.wide-slot.ensures.0 c.if-slot-lt1.false c.if-forecast-slot.false (sym c.has_room.ensures ∙ c.if-not-has_room.true)
 
 pub overflow_add-forecast : goal.overflow_add-forecast
 overflow_add-forecast c =
     let l = c.loop-i in
-    let small : get_or l.forecast (c.wide-slot.result - 1) 0 + get_or c.args.bytes.now l.i 0 ≤ 16777216 = leb-true _ _ (sym c.has_room.ensures ∙ not-false _ (ap not c.if-not-has_room.false)) in
+    let small : get_or l.forecast (c.wide-slot.result - 1) 0 + get_or c.args.bytes.now l.i 0 ≤ 16777216 = leb-true _ _ (sym c.has_room.ensures ∙ c.if-not-has_room.false) in
     omega (arith, small)
 
 pub loop-i-smaller : goal.loop-i-smaller
 loop-i-smaller c = omega (arith, c.loop-i-test.true)
 
 pub loop-i-preserved : goal.loop-i-preserved
-loop-i-preserved c = adding_more c.loop-i.invariant c.loop-i-test.true c.wide-slot.result c.wide-slot.ensures.0 c.if-slot-lt1.false c.if-forecast-slot.false (sym c.has_room.ensures ∙ not-false _ (ap not c.if-not-has_room.false))
+loop-i-preserved c = adding_more c.loop-i.invariant c.loop-i-test.true c.wide-slot.result c.wide-slot.ensures.0 c.if-slot-lt1.false c.if-forecast-slot.false (sym c.has_room.ensures ∙ c.if-not-has_room.false)
 
 pub returns : goal.returns
 returns c = adding_end c.loop-i.invariant c.loop-i-test.false

@@ -10,10 +10,10 @@ use Rattle.theory_plan.specs.lemmas.Ascending.{asc_nth}
 use Rattle.theory_plan.specs.lemmas.Parts.{part_small}
 use Rattle.core_decide.specs.lemmas.Accepted.{left_is, part_in}
 use Rattle.theory_most.specs.Statement.{Set, after_set, end_of, least, next_from, open_of}
-use Rattle.theory_most.specs.Theorems.{set_waits, set_waits_rise}
+use Rattle.theory_most.proofs.Theorems.{set_waits, set_waits_rise}
 use Rattle.theory_most.specs.lemmas.Forward.{level_end, level_open}
-use Rattle.theory_most.specs.lemmas.Front.{set_inside}
-use Rattle.theory_most.specs.lemmas.Rising.{least_top}
+use Rattle.theory_most.proofs.Front.{set_inside}
+use Rattle.theory_most.proofs.Rising.{least_top}
 use Rattle.core_covering.specs.lemmas.Tables.{SetOf}
 
 -- ---- sizes and sums

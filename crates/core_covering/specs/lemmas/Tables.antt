@@ -1,7 +1,7 @@
 -- Lemmas. What the functions of this crate hand each other: levels by chunk number, and sets of
 -- bases as slices of chunk numbers with the level that they have used. Each function is called
 -- with tables of some accepted job, and answers for every job that they are tables of.
-use Rattle.std.specs.Prelude.{ℕ, suc, ◌+◌, ◌*◌, ◌-◌, ◌<◌, ◌≤◌, max, min, ◌≡◌, Bool, true, List, length, get_or, take, drop}
+use Rattle.std.specs.Prelude.{ℕ, ◌+◌, ◌*◌, ◌-◌, ◌<◌, ◌≤◌, max, ◌≡◌, Bool, true, List, length, get_or, take, drop}
 use Rattle.job.specs.declared.Programme.{Programme}
 use Rattle.job.specs.Job.{Accepted, Job, chunks, held_most}
 use Rattle.theory_plan.specs.Bases.{base_size}

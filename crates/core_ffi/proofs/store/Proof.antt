@@ -4,7 +4,7 @@ use Rattle.core_ffi.proofs.store.Statement.{statement}
 use Rattle.core_ffi.proofs.store.Tie as tie
 use mathlib.Core.List.{[]}
 use native.Mathlib.Omega.{arith}
-use Rattle.theory_basics.specs.lemmas.Lent.{over_next}
+use Rattle.theory_basics.proofs.Lent.{over_next}
 use Rattle.core_ffi.specs.lemmas.Slices.{whole_over}
 
 slice-aggregate-copy16 : tie.Need-slice-aggregate-copy16

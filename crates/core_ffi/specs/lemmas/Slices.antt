@@ -5,7 +5,7 @@ use Rattle.std.proofs.Common.{sym, ap, ◌∙◌, append-nil, arith, T_not, eqb�
 use Rattle.std.proofs.Math.Seq.{drop-length}
 use Rattle.theory_basics.specs.Lent.{lent_after, over}
 use Rattle.theory_basics.specs.Refusals.{◌or_else◌, unless}
-use Rattle.theory_basics.specs.lemmas.Lent.{over_next}
+use Rattle.theory_basics.proofs.Lent.{over_next}
 use Rattle.theory_basics.specs.lemmas.Refusals.{or_else_none}
 use Rattle.theory_basics.specs.lemmas.Tests.{by_cond}
 use Rattle.meter.specs.declared.Meter.{Meter}

@@ -24,6 +24,7 @@ pub record PlaceOf (sets counts : List ℕ) (n : ℕ) (ks : List ℕ) : Type 0 w
   pub is : set_at sets counts place ≡ ks
 
 pub place_of : (sets counts : List ℕ) (n : ℕ) (ks : List ℕ) → In ks (front_of sets counts n) → PlaceOf sets counts n ks
+place_of sets counts zero ks x' = elim x' [ ]
 place_of sets counts (suc n) ks here = record { place = n; inside = omega arith; is = refl }
 place_of sets counts (suc n) ks (there m) =
     let p = place_of sets counts n ks m in record { place = p.place; inside = omega (arith, p.inside); is = p.is }

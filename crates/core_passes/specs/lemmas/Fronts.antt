@@ -7,10 +7,10 @@ use Rattle.theory_basics.specs.Tests.{All, In, here, there}
 use Rattle.theory_basics.specs.lemmas.Tests.{at_row}
 use Rattle.job.specs.Job.{Job, held_most}
 use Rattle.theory_most.specs.Statement.{Set, Settled, State, after_set, end_of, stays, used_with}
-use Rattle.theory_most.specs.Theorems.{keeps_to_set, set_state, settled_on, skips_to_set}
+use Rattle.theory_most.proofs.Theorems.{keeps_to_set, set_state, settled_on, skips_to_set}
 use Rattle.core_covering.specs.lemmas.Levels.{after_small, base_small, set_few}
 use Rattle.core_covering.specs.lemmas.Tables.{NextFromPost, SetOf, WaitPre}
-use Rattle.theory_most.specs.lemmas.Front.{set_inside}
+use Rattle.theory_most.proofs.Front.{set_inside}
 use Rattle.core_front.specs.declared.Front.{Front}
 use Rattle.core_front.specs.declared.Measure.{Measure}
 use Rattle.core_front.specs.lemmas.Sets.{before_or_at, set_long}

@@ -1,12 +1,13 @@
 -- Lemmas. A turn of a pass (the next front takes the front's place), a pass, and the search: one
 -- pass after the other for falling targets. Assumes nothing.
-use Rattle.std.specs.Prelude.{ℕ, suc, ◌+◌, ◌*◌, ◌-◌, ◌<◌, ◌≤◌, ◌≡◌, Bool, true, List, [], ◌∷◌, length, get_or, set, take, drop, ltb}
+use Rattle.std.specs.Prelude.{ℕ, suc, ◌+◌, ◌*◌, ◌-◌, ◌<◌, ◌≤◌, ◌≡◌, Bool, true, List, [], ◌∷◌, length, get_or, set, take, drop, leb, ltb}
 use Rattle.std.proofs.Common.{sym, ap, ◌∙◌, subst, ⊎_elim, arith, add-one, length-drop, length-set, length-take, ltb→lt, nltb→le, get_or-drop, get_or-set_same, get_or-take}
 use Rattle.theory_basics.specs.lemmas.Tests.{test}
 use Rattle.job.specs.Job.{Job, chunks}
-use Rattle.theory_most.specs.Statement.{Next, NoneAboveInOrder, Pass, Set, after_set, begin, bound, onward}
-use Rattle.theory_most.specs.Theorems.{bound_in_order, pass_ends}
-use Rattle.theory_most.specs.lemmas.Bounds.{largest_le}
+use Rattle.theory_plan.specs.Plan.{after}
+use Rattle.theory_most.specs.Statement.{Next, NoneAboveInOrder, Pass, Set, after_set, begin, bound, least, onward}
+use Rattle.theory_most.proofs.Theorems.{bound_in_order, pass_ends}
+use Rattle.theory_most.proofs.Bounds.{largest_le}
 use Rattle.core_covering.specs.lemmas.Tables.{PlacedPost, RowOf}
 use Rattle.core_front.specs.declared.Front.{Front}
 use Rattle.core_front.specs.declared.Measure.{Measure}
@@ -241,7 +242,7 @@ module _ {counts : List ℕ} {n best a : ℕ} (v : Larger counts n best a) where
 
 bound_few : (j : Job) → bound j ≤ chunks j
 unfolding bound
-bound_few j = largest_le _ (chunks j)
+bound_few j = largest_le (λ c. leb (least j 0 c) (after j 0)) (chunks j)
 
 pub record Looking (film : Film) (most : ℕ) (ends opens bases smallest work sets counts useds nextSets nextCounts nextUseds : List ℕ) (lowest target : ℕ) : Type 0 where
   pub each : (j : Job) → FilmOf j film ends opens bases smallest work → most ≡ bound j → NoneAboveInOrder j lowest × (lowest ≤ bound j)

@@ -7,7 +7,7 @@ use Rattle.job.specs.Job.{Accepted, Job, last_due}
 use Rattle.theory_plan.specs.Statement.{Choice}
 use Rattle.theory_reasons.specs.Lines.{line_at, lines_of}
 use Rattle.theory_reasons.specs.Statement.{Place, missing_of, reasons_text, sentence}
-use Rattle.theory_reasons.specs.lemmas.Refused.{Refuses}
+use Rattle.theory_reasons.proofs.Refused.{Refuses}
 use Rattle.core_reasons.specs.lemmas.Tables.{Given, trial}
 use Rattle.core_text.specs.lemmas.Places.{Put}
 

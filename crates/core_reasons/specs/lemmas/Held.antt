@@ -11,12 +11,12 @@ use Rattle.theory_plan.specs.lemmas.Choice.{fits_can_carry}
 use Rattle.theory_plan.specs.Statement.{CanCarry, Choice}
 use Rattle.theory_plan.specs.lemmas.Words.{accepted_sized}
 use Rattle.theory_plan.specs.lemmas.Queue.{releases, release_at}
-use Rattle.theory_reasons.specs.lemmas.Bridge.{due_in, kept_bytes, kept_due, rising, up_to_slot}
+use Rattle.theory_reasons.proofs.Bridge.{due_in, kept_bytes, kept_due, rising, up_to_slot}
 use Rattle.theory_reasons.specs.Lines.{stretch_of}
-use Rattle.theory_reasons.specs.lemmas.Named.{passed, passed_late, stretch_passed}
+use Rattle.theory_reasons.proofs.Named.{passed, passed_late, stretch_passed}
 use Rattle.theory_reasons.specs.lemmas.Search as Search
 use Rattle.theory_reasons.specs.lemmas.Search.{Agrees, forward, forward_agrees, forward_is, search_agrees}
-use Rattle.theory_reasons.specs.lemmas.Kept.{can_begin, kept_count}
+use Rattle.theory_reasons.proofs.Kept.{can_begin, kept_count}
 use Rattle.core_reasons.specs.lemmas.Passes.{Holds, late_in, place, search_in, up_to_in}
 
 module _ (j : Job) (a : Accepted j) (choice : ℕ → ℕ) (after dues ready bytes : List ℕ) (first : ℕ) (h : Holds j choice after dues ready bytes first) (long : length dues ≡ 500) where

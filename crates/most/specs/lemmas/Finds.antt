@@ -6,13 +6,13 @@ use Rattle.std.proofs.Math.Dec.{leb}
 use Rattle.theory_basics.specs.lemmas.Ranges.{count_cong}
 use Rattle.job.specs.Job.{Accepted, Job, chunks}
 use Rattle.theory_plan.specs.Plan.{after, kept, plan}
-use Rattle.theory_plan.specs.Theorems.{plan_exists, plan_unique}
+use Rattle.theory_plan.proofs.Theorems.{plan_exists, plan_unique}
 use Rattle.theory_search.specs.Search.{plan_over}
-use Rattle.theory_search.specs.Theorems.{over_exists, over_unique}
+use Rattle.theory_search.proofs.Theorems.{over_exists, over_unique}
 use Rattle.theory_search.specs.lemmas.Fitting.{count_kept}
 use Rattle.theory_most.specs.Statement.{Most, NoneAboveInOrder, Set, any_row, bound, bound_any, least}
-use Rattle.theory_most.specs.Theorems.{bound_in_order, plan_set, set_carried, set_within, shown}
-use Rattle.theory_most.specs.lemmas.Bounds.{largest_le}
+use Rattle.theory_most.proofs.Theorems.{bound_in_order, plan_set, set_carried, set_within, shown}
+use Rattle.theory_most.proofs.Bounds.{largest_le}
 use Rattle.most.specs.Promise.{Finds}
 
 -- ---- the bounds are small, and what a set and a bound must say

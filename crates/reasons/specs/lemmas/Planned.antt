@@ -1,7 +1,7 @@
 -- Lemmas. The lines of a job's plan: what the functions of lib.rt ask for is there for an accepted
 -- job, and what they put is its text. The flag is whether request 9 settled the bases.
 use Prim.Native.Nat.{ℕ, zero, suc, ◌≤◌, min}
-use Rattle.std.specs.Prelude.{◌≡◌, refl, Bool, true, false, cond, List, map, length, get_or, drop, eqb, ltb}
+use Rattle.std.specs.Prelude.{◌≡◌, refl, Bool, true, false, cond, List, length, get_or, drop, eqb, ltb}
 use Rattle.std.proofs.Common.{sym, subst, ◌∙◌, arith, ne_eqb}
 use Rattle.std.proofs.Math.Path.{ap, fun_ext}
 use Rattle.theory_basics.specs.Tests.{All}
@@ -9,14 +9,14 @@ use Rattle.job.specs.Job.{Accepted, Job, Within, chunks, held_most, layers, size
 use Rattle.core_sizes.specs.Table.{table_at}
 use Rattle.core_moore_hodgson.specs.lemmas.Tables.{applies_in}
 use Rattle.theory_plan.specs.Plan.{after, by_moore_hodgson, kept, plan}
-use Rattle.theory_plan.specs.Theorems.{plan_exists}
+use Rattle.theory_plan.proofs.Theorems.{plan_exists}
 use Rattle.theory_plan.specs.lemmas.Ascending.{asc_within}
 use Rattle.theory_plan.specs.lemmas.Choice.{kept_asc}
 use Rattle.theory_plan.specs.lemmas.Parts.{part_small}
 use Rattle.theory_plan.specs.lemmas.Plan.{plan_choice}
 use Rattle.theory_reasons.specs.Lines.{lines_of, plan_text}
 use Rattle.theory_reasons.specs.Statement.{against, all_bases_kept, reasons_text, settled_before}
-use Rattle.theory_reasons.specs.lemmas.Refused.{Refuses, plan_refuses}
+use Rattle.theory_reasons.proofs.Refused.{Refuses, plan_refuses}
 use Rattle.core_decide.specs.lemmas.Accepted.{left_is, part_in}
 use Rattle.core_decide.specs.lemmas.Decision.{Decides, SumTable}
 use Rattle.core_text.specs.lemmas.Places.{Put}

@@ -1,9 +1,8 @@
 -- Lemmas. What the tables hold that the lines are told from: the layers that a plan carries of each
 -- chunk, from the marks of its kept chunks, and the bytes of the first layers of each chunk, from
 -- the table of its sizes.
-use Rattle.std.specs.Prelude.{ℕ, zero, suc, ◌+◌, ◌*◌, ◌-◌, ◌/◌, ◌%◌, ◌≤◌, ◌<◌, ◌≡◌, refl, Bool, true, false, cond, ◌||◌, List, [], ◌∷◌, map, T, eqb, leb, ltb, length, get_or, set, replicate}
-use Rattle.std.proofs.Common.{sym, ap, ◌∙◌, ⊎_elim, arith, eq-eqb, ne_eqb, le-leb, lt-ltb, eqb→eq, leb→le, length-set, get_or-set_other, get_or-set_same}
-use Rattle.std.proofs.Math.Dec.{nleb→lt}
+use Rattle.std.specs.Prelude.{ℕ, zero, suc, ◌+◌, ◌*◌, ◌-◌, ◌/◌, ◌%◌, ◌≤◌, ◌<◌, ◌≡◌, refl, cond, List, [], ◌∷◌, map, eqb, leb, ltb, length, get_or, set, replicate}
+use Rattle.std.proofs.Common.{sym, ap, ◌∙◌, ⊎_elim, arith, eq-eqb, ne_eqb, le-leb, lt-ltb, eqb→eq, length-set, get_or-set_other, get_or-set_same}
 use Rattle.theory_basics.specs.Lists.{has}
 use Rattle.theory_basics.specs.Sums.{sum}
 use Rattle.theory_basics.specs.lemmas.Ranges.{sum_cong}

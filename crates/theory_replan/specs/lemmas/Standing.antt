@@ -24,7 +24,7 @@ use Rattle.theory_plan.specs.Own.{carried_to, Fetched, fetched_by, own_list, Pie
 use Rattle.theory_plan.specs.Plan.{after, bytes, kept, tried}
 use Rattle.theory_plan.specs.lemmas.Tried.{settles_tried_iff}
 use Rattle.theory_plan.specs.Statement.{CanCarry, CarriesExactly, Choice, SettledByTrials, marks_of, Same}
-use Rattle.theory_plan.specs.Theorems.{trials_carried}
+use Rattle.theory_plan.proofs.Theorems.{trials_carried}
 use Rattle.theory_plan.specs.lemmas.Choice.{Fits, fits_can_carry, kept_asc}
 use Rattle.theory_plan.specs.lemmas.Count.{chunk_by_layers}
 use Rattle.theory_plan.specs.lemmas.Kept.{feas_picked, picked_each}

@@ -3,7 +3,7 @@ use Rattle.std.specs.Prelude.{ℕ, zero, suc, ◌≤◌, ◌≡◌, refl, Bool, 
 use Rattle.std.proofs.Common.{sym, ap, ◌∙◌, ⊎_elim, arith, take_all}
 use Rattle.std.proofs.lemmas.List.{take-append-le}
 use Rattle.theory_basics.specs.Lists.{up_to}
-use Rattle.theory_basics.specs.lemmas.Lent.{map_snoc}
+use Rattle.theory_basics.proofs.Lent.{map_snoc}
 use Rattle.theory_basics.specs.lemmas.Lists.{length_up_to}
 use Rattle.theory_basics.specs.Tests.{All, all}
 use Rattle.theory_basics.specs.lemmas.Tests.{last, all_snoc}

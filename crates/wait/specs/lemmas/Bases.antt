@@ -7,8 +7,8 @@ use Rattle.theory_basics.specs.lemmas.Ranges.{sum_mono}
 use Rattle.job.specs.Job.{Job, EqualChunks, chunks, due, held_most, layers, size}
 use Rattle.theory_plan.specs.Plan.{after}
 use Rattle.theory_plan.specs.Statement.{CanCarry, IsPlan, NoSkip}
-pub use Rattle.theory_plan.specs.lemmas.AllBases.{AllFit, bases_alone, from, no_skip_iff}
-use Rattle.theory_plan.specs.lemmas.AllBases.{can_carry_all_iff, fits_all_fit}
+pub use Rattle.theory_plan.proofs.AllBases.{AllFit, bases_alone, from, no_skip_iff}
+use Rattle.theory_plan.proofs.AllBases.{can_carry_all_iff, fits_all_fit}
 use Rattle.theory_plan.specs.lemmas.AnyOrder.{any_order_fit}
 use Rattle.theory_plan.specs.lemmas.Choice.{can_carry_fits, chunk_bytes}
 use Rattle.theory_plan.specs.lemmas.Kept.{feas_picked, picked_asc, picked_each}

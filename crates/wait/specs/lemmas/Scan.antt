@@ -16,7 +16,7 @@ use Rattle.theory_plan.specs.lemmas.Need.{Feas}
 use Rattle.theory_plan.specs.lemmas.Trials.{candidate, keeps}
 use Rattle.wait.specs.Wait.{Film, job_at, programme_at}
 use Rattle.wait.specs.lemmas.Bases.{from}
-use Rattle.theory_plan.specs.lemmas.AllBases.{AllFit}
+use Rattle.theory_plan.proofs.AllBases.{AllFit}
 
 -- ---- one pass
 

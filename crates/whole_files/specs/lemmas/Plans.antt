@@ -17,7 +17,8 @@ use Rattle.planfile.specs.PlanFile.{InWidth, Plan, RowInWidth, file_of}
 use Rattle.planfile.specs.Theorems.{always_fits}
 use Rattle.theory_plan.specs.Plan.{plan}
 use Rattle.theory_plan.specs.Statement.{marks_of}
-use Rattle.theory_plan.specs.Theorems.{marks_long, plan_keeps, plan_rows_few}
+use Rattle.theory_plan.proofs.Theorems.{marks_long, plan_keeps}
+use Rattle.theory_plan.proofs.PlanRows.{plan_rows_few}
 use Rattle.planner.specs.Answer.{plan_rows}
 use Rattle.whole_files.specs.Files.{plan_of_job}
 

@@ -1,0 +1,10 @@
+pub mod Theorems
+pub mod AnyOrder
+pub mod Bounds
+pub mod Covering
+pub mod Equal
+pub mod Front
+pub mod InOrder
+pub mod Meeting
+pub mod Rising
+pub mod Search

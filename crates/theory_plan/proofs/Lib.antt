@@ -1,0 +1,11 @@
+pub mod Absent
+pub mod Examples
+pub mod OwnMost
+pub mod Pictures
+pub mod Theorems
+pub mod AllBases
+pub mod Best
+pub mod OneSize
+pub mod OwnFill
+pub mod Shape
+pub mod PlanRows

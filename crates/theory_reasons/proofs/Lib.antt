@@ -1,0 +1,9 @@
+pub mod Theorems
+pub mod Agree
+pub mod Bridge
+pub mod Kept
+pub mod Named
+pub mod Places
+pub mod Readback
+pub mod Refused
+pub mod Widths

@@ -1,0 +1,5 @@
+pub mod Theorems
+pub mod First
+pub mod Greedy
+pub mod Meeting
+pub mod Walk
