@@ -5,7 +5,7 @@ use crate::{film, lists, sums};
 use live::Answer;
 
 // A case: a film, the slot, the rows fetched, in either order, a rate, and how many bytes come.
-#[derive(Drop)]
+#[derive(Clone, Copy)]
 pub(crate) struct Case {
     pub film: Film,
     pub p: u16,
@@ -17,7 +17,7 @@ pub(crate) struct Case {
 
 // What came of it: pieces, or 99; a checksum over the answer and all that was lent; whether the
 // next slot accepts the rows with what came.
-#[derive(Drop)]
+#[derive(Clone, Copy)]
 pub(crate) struct Got {
     pub pieces: usize,
     pub sum: u64,

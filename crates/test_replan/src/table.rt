@@ -45,7 +45,7 @@ fn after(numbers: &[u32; 512], at: usize) -> usize
 
 // Where the lists of a case stand: its sizes, its SZs' chunks, layers and bytes, its forecast, the
 // slot p, the rows' slots, chunks, layers and bytes, and the forecast from p on or the marks.
-#[derive(Drop)]
+#[derive(Clone, Copy)]
 pub(crate) struct Places {
     pub sizes: usize,
     pub size_chunks: usize,

@@ -6,7 +6,7 @@ use checker::Checked;
 use planner::Answer;
 
 // A case: a film, the slot, the rows fetched, in either order, and the forecast's number.
-#[derive(Drop)]
+#[derive(Clone, Copy)]
 pub(crate) struct Case {
     pub film: Film,
     pub p: u16,
@@ -17,7 +17,7 @@ pub(crate) struct Case {
 
 // What came of it: rows, or 99; a checksum over the answer and all that was lent; the marks, four
 // bits a chunk; whether the list passes.
-#[derive(Drop)]
+#[derive(Clone, Copy)]
 pub(crate) struct Got {
     pub rows: usize,
     pub sum: u64,
