@@ -15,13 +15,8 @@ use Rattle.job.specs.Theorems.{input_accepted}
 use Rattle.job.specs.Job.{Accepted, Job, chunks, layers as layers_of, size}
 use Rattle.fetch.specs.Slices.{ListSlices, slices_of}
 use Rattle.theory_plan.specs.Plan.{kept, plan}
-<<<<<<< HEAD
-use Rattle.theory_plan.specs.Statement.{count_of, counts_of, marks_of}
-use Rattle.theory_plan.proofs.Theorems.{own_list_rows}
-=======
 use Rattle.theory_plan.specs.Statement.{count_of, counts_of}
 use Rattle.theory_plan.proofs.Theorems.{own_list_rows}
->>>>>>> aad02f8473ab2a376df4ce34fe94931671252ae2
 use Rattle.theory_plan.specs.lemmas.Words.{accepted_sized}
 use Rattle.fetch.specs.Marks.{with_layer}
 use Rattle.core_decide.specs.lemmas.Accepted.{decide_from}
