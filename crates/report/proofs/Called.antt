@@ -27,7 +27,7 @@ use Rattle.report.specs.declared.table.Spent.TheVariants.{Bytes as sent, Refused
 use Rattle.report.specs.lemmas.Tables.{Rows, Summed, Tabled}
 use Rattle.report.specs.lemmas.Again.{rows_again}
 use Rattle.report.proofs.Own.{own_rows, spent_again}
-use Rattle.theory_plan.specs.Theorems.{plan_rows_few}
+use Rattle.theory_plan.proofs.PlanRows.{plan_rows_few}
 
 -- The slices that the report lends: zeros.
 abbrev pub zeros : ℕ → List ℕ

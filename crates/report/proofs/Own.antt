@@ -10,7 +10,8 @@ use Rattle.theory_basics.specs.Sums.{sum}
 use Rattle.job.specs.Job.{Job, Accepted}
 use Rattle.fetch.specs.Rows.{Row, row_slot, row_chunk, row_layer, row_bytes}
 use Rattle.fetch.specs.Rules.{RowInRange}
-use Rattle.theory_plan.specs.Theorems.{plan_keeps, plan_rows_few}
+use Rattle.theory_plan.proofs.Theorems.{plan_keeps}
+use Rattle.theory_plan.proofs.PlanRows.{plan_rows_few}
 use Rattle.planner.specs.Answer.{plan_rows}
 use Rattle.report.specs.Report.{bytes_in_rows}
 use Rattle.report.specs.lemmas.Again.{rows_again}
