@@ -1,7 +1,4 @@
-use Prim.Native.Nat.{ℕ, ◌+◌, ◌-◌}
-use mathlib.Core.List.{List}
 use native.Mathlib.Omega.{arith}
-use Rattle.report.specs.lemmas.Tables.{chunk_line_by}
 use Rattle.core_text.specs.lemmas.Texts.{putting_start, putting_room, putting_more, putting_end}
 use Rattle.report.proofs.Pieces.{chunk_piece}
 use Rattle.report.proofs.chunk_lines.Goals as goal

@@ -1,7 +1,3 @@
-use Prim.Native.Nat.{ℕ, ◌-◌}
-use mathlib.Core.List.{List, ◌∷◌}
-use Rattle.theory_basics.specs.Text.{digits}
-use Rattle.report.specs.lemmas.Tables.{count_by}
 use Rattle.core_text.specs.lemmas.Texts.{putting_start, putting_room, putting_more, putting_end}
 use Rattle.report.proofs.Pieces.{count_piece}
 use Rattle.report.proofs.layer_counts.Goals as goal

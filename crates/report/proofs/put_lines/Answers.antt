@@ -1,8 +1,5 @@
 -- `report::put_lines` meets its contract. Assumes nothing.
 use native.Mathlib.Nat.{one-le-mul}
-use Rattle.job.specs.Job.{last_due}
-use Rattle.theory_basics.specs.Text.{line}
-use Rattle.report.specs.lemmas.Tables.{switch_lines}
 use Rattle.report.proofs.Pieces.{room_one, room_two, room_three, room_four, room_five, whole}
 use Rattle.report.proofs.put_lines.Goals as goal
 
