@@ -9,7 +9,7 @@ use Rattle.theory_basics.specs.lemmas.Refusals.{or_else_none, or_else_some}
 use Rattle.records.specs.Fields.{Bytes}
 use Rattle.records.specs.File.{file_refusal}
 use Rattle.job.specs.Job.{Accepted, chunks}
-use Rattle.fetch.specs.Theorems.{verdict_iff}
+use Rattle.fetch.proofs.Theorems.{verdict_iff}
 use Rattle.jobrecords.specs.Refusal.{one_sequence, mixed, refusal_of, job_of_file}
 use Rattle.jobrecords.specs.Theorems.{file_accepted, also_mixed}
 use Rattle.jobfile.specs.Writer.{job_file}

@@ -6,7 +6,7 @@ use Rattle.std.proofs.lemmas.List.{length-replicate}
 use Rattle.theory_basics.specs.Tests.{All, any}
 use Rattle.meter.specs.Forecast.{is_zero, total, share, mean_of, forecast_of}
 use Rattle.meter.specs.Harmonic.{product}
-use Rattle.meter.specs.lemmas.Mean.{Counts, others, Whole, share_is, share_wide, others_pos, mean_not_above, mean_near, one_less_at_most}
+use Rattle.meter.proofs.Means.{Counts, others, Whole, share_is, share_wide, others_pos, mean_not_above, mean_near, one_less_at_most}
 
 -- ---- factors of powers of two
 

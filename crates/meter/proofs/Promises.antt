@@ -17,8 +17,8 @@ use Rattle.meter.specs.Meter.{Sample, sample, samples_of, empty, SampleInRange, 
 use Rattle.meter.specs.Forecast.{bytes_of, is_zero, mean_of, forecast_of, meter_forecast_refusal, answer_of}
 use Rattle.meter.specs.Harmonic.{product, WholePart}
 use Rattle.meter.specs.Calls.{ForecastPromise, Forecasts}
-use Rattle.meter.specs.lemmas.Mean.{others, of_whole, under_not_above, whole_of, mean_high, mean_some, mean_not_above, mean_near, whole_part, others_pos, zero_in, counts, one_less_at_most}
-use Rattle.meter.specs.lemmas.Steady.{power_steady, other_steady}
+use Rattle.meter.proofs.Means.{others, of_whole, under_not_above, whole_of, mean_high, mean_some, mean_not_above, mean_near, whole_part, others_pos, zero_in, counts, one_less_at_most}
+use Rattle.meter.proofs.Steady.{power_steady, other_steady}
 use Rattle.meter.specs.lemmas.Order.{in_range_iff, in_order_iff, ten_first, then_after, Fine, fine_snoc, last_ten_in_order, stored_samples}
 
 -- ---- "gets a result or, exactly in the cases that document 01 lists, a refusal number"

@@ -5,7 +5,7 @@ use Rattle.std.proofs.Common.{sym, ap, subst, ◌∙◌, append_assoc, append-ni
 use Rattle.theory_basics.specs.Tests.{All}
 use Rattle.meter.specs.declared.Meter.{Meter}
 use Rattle.meter.specs.Meter.{Sample, samples_of, empty, SampleInRange, Rising, last_ten, take_refusal, taken}
-use Rattle.meter.specs.Promises.{taken_iff, taken_samples}
+use Rattle.meter.proofs.Promises.{taken_iff, taken_samples}
 use Rattle.meter.specs.lemmas.LastTen.{last_slot_ten, last_ten_snoc}
 use Rattle.meter.specs.lemmas.Order.{Fine, fine_snoc, last_ten_in_order}
 
