@@ -14,7 +14,7 @@ import sys
 import header
 
 DOCUMENTS = ["README.md", "CONTRIBUTING.md", "CHANGELOG.md"] + sorted(glob.glob("docs/*.md") + glob.glob("docs/notes/*.md") + glob.glob("bench/*.md"))
-HISTORY = ("docs/notes/", "CHANGELOG.md")
+HISTORY = ("docs/PORT.md", "docs/notes/", "CHANGELOG.md")
 
 # What a command may name and the tree need not have: what is built or made by another command, and
 # folders that a reader chooses.
