@@ -13,7 +13,7 @@ use Rattle.fetch.specs.Slices.{ListSlices, RowSlices, list_rows, row_slices, sli
 use Rattle.fetch.specs.Input
 use Rattle.fetch.specs.Rules.{Keeps}
 use Rattle.fetch.specs.Verdict.{verdict}
-use Rattle.fetch.specs.Theorems.{verdict_iff}
+use Rattle.fetch.proofs.Theorems.{verdict_iff}
 use Rattle.theory_plan.specs.Statement.{Best, IsPlan, MostPictures, marks_of}
 use Rattle.theory_plan.proofs.Pictures.{most_pictures}
 use Rattle.theory_plan.specs.Own.{own_list}

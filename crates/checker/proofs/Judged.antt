@@ -16,7 +16,7 @@ use Rattle.job.specs.declared.Programme.{Programme}
 use Rattle.job.specs.lemmas.Within.{size_most}
 use Rattle.fetch.specs.Rows.{Row, bytes_of_layer}
 use Rattle.fetch.specs.Verdict.{lowest, rule2}
-use Rattle.fetch.specs.Theorems.{rule2_iff, rule2_from_iff}
+use Rattle.fetch.proofs.Theorems.{rule2_iff, rule2_from_iff}
 use Rattle.fetch.specs.VerdictFrom.{layer_before, rule2_from, verdict_from}
 use Rattle.core_rules.proofs.Exact.{eqb_cap, ltb_cap, rule1_is, rule2_is, rule3_is, rule4_is, rule6_is, rule7_is}
 use Rattle.core_rules.specs.declared.Layers.{Layers}

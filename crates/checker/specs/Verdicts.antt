@@ -8,7 +8,7 @@ use Rattle.job.specs.Job.{Job}
 use Rattle.fetch.specs.Rows.{Row}
 use Rattle.fetch.specs.Rules.{FewHeld, Keeps, LowerCarried, MarksSay, OnTime, RowInRange, WholeLayers, WithinForecast}
 use Rattle.fetch.specs.Verdict.{lowest, rule1, rule2, rule3, rule4, rule5, rule6, rule7, verdict}
-use Rattle.fetch.specs.Theorems.{rule1_iff, rule2_iff, rule3_iff, rule4_iff, rule5_iff, rule6_iff, rule7_iff, verdict_iff}
+use Rattle.fetch.proofs.Theorems.{rule1_iff, rule2_iff, rule3_iff, rule4_iff, rule5_iff, rule6_iff, rule7_iff, verdict_iff}
 
 -- ---- the first test that fails
 

@@ -31,7 +31,7 @@ use Rattle.replan.specs.Theorems.{settled_afresh}
 use Rattle.report.specs.lemmas.Again.{rows_again}
 use Rattle.core_ffi.specs.Convention.{answered}
 use Rattle.core_ffi.specs.Lists.{check_answer, check_from_answer}
-use Rattle.fetch.specs.Theorems.{verdict_iff, slot_iff}
+use Rattle.fetch.proofs.Theorems.{verdict_iff, slot_iff}
 
 -- ---- a list and its marks in slices
 

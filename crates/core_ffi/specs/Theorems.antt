@@ -39,7 +39,7 @@ use Rattle.trace.specs.Theorems.{read_iff}
 use Rattle.trace.specs.Trace.{trace_refusal}
 use Rattle.meter.specs.Forecast.{bytes_of, forecast_of, meter_forecast_refusal as meter_refusal}
 use Rattle.meter.specs.Meter.{samples_of}
-use Rattle.meter.specs.Promises.{forecast_iff, forecast_says}
+use Rattle.meter.proofs.Promises.{forecast_iff, forecast_says}
 use Rattle.whole_files.specs.Files.{job_file_refusal, job_said, plan_of_job}
 use Rattle.programs.specs.Theorems.{said_accepted}
 use Rattle.whole_files.specs.lemmas.Plans.{plan_file_fits}

@@ -14,7 +14,7 @@ use Rattle.core_sizes.specs.Table.{table_at}
 use Rattle.job.specs.declared.Programme.{Programme}
 use Rattle.fetch.specs.Rows.{Row}
 use Rattle.fetch.specs.Verdict.{rule1, rule3}
-use Rattle.fetch.specs.Theorems.{rule1_iff, rule3_iff}
+use Rattle.fetch.proofs.Theorems.{rule1_iff, rule3_iff}
 use Rattle.core_replan_decide.specs.lemmas.Decision.{job_from}
 use Rattle.core_rules.proofs.Exact.{rule1_is, rule3_is, rule6_is}
 use Rattle.core_rules.specs.declared.Pass.{Pass}

@@ -23,7 +23,7 @@ use Rattle.job.specs.lemmas.Within.{all_most, size_most}
 use Rattle.fetch.specs.Rows.{Row, begun, held, held_count, carried, mark_byte, bytes_in_slot, bytes_of_layer}
 use Rattle.fetch.specs.lemmas.Marks.{mark_cong}
 use Rattle.fetch.specs.Verdict.{rule1, rule2, rule3, rule4, rule6, rule7, lower_carried, same}
-use Rattle.fetch.specs.Theorems.{same_iff}
+use Rattle.fetch.proofs.Theorems.{same_iff}
 use Rattle.core_rules.specs.declared.Pass.{Pass}
 use Rattle.core_rules.specs.lemmas.Tables.{cap, first_of, Tallied, TallyPost, carried_by, whole_by, under, lower_by, held_by, Shown}
 use Rattle.theory_basics.specs.lemmas.Ranges.{count_cong}

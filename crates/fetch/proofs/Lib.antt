@@ -1,3 +1,5 @@
 mod Bits
 mod Masked
 mod Walk
+pub mod Theorems
+pub mod Passing

@@ -17,7 +17,7 @@ use Rattle.meter.specs.declared.Meter.{Meter}
 use Rattle.meter.specs.declared.Taken.{Taken}
 use Rattle.meter.specs.Meter.{Sample, sample, samples_of, storing, SampleInRange, in_range, last_sample_slot, InOrder, in_order, with_sample, taken}
 use Rattle.meter.specs.lemmas.Cells.{next_cells}
-use Rattle.meter.specs.Promises.{few_kept}
+use Rattle.meter.proofs.Promises.{few_kept}
 use Rattle.meter.specs.lemmas.Order.{in_order_iff, in_range_iff, test_false, test_true, Fine, fine_snoc, fine_before, last_slot_snoc}
 
 -- The sample in cell k.

@@ -18,7 +18,7 @@ use Rattle.meter.specs.declared.Meter.{Meter}
 use Rattle.meter.specs.declared.Answer.TheVariants.{Bytes, Refused}
 use Rattle.meter.specs.Meter.{Sample, samples_of, InOrder, in_order}
 use Rattle.meter.specs.Forecast.{bytes_of, is_zero, total, share, mean_of, forecast_of, answer_of}
-use Rattle.meter.specs.lemmas.Mean.{Counts, counts, share_narrow, total_pos, mean_high}
+use Rattle.meter.proofs.Means.{Counts, counts, share_narrow, total_pos, mean_high}
 use Rattle.meter.proofs.Laws.{cell}
 
 bytes_snoc : (l : List Sample) (x : Sample) → bytes_of (l ++ (x ∷ [])) ≡ bytes_of l ++ (x.bytes ∷ [])

@@ -3,6 +3,4 @@ pub mod Forecast
 pub mod Harmonic
 pub mod Calls
 pub mod Edges
-pub mod Promises
-pub mod Kept
 pub mod lemmas

@@ -1,26 +1,23 @@
 -- Laws on the plan over the set found, in tables. Assumes nothing.
-use mathlib.Core.Path.{◌≡◌, refl, sym, ap, ◌∙◌, subst}
+use mathlib.Core.Path.{◌≡◌, refl, sym, subst}
 use mathlib.Core.List.{List}
-use Prim.Native.Nat.{ℕ, ◌+◌, ◌*◌, ◌-◌, ◌≤◌}
+use Prim.Native.Nat.{ℕ, ◌≤◌}
 use native.Mathlib.Omega.{arith}
 use lib.ListN.{length, drop}
 use Rattle.job.specs.declared.Programme.{Programme}
 use Rattle.job.specs.Job.{Accepted, Job, Override, size_in}
-use Rattle.theory_plan.specs.Plan.{after}
 use Rattle.theory_plan.specs.lemmas.Choice.{Fits, can_carry_fits}
-use Rattle.theory_plan.specs.lemmas.Parts.{at, padded}
-use Rattle.theory_plan.specs.lemmas.Trials.{decided_on}
+use Rattle.theory_plan.specs.lemmas.Parts.{padded}
 use Rattle.theory_plan.specs.lemmas.Words.{accepted_sized}
-use Rattle.core_moore_hodgson.specs.lemmas.Tables.{KeptIn}
-use Rattle.core_decide.specs.lemmas.Decision.{DecidePre, Decides, SettleKeptPost, SettleKeptPre, SumTable, job_from}
-use Rattle.core_decide.proofs.Decided.{kept_from, sums_are}
+use Rattle.core_decide.specs.lemmas.Decision.{Decides, SettleKeptPost, SumTable, job_from}
+use Rattle.core_decide.proofs.Decided.{sums_are}
 use Rattle.core_search.specs.lemmas.Tables.{PlaceBestPre}
 use Rattle.theory_search.specs.Search.{plan_over}
 use Rattle.theory_search.specs.Statement.{bases_of}
 use Rattle.theory_search.proofs.Theorems.{over_exists}
 use Rattle.theory_search.specs.lemmas.Fitting.{bases_choice}
 use Rattle.theory_search.specs.lemmas.Over.{over_decided, over_kept, planned_fits}
-use Rattle.theory_most.specs.Statement.{Most, bound_any}
+use Rattle.theory_most.specs.Statement.{Most}
 use Rattle.theory_most.specs.lemmas.InTables.{Says, SomeJob}
 use Rattle.core_bounds.specs.lemmas.Tables.{AnyOrderPost}
 use Rattle.core_passes.specs.declared.Sought.{Sought}

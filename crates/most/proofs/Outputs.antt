@@ -1,8 +1,8 @@
 -- Laws on what the public call returns. Assumes nothing.
 use mathlib.Core.Path.{◌≡◌, refl, sym, ap, ◌∙◌, subst}
 use mathlib.Core.Bool.{Bool, true, false, ◌&&◌}
-use mathlib.Core.List.{List, [], ◌∷◌, map}
-use Prim.Native.Nat.{ℕ, ◌+◌, ◌*◌, ◌-◌, ◌≤◌, ◌<◌}
+use mathlib.Core.List.{List, []}
+use Prim.Native.Nat.{ℕ, ◌+◌, ◌*◌, ◌≤◌, ◌<◌}
 use native.Mathlib.Omega.{arith}
 use borrow.Author.Tests.{eq-eqb, ne_eqb, le-leb}
 use lib.ListN.{length, get_or, replicate}
@@ -14,9 +14,8 @@ use Rattle.job.specs.Input.{JobInput, job_in, job_refusal}
 use Rattle.job.specs.Theorems.{input_accepted}
 use Rattle.job.specs.Job.{Accepted, Job, chunks, layers as layers_of, size}
 use Rattle.fetch.specs.Slices.{ListSlices, slices_of}
-use Rattle.theory_plan.specs.Own.{own_list}
 use Rattle.theory_plan.specs.Plan.{kept, plan}
-use Rattle.theory_plan.specs.Statement.{count_of, counts_of, marks_of}
+use Rattle.theory_plan.specs.Statement.{count_of, counts_of}
 use Rattle.theory_plan.proofs.Theorems.{own_list_rows}
 use Rattle.theory_plan.specs.lemmas.Words.{accepted_sized}
 use Rattle.fetch.specs.Marks.{with_layer}

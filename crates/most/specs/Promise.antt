@@ -2,7 +2,7 @@
 -- bounds, or a refusal's number. Which set is found is free; what holds of it, of the plan over it
 -- and of the bounds is stated in theory_most: Statement (`Most`, `Shown`). A refusal is settled by
 -- the job and the lengths of the slices, before anything is written.
-use Rattle.std.specs.Prelude.{ℕ, ◌+◌, ◌*◌, ◌≤◌, ◌≡◌, Bool, false, cond, ◌&&◌, List, [], ◌∷◌, map, length, eqb, leb}
+use Rattle.std.specs.Prelude.{ℕ, ◌+◌, ◌*◌, ◌≡◌, Bool, false, cond, ◌&&◌, List, [], ◌∷◌, map, length, eqb, leb}
 use Rattle.theory_basics.specs.Lent.{lent_after}
 use Rattle.theory_basics.specs.Refusals.{unless, ◌or_else◌}
 use Rattle.job.specs.Job.{Job, chunks}
@@ -11,7 +11,6 @@ use Rattle.fetch.specs.Rows.{Row, row_slot, row_chunk, row_layer, row_bytes}
 use Rattle.fetch.specs.Slices.{ListSlices}
 use Rattle.theory_plan.specs.Own.{own_list}
 use Rattle.theory_plan.specs.Statement.{Same, counts_of, marks_of}
-use Rattle.planner.specs.declared.Answer.{Answer}
 use Rattle.planner.specs.declared.Answer.TheVariants.{Rows, Refused}
 use Rattle.theory_search.specs.Statement.{IsPlanOver}
 use Rattle.theory_search.specs.Search.{plan_over}

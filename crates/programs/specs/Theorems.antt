@@ -3,20 +3,19 @@
 -- program that reads it in one sequence. Then what `film_convert` prints: document 02, "The mixed
 -- files of document 01 can be turned into the new form by a small program that still reads both."
 -- Assumes nothing.
-use Rattle.std.specs.Prelude.{ℕ, ◌≤◌, ◌≡◌, refl, List, [], length}
+use Rattle.std.specs.Prelude.{ℕ, ◌≤◌, ◌≡◌, List, [], length}
 use Rattle.std.proofs.Common.{sym, ap, ◌∙◌, arith, eq-eqb, ne_eqb}
 use Rattle.theory_basics.specs.lemmas.Refusals.{or_else_none, or_else_some}
 use Rattle.records.specs.Fields.{Bytes}
 use Rattle.records.specs.File.{file_refusal}
-use Rattle.job.specs.Job.{Accepted, Job, chunks}
-use Rattle.fetch.specs.Verdict.{verdict}
-use Rattle.fetch.specs.Theorems.{verdict_iff}
+use Rattle.job.specs.Job.{Accepted, chunks}
+use Rattle.fetch.proofs.Theorems.{verdict_iff}
 use Rattle.jobrecords.specs.Refusal.{one_sequence, mixed, refusal_of, job_of_file}
 use Rattle.jobrecords.specs.Theorems.{file_accepted, also_mixed}
 use Rattle.jobfile.specs.Writer.{job_file}
 use Rattle.jobfile.specs.Theorems.{file_short, never_refused, reads_back, single_file}
-use Rattle.planfile.specs.PlanFile.{Plan, file_of, format, plan_in}
-use Rattle.planfile.specs.Theorems.{ReadsBackAs, plan_reads_back}
+use Rattle.planfile.specs.PlanFile.{file_of, format, plan_in}
+use Rattle.planfile.specs.Theorems.{plan_reads_back}
 use Rattle.theory_plan.specs.Plan.{plan}
 use Rattle.theory_plan.specs.Statement.{marks_of}
 use Rattle.theory_plan.proofs.Theorems.{plan_keeps}

@@ -19,7 +19,7 @@ use Rattle.job.specs.Job.{Within, last_due}
 use Rattle.fetch.specs.Input.{Whole, whole_iff, list_refusal}
 use Rattle.fetch.specs.Rows.{row_at}
 use Rattle.fetch.specs.VerdictFrom.{slot_refusal}
-use Rattle.fetch.specs.Theorems.{slot_iff}
+use Rattle.fetch.proofs.Theorems.{slot_iff}
 use Rattle.theory_replan.specs.Refusal.{before_iff, before_refusal, fetched_kept, onward_iff, replan_refusal}
 use Rattle.replan.specs.Answer.{ReplanInput, fetched, input_refusal, job_on}
 use Rattle.replan.specs.lemmas.Asked.{asked_refusal, part_refusal}

@@ -11,7 +11,7 @@ use Rattle.job.specs.Theorems.{input_accepted}
 use Rattle.job.specs.Job.{Accepted, Job, chunks}
 use Rattle.fetch.specs.Input.{list_refusal}
 use Rattle.fetch.specs.Rows.{Permuted, Row, row_bytes, row_chunk, row_layer, row_slot, rows_of}
-use Rattle.fetch.specs.Theorems.{verdict_from_iff}
+use Rattle.fetch.proofs.Theorems.{verdict_from_iff}
 use Rattle.fetch.specs.Slices.{ListSlices, room, slices_of}
 use Rattle.theory_plan.specs.Statement.{Same, counts_of, marks_of}
 use Rattle.theory_plan.proofs.Theorems.{same_counts, same_marks}

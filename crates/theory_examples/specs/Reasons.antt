@@ -3,7 +3,7 @@
 use Rattle.std.specs.Prelude.{ℕ, ◌≡◌, refl, List}
 use Rattle.std.proofs.Common.{sym, ◌∙◌}
 use Rattle.theory_basics.specs.Text.{ascii, digits}
-use Rattle.job.specs.Job.{Accepted, size_in}
+use Rattle.job.specs.Job.{size_in}
 use Rattle.job.specs.Theorems.{accepted_iff}
 use Rattle.theory_plan.specs.Plan.{plan}
 use Rattle.theory_plan.specs.Statement.{IsPlan}

@@ -14,8 +14,8 @@ use Rattle.meter.specs.declared.Meter.{Meter}
 use Rattle.meter.specs.declared.Answer.TheVariants.{Bytes}
 use Rattle.meter.specs.Meter.{samples_of}
 use Rattle.meter.specs.Forecast.{answer_of, bytes_of}
-use Rattle.meter.specs.lemmas.Mean.{not_above_less}
-use Rattle.meter.specs.Promises.{answer_says}
+use Rattle.meter.proofs.Means.{not_above_less}
+use Rattle.meter.proofs.Promises.{answer_says}
 use Rattle.theory_forecast.specs.Statement.{EverySlot, NoSlotAbove}
 
 -- A meter that answers the forecast f, samples of 0 included, and a job whose every slot has it.

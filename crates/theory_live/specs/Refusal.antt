@@ -10,7 +10,7 @@ use Rattle.theory_basics.specs.lemmas.Tests.{test, neqb_ne}
 use Rattle.job.specs.Job.{Accepted, Job, Within, forecast, last_slot}
 use Rattle.fetch.specs.Rows.{Row}
 use Rattle.fetch.specs.VerdictFrom.{slot_refusal}
-use Rattle.fetch.specs.Theorems.{slot_iff}
+use Rattle.fetch.proofs.Theorems.{slot_iff}
 use Rattle.theory_replan.specs.Refusal.{before_refusal, fetched_kept, joined_unchanged, onward_iff, onward_refusal, replan_refusal_iff, replan_refusal}
 use Rattle.theory_replan.specs.Statement.{Acceptable, joined}
 use Rattle.theory_live.specs.Statement.{act}

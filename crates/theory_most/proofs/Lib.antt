@@ -8,3 +8,5 @@ pub mod InOrder
 pub mod Meeting
 pub mod Rising
 pub mod Search
+pub mod ForwardPass
+pub mod Found

@@ -370,7 +370,7 @@ none_in us m = at_row (λ (x : List ℕ). ⊥) m tt
 
 module _ (j : Job) (few : held_most j ≤ 1) (target : ℕ) where
   -- It alone is a front: where H is at most 1 a set covers all smaller ones.
-  forward_next :
+  pub forward_next :
       (i : ℕ) (ks : List ℕ) → Set j i ks →
       let b = leb (used_with j (after_set j ks) (suc i)) (end_of j (suc i)) in
       Next j target i (ks ∷ []) (cond b (ks ++ (suc i ∷ [])) ks ∷ [])
@@ -404,7 +404,3 @@ module _ (j : Job) (few : held_most j ≤ 1) (target : ℕ) where
             (λ z. absurd (T_not b t (le→leb (used_with j (after_set j ks) (suc i)) (end_of j (suc i)) z)))
             (λ us m. absurd (none_in us m));
       })
-
-  pub forward_pass : (i : ℕ) → i ≤ chunks j → Pass j target i (forward j i ∷ [])
-  forward_pass zero h = begin
-  forward_pass (suc i) h = onward (forward_pass i (omega arith)) h (forward_next i (forward j i) (forward_set j i))

@@ -9,7 +9,7 @@ use Rattle.theory_basics.specs.lemmas.Tests.{test}
 use Rattle.fetch.specs.Rows.{Row, layer_count, mark_byte, marks_given}
 use Rattle.fetch.specs.Rules.{Keeps, Passes, PlayingOrder}
 use Rattle.fetch.specs.Verdict.{verdict}
-use Rattle.fetch.specs.Theorems.{verdict_iff}
+use Rattle.fetch.proofs.Theorems.{verdict_iff}
 use Rattle.job.specs.Job.{Accepted, EqualBases, EqualChunks, Job, Layer, chunks, layers, size}
 use Rattle.job.specs.Uneven.{equal_chunks_bases}
 use Rattle.theory_plan.proofs.Best.{by_trials_fits, first_difference_lem, is_plan_fits, most_bases_lem, most_of_layer_lem}

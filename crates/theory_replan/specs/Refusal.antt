@@ -13,7 +13,7 @@ use Rattle.job.specs.Refusal.{bytes_refusal}
 use Rattle.job.specs.Theorems.{bytes_iff}
 use Rattle.fetch.specs.Rows.{Row, begun, bytes_of_layer}
 use Rattle.fetch.specs.Verdict.{all_layers, rule1, rule3, rule4, rule5, rule6}
-use Rattle.fetch.specs.Theorems.{layers_iff, rule1_iff, rule3_iff, rule4_iff, rule5_iff, rule6_iff, slot_iff}
+use Rattle.fetch.proofs.Theorems.{layers_iff, rule1_iff, rule3_iff, rule4_iff, rule5_iff, rule6_iff, slot_iff}
 use Rattle.fetch.specs.VerdictFrom.{slot_refusal}
 use Rattle.theory_replan.specs.Statement.{Acceptable, joined}
 

@@ -8,10 +8,8 @@ use lib.ListN.{drop, length, length-map, length-replicate, replicate, take}
 use lib.Seq.{take_at}
 use borrow.Author.Tests.{eq-eqb}
 use Rattle.theory_basics.specs.Lent.{lent_after}
-use Rattle.job.specs.Input.{JobInput, job_in}
-use Rattle.job.specs.Job.{chunks}
 use Rattle.fetch.specs.Input.{Whole}
-use Rattle.fetch.specs.Rows.{Row, row_bytes, row_chunk, row_layer, row_slot}
+use Rattle.fetch.specs.Rows.{row_bytes, row_chunk, row_layer, row_slot}
 use Rattle.fetch.specs.Slices.{ListSlices, slices_of}
 use Rattle.planfile.specs.PlanFile.{Plan}
 

@@ -1,13 +1,12 @@
 -- Laws on a plan file that is read for a job and then judged: its refusal, or the verdict on its
 -- marks and rows. Assumes nothing.
 use Prim.Native.Nat.{ℕ, ◌≤◌}
-use mathlib.Core.Path.{◌≡◌, refl, sym, ap, subst, ◌∙◌}
-use mathlib.Core.Bool.{cond}
+use mathlib.Core.Path.{◌≡◌, sym, ap, ◌∙◌}
 use mathlib.Core.List.{List, map}
 use mathlib.Core.Logic.{⊎_elim}
 use native.Mathlib.Omega.{arith}
 use lib.ListN.{length, replicate, take}
-use lib.Dec.{T, T_not, leb, eqb, eqb→eq, eqb_refl}
+use lib.Dec.{T_not, eqb, eqb→eq, eqb_refl}
 use borrow.Author.Tests.{eq-eqb, le-leb, ne_eqb}
 use Rattle.theory_basics.specs.Refusals.{unless, ◌or_else◌}
 use Rattle.theory_basics.specs.lemmas.Refusals.{or_else_iff, or_else_some}
@@ -15,19 +14,19 @@ use Rattle.theory_basics.specs.lemmas.Tests.{by_cond, test}
 use Rattle.records.specs.File.{file_refusal}
 use Rattle.job.specs.Input.{JobInput, job_in, job_refusal}
 use Rattle.job.specs.Theorems.{input_iff}
-use Rattle.job.specs.Job.{Accepted, Job, chunks}
+use Rattle.job.specs.Job.{Job, chunks}
 use Rattle.fetch.specs.Input as rows
 use Rattle.fetch.specs.Slices.{ListSlices, slices_of, room}
-use Rattle.fetch.specs.Rows.{Row, row_bytes, row_chunk, row_layer, row_slot, rows_of}
+use Rattle.fetch.specs.Rows.{row_bytes, row_chunk, row_layer, row_slot}
 use Rattle.jobrecords.specs.Refusal.{one_sequence}
 use Rattle.planfile.specs.Calls.{read_answer, read_lent, plan_read_refusal}
-use Rattle.planfile.specs.PlanFile.{Plan, format, plan_in}
+use Rattle.planfile.specs.PlanFile.{format, plan_in}
 use Rattle.planfile.specs.lemmas.Few.{rows_inside}
 use Rattle.planfile.specs.declared.PlanRead.{PlanRead}
 use Rattle.planfile.specs.declared.PlanRead.TheVariants as planRead
-use Rattle.checker.specs.Checked.{answer, check_refusal, checked}
+use Rattle.checker.specs.Checked.{answer, checked}
 use Rattle.checker.specs.declared.Checked.{Checked}
-use Rattle.checker.specs.declared.Checked.TheVariants.{Verdict, Refused}
+use Rattle.checker.specs.declared.Checked.TheVariants.{Refused}
 use Rattle.report.specs.lemmas.Again.{rows_again}
 use Rattle.whole_files.specs.Calls.{verdict_answer, verdict_on_file}
 use Rattle.whole_files.specs.Files.{files_refusal, job_file_refusal, job_said, verdict_of_files, verdict_of_plan}

@@ -1,16 +1,13 @@
 -- Laws on a job's plan that is made and then written: its refusal, or the plan's file. Assumes
 -- nothing.
 use Prim.Native.Nat.{ℕ, ◌≤◌}
-use mathlib.Core.Path.{◌≡◌, refl, sym, ap, subst, ◌∙◌}
-use mathlib.Core.Bool.{cond}
+use mathlib.Core.Path.{◌≡◌, sym, subst, ◌∙◌}
 use mathlib.Core.List.{List, map}
 use native.Mathlib.Omega.{arith}
 use lib.ListN.{length, replicate, take}
-use lib.Dec.{T, T_not, leb, eqb, eqb→eq, eqb_refl}
-use borrow.Author.Tests.{eq-eqb, le-leb}
-use Rattle.theory_basics.specs.Lent.{lent_after}
-use Rattle.theory_basics.specs.Refusals.{unless, ◌or_else◌}
-use Rattle.theory_basics.specs.lemmas.Refusals.{or_else_iff}
+use lib.Dec.{T_not, eqb, eqb→eq, eqb_refl}
+use borrow.Author.Tests.{le-leb}
+use Rattle.theory_basics.specs.Refusals.{unless}
 use Rattle.theory_basics.specs.lemmas.Tests.{by_cond}
 use Rattle.job.specs.Input.{JobInput, job_in, job_refusal}
 use Rattle.job.specs.Theorems.{input_iff}
@@ -19,7 +16,7 @@ use Rattle.fetch.specs.Input as rows
 use Rattle.fetch.specs.Slices.{ListSlices, slices_of}
 use Rattle.fetch.specs.Rows.{row_bytes, row_chunk, row_layer, row_slot}
 use Rattle.planfile.specs.Calls.{plan_of, write_answer, write_lent, write_refusal, write_rest}
-use Rattle.planfile.specs.PlanFile.{Plan, file_of}
+use Rattle.planfile.specs.PlanFile.{file_of}
 use Rattle.records.specs.declared.Written.{Written}
 use Rattle.records.specs.declared.Written.TheVariants as planFile
 use Rattle.theory_plan.specs.Plan.{plan}

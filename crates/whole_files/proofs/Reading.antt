@@ -2,17 +2,14 @@
 -- slices. Assumes nothing.
 use Prim.Native.Nat.{ℕ, zero, suc, ◌≤◌}
 use mathlib.Core.Path.{◌≡◌, refl, sym, ap, subst, ◌∙◌}
-use mathlib.Core.Bool.{Bool, cond}
-use mathlib.Core.List.{List, [], ◌∷◌, map}
-use mathlib.Core.Logic.{⊎_elim}
+use mathlib.Core.Bool.{Bool}
+use mathlib.Core.List.{List, []}
 use native.Mathlib.Omega.{arith}
-use lib.ListN.{length, length-map, length-replicate, replicate, take, drop}
-use lib.Seq.{take_at}
-use lib.Dec.{T, T_not, leb, eqb, eqb→eq, eqb_refl}
-use borrow.Author.Tests.{eq-eqb, ne_eqb, le-leb}
-use Rattle.theory_basics.specs.Lent.{lent_after}
+use lib.ListN.{length, length-map, replicate, take}
+use lib.Dec.{T_not, eqb, eqb→eq, eqb_refl}
+use borrow.Author.Tests.{eq-eqb, le-leb}
 use Rattle.theory_basics.specs.lemmas.Refusals.{or_else_iff}
-use Rattle.theory_basics.specs.lemmas.Tests.{by_cond, test}
+use Rattle.theory_basics.specs.lemmas.Tests.{by_cond}
 use Rattle.job.specs.declared.Programme.{Programme}
 use Rattle.job.specs.Job.{Accepted, Job, Override, layers}
 use Rattle.job.specs.Input.{JobInput, WholeSizes, override_bytes, override_chunks, job_input, job_in, job_refusal, override_layers}

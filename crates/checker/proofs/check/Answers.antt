@@ -8,7 +8,7 @@ use Rattle.job.specs.Input.{job_input, job_in}
 use Rattle.job.specs.Theorems.{input_accepted}
 use Rattle.fetch.specs.Input as rows
 use Rattle.fetch.specs.Rows.{rows_of}
-use Rattle.fetch.specs.Theorems.{first_slot}
+use Rattle.fetch.proofs.Theorems.{first_slot}
 use Rattle.checker.specs.declared.Checked.TheVariants.{Verdict}
 use Rattle.core_rules.proofs.Exact.{shown}
 use Rattle.checker.proofs.check.Goals as goal

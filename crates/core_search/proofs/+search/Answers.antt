@@ -14,14 +14,14 @@ returns-then-rest-lt2 t c =
     let some = pos_of_ne-zero c.if-i-eq0.false in
     let enough = c.if-left-lt2.false in
     let both : Turn c.args.i c.args.first c.args.held (table_at c.args.table.now) c.args.dues.now c.args.after.now c.args.ids.now c.args.needs.now c.args.best.now c.args.count.now c.args.left c.if-can_keep.ids c.if-can_keep.needs c.if-can_keep.best c.if-can_keep.count c.if-can_keep.rest =
-        elim c.if-can_keep.branch [
-          then-can_keep w ↦
-              rw (w.ids-is, w.needs-is, w.best-is, w.count-is, w.rest-is)
-              (kept_turn_lem f c.args.left some enough c.can_keep.ensures w.if-can_keep.true w.keep_best.ensures w.search-rest.ensures)
-          | else-can_keep w ↦
-              rw (w.ids-is, w.needs-is, w.best-is, w.count-is, w.rest-is)
-              (refused_turn f c.args.left some enough c.can_keep.ensures w.if-can_keep.false)
-        ]
+    elim c.if-can_keep.branch [
+      | then-can_keep w ↦
+          rw (w.ids-is, w.needs-is, w.best-is, w.count-is, w.rest-is)
+          (kept_turn_lem f c.args.left some enough c.can_keep.ensures w.if-can_keep.true w.keep_best.ensures w.search-rest.ensures)
+      | else-can_keep w ↦
+          rw (w.ids-is, w.needs-is, w.best-is, w.count-is, w.rest-is)
+          (refused_turn f c.args.left some enough c.can_keep.ensures w.if-can_keep.false)
+    ]
     in
     no_skip f c.args.left some enough both c.if-rest-lt2.true
 
@@ -31,14 +31,14 @@ search-requires t c =
     let some = pos_of_ne-zero c.if-i-eq0.false in
     let enough = c.if-left-lt2.false in
     let both : Turn c.args.i c.args.first c.args.held (table_at c.args.table.now) c.args.dues.now c.args.after.now c.args.ids.now c.args.needs.now c.args.best.now c.args.count.now c.args.left c.if-can_keep.ids c.if-can_keep.needs c.if-can_keep.best c.if-can_keep.count c.if-can_keep.rest =
-        elim c.if-can_keep.branch [
-          then-can_keep w ↦
-              rw (w.ids-is, w.needs-is, w.best-is, w.count-is, w.rest-is)
-              (kept_turn_lem f c.args.left some enough c.can_keep.ensures w.if-can_keep.true w.keep_best.ensures w.search-rest.ensures)
-          | else-can_keep w ↦
-              rw (w.ids-is, w.needs-is, w.best-is, w.count-is, w.rest-is)
-              (refused_turn f c.args.left some enough c.can_keep.ensures w.if-can_keep.false)
-        ]
+    elim c.if-can_keep.branch [
+      | then-can_keep w ↦
+          rw (w.ids-is, w.needs-is, w.best-is, w.count-is, w.rest-is)
+          (kept_turn_lem f c.args.left some enough c.can_keep.ensures w.if-can_keep.true w.keep_best.ensures w.search-rest.ensures)
+      | else-can_keep w ↦
+          rw (w.ids-is, w.needs-is, w.best-is, w.count-is, w.rest-is)
+          (refused_turn f c.args.left some enough c.can_keep.ensures w.if-can_keep.false)
+    ]
     in
     (omega arith, skip_from f c.args.left some enough both c.if-rest-lt2.false)
 
@@ -48,13 +48,13 @@ returns t c =
     let some = pos_of_ne-zero c.if-i-eq0.false in
     let enough = c.if-left-lt2.false in
     let both : Turn c.args.i c.args.first c.args.held (table_at c.args.table.now) c.args.dues.now c.args.after.now c.args.ids.now c.args.needs.now c.args.best.now c.args.count.now c.args.left c.if-can_keep.ids c.if-can_keep.needs c.if-can_keep.best c.if-can_keep.count c.if-can_keep.rest =
-        elim c.if-can_keep.branch [
-          then-can_keep w ↦
-              rw (w.ids-is, w.needs-is, w.best-is, w.count-is, w.rest-is)
-              (kept_turn_lem f c.args.left some enough c.can_keep.ensures w.if-can_keep.true w.keep_best.ensures w.search-rest.ensures)
-          | else-can_keep w ↦
-              rw (w.ids-is, w.needs-is, w.best-is, w.count-is, w.rest-is)
-              (refused_turn f c.args.left some enough c.can_keep.ensures w.if-can_keep.false)
-        ]
+    elim c.if-can_keep.branch [
+      | then-can_keep w ↦
+          rw (w.ids-is, w.needs-is, w.best-is, w.count-is, w.rest-is)
+          (kept_turn_lem f c.args.left some enough c.can_keep.ensures w.if-can_keep.true w.keep_best.ensures w.search-rest.ensures)
+      | else-can_keep w ↦
+          rw (w.ids-is, w.needs-is, w.best-is, w.count-is, w.rest-is)
+          (refused_turn f c.args.left some enough c.can_keep.ensures w.if-can_keep.false)
+    ]
     in
     skip_done f c.args.left some enough both c.if-rest-lt2.false c.search.ensures

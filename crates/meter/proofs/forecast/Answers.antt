@@ -3,7 +3,7 @@ use native.Mathlib.Omega.{arith}
 use Rattle.theory_basics.specs.lemmas.Tests.{true_T, answer_true, answer_false}
 use Rattle.meter.specs.lemmas.Order.{in_order_iff}
 use Rattle.meter.specs.Meter.{samples_of}
-use Rattle.meter.specs.Promises.{forecast_promise}
+use Rattle.meter.proofs.Promises.{forecast_promise}
 use Rattle.meter.proofs.Sums.{forecasts_disorder, forecasts_none, forecasts_bytes}
 use Rattle.std.proofs.Common.{ap}
 use mathlib.Core.Bool.{not}

@@ -1,7 +1,7 @@
 use native.Mathlib.Omega.{arith}
 use mathlib.Core.Path.{◌≡◌}
 use lib.ListN.{get_or}
-use Rattle.meter.specs.lemmas.Mean.{share_narrow}
+use Rattle.meter.proofs.Means.{share_narrow}
 use Rattle.meter.proofs.Laws.{in_order_kept}
 use Rattle.meter.proofs.Sums.{summed_start, summed_more, summed_zero, summed_pos, summed_high, summed_all}
 use Rattle.meter.proofs.mean.Goals as goal

@@ -1,6 +1,6 @@
 -- Lemmas. What the functions of most hand each other: a set of bases with a bound in tables, and
 -- the plan over the set.
-use Rattle.std.specs.Prelude.{ℕ, ◌+◌, ◌*◌, ◌-◌, ◌≤◌, ◌≡◌, Bool, true, false, List, [], ◌∷◌, length, drop, get_or, eqb}
+use Rattle.std.specs.Prelude.{ℕ, ◌+◌, ◌*◌, ◌≤◌, ◌≡◌, true, false, List, [], ◌∷◌, length, drop, get_or, eqb}
 use Rattle.job.specs.declared.Programme.{Programme}
 use Rattle.job.specs.Job.{Accepted, Job, Override, chunks, size_in}
 use Rattle.job.specs.Input.{JobInput, job_in, job_refusal}

@@ -1,7 +1,7 @@
 -- Refusals 5, 6, 18, 7, 8, 21 and 7 of the handed forecast, each asked only if none before it
 -- refuses.
 use mathlib.Core.Path.{sym, ◌∙◌}
-use Rattle.fetch.specs.Theorems.{slot_iff}
+use Rattle.fetch.proofs.Theorems.{slot_iff}
 use Rattle.job.specs.Theorems.{input_accepted}
 use Rattle.replan.proofs.Asked.{passes_on, refuses}
 use Rattle.replan.proofs.asked_refusal.Goals as goal

@@ -172,7 +172,7 @@ module _ (w d r F w' d' r' F' : ℕ → ℕ) (c : ℕ) (same : Agrees w d r F w'
       let m = forward w d r F 0 0 c in
       let b = back_agrees (F (d m)) 0 (suc m) h in
       let begun : back w d r F (F (d m)) 0 (suc m) ≡ back w' d' r' F' (F' (d' m)) 0 (suc m) =
-          b ∙ ap (λ (most : ℕ). back w' d' r' F' most 0 (suc m)) (same.up_to_due m h) in
+      b ∙ ap (λ (most : ℕ). back w' d' r' F' most 0 (suc m)) (same.up_to_due m h) in
       let ending = λ (last : ℕ) (o : Begin). let st : Stretch = record { first = o.first; last = last; carry = o.carry; need = o.need } in st in
       let to : stretch_to w d r F m ≡ stretch_to w' d' r' F' m = ap₂ ending (same.due m h) begun in
       to ∙ ap (stretch_to w' d' r' F') e

@@ -14,7 +14,7 @@ use Rattle.fetch.specs.Rows.{begun, bytes_if, bytes_of_layer, Carried, carried, 
 use Rattle.fetch.specs.Rules.{BegunIn, RowInRange, OnTime, PlayingOrder}
 use Rattle.fetch.specs.RulesFrom.{KeepsFrom, PassesFrom}
 use Rattle.fetch.specs.VerdictFrom.{verdict_from}
-use Rattle.fetch.specs.Theorems.{order_free_from, verdict_from_iff}
+use Rattle.fetch.proofs.Theorems.{order_free_from, verdict_from_iff}
 use Rattle.fetch.specs.Verdict.{lower_carried}
 use Rattle.fetch.specs.lemmas.Rows.{all_permuted, any_permuted, bytes_permuted, lower_permuted}
 use Rattle.theory_plan.specs.Own.{allowed, carried_to, Fetched, own_list, Piece, row_of, slot_takes, without}

@@ -4,7 +4,7 @@ use Prim.Native.Nat.{ℕ, zero, suc, ◌+◌, ◌≤◌}
 use Rattle.std.specs.Prelude.{◌≡◌, List, leb, eqb, length, drop}
 use native.Mathlib.Omega.{arith}
 use Rattle.std.proofs.Common.{eqb→eq}
-use Rattle.theory_basics.specs.Refusals.{unless, ◌or_else◌}
+use Rattle.theory_basics.specs.Refusals.{unless}
 use Rattle.theory_basics.specs.lemmas.Refusals.{or_else_iff, unless_iff}
 use Rattle.theory_basics.specs.lemmas.Tests.{by_cond}
 use Rattle.records.specs.Fields.{marked}

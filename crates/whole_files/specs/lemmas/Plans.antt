@@ -1,6 +1,6 @@
 -- Lemmas. The plan of an accepted job as its file has it: a mark a chunk, at most 5,599 rows, every
 -- field within its width. Assumes nothing.
-use Rattle.std.specs.Prelude.{ℕ, zero, suc, ◌+◌, ◌-◌, ◌^◌, ◌≤◌, ◌<◌, ◌≡◌, Bool, List, [], ◌∷◌, length, get_or, eqb, ltb}
+use Rattle.std.specs.Prelude.{ℕ, zero, suc, ◌+◌, ◌-◌, ◌^◌, ◌≤◌, ◌<◌, ◌≡◌, Bool, [], ◌∷◌, length, eqb, ltb}
 use Rattle.std.proofs.Common.{arith}
 use Rattle.std.proofs.Math.Nat.{pow-le-pow_right}
 use Rattle.std.proofs.Math.Dec.{eqb_refl}
@@ -8,12 +8,12 @@ use Rattle.theory_basics.specs.Tests.{All, In}
 use Rattle.theory_basics.specs.Lists.{up_to}
 use Rattle.theory_basics.specs.lemmas.Tables.{all_at}
 use Rattle.theory_basics.specs.lemmas.Tests.{all_append, at_row, each_row}
-use Rattle.job.specs.Job.{Job, Accepted, Within, chunks, forecast, layers, last_slot}
+use Rattle.job.specs.Job.{Job, Accepted, Within, chunks, forecast, layers}
 use Rattle.fetch.specs.Rows.{Row, mark_byte}
 use Rattle.fetch.specs.Rules.{RowInRange}
 use Rattle.fetch.specs.lemmas.Marks.{mark_lt}
 use Rattle.fetch.specs.lemmas.Rows.{row_counts}
-use Rattle.planfile.specs.PlanFile.{InWidth, Plan, RowInWidth, file_of}
+use Rattle.planfile.specs.PlanFile.{InWidth, RowInWidth, file_of}
 use Rattle.planfile.specs.Theorems.{always_fits}
 use Rattle.theory_plan.specs.Plan.{plan}
 use Rattle.theory_plan.specs.Statement.{marks_of}
