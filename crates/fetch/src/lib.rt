@@ -1,52 +1,35 @@
-// A fetch list as it is handed: four slices of one length and a mark byte a chunk; and a slot that
-// is handed.
+// Marks, a byte a chunk, whose bit n says that the chunk has layer n; and in `handed` fetch lists
+// and slots as calls hand them over.
 #![tactic(auto)]
 
-ghost use Rattle.std.specs.Prelude.{◌≡◌, cond, ◌+◌, ◌*◌, ◌^◌, ◌≤◌, ◌<◌, length};
-ghost use Rattle.std.specs.Int.Count.{ones};
+ghost use Rattle.std.specs.Prelude.{◌≡◌, ◌+◌, ◌*◌, ◌^◌, ◌≤◌, ◌<◌, length};
 ghost use Rattle.fetch.specs.Marks.{bit, with_layer, without_layer};
 ghost use Rattle.fetch.specs.Counts.{CountMarksPromise, word_count, word_of, over_words, over_rest};
 ghost use Rattle.fetch.specs.lemmas.Counts.{eight};
-ghost use Rattle.fetch.specs.Slices.{slices_of, slices_refusal};
-ghost use Rattle.fetch.specs.VerdictFrom.{slot_refusal};
 
-use job::Programme;
+mod handed;
+
+pub use handed::{FetchList, LentList, Rows, accept_list, accept_slot};
 
 // Whether bit n of a mark byte is set. A byte has no bit 8 or above.
 pub fn has(mark: u8, n: u8) -> bool
     ensures { result ≡ bit mark n }
 {
-    if 8 <= n {
-        return false;
-    }
-    (mark >> n) & 1 == 1
+    n < 8 && (mark >> n) & 1 == 1
 }
 
 // The mark byte with layer n set; for n of 8 or above, the byte itself.
 pub fn with(mark: u8, n: u8) -> u8
     ensures { result ≡ with_layer mark n }
 {
-    if 8 <= n {
-        return mark;
-    }
-    mark | (1 << n)
+    if n < 8 { mark | (1 << n) } else { mark }
 }
 
 // The mark byte with layer n cleared.
 pub fn without(mark: u8, n: u8) -> u8
     ensures { result ≡ without_layer mark n }
 {
-    if 8 <= n {
-        return mark;
-    }
-    mark & !(1 << n)
-}
-
-// How many bits of a word are set.
-fn set_bits(x: u64) -> u8
-    ensures { result ≡ ones x }
-{
-    u64::count_ones(x) as u8
+    if n < 8 { mark & !(1 << n) } else { mark }
 }
 
 // How many of a word's eight bytes have bit n set, for n from 0 to 7, and 0 above. Shifted and
@@ -59,7 +42,7 @@ pub fn count_word(word: u64, n: u8) -> u8
         return 0;
     }
     let marked = (word >> n) & 0x0101_0101_0101_0101;
-    set_bits(marked)
+    marked.count_ones() as u8
 }
 
 // A byte below the others.
@@ -85,27 +68,13 @@ fn word_at(marks: &[u8], at: usize) -> u64
     below(marks[at], b)
 }
 
-// 1 for a mark with layer n, else 0.
-fn count_mark(mark: u8, n: u8) -> usize
-    ensures { result ≡ cond (bit mark n) 1 0 }
-{
-    if has(mark, n) {
-        return 1;
-    }
-    0
-}
-
 // The sum over words: the whole eights of marks.
 fn count_words(marks: &[u8], n: u8) -> usize
     ensures { result ≡ over_words n marks.now }
 {
-    let words = marks.len() / 8;
     let mut sum: usize = 0;
-    let mut k: usize = 0;
-    while k < words {
-        let word = word_at(marks, k * 8);
-        sum = sum + (count_word(word, n) as usize);
-        k = k + 1;
+    for k in 0..marks.len() / 8 {
+        sum += count_word(word_at(marks, k * 8), n) as usize;
     }
     sum
 }
@@ -114,13 +83,8 @@ fn count_words(marks: &[u8], n: u8) -> usize
 fn count_rest(marks: &[u8], n: u8) -> usize
     ensures { result ≡ over_rest n marks.now }
 {
-    let mut sum: usize = 0;
-    let mut at = marks.len() / 8 * 8;
-    while at < marks.len() {
-        sum = sum + count_mark(marks[at], n);
-        at = at + 1;
-    }
-    sum
+    let rest = &marks[marks.len() / 8 * 8..];
+    rest.iter().filter(|m| has(**m, n)).count()
 }
 
 // How many marks have layer n, for marks of any length: eight at once, and the odd rest by bytes.
@@ -130,43 +94,3 @@ pub fn count_marks(marks: &[u8], n: u8) -> usize
     count_words(marks, n) + count_rest(marks, n)
 }
 
-// Refusal 8 of a list handed with its marks, or 0.
-pub fn list_refusal(
-    count: u16,
-    marks: &[u8],
-    slots: &[u16],
-    chunks: &[u16],
-    layers: &[u8],
-    bytes: &[u32],
-) -> u8
-    ensures { result ≡ slices_refusal count
-        (slices_of marks.now slots.now chunks.now layers.now
-        bytes.now) }
-{
-    if marks.len() != (count as usize) {
-        return 8;
-    }
-    if slots.len() != chunks.len() {
-        return 8;
-    }
-    if slots.len() != layers.len() {
-        return 8;
-    }
-    if slots.len() != bytes.len() {
-        return 8;
-    }
-    0
-}
-
-// 21: a slot not from 1 to d(C).
-pub fn slot_refusal(p: Programme, slot: u16) -> u8
-    ensures { result ≡ slot_refusal p slot }
-{
-    if slot < 1 {
-        return 21;
-    }
-    if job::last_due(p) < (slot as usize) {
-        return 21;
-    }
-    0
-}

@@ -1,9 +1,0 @@
--- `count_mark` is 1 or 0 by the bit.
-use mathlib.Core.Path.{sym, ◌∙◌}
-use Rattle.fetch.proofs.count_mark.Goals as goal
-
-pub returns-then-has : goal.returns-then-has
-returns-then-has c = rw (sym c.has.ensures ∙ c.if-has.true)
-
-pub returns : goal.returns
-returns c = rw (sym c.has.ensures ∙ c.if-has.false)
