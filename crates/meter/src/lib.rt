@@ -3,7 +3,7 @@
 // 13.
 #![tactic(auto)]
 
-ghost use Rattle.std.specs.Prelude.{◌≡◌, ◌≤◌, ◌<◌, length};
+ghost use Rattle.std.specs.Prelude.{◌≡◌, ◌≤◌, ◌<◌};
 ghost use Rattle.meter.specs.lemmas.Cells.{next_cells};
 ghost use Rattle.meter.specs.Forecast.{share, bytes_of, forecast_of};
 ghost use Rattle.meter.specs.Calls.{ForecastPromise};
