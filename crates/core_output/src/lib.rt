@@ -54,7 +54,7 @@ fn spread(
     ensures { marks.new ≡ over
         (marks_in count first ids.now mark.now whole.now) marks.old }
 {
-    core_slices::copy8(whole, count, marks);
+    core_slices::copy_over(whole, count, marks);
     let mut q = first;
     while q < CHUNKS {
         let at = wide(ids[q]) - 1;
@@ -157,11 +157,11 @@ fn write_aside(
     let rows = made.rows;
     let counts = made.counts;
     if core_slices::all_at_least(rows, slots.len(), chunks.len(), layers.len(), bytes.len()) {
-        core_slices::copy8(&own_marks, count, marks);
-        core_slices::copy16(&own_slots, rows, slots);
-        core_slices::copy16(&own_chunks, rows, chunks);
-        core_slices::copy8(&own_layers, rows, layers);
-        core_slices::copy32(&own_bytes, rows, bytes);
+        core_slices::copy_over(&own_marks, count, marks);
+        core_slices::copy_over(&own_slots, rows, slots);
+        core_slices::copy_over(&own_chunks, rows, chunks);
+        core_slices::copy_over(&own_layers, rows, layers);
+        core_slices::copy_over(&own_bytes, rows, bytes);
         Output {
             whole: true,
             rows,

@@ -2,11 +2,11 @@ use native.Mathlib.Omega.{arith}
 use Rattle.core_output.proofs.Spreads.{chunk_in, spreading_end, spreading_more, spreading_start}
 use Rattle.core_output.proofs.spread.Goals as goal
 
-pub copy8-requires : goal.copy8-requires
-copy8-requires c = (omega (arith, c.requires.1, c.requires.6), c.requires.2)
+pub copy_over-requires : goal.copy_over-requires
+copy_over-requires c = (omega (arith, c.requires.1, c.requires.6), c.requires.2)
 
 pub loop-q-init : goal.loop-q-init
-loop-q-init c = let a = c.args in let o = c.requires in spreading_start a.ids.now a.mark.now a.first a.whole.now a.count _ a.marks.now o.0 o.3 (omega (arith, o.1, o.6)) o.2 c.copy8.ensures
+loop-q-init c = let a = c.args in let o = c.requires in spreading_start a.ids.now a.mark.now a.first a.whole.now a.count _ a.marks.now o.0 o.3 (omega (arith, o.1, o.6)) o.2 c.copy_over.ensures
 
 pub bounds-ids-q : goal.bounds-ids-q
 bounds-ids-q c = omega (arith, c.requires.4)
@@ -37,4 +37,4 @@ pub returns : goal.returns
 returns c =
     let a = c.args in
     let l = c.loop-q in
-    spreading_end a.ids.now a.mark.now a.first a.whole.now a.count _ a.marks.now c.requires.4 (omega (arith, c.requires.1, c.requires.6)) c.copy8.ensures l.marks l.q l.invariant c.loop-q-test.false
+    spreading_end a.ids.now a.mark.now a.first a.whole.now a.count _ a.marks.now c.requires.4 (omega (arith, c.requires.1, c.requires.6)) c.copy_over.ensures l.marks l.q l.invariant c.loop-q-test.false
