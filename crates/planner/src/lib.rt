@@ -76,8 +76,21 @@ fn write_decided(job: &JobInput, out: &mut LentList) -> Result<Planned, Refusal>
         &mut mark,
     );
     let made = core_output::write_plan(
-        count, job.forecast, 1, false, &table, first, &ids, &ready, &mark, &none, out.marks,
-        out.slots, out.chunks, out.layers, out.bytes,
+        count,
+        job.forecast,
+        1,
+        false,
+        &table,
+        first,
+        &ids,
+        &ready,
+        &mark,
+        &none,
+        out.marks,
+        out.slots,
+        out.chunks,
+        out.layers,
+        out.bytes,
     );
     answered(made)
 }

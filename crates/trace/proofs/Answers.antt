@@ -53,7 +53,7 @@ module _ (trace : List ℕ) (slots : ℕ) (old : List ℕ) where
   pub read_many : 3600 < slots → TraceReadPromise trace slots old (Refused 7) old
   read_many h = by_slots (rw (lt-leb slots 3600 h) (and-false (leb 1 slots)))
 
-  module _ (low : 1 ≤ slots) (high : slots ≤ 3600) (counts : List ℕ) (r : Bool) (c : Counted trace (replicate 3600 0) counts r) where
+  module _ (low : 1 ≤ slots) (high : slots ≤ 3600) (counts : List ℕ) (long : length counts ≡ 3600) (r : Bool) (c : Counted trace (replicate 3600 0) counts r) where
     abbrev count : ℕ → ℕ
     count k = min 11185 (how_many (in_slot (k + 1)) (times trace))
 
@@ -107,7 +107,7 @@ module _ (trace : List ℕ) (slots : ℕ) (old : List ℕ) where
           ∙ up_to_cong (λ k. count k * 1500) (λ k. 1500 * how_many (in_slot (k + 1)) (times trace)) slots
           (λ k h.
           let t : get_or counts k 0 ≡ count k = rw (table both.0) (get_d_up_to count 3600 k 0 (omega arith)) in
-          omega (arith, t, few_at counts slots k c.long high read_few h))
+          omega (arith, t, few_at counts slots k long high read_few h))
 
       pub read_done : (new : List ℕ) → slots ≤ length old → new ≡ over (lines_forecast (take slots counts)) old → TraceReadPromise trace slots old (Slots slots) new
       read_done new h x =

@@ -1,14 +1,14 @@
 -- Laws on the writer: slot by slot, and what it answers. Assumes nothing.
 use Prim.Native.Nat.{ℕ, suc, ◌+◌, ◌*◌, ◌/◌, ◌≤◌, ◌<◌}
 use mathlib.Core.Path.{◌≡◌, refl, sym, ap, ◌∙◌}
-use mathlib.Core.Bool.{Bool, true, false, not, and-false}
+use mathlib.Core.Bool.{Bool, true, false, and-false}
 use mathlib.Core.List.{List, [], ◌++◌, append_assoc, append-nil}
 use native.Mathlib.Omega.{arith}
 use native.Mathlib.Numerals.{add-one}
 use lib.ListN.{length, get_or, drop, replicate, length-append, drop_of_length-le}
 use lib.Seq.{drop-cons}
 use lib.Dec.{leb}
-use borrow.Author.Tests.{ne_eqb, le-leb, lt-leb, not-true, not-false}
+use borrow.Author.Tests.{ne_eqb, le-leb, lt-leb}
 use Rattle.theory_basics.specs.Refusals.{unless}
 use Rattle.theory_basics.specs.lemmas.Refusals.{or_else_none, or_else_some}
 use Rattle.theory_basics.specs.Tests.{all}
@@ -88,15 +88,12 @@ module _ (f old : List ℕ) where
     unfolding unwritable_refusal
     past_seven = rw (le-leb 1 (length f) low, le-leb (length f) 3600 high, is)
 
-    pub wrote_odd : not r ≡ true → TraceWritePromise f old (Refused 15) old
-    wrote_odd e = by_forecast 15 (past_seven ∙ rw (not-true r e)) (λ z. omega arith)
+    pub wrote_odd : r ≡ false → TraceWritePromise f old (Refused 15) old
+    wrote_odd e = by_forecast 15 (past_seven ∙ rw e) (λ z. omega arith)
 
-    module _ (on : not r ≡ false) (n : ℕ) (wide : n ≡ width_from 0 f) where
+    module _ (fine : r ≡ true) (n : ℕ) (wide : n ≡ width_from 0 f) where
       pub width_all : n ≡ length (trace_of f)
       width_all = wide ∙ sym (written_length f)
-
-      fine : r ≡ true
-      fine = not-false r on
 
       no : write_refusal f (length old) ≡ unless 11 (leb (length (trace_of f)) (length old))
       no = or_else_none (unwritable_refusal f) (unless 11 (leb (length (trace_of f)) (length old))) (past_seven ∙ rw fine)
