@@ -1,7 +1,7 @@
 -- Laws on the verdict: what the tables say is what the rules of the second call say. Assumes
 -- nothing.
-use Prim.Native.Nat.{ℕ, ◌+◌, ◌*◌, ◌-◌, ◌/◌, ◌≤◌, ◌<◌}
-use mathlib.Core.Path.{◌≡◌, sym, ap, ap₂, ◌∙◌}
+use Prim.Native.Nat.{ℕ, ◌-◌, ◌/◌, ◌≤◌, ◌<◌}
+use mathlib.Core.Path.{◌≡◌, refl, sym, ap₂, ◌∙◌}
 use mathlib.Core.Bool.{Bool, true, false, ◌||◌}
 use mathlib.Core.List.{List, [], ◌∷◌}
 use mathlib.Core.Logic.{inl, inr, ⊎_elim}
@@ -10,9 +10,8 @@ use lib.ListN.{length, get_or}
 use lib.Dec.{leb}
 use Rattle.theory_basics.specs.Tests.{all_below, all_to}
 use Rattle.theory_basics.specs.lemmas.Tests.{T_or_iff, all_below_cong, all_to_cong, same_test}
-use Rattle.job.specs.Job.{Accepted, Job, chunks, job_of, last_due, layers, size}
+use Rattle.job.specs.Job.{Accepted, Job, chunks, last_due, layers, size}
 use Rattle.core_sizes.specs.Table.{table_at}
-use Rattle.job.specs.declared.Programme.{Programme}
 use Rattle.job.specs.lemmas.Within.{size_most}
 use Rattle.fetch.specs.Rows.{Row, bytes_of_layer}
 use Rattle.fetch.specs.Verdict.{lowest, rule2}
@@ -21,17 +20,8 @@ use Rattle.fetch.specs.VerdictFrom.{layer_before, rule2_from, verdict_from}
 use Rattle.core_rules.proofs.Exact.{eqb_cap, ltb_cap, rule1_is, rule2_is, rule3_is, rule4_is, rule6_is, rule7_is}
 use Rattle.core_rules.specs.declared.Layers.{Layers}
 use Rattle.core_rules.specs.declared.Pass.{Pass}
-use Rattle.core_rules.specs.lemmas.Tables.{TallyPost, SeeAllPost, Tallied, held_by}
-use Rattle.checker.specs.lemmas.Judged.{Judged, MarkLatePost, allowed_by, allowed_sum, early}
-
--- The flags say what the rows say.
-pub late_is :
-    {from : ℕ} {rows : List Row} {late : List ℕ} → MarkLatePost from rows late → (size : ℕ → ℕ → ℕ) (sums : List ℕ) (count depth : ℕ) → count ≤ 500 → depth ≤ 4 →
-    all_to count (λ i. all_below depth (allowed_by size sums (early late) i)) ≡ all_to count (λ i. all_below depth (allowed_by size sums (layer_before from rows) i))
-late_is l size sums count depth few deep =
-    all_to_cong count _ _ (λ i u v.
-    all_below_cong depth _ _ (λ n w.
-    ap (allowed_sum (get_or sums (4 * (i - 1) + n) 0) (size i n)) (l.is i n u (omega arith) (omega arith))))
+use Rattle.core_rules.specs.lemmas.Tables.{TallyPost, SeeAllPost, Shown, Tallied, held_by}
+use Rattle.checker.specs.lemmas.Judged.{allowed_by}
 
 -- ---- rule 2 of the second call
 
@@ -52,34 +42,33 @@ module _ (j : Job) (rows : List Row) (S L F : List ℕ) (ok : Accepted j) (t : T
       (λ x. ⊎_elim (λ a. (rule2_from_iff j from rows).1 (λ i n r. ⊎_elim (λ z. inl z) (λ z. inr (inl z)) ((rule2_iff j rows).0 a i n r))) (λ b. b) ((T_or_iff (rule2 j rows) (rule2_from j from rows)).0 x))
       (λ b. (T_or_iff (rule2 j rows) (rule2_from j from rows)).1 (inr b))
 
--- ---- the verdict, with the last slot and the number of layers as numbers of their own
+-- ---- the verdict
 
-module _ (p : Programme) (table : List ℕ) (depth : ℕ) (forecast : List ℕ) (from : ℕ) (marks : List ℕ) (rows : List Row) (last : ℕ) (d : last ≡ last_due p) (r : Pass) (S L F : List ℕ) (a : TallyPost p last depth rows r S L F) where
+module _ (j : Job) (from : ℕ) (marks : List ℕ) (rows : List Row) (ok : Accepted j) (table : List ℕ) (w : Shown table (layers j) j) (last : ℕ) (d : last ≡ last_due j.programme) (r : Pass) (S L F : List ℕ) (a : TallyPost j.programme last (layers j) rows r S L F) where
   -- A row out of range: rule 1.
-  pub judged_one : r.ranged ≡ false → Judged p table depth forecast from marks rows 1
+  pub judged_one : r.ranged ≡ false → 1 ≡ verdict_from j from marks rows
   unfolding verdict_from
-  judged_one e sizes os w = rw (sym (rule1_is (job_of p sizes os forecast) a d w.depth_is) ∙ e)
+  judged_one e = rw (sym (rule1_is j a d refl) ∙ e)
 
   -- Every row in range: the lowest broken rule of 2 to 7, by the tables.
-  pub judged : r.ranged ≡ true → length marks ≡ p.chunks → (m : Layers) (whole room few : Bool)
-      → SeeAllPost (table_at table) L marks depth p.chunks m
-      → whole ≡ m.whole || all_to p.chunks (λ i. all_below depth (allowed_by (table_at table) L (layer_before from rows) i))
-      → room ≡ all_to (length forecast) (λ u. leb (get_or S u 0) (get_or forecast (u - 1) 0))
-      → few ≡ all_to last (λ u. leb (held_by p F u) (p.limit / p.span))
-      → Judged p table depth forecast from marks rows (lowest 2 (whole ∷ m.lower ∷ room ∷ r.timely ∷ few ∷ m.said ∷ []))
+  pub judged : r.ranged ≡ true → length marks ≡ chunks j → (m : Layers) (whole room few : Bool)
+      → SeeAllPost (table_at table) L marks (layers j) (chunks j) m
+      → whole ≡ m.whole || all_to (chunks j) (λ i. all_below (layers j) (allowed_by (table_at table) L (layer_before from rows) i))
+      → room ≡ all_to (length j.forecast) (λ u. leb (get_or S u 0) (get_or j.forecast (u - 1) 0))
+      → few ≡ all_to last (λ u. leb (held_by j.programme F u) (j.programme.limit / j.programme.span))
+      → lowest 2 (whole ∷ m.lower ∷ room ∷ r.timely ∷ few ∷ m.said ∷ []) ≡ verdict_from j from marks rows
   unfolding verdict_from
-  judged g e m whole room few s b q f sizes os w =
-      let j = job_of p sizes os forecast in
+  judged g e m whole room few s b q f =
       let t = a.tables g in
-      let s' = rw (w.sizes_are, w.depth_is) at s in
-      let b' = rw (w.sizes_are, w.depth_is) at b in
-      let two : whole ≡ rule2_from j from rows = b' ∙ ap₂ ◌||◌ (s'.whole ∙ rule2_is j rows S L F w.accepted t) (rule2_from_is j rows S L F w.accepted t from) ∙ either_is j rows S L F w.accepted t from in
+      let s' = rw w.sizes_are at s in
+      let b' = rw w.sizes_are at b in
+      let two : whole ≡ rule2_from j from rows = b' ∙ ap₂ ◌||◌ (s'.whole ∙ rule2_is j rows S L F ok t) (rule2_from_is j rows S L F ok t from) ∙ either_is j rows S L F ok t from in
       rw (
-        sym (rule1_is j a d w.depth_is) ∙ g,
+        sym (rule1_is j a d refl) ∙ g,
         two,
-        s'.lower ∙ rule3_is j rows S L F w.accepted t,
-        q ∙ rule4_is j rows S L F w.accepted t,
+        s'.lower ∙ rule3_is j rows S L F ok t,
+        q ∙ rule4_is j rows S L F ok t,
         a.timely g,
-        (rw d at f) ∙ rule6_is j rows S L F w.accepted t,
-        s'.said ∙ rule7_is j rows S L F w.accepted t marks e,
+        (rw d at f) ∙ rule6_is j rows S L F ok t,
+        s'.said ∙ rule7_is j rows S L F ok t marks e,
       )

@@ -3,100 +3,62 @@
 // second is the first. The tables and what they say of the rules are those of core_rules.
 #![tactic(auto)]
 
-ghost use Rattle.std.specs.Prelude.{◌≡◌, ◌||◌, [], ◌∷◌, ℕ, ◌+◌, ◌*◌, ◌-◌, ◌<◌, ◌≤◌, length, get_or, replicate, eqb};
+ghost use Rattle.std.specs.Prelude.{◌≡◌, false, [], ◌∷◌, ◌≤◌, replicate, not};
 ghost use Rattle.theory_basics.specs.Tests.{all_below, all_to};
-ghost use Rattle.job.specs.Job.{last_due};
-ghost use Rattle.job.specs.Input.{job_input};
+ghost use Rattle.refusals.specs.Numbers.{by_number};
+ghost use Rattle.job.specs.Input.{job_in, job_refusal};
+ghost use Rattle.job.specs.Handed.{handed};
 ghost use Rattle.core_sizes.specs.Table.{table_at};
-ghost use Rattle.fetch.specs.Rows.{rows_of};
-ghost use Rattle.fetch.specs.Slices.{slices_of};
-ghost use Rattle.fetch.specs.Input.{Whole};
+ghost use Rattle.fetch.specs.Slices.{list_rows, rows_in, slices_refusal};
+ghost use Rattle.fetch.specs.Handed.{handed_list, handed_rows};
 ghost use Rattle.fetch.specs.Verdict.{lowest};
-ghost use Rattle.fetch.specs.VerdictFrom.{layer_before};
+ghost use Rattle.fetch.specs.VerdictFrom.{layer_before, verdict_from};
 ghost use Rattle.checker.specs.Checked.{checked, checked_from};
-ghost use Rattle.checker.specs.lemmas.Judged.{allowed_sum, allowed_by, early, InTables, MarkLatePost, Judged};
+ghost use Rattle.checker.specs.lemmas.Judged.{allowed_sum, allowed_by, early, InTables, MarkLatePost};
 
-use job::{Programme, SIZES, SUMS, SizeTable};
-
-// The verdict 0 to 7, or the number of a refusal.
-#[derive(Clone, Copy)]
-pub enum Checked {
-    Verdict(u8),
-    Refused(u8),
-}
+use fetch::{FetchList, Rows};
+use job::{JobInput, LAYERS, SIZES, SUMS, SizeTable};
+use refusals::Refusal;
 
 // The lowest broken rule of 2 to 7, or 0.
 fn lowest_broken(whole: bool, lower: bool, within: bool, timely: bool, few: bool, said: bool) -> u8
     ensures { result ≡ lowest 2 (whole ∷ lower ∷ within ∷ timely ∷ few ∷ said ∷ []) }
 {
     if !whole {
-        return 2;
+        2
+    } else if !lower {
+        3
+    } else if !within {
+        4
+    } else if !timely {
+        5
+    } else if !few {
+        6
+    } else if !said {
+        7
+    } else {
+        0
     }
-    if !lower {
-        return 3;
-    }
-    if !within {
-        return 4;
-    }
-    if !timely {
-        return 5;
-    }
-    if !few {
-        return 6;
-    }
-    if !said {
-        return 7;
-    }
-    0
 }
 
 // Rule 2 of the second call for one layer: its sum is 0 or its size, or less where its rows are all
 // before the slot.
-fn allowed(sum: u64, size: u32, flag: u8) -> bool
-    ensures { result ≡ allowed_sum sum size (eqb flag 0) }
+fn allowed(sum: u64, size: u32, late: bool) -> bool
+    ensures { result ≡ allowed_sum sum size (not late) }
 {
     let z = size as u64;
-    if sum == 0 {
-        return true;
-    }
-    if sum == z {
-        return true;
-    }
-    if sum < z {
-        return flag == 0;
-    }
-    false
+    sum == 0 || (sum == z || (sum < z && !late))
 }
 
 // A flag for each layer that has a row from the slot on.
-fn mark_late(
-    last: usize,
-    count: u16,
-    depth: usize,
-    from: u16,
-    slots: &[u16],
-    chunks: &[u16],
-    layers: &[u8],
-    bytes: &[u32],
-    late: &mut [u8; SIZES],
-)
-    requires { InTables last count depth slots.now chunks.now layers.now bytes.now
-        × (late.old ≡ replicate 2000 0) }
-    ensures { MarkLatePost from
-        (rows_of slots.now chunks.now layers.now bytes.now)
-        late.new }
+fn mark_late(from: u16, rows: &Rows, late: &mut [bool; SIZES])
+    requires { InTables (handed_rows rows.now) × (late.old ≡ replicate 2000 false) }
+    ensures { MarkLatePost from (rows_in (handed_rows rows.now)) late.new }
 {
-    let mut k: usize = 0;
-    while k < slots.len() {
-        let s = slots[k];
-        let i = core_rules::wide(chunks[k]);
-        let n = layers[k] as usize;
-        let at = 4 * (i - 1) + n;
-        if from <= s {
-            late[at] = 1;
-            k = k + 1;
-        } else {
-            k = k + 1;
+    for (k, &slot) in rows.slots.iter().enumerate() {
+        let at = LAYERS * (rows.chunks[k] as usize - 1) + rows.layers[k] as usize;
+        if from <= slot {
+            late[at] = true;
         }
     }
 }
@@ -106,21 +68,18 @@ fn allowed_chunk(
     table: &SizeTable,
     depth: usize,
     layersum: &[u64; SIZES],
-    late: &[u8; SIZES],
+    late: &[bool; SIZES],
     i: u16,
 ) -> bool
     requires { (depth ≤ 4) × (1 ≤ i) × (i ≤ 500) }
     ensures { result ≡ all_below depth
         (allowed_by (table_at table.now) layersum.now (early late.now) i) }
 {
-    let from = 4 * (core_rules::wide(i) - 1);
+    let from = LAYERS * (i as usize - 1);
     let mut all = true;
-    let mut n: usize = 0;
-    while n < depth {
+    for n in 0..depth {
         let at = from + n;
-        let z = core_sizes::size_at(table, i, n);
-        all = core_rules::both(allowed(layersum[at], z, late[at]), all);
-        n = n + 1;
+        all &= allowed(layersum[at], core_sizes::size_at(table, i, n), late[at]);
     }
     all
 }
@@ -130,7 +89,7 @@ fn allowed_all(
     table: &SizeTable,
     depth: usize,
     layersum: &[u64; SIZES],
-    late: &[u8; SIZES],
+    late: &[bool; SIZES],
     count: u16,
 ) -> bool
     requires { (depth ≤ 4) × (count ≤ 500) }
@@ -140,73 +99,49 @@ fn allowed_all(
         (allowed_by (table_at table.now) layersum.now (early late.now) i)) }
 {
     let mut all = true;
-    let mut i: u16 = 0;
-    while i < count {
-        let next = i + 1;
-        all = core_rules::both(allowed_chunk(table, depth, layersum, late, next), all);
-        i = next;
+    for i in 0..count {
+        all &= allowed_chunk(table, depth, layersum, late, i + 1);
     }
     all
 }
 
 // Rule 2 of the second call, looked for where the first call's is broken.
-fn whole_from(
-    whole: bool,
-    last: usize,
-    count: u16,
-    depth: usize,
-    from: u16,
+fn allowed_from(
     table: &SizeTable,
+    depth: usize,
     layersum: &[u64; SIZES],
-    slots: &[u16],
-    chunks: &[u16],
-    layers: &[u8],
-    bytes: &[u32],
+    count: u16,
+    from: u16,
+    rows: &Rows,
 ) -> bool
-    requires { InTables last count depth slots.now chunks.now layers.now bytes.now }
-    ensures { result ≡ whole
-        || all_to count
+    requires { (depth ≤ 4) × (count ≤ 500) × InTables (handed_rows rows.now) }
+    ensures { result ≡ all_to count
         (λ i.
         all_below depth
         (allowed_by (table_at table.now) layersum.now
-        (layer_before from
-        (rows_of slots.now chunks.now layers.now bytes.now))
+        (layer_before from (rows_in (handed_rows rows.now)))
         i)) }
 {
-    if whole {
-        return true;
-    }
-    let mut late = [0u8; SIZES];
-    mark_late(
-        last, count, depth, from, slots, chunks, layers, bytes, &mut late,
-    );
+    let mut late = [false; SIZES];
+    mark_late(from, rows, &mut late);
     allowed_all(table, depth, layersum, &late, count)
 }
 
 // The verdict from a slot on of an accepted job's list, its rows whole and its marks one byte a
-// chunk. The job's sizes are seen by their table alone; `depth` is the number of layers.
-fn verdict_of(
-    p: Programme,
-    table: &SizeTable,
-    depth: usize,
-    forecast: &[u32],
-    from: u16,
-    marks: &[u8],
-    slots: &[u16],
-    chunks: &[u16],
-    layers: &[u8],
-    bytes: &[u32],
-) -> u8
-    requires { (p.chunks ≤ 500)
-        × (last_due p ≤ 3600)
-        × (depth ≤ 4)
-        × (length forecast.now ≤ 3600)
-        × Whole p.chunks marks.now slots.now chunks.now layers.now bytes.now }
-    ensures { Judged p table.now depth forecast.now from marks.now
-        (rows_of slots.now chunks.now layers.now bytes.now)
-        result }
+// chunk.
+fn verdict_of(job: &JobInput, from: u16, list: &FetchList) -> u8
+    requires { (job_refusal (handed job.now) ≡ 0)
+        × (slices_refusal job.now.programme.chunks (handed_list list.now) ≡ 0) }
+    ensures { result ≡ verdict_from (job_in (handed job.now)) from list.now.marks.now
+        (list_rows (handed_list list.now)) }
 {
+    let p = job.programme;
+    let depth = job.sizes.len();
     let last = job::last_due(p);
+    let unset = p.chunks as u32;
+    let mut table = [unset; SIZES];
+    core_sizes::fill_sizes(job, &mut table);
+    let rows = &list.rows;
     let mut slotsum = [0u64; SUMS];
     let mut layersum = [0u64; SIZES];
     let mut first = [65535u16; 501];
@@ -214,104 +149,44 @@ fn verdict_of(
         p,
         last,
         depth,
-        slots,
-        chunks,
-        layers,
-        bytes,
+        rows.slots,
+        rows.chunks,
+        rows.layers,
+        rows.bytes,
         &mut slotsum,
         &mut layersum,
         &mut first,
     );
     if pass.ranged {
-        let seen = core_rules::see_all(table, depth, &layersum, marks, p.chunks);
-        let room = core_rules::within(forecast, &slotsum);
+        let seen = core_rules::see_all(&table, depth, &layersum, list.marks, p.chunks);
+        let room = core_rules::within(job.forecast, &slotsum);
         let few = core_rules::sweep(p, last, &first);
-        let whole = whole_from(
-            seen.whole, last, p.chunks, depth, from, table, &layersum, slots, chunks, layers, bytes,
-        );
-        return lowest_broken(whole, seen.lower, room, pass.timely, few, seen.said);
+        let whole = seen.whole || allowed_from(&table, depth, &layersum, p.chunks, from, rows);
+        lowest_broken(whole, seen.lower, room, pass.timely, few, seen.said)
+    } else {
+        1
     }
-    1
 }
 
 // The verdict for a job, marks and rows: any number of rows in any order, of equal rows each
 // counts. Refused: 5, 6, 18, 7 by the job, then 8 by the marks and rows.
-pub fn check(
-    p: Programme,
-    sizes: &[u32],
-    size_chunks: &[u16],
-    size_layers: &[u8],
-    size_bytes: &[u32],
-    forecast: &[u32],
-    marks: &[u8],
-    slots: &[u16],
-    chunks: &[u16],
-    layers: &[u8],
-    bytes: &[u32],
-) -> Checked
-    ensures { result ≡ checked
-        (job_input p sizes.now size_chunks.now size_layers.now
-        size_bytes.now forecast.now)
-        (slices_of marks.now slots.now chunks.now layers.now
-        bytes.now) }
+// Kept: a verdict is the documents' number, 0 to 7, which files and C callers pass on.
+#[tactic(auto, using(fetch::proofs::Theorems::first_slot))]
+pub fn check(job: &JobInput, list: &FetchList) -> Result<u8, Refusal>
+    ensures { by_number result ≡ checked (handed job.now) (handed_list list.now) }
 {
-    let job = job::refusal(p, sizes, size_chunks, size_layers, size_bytes, forecast);
-    if job != 0 {
-        return Checked::Refused(job);
-    }
-    let list = fetch::list_refusal(p.chunks, marks, slots, chunks, layers, bytes);
-    if list != 0 {
-        return Checked::Refused(list);
-    }
-    let depth = sizes.len();
-    let unset = p.chunks as u32;
-    let mut table = [unset; SIZES];
-    core_sizes::fill_sizes(sizes, size_chunks, size_layers, size_bytes, &mut table);
-    Checked::Verdict(verdict_of(
-        p, &table, depth, forecast, 1, marks, slots, chunks, layers, bytes,
-    ))
+    job::accept(job)?;
+    fetch::accept_list(job.programme.chunks, list)?;
+    Ok(verdict_of(job, 1, list))
 }
 
 // The same from a slot on: rule 2 allows a short sum whose rows are all before it. Refused: 5, 6,
 // 18, 7, 8, then 21 by the slot.
-pub fn check_from(
-    p: Programme,
-    sizes: &[u32],
-    size_chunks: &[u16],
-    size_layers: &[u8],
-    size_bytes: &[u32],
-    forecast: &[u32],
-    from: u16,
-    marks: &[u8],
-    slots: &[u16],
-    chunks: &[u16],
-    layers: &[u8],
-    bytes: &[u32],
-) -> Checked
-    ensures { result ≡ checked_from
-        (job_input p sizes.now size_chunks.now size_layers.now
-        size_bytes.now forecast.now)
-        from
-        (slices_of marks.now slots.now chunks.now layers.now
-        bytes.now) }
+pub fn check_from(job: &JobInput, from: u16, list: &FetchList) -> Result<u8, Refusal>
+    ensures { by_number result ≡ checked_from (handed job.now) from (handed_list list.now) }
 {
-    let job = job::refusal(p, sizes, size_chunks, size_layers, size_bytes, forecast);
-    if job != 0 {
-        return Checked::Refused(job);
-    }
-    let list = fetch::list_refusal(p.chunks, marks, slots, chunks, layers, bytes);
-    if list != 0 {
-        return Checked::Refused(list);
-    }
-    let slot = fetch::slot_refusal(p, from);
-    if slot != 0 {
-        return Checked::Refused(slot);
-    }
-    let depth = sizes.len();
-    let unset = p.chunks as u32;
-    let mut table = [unset; SIZES];
-    core_sizes::fill_sizes(sizes, size_chunks, size_layers, size_bytes, &mut table);
-    Checked::Verdict(verdict_of(
-        p, &table, depth, forecast, from, marks, slots, chunks, layers, bytes,
-    ))
+    job::accept(job)?;
+    fetch::accept_list(job.programme.chunks, list)?;
+    fetch::accept_slot(job.programme, from)?;
+    Ok(verdict_of(job, from, list))
 }

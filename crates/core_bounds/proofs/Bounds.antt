@@ -57,7 +57,7 @@ module _
       let l = largest_cong (λ c. leb (get_or mid c 0) late) (λ c. leb (with_or_without j k (any_row j n) c) (after j (due j k - 1))) (chunks j)
       (λ c h. rw (front_is mid f c h, late_is)) in
       let e : cap ≡ most_from j k (with_or_without j k (any_row j n)) = w ∙ rw (m, l) in
-      t.is c h ∙ rw (e, front_is mid f c h, none_is, is)
+      t c h ∙ rw (e, front_is mid f c h, none_is, is)
 
 pub any_end : (j : Job) (row : List ℕ) → AnyRow j (chunks j) row → largest (λ c. leb (get_or row c 0) (after j 0)) (chunks j) ≡ bound_any j
 unfolding bound_any
@@ -165,7 +165,6 @@ module _ {j : Job} {sizes : ℕ → ℕ → ℕ} {left : List ℕ} (s : Says j s
 pub record AnyLoop (p : Programme) (sizes : ℕ → ℕ → ℕ) (left : List ℕ) (k : ℕ) (row : List ℕ) : Type 0 where
   pub each : EachJob p (λ j. Says j sizes left → AnyRow j (chunks j - k) row)
   pub within : k ≤ p.chunks
-  pub long : length row ≡ 501
 
 module _ {p : Programme} {sizes : ℕ → ℕ → ℕ} {left : List ℕ} (o : BoundPre p sizes left) where
   pub any_loop_start : (row : List ℕ) → ClearRowPost (get_or left 0 0 + 1) row → AnyLoop p sizes left p.chunks row
@@ -175,7 +174,6 @@ module _ {p : Programme} {sizes : ℕ → ℕ → ℕ} {left : List ℕ} (o : Bo
         let e : chunks j - chunks j ≡ 0 = omega arith in
         rw e (any_start j (get_or left 0 0 + 1) row (few o) (none_is s) r);
     within = omega arith;
-    long = r.long;
   }
 
   pub row_from : (k base d : ℕ) (row : List ℕ) → base ≡ sizes k 0 → AnyLoop p sizes left k row → RowPre base (get_or left d 0) p.chunks row
@@ -186,7 +184,6 @@ module _ {p : Programme} {sizes : ℕ → ℕ → ℕ} {left : List ℕ} (o : Bo
     needs = λ c h.
         let j = job o in
         omega (arith, r.each o.sizes o.overrides o.forecast o.holds c (omega arith), any_top j (chunks j - k) c, sum_is o.holds 0, sum_most o 0);
-    long = r.long;
   }
 
   pub any_loop_more :
@@ -201,7 +198,6 @@ module _ {p : Programme} {sizes : ℕ → ℕ → ℕ} {left : List ℕ} (o : Bo
         (any_more j (chunks j - k) k (omega (arith, r.within)) base (get_or left d 0) (get_or left (d - 1) 0) (get_or left 0 0 + 1) (b ∙ base_is s k)
         (sum_is s d ∙ ap (after j) e) (sum_is s (d - 1) ∙ ap (λ (x : ℕ). after j (x - 1)) e) (none_is s) row (r.each z v g s) mid new most f m t w);
     within = omega (arith, r.within);
-    long = t.long;
   }
 
   pub any_loop_end :

@@ -4,7 +4,7 @@
 // in the caller's work slice, 501 numbers to a row.
 #![tactic(auto)]
 
-ghost use Rattle.std.specs.Prelude.{◌≡◌, ◌-◌, ◌<◌, ◌≤◌, min, length, get_or, leb};
+ghost use Rattle.std.specs.Prelude.{◌≡◌, ◌≤◌, length, get_or, leb};
 ghost use Rattle.core_sizes.specs.Table.{table_at};
 ghost use Rattle.theory_most.specs.Statement.{largest};
 ghost use Rattle.core_bounds.specs.lemmas.Tables.{ClearRowPost, CutAbovePost, InFrontPost, RowPre};
@@ -21,25 +21,18 @@ fn clear_row(none: u64, row: &mut [u64])
     requires { length row.old ≡ 501 }
     ensures { ClearRowPost none row.new }
 {
+    row.fill(none);
     row[0] = 0;
-    let mut c: usize = 1;
-    while c < ROW {
-        row[c] = none;
-        c = c + 1;
-    }
 }
 
 // One chunk more, in front of the others or left out. left: what is forecast after its due slot.
-fn put_in_front(base: u64, left: u64, count: usize, row: &mut [u64])
+fn put_in_front(base: u64, left: u64, count: usize, row: &mut [u64; ROW])
     requires { RowPre base left count row.old }
     ensures { InFrontPost base left count row.old row.new }
 {
-    let mut c = count;
-    while 0 < c {
-        let b = c - 1;
-        let with = base + core_decide::larger(left, row[b]);
-        row[c] = core_decide::smaller(row[c], with);
-        c = b;
+    for c in (0..count).rev() {
+        let with = base + left.max(row[c]);
+        row[c + 1] = row[c + 1].min(with);
     }
 }
 
@@ -48,25 +41,21 @@ fn most_within(row: &[u64], count: usize, level: u64) -> usize
     requires { (count ≤ 500) × (501 ≤ length row.now) }
     ensures { result ≡ largest (λ c. leb (get_or row.now c 0) level) count }
 {
-    let mut c = count;
-    while 0 < c {
-        if row[c] <= level {
-            return c;
+    for c in (0..count).rev() {
+        if row[c + 1] <= level {
+            return c + 1;
         }
-        c = c - 1;
     }
     0
 }
 
 // More bases than `most` cannot be.
-fn cut_above(none: u64, most: usize, count: usize, row: &mut [u64])
-    requires { (count ≤ 500) × (length row.old ≡ 501) }
+fn cut_above(none: u64, most: usize, count: usize, row: &mut [u64; ROW])
+    requires { count ≤ 500 }
     ensures { CutAbovePost none most count row.old row.new }
 {
-    let mut c = count;
-    while most < c {
-        row[c] = none;
-        c = c - 1;
+    if most < count {
+        row[most + 1..count + 1].fill(none);
     }
 }
 
@@ -80,45 +69,15 @@ pub fn any_order(p: Programme, table: &SizeTable, after: &SlotSums) -> usize
     let none = after[0] + 1;
     let mut row = [0u64; ROW];
     clear_row(none, &mut row);
-    let mut k = p.chunks;
-    while 0 < k {
+    for i in (0..p.chunks).rev() {
+        let k = i + 1;
         let d = job::due_slot(p, k);
-        let e = d - 1;
         let base = core_sizes::size_in(table, k, 0);
-        put_in_front(core_decide::wide(base), after[d], count, &mut row);
-        let most = held + most_within(&row, count, after[e]);
+        put_in_front(u64::from(base), after[d], count, &mut row);
+        let most = held + most_within(&row, count, after[d - 1]);
         cut_above(none, most, count, &mut row);
-        k = k - 1;
     }
     most_within(&row, count, after[0])
-}
-
-// The need with a chunk in front, if those from H places behind it on fit; else none.
-fn with_chunk(behind: u64, late: u64, with: u64, none: u64) -> u64
-    ensures { (behind ≤ late → result ≡ with) × (late < behind → result ≡ none) }
-{
-    if behind <= late {
-        return with;
-    }
-    none
-}
-
-fn less_of(a: usize, b: usize) -> usize
-    ensures { result ≡ a - b }
-{
-    if a < b {
-        return 0;
-    }
-    a - b
-}
-
-fn smaller_of(a: usize, b: usize) -> usize
-    ensures { result ≡ min a b }
-{
-    if a < b {
-        return a;
-    }
-    b
 }
 
 // The row of the chunks behind i, from the next row and from the row H places on. left and late:
@@ -138,16 +97,15 @@ fn fill_row(
 {
     let here = i * ROW;
     let next = here + ROW;
-    let far = smaller_of(i + held, count) * ROW;
+    let far = (i + held).min(count) * ROW;
     work[here] = 0;
-    let mut c: usize = 0;
-    while c < count {
+    for c in 0..count {
         let more = c + 1;
-        let with = base + core_decide::larger(left, work[next + c]);
-        let behind = work[far + less_of(more, held)];
-        let kept = with_chunk(behind, late, with, none);
-        work[here + more] = core_decide::smaller(work[next + more], kept);
-        c = more;
+        let with = base + left.max(work[next + c]);
+        // The chunk is kept if those from H places behind it on fit.
+        let behind = work[far + more.saturating_sub(held)];
+        let kept = if behind <= late { with } else { none };
+        work[here + more] = work[next + more].min(kept);
     }
 }
 
@@ -164,23 +122,20 @@ pub fn in_order(p: Programme, table: &SizeTable, after: &SlotSums, work: &mut [u
     let last = count * ROW;
     let end = last + ROW;
     clear_row(none, &mut work[last..end]);
-    let mut k = p.chunks;
-    while 0 < k {
-        let i = k as usize - 1;
+    for i in (0..p.chunks).rev() {
+        let k = i + 1;
         let d = job::due_slot(p, k);
-        let e = d - 1;
         let base = core_sizes::size_in(table, k, 0);
         fill_row(
-            i,
+            i as usize,
             count,
             held,
-            core_decide::wide(base),
+            u64::from(base),
             after[d],
-            after[e],
+            after[d - 1],
             none,
             work,
         );
-        k = k - 1;
     }
     most_within(work, count, after[0])
 }

@@ -1,7 +1,6 @@
 -- Laws on one set against another: what the tests of waits_covered and covers say. Assumes nothing.
 use Prim.Native.Nat.{ℕ, ◌+◌, ◌*◌, ◌-◌, ◌≤◌, ◌<◌, max}
 use mathlib.Core.Path.{◌≡◌, subst}
-use mathlib.Core.Bool.{true, false}
 use mathlib.Core.List.{List}
 use mathlib.Core.Logic.{⊎_elim}
 use native.Mathlib.Omega.{arith}
@@ -13,10 +12,6 @@ use Rattle.job.specs.Job.{Job}
 use Rattle.theory_most.specs.Statement.{after_set}
 use Rattle.core_covering.specs.lemmas.Tables.{CoveredBy, SetOf, TwoSets}
 use Rattle.core_covering.specs.lemmas.Levels.{held_small, set_used, set_waits_up}
-
--- A test that fails says nothing.
-pub never : false ≡ true → ⊥
-never t = let z : ◌≡◌ {A = ℕ} 0 1 = cc in omega arith
 
 module _ (held smallest : ℕ) (opens u : List ℕ) (s : List ℕ) (usedS : ℕ) where
   abbrev Two : Job → ℕ → Type 0
@@ -46,9 +41,6 @@ module _ (held smallest : ℕ) (opens u : List ℕ) (s : List ℕ) (usedS : ℕ)
   pub record CoveredFrom (lead q : ℕ) : Type 0 where
     pub within : q + lead ≤ held
     pub each : (j : Job) (used_u : ℕ) → Two j used_u → (n : ℕ) → q ≤ n → n + lead < held → Covered j lead n
-
-  pub covered_start : (lead : ℕ) → lead < held → CoveredFrom lead (held - lead)
-  covered_start lead h = record { within = omega arith; each = λ j used_u t n l m. absurd (omega arith) }
 
   -- What the test says of place q - 1.
   abbrev pub Passed : ℕ → ℕ → Type 0
@@ -82,7 +74,7 @@ module _ (held smallest : ℕ) (opens u : List ℕ) (s : List ℕ) (usedS : ℕ)
   pub covered_end : (lead q : ℕ) → q ≤ 0 → CoveredFrom lead q → (j : Job) (used_u : ℕ) → Two j used_u → (n : ℕ) → n + lead < held → Covered j lead n
   covered_end lead q h c j used_u t n m = c.each j used_u t n (omega arith) m
 
-  -- So u covers s, if what it has used is covered too,
+  -- So u covers s, if what it has used is covered too.
   pub covers_both :
       (j : Job) (used_u : ℕ) → Two j used_u → length s ≤ length u →
       used_u ≤ max (usedS + (length u - length s) * smallest) ((after_set j s).waits (length u - length s)) →
@@ -93,16 +85,5 @@ module _ (held smallest : ℕ) (opens u : List ℕ) (s : List ℕ) (usedS : ℕ)
         covers = record {
           used_covered = λ h. omega (arith, low, t.u_is, t.s_is);
           waits_covered = λ q h. c q (omega (arith, h, t.held_is));
-        };
-      }
-
-  -- or if it has at least H chunks more.
-  pub covers_far : (j : Job) (used_u : ℕ) → Two j used_u → length s ≤ length u → held ≤ length u - length s → CoveredBy j smallest u s
-  covers_far j used_u t few far =
-      record {
-        no_fewer = few;
-        covers = record {
-          used_covered = λ h. absurd (omega (arith, h, far, t.held_is));
-          waits_covered = λ q h. absurd (omega (arith, h, far, t.held_is));
         };
       }

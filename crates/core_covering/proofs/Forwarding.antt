@@ -1,7 +1,7 @@
 -- Laws on chunks kept in turn: the table and the levels that keep_forward has after chunk i.
 -- Assumes nothing.
 use Prim.Native.Nat.{ℕ, suc, ◌+◌, ◌≤◌, ◌<◌, max}
-use mathlib.Core.Path.{◌≡◌, refl, sym, ap, ◌∙◌}
+use mathlib.Core.Path.{◌≡◌, sym, ap, ◌∙◌}
 use mathlib.Core.Bool.{cond}
 use mathlib.Core.List.{List, [], ◌∷◌, ◌++◌}
 use native.Mathlib.Omega.{arith}
@@ -18,7 +18,7 @@ use Rattle.theory_most.specs.Search.{forward}
 use Rattle.theory_most.proofs.Theorems.{set_state}
 use Rattle.theory_most.specs.lemmas.Forward.{release_own, release_wait, waits_last}
 use Rattle.theory_most.proofs.Search.{forward_set}
-use Rattle.core_covering.specs.lemmas.Tables.{ForwardFor, ForwardOf, ForwardPre}
+use Rattle.core_covering.specs.lemmas.Tables.{ForwardFor}
 use Rattle.core_covering.specs.lemmas.Levels.{base_small, open_small, set_used, set_wait_small}
 
 -- ---- of one job
@@ -73,10 +73,6 @@ module _ (count held : ℕ) (ends opens bases : List ℕ) where
     pub few : kept ≤ i
     pub long : length ids ≡ 500
     pub each : (j : Job) → For j → Kept j i kept used last ids
-
-  pub forwarding_start : (ids : List ℕ) → ForwardPre count held ends opens bases ids → Forwarding 0 0 0 0 ids
-  forwarding_start ids o =
-      record { within = omega arith; small = omega (arith, o.holds.count_is, o.holds.accepted.chunks_in.high); few = omega arith; long = o.long; each = λ j f. record { are = refl; used_is = refl; last_is = λ some. refl } }
 
   -- What the code computes of chunk i + 1.
   abbrev pub level_of : (i used last : ℕ) → ℕ
@@ -143,8 +139,3 @@ module _ (count held : ℕ) (ends opens bases : List ℕ) where
           long = f.long;
           each = λ j o. rw add-one (kept_skip j i kept used last ids (f.each j o) (omega (arith, e, level_is j o, end_is j o)));
         }
-
-  pub forwarding_end : (i kept used last : ℕ) (ids : List ℕ) → Forwarding i kept used last ids → count ≤ i → (j : Job) → For j → ForwardOf j kept ids
-  forwarding_end i kept used last ids f h j o =
-      let e : i ≡ chunks j = omega (arith, f.within, o.count_is) in
-      record { kept = (f.each j o).are ∙ ap (forward j) e; few = omega (arith, f.few); long = f.long }

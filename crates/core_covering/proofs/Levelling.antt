@@ -5,7 +5,7 @@ use mathlib.Core.Path.{◌≡◌, sym, ap, subst, ◌∙◌}
 use mathlib.Core.List.{List}
 use mathlib.Core.Logic.{⊎_elim}
 use native.Mathlib.Omega.{arith}
-use lib.ListN.{length, get_or, set, length-set}
+use lib.ListN.{length, get_or, set}
 use lib.Dec.{leb, leb→le, nleb→lt}
 use Rattle.theory_basics.specs.lemmas.Tests.{test}
 use Rattle.theory_basics.specs.lemmas.Tables.{at_set}
@@ -17,7 +17,6 @@ use Rattle.theory_plan.specs.lemmas.Words.{due_by}
 use Rattle.theory_most.specs.Statement.{LeastAfter, end_of, open_of}
 use Rattle.theory_most.specs.lemmas.Forward.{level_end, level_open}
 use Rattle.theory_most.specs.lemmas.InTables.{EachJob, Says}
-use Rattle.core_covering.specs.lemmas.Tables.{SetLevelsPost, SetLevelsPre}
 
 -- A table holds for each chunk behind k what P says.
 abbrev Behind : Job → (ℕ → ℕ → Type 0) → ℕ → List ℕ → Type 0
@@ -52,7 +51,6 @@ pub record Levelling (p : Programme) (sizes : ℕ → ℕ → ℕ) (left ends op
   pub few : p.chunks ≤ 500
   pub last_in : last_due p ≤ 3600
   pub left_long : length left ≡ 3601
-  pub long : (length ends ≡ 501) × (length opens ≡ 501) × (length bases ≡ 501) × (length smallest ≡ 501)
   pub small : least ≤ 16777216
   pub each : EachJob p (λ j. Says j sizes left → LevelsFrom j k ends opens bases smallest least)
 
@@ -63,41 +61,18 @@ pub due_in :
 due_in {p} {k = k} o = omega (arith, due_by p k o.within, o.last_in, o.left_long)
 
 module _ (p : Programme) (sizes : ℕ → ℕ → ℕ) (left : List ℕ) where
-  pub levelling_start :
-      (ends opens bases smallest : List ℕ) → SetLevelsPre p sizes left ends opens bases smallest →
-      Levelling p sizes left ends opens bases smallest 16777216 p.chunks
-  levelling_start ends opens bases smallest o =
-      record {
-        within = omega arith;
-        few = o.job.holds.accepted.chunks_in.high;
-        last_in = o.job.holds.accepted.last_in;
-        left_long = o.job.holds.long;
-        long = o.long;
-        small = omega arith;
-        each = λ a b c says.
-            record {
-              ends_are = λ i l h. absurd (omega arith);
-              opens_are = λ i l h. absurd (omega arith);
-              bases_are = λ i l h. absurd (omega arith);
-              least_are = λ i l h. absurd (omega arith);
-              least_is = λ i l h. absurd (omega arith);
-            };
-      }
-
   -- Chunk k is written.
   pub levelling_more :
-      (ends opens bases smallest : List ℕ) (least k : ℕ) → Levelling p sizes left ends opens bases smallest least k → 0 < k →
-      (d base end begin least' : ℕ) → d ≡ due_slot p k → base ≡ sizes k 0 → end ≡ get_or left 0 0 - get_or left d 0 →
+      (ends opens bases smallest : List ℕ) → (length ends ≡ 501) × (length opens ≡ 501) × (length bases ≡ 501) × (length smallest ≡ 501) →
+      (least k : ℕ) → Levelling p sizes left ends opens bases smallest least k → 0 < k → (d base end begin least' : ℕ) → d ≡ due_slot p k → base ≡ sizes k 0 → end ≡ get_or left 0 0 - get_or left d 0 →
       begin ≡ get_or left 0 0 - get_or left (d - 1) 0 → least' ≡ min least base →
       Levelling p sizes left (set ends k end) (set opens k begin) (set bases k base) (set smallest k least) least' (k - 1)
-  levelling_more ends opens bases smallest least k o some d base end begin least' ed eb ee eo el =
-      let l = o.long in
+  levelling_more ends opens bases smallest l least k o some d base end begin least' ed eb ee eo el =
       record {
         within = omega (arith, o.within);
         few = o.few;
         last_in = o.last_in;
         left_long = o.left_long;
-        long = (length-set ends k end ∙ l.0, length-set opens k begin ∙ l.1, length-set bases k base ∙ l.2, length-set smallest k least ∙ l.3);
         small = omega (arith, o.small);
         each = λ a b c says.
             let j = job_of p a b c in
@@ -115,21 +90,4 @@ module _ (p : Programme) (sizes : ℕ → ℕ → ℕ) (left : List ℕ) where
                   (f.least_is, o.small);
               least_is = λ i m h. lower j k least base least' z el f.least_is i m h;
             };
-      }
-
-  pub levelling_end :
-      (ends opens bases smallest : List ℕ) (least k : ℕ) → Levelling p sizes left ends opens bases smallest least k → k ≤ 0 →
-      SetLevelsPost p sizes left ends opens bases smallest
-  levelling_end ends opens bases smallest least k o h = λ a b c says.
-      let f = o.each a b c says in
-      let l = o.long in
-      record {
-        ends_are = record { is = λ i m n. f.ends_are i (omega arith) n; long = l.0 };
-        opens_are = record { is = λ i m n. f.opens_are i (omega arith) n; long = l.1 };
-        bases_are = record { is = λ i m n. f.bases_are i (omega arith) n; long = l.2 };
-        least_are = record {
-          is = λ i m n. (f.least_are i (omega arith) n).0;
-          small = λ i m n. (f.least_are i (omega arith) n).1;
-          long = l.3;
-        };
       }

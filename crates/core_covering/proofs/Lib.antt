@@ -1,4 +1,3 @@
-pub mod Placed
 pub mod Covering
 pub mod Forwarding
 pub mod Levelling

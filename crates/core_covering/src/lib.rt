@@ -3,7 +3,7 @@
 // stand in tables by chunk number. Here are the tests of one set, and of one set against another.
 #![tactic(auto)]
 
-ghost use Rattle.std.specs.Prelude.{◌≡◌, ℕ, ◌+◌, ◌*◌, ◌-◌, ◌<◌, ◌≤◌, max, min, cond, length, get_or, ltb};
+ghost use Rattle.std.specs.Prelude.{◌≡◌, ℕ, ◌+◌, ◌*◌, ◌-◌, ◌<◌, ◌≤◌, max, length};
 ghost use Rattle.core_sizes.specs.Table.{table_at};
 ghost use Rattle.core_covering.specs.lemmas.Tables.{SetLevelsPost, SetLevelsPre, WaitPost, WaitPre};
 ghost use Rattle.core_covering.specs.lemmas.Tables.{NextFromPost, HopelessPost, HopelessPre, CoversPost};
@@ -26,31 +26,23 @@ pub fn set_levels(
     bases: &mut [u64; LEVELS],
     smallest: &mut [u64; LEVELS],
 )
-    requires { SetLevelsPre p (table_at table.now) after.now ends.old opens.old bases.old smallest.old }
+    requires { SetLevelsPre p (table_at table.now) after.now }
     ensures { SetLevelsPost p (table_at table.now) after.now
         ends.new opens.new bases.new smallest.new }
 {
     let all = after[0];
     let mut least: u64 = 16777216;
-    let mut k = p.chunks;
-    while 0 < k {
+    for i in (0..p.chunks).rev() {
+        let k = i + 1;
         let d = job::due_slot(p, k);
-        let e = d - 1;
-        let base = core_decide::wide(core_sizes::size_in(table, k, 0));
-        let c = k as usize;
-        ends[c] = core_decide::less(all, after[d]);
-        opens[c] = core_decide::less(all, after[e]);
+        let base = u64::from(core_sizes::size_in(table, k, 0));
+        let c = usize::from(k);
+        ends[c] = all.saturating_sub(after[d]);
+        opens[c] = all.saturating_sub(after[d - 1]);
         bases[c] = base;
         smallest[c] = least;
-        least = core_decide::smaller(least, base);
-        k = k - 1;
+        least = least.min(base);
     }
-}
-
-fn place(x: u16) -> usize
-    ensures { result ≡ x }
-{
-    x as usize
 }
 
 // The level before which a set's next but q can't begin: the opening of the kept chunk H places
@@ -61,11 +53,10 @@ fn wait_of(held: usize, opens: &[u64; LEVELS], set: &[u16], q: usize) -> u64
 {
     let at = set.len() + q;
     if at < held {
-        return 0;
+        0
+    } else {
+        opens[usize::from(set[at - held])]
     }
-    let before = at - held;
-    let k = place(set[before]);
-    opens[k]
 }
 
 // The level before which a set's next chunk can't begin.
@@ -73,7 +64,7 @@ pub fn next_from(held: usize, opens: &[u64; LEVELS], set: &[u16], used: u64) -> 
     requires { WaitPre held opens.now set.now 0 }
     ensures { NextFromPost held opens.now set.now used result }
 {
-    core_decide::larger(used, wait_of(held, opens, set, 0))
+    used.max(wait_of(held, opens, set, 0))
 }
 
 // Whether a set can't reach the target: as many bases as it lacks need more, by the row of the
@@ -92,11 +83,7 @@ pub fn is_hopeless(
         used result }
 {
     let count = set.len();
-    if target <= count {
-        return false;
-    }
-    let lacks = target - count;
-    all < next_from(held, opens, set, used) + row[lacks]
+    count < target && all < next_from(held, opens, set, used) + row[target - count]
 }
 
 // Whether each level that u must wait for is no higher than s must be at by then. The waits rise,
@@ -114,19 +101,16 @@ fn waits_covered(
     ensures { WaitsCoveredPost held smallest opens.now u.now lead
         s.now used_s result }
 {
-    let mut q = held - lead;
-    while 0 < q {
-        let b = q - 1;
-        let wait = wait_of(held, opens, u, b);
+    for q in (0..held - lead).rev() {
+        let wait = wait_of(held, opens, u, q);
         if wait <= used_s {
             return true;
         }
-        let at = b + lead;
+        let at = q + lead;
         let level = used_s + at as u64 * smallest;
-        if core_decide::larger(level, wait_of(held, opens, s, at)) < wait {
+        if level.max(wait_of(held, opens, s, at)) < wait {
             return false;
         }
-        q = b;
     }
     true
 }
@@ -146,31 +130,16 @@ pub fn covers(
     ensures { CoversPost held smallest opens.now u.now used_u
         s.now used_s result }
 {
-    let count = u.len();
-    let fewer = s.len();
-    if count < fewer {
+    if u.len() < s.len() {
         return false;
     }
-    let lead = count - fewer;
+    let lead = u.len() - s.len();
     if held <= lead {
         return true;
     }
     let level = used_s + lead as u64 * smallest;
-    if core_decide::larger(level, wait_of(held, opens, s, lead)) < used_u {
-        return false;
-    }
-    waits_covered(held, smallest, opens, u, lead, s, used_s)
-}
-
-// The level before which a chunk can't begin, where H is at most 1: the opening of the last kept
-// one, or, if none may be held, its own.
-fn wait_for(held: usize, last: u64, own: u64) -> u64
-    ensures { result ≡ cond (ltb 0 held) last own }
-{
-    if 0 < held {
-        return last;
-    }
-    own
+    used_u <= level.max(wait_of(held, opens, s, lead))
+        && waits_covered(held, smallest, opens, u, lead, s, used_s)
 }
 
 // Where H is at most 1: each chunk in turn, kept if it is in time. Writes the kept ones to the
@@ -183,40 +152,35 @@ pub fn keep_forward(
     bases: &[u64; LEVELS],
     ids: &mut [u16; CHUNKS],
 ) -> usize
-    requires { ForwardPre count held ends.now opens.now bases.now ids.old }
+    requires { ForwardPre count held ends.now opens.now bases.now }
     ensures { ForwardPost count held ends.now opens.now bases.now result
         ids.new }
 {
     let mut used: u64 = 0;
     let mut last: u64 = 0;
     let mut kept: usize = 0;
-    let mut i: usize = 0;
-    while i < count {
+    for i in 0..count {
         let k = i + 1;
         let own = opens[k];
-        let level = core_decide::larger(used, wait_for(held, last, own)) + bases[k];
+        // A chunk can't begin before the last kept one opens, or, if none may be held, its own.
+        let wait = if 0 < held { last } else { own };
+        let level = used.max(wait) + bases[k];
         if level <= ends[k] {
             ids[kept] = k as u16;
             used = level;
             last = own;
-            kept = kept + 1;
+            kept += 1;
         }
-        i = k;
     }
     kept
 }
 
 // Copies a set to the end of ids, and returns the place at which it begins.
 pub fn place_at_end(set: &[u16], ids: &mut [u16; CHUNKS]) -> usize
-    requires { (length set.now ≤ 500) × (length ids.old ≡ 500) }
+    requires { length set.now ≤ 500 }
     ensures { PlacedPost set.now result ids.new }
 {
-    let count = set.len();
-    let first = CHUNKS - count;
-    let mut q: usize = 0;
-    while q < count {
-        ids[first + q] = set[q];
-        q = q + 1;
-    }
+    let first = CHUNKS - set.len();
+    ids[first..].copy_from_slice(set);
     first
 }

@@ -79,8 +79,8 @@ module _ (size : ℕ → ℕ → ℕ) (n : ℕ) (after ids dues room : List ℕ)
       pub chunk_in : Within 1 500 (get_or ids (q - 1) 0)
       chunk_in = all_from (Within 1 500) ids first (q - 1) o.chunks_in (omega arith) (omega (arith, b.to, o.long.1))
 
-      pub due_slot_lem : Slot (get_or dues (q - 1) 0)
-      due_slot_lem = all_from Slot dues first (q - 1) o.slots (omega arith) (omega (arith, b.to, o.long.2))
+      pub due_in : Slot (get_or dues (q - 1) 0)
+      due_in = all_from Slot dues first (q - 1) o.slots (omega arith) (omega (arith, b.to, o.long.2))
 
       pub want_small : want + its ≤ 100000000000
       want_small = omega (arith, b.small, bytes_small, o.high, o.sums (get_or dues (q - 1) 0), o.small (get_or ids (q - 1) 0) n, b.to)

@@ -13,7 +13,7 @@ ghost use Rattle.fetch.specs.Marks.{bit};
 ghost use Rattle.theory_plan.specs.lemmas.Trials.{rooms};
 ghost use Rattle.theory_plan.specs.lemmas.Parts.{at, ForecastPart};
 ghost use Rattle.core_moore_hodgson.specs.lemmas.Tables.{KeptIn};
-ghost use Rattle.core_decide.specs.lemmas.Decision.{SetPlacesPost, SumTable, KeepBasesPre, SettleBasesPre};
+ghost use Rattle.core_decide.specs.lemmas.Decision.{SumTable, KeepBasesPre, SettleBasesPre};
 ghost use Rattle.core_decide.specs.lemmas.Decision.{stack_in, bases_in, Slot, TryLayerPre, TryLayerPost};
 ghost use Rattle.core_decide.specs.lemmas.Decision.{SettleLayersPre, SettleLayersPost, SettleKeptPre};
 ghost use Rattle.core_decide.specs.lemmas.Decision.{SettleKeptPost, DecidePre, DecidePost};
@@ -21,22 +21,17 @@ ghost use Rattle.theory_plan.specs.lemmas.Queue.{ones};
 
 use job::{CHUNKS, Programme, SUMS, SizeTable, SlotSums};
 
+// Kept: crates above still call this function and the three after it.
 pub fn larger(a: u64, b: u64) -> u64
     ensures { result ≡ max a b }
 {
-    if a < b {
-        return b;
-    }
-    a
+    a.max(b)
 }
 
 pub fn smaller(a: u64, b: u64) -> u64
     ensures { result ≡ min a b }
 {
-    if a < b {
-        return a;
-    }
-    b
+    a.min(b)
 }
 
 pub fn wide(x: u32) -> u64
@@ -49,22 +44,7 @@ pub fn wide(x: u32) -> u64
 pub fn less(a: u64, b: u64) -> u64
     ensures { result ≡ a - b }
 {
-    if a < b {
-        return 0;
-    }
-    a - b
-}
-
-// Writes v at the places `from` to `to` - 1.
-fn set_places(after: &mut SlotSums, from: usize, to: usize, v: u64)
-    requires { (from ≤ to) × (to ≤ 3601) × (length after.old ≡ 3601) }
-    ensures { SetPlacesPost from to v after.old after.new }
-{
-    let mut k = from;
-    while k < to {
-        after[k] = v;
-        k = k + 1;
-    }
+    a.saturating_sub(b)
 }
 
 // The forecast left after each slot, for a part of the forecast that starts at slot start. Sums in
@@ -75,16 +55,12 @@ pub fn sum_after(part: &[u32], start: usize, after: &mut SlotSums)
 {
     let base = start - 1;
     let mut sum: u64 = 0;
-    let mut u = part.len();
-    set_places(after, base + u, SUMS, 0);
-    while 0 < u {
-        let v = u - 1;
-        sum = sum + (part[v] as u64);
-        let t = base + v;
-        after[t] = sum;
-        u = v;
+    after[base + part.len()..].fill(0);
+    for u in (0..part.len()).rev() {
+        sum += part[u] as u64;
+        after[base + u] = sum;
     }
-    set_places(after, 0, base, sum);
+    after[..base].fill(sum);
 }
 
 // The need of the kept chunk so many places on, or 0 past the last.
@@ -92,11 +68,7 @@ pub fn need_at(needs: &[u64; CHUNKS], k: usize, held: usize) -> u64
     requires { (k ≤ 500) × (held ≤ 65535) × (length needs.now ≡ 500) }
     ensures { result ≡ get_or needs.now (k + held) 0 }
 {
-    let at = k + held;
-    if at < CHUNKS {
-        return needs[at];
-    }
-    0
+    needs.get(k + held).copied().unwrap_or(0)
 }
 
 // The base of each chunk from the last to the first. The kept chunks stand at the end of ids, in
@@ -120,25 +92,18 @@ pub fn keep_bases(
     let all = after[0];
     let mut last: u64 = 0;
     let mut first: usize = CHUNKS;
-    let mut i = p.chunks;
-    while 0 < i {
+    for i in (1..=p.chunks).rev() {
         let d = job::due_slot(p, i);
         let k = first - 1;
         let z = core_sizes::size_in(table, i, 0);
-        let cand = (z as u64) + larger(after[d], last);
-        let e = d - 1;
+        let cand = z as u64 + after[d].max(last);
         needs[k] = cand;
-        if all < cand {
-            i = i - 1;
-        } else if after[e] < need_at(needs, k, held) {
-            i = i - 1;
-        } else {
+        if cand <= all && need_at(needs, k, held) <= after[d - 1] {
             ids[k] = i;
             dues[k] = d as u16;
             bytes[k] = z;
             first = k;
             last = cand;
-            i = i - 1;
         }
     }
     first
@@ -161,9 +126,10 @@ pub fn settle_bases(
     ensures room { length needs.new ≡ 500 }
 {
     if core_moore_hodgson::applies(p, table) {
-        return core_moore_hodgson::keep_most(p, table, after, ids, dues, bytes);
+        core_moore_hodgson::keep_most(p, table, after, ids, dues, bytes)
+    } else {
+        keep_bases(p, table, after, ids, dues, bytes, needs)
     }
-    keep_bases(p, table, after, ids, dues, bytes, needs)
 }
 
 // The slot from which each kept chunk may begin.
@@ -172,16 +138,8 @@ pub fn set_releases(held: usize, dues: &[u16; CHUNKS], first: usize, ready: &mut
     ensures { (length ready.new ≡ 500)
         × (drop first ready.new ≡ take (500 - first) (ones held ++ drop first dues.now)) }
 {
-    let mut q = first;
-    while q < CHUNKS {
-        if q - first < held {
-            ready[q] = 1;
-            q = q + 1;
-        } else {
-            let k = q - held;
-            ready[q] = dues[k];
-            q = q + 1;
-        }
+    for q in first..CHUNKS {
+        ready[q] = if q - first < held { 1 } else { dues[q - held] };
     }
 }
 
@@ -194,24 +152,15 @@ fn find_rooms(
     first: usize,
     room: &mut [u64; CHUNKS],
 )
-    requires { (first ≤ 500)
-        × All Slot (drop first ready.now)
-        × (length after.now ≡ 3601)
-        × (length ready.now ≡ 500)
-        × (length bytes.now ≡ 500)
-        × (length room.old ≡ 500) }
-    ensures { (length room.new ≡ 500)
-        × (drop first room.new ≡ rooms (at after.now) all (drop first bytes.now)
-        (drop first ready.now)) }
+    requires { (first ≤ 500) × All Slot (drop first ready.now) }
+    ensures { drop first room.new ≡ rooms (at after.now) all (drop first bytes.now)
+        (drop first ready.now) }
 {
     let mut left = all;
-    let mut q = first;
-    while q < CHUNKS {
-        let r = ready[q] as usize - 1;
-        let here = smaller(left, after[r]);
+    for q in first..CHUNKS {
+        let here = left.min(after[ready[q] as usize - 1]);
         room[q] = here;
-        left = less(here, wide(bytes[q]));
-        q = q + 1;
+        left = here.saturating_sub(bytes[q] as u64);
     }
 }
 
@@ -219,10 +168,7 @@ fn find_rooms(
 fn takes(mark: u8, n: u8, more: u64, room: u64) -> bool
     ensures { result ≡ bit mark n && leb more room }
 {
-    if fetch::has(mark, n) {
-        return more <= room;
-    }
-    false
+    fetch::has(mark, n) && more <= room
 }
 
 // Layer n of each kept chunk, from the last to the first.
@@ -243,25 +189,19 @@ fn try_layer(
         dues.now room.now first bytes.old mark.old
         bytes.new mark.new }
 {
-    let below = n - 1;
     let mut need: u64 = 0;
-    let mut q: usize = CHUNKS;
-    while first < q {
-        let k = q - 1;
+    for k in (first..CHUNKS).rev() {
         let b = bytes[k];
         let m = mark[k];
-        let d = dues[k] as usize;
         let z = core_sizes::size_in(table, ids[k], n as usize);
-        let want = wide(b) + larger(after[d], need);
-        let more = want + wide(z);
-        if takes(m, below, more, room[k]) {
+        let want = b as u64 + after[dues[k] as usize].max(need);
+        let more = want + z as u64;
+        if takes(m, n - 1, more, room[k]) {
             bytes[k] = b + z;
             mark[k] = fetch::with(m, n);
             need = more;
-            q = k;
         } else {
             need = want;
-            q = k;
         }
     }
 }
@@ -286,12 +226,9 @@ pub fn settle_layers(
         dues.now ready.now first bytes.old mark.old
         bytes.new mark.new }
 {
-    let mut n: usize = 1;
-    while n < layers {
-        let layer = n as u8;
+    for n in 1..layers {
         find_rooms(all, after, ready, bytes, first, room);
-        try_layer(table, layer, after, ids, dues, room, first, bytes, mark);
-        n = n + 1;
+        try_layer(table, n as u8, after, ids, dues, room, first, bytes, mark);
     }
 }
 

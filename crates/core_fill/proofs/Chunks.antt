@@ -1,6 +1,5 @@
 -- Laws on the pieces of a chunk, and of all chunks, one after the other. Assumes nothing.
 use mathlib.Core.Path.{◌≡◌, refl, sym, ◌∙◌, ap, subst}
-use mathlib.Core.Bool.{true, false}
 use mathlib.Core.List.{List, [], ◌∷◌, ◌++◌, append_assoc, append-nil}
 use mathlib.Core.Logic.{⊎_elim}
 use Prim.Native.Nat.{ℕ, zero, suc, ◌+◌, ◌*◌, ◌-◌, ◌≤◌, ◌<◌}
@@ -8,13 +7,13 @@ use native.Mathlib.Omega.{arith}
 use native.Mathlib.Numerals.{add-one}
 use lib.ListN.{get_or, drop, drop_of_length-le}
 use lib.Dec.{ltb, ltb→lt, nltb→le}
-use borrow.Author.Tests.{lt-ltb, le-ltb, ltb-true, ltb-false}
+use borrow.Author.Tests.{lt-ltb, le-ltb}
 use Rattle.theory_basics.specs.lemmas.Tests.{test}
 use Rattle.job.specs.Job.{Within}
-use Rattle.fetch.specs.Marks.{bit}
 use Rattle.theory_plan.specs.lemmas.Fill.{QueuedPiece}
-use Rattle.theory_plan.specs.lemmas.Linear.{level_bit}
 use Rattle.theory_plan.specs.lemmas.Queue.{pieces}
+use Rattle.theory_plan.specs.lemmas.Trials.{level_mark}
+use Rattle.std.specs.Int.{w8, trailing_ones}
 use Rattle.core_fill.specs.declared.Position.{Position}
 use Rattle.core_fill.specs.lemmas.Filling.{AllBy, begun, bytes_at, PutChunkPre, Fed, last_of, layers_of, left_at, level_of, load, Made, onward, piece, PutPiecesPre, PutPost, PutPiecePost, queue_by, PutPiecePre, Same}
 use Rattle.core_fill.proofs.Pieces.{jump, left_next, made_same, same_refl}
@@ -141,6 +140,19 @@ module _ (start : ℕ) (part : List ℕ) where
 
 -- ---- the layers of a chunk
 
+ones_of : (n : ℕ) → n ≤ 4 → trailing_ones w8 (level_mark n) ≡ n
+unfolding lib.Count.count_trailing_zeros
+ones_of zero h = refl
+ones_of (suc zero) h = refl
+ones_of (suc (suc zero)) h = refl
+ones_of (suc (suc (suc zero))) h = refl
+ones_of (suc (suc (suc (suc zero)))) h = refl
+ones_of (suc (suc (suc (suc (suc n))))) h = absurd (omega arith)
+
+-- The layers of a mark are the ones at its end.
+pub levels_ones : (m : ℕ) → level_of m ≤ 4 → m ≡ level_mark (level_of m) → trailing_ones w8 m ≡ level_of m
+levels_ones m h e = ap (trailing_ones w8) e ∙ ones_of (level_of m) h
+
 pieces_next : (size : ℕ → ℕ → ℕ) (k r m n : ℕ) → pieces size k r m n ++ (piece k (n + m) (size k (n + m)) r ∷ []) ≡ pieces size k r m (suc n)
 pieces_next size k r m zero = let e : 0 + m ≡ m = omega arith in rw e
 pieces_next size k r m (suc n) = let e : suc n + m ≡ n + suc m = omega arith in rw e (ap (λ (l : List QueuedPiece). piece k m (size k m) r ∷ l) (pieces_next size k r (suc m) n))
@@ -163,27 +175,19 @@ module _ (start : ℕ) (part : List ℕ) (size : ℕ → ℕ → ℕ) (k r m : �
   pub layering_start : Layering start part size k r m b ss cs ls bs ss cs ls bs b 0
   layering_start = record { within = omega arith; puts = puts_none start part b ss cs ls bs here.low here.high }
 
-  -- The bits of a mark of levels.
-  pub level_bits : (n : ℕ) → bit m n ≡ ltb n (level_of m)
-  level_bits n = ap (λ (x : ℕ). bit x n) o.levels.closed ∙ level_bit (level_of m) n
-
   first_piece : layers_of size k r m ≡ piece k 0 (size k 0) r ∷ pieces size k r 1 (level_of m - 1)
   first_piece = let e : level_of m ≡ suc (level_of m - 1) = omega (arith, o.levels.low) in ap (pieces size k r 0) e
 
   module _ (ss' cs' ls' bs' : List ℕ) (at : Position) (n : ℕ) (y : Layering start part size k r m b ss cs ls bs ss' cs' ls' bs' at n) where
-    pub layering_end : bit m n ≡ false → PutPost start part (layers_of size k r m) 4 a ss cs ls bs at ss' cs' ls' bs'
+    pub layering_end : level_of m ≤ n → PutPost start part (layers_of size k r m) 4 a ss cs ls bs at ss' cs' ls' bs'
     layering_end e =
-        let u = ltb-false n (level_of m) (sym (level_bits n) ∙ e) in
         let d : n ≡ level_of m = omega (arith, y.within) in
         let q : PutPost start part (layers_of size k r m) 4 b ss cs ls bs at ss' cs' ls' bs' = puts_more start part (omega (arith, y.within, o.levels.high)) (puts_as start part (ap (pieces size k r 0) d) y.puts) in
         puts_as start part (sym first_piece)
         (puts_begun start part a r ss cs ls bs o.by (piece k 0 (size k 0) r) (pieces size k r 1 (level_of m - 1)) 4 refl at ss' cs' ls' bs'
         (subst (λ (x : Position). PutPost start part (piece k 0 (size k 0) r ∷ pieces size k r 1 (level_of m - 1)) 4 x ss cs ls bs at ss' cs' ls' bs') begins (puts_as start part first_piece q)))
 
-    module _ (e : bit m n ≡ true) where
-      pub below_level : n < level_of m
-      below_level = ltb-true n (level_of m) (sym (level_bits n) ∙ e)
-
+    module _ (below_level : n < level_of m) where
       pub layer_room : PutPiecePre start part 1 at ss' cs' ls' bs'
       layer_room = room_left start part 1 4 (omega (arith, below_level, o.levels.high)) here y.puts
 

@@ -5,10 +5,8 @@ use mathlib.Core.List.{List, [], ◌∷◌, ◌++◌, append_assoc, append-nil}
 use Prim.Native.Nat.{ℕ, zero, suc, ◌+◌, ◌-◌, ◌≤◌, ◌<◌}
 use native.Mathlib.Omega.{arith}
 use lib.Dec.{ltb}
-use borrow.Author.Tests.{lt-ltb, le-ltb, ltb-true, ltb-false}
-use Rattle.fetch.specs.Marks.{bit}
+use borrow.Author.Tests.{lt-ltb, le-ltb}
 use Rattle.theory_plan.specs.lemmas.Fill.{QueuedPiece}
-use Rattle.theory_plan.specs.lemmas.Linear.{level_bit}
 use Rattle.core_fill.proofs.Chunks.{begun_by, begun_fits, begun_room, fed_append, puts_as, puts_begun, puts_both, puts_more, puts_none, puts_one, room_left}
 use Rattle.core_fill.specs.declared.Position.{Position}
 use Rattle.core_fill.specs.lemmas.Filling.{begun, Fed, left_at, level_of, load, piece, PutPiecesPre, PutPost, PutPiecePost, PutPiecePre}
@@ -74,24 +72,13 @@ module _ {start : ℕ} {part : List ℕ} {left : ℕ → ℕ → ℕ} {k r m : �
   pub layering_start : Layering start part left k r m a ss cs ls bs ss cs ls bs a 0
   layering_start = record { within = omega arith; puts = puts_none start part a ss cs ls bs o.asks.room.low o.asks.room.high }
 
-  -- The bits of a mark of levels.
-  level_bits : (n : ℕ) → bit m n ≡ ltb n (level_of m)
-  level_bits n = ap (λ (x : ℕ). bit x n) o.asks.levels.closed ∙ level_bit (level_of m) n
-
   module _ {ss' cs' ls' bs' : List ℕ} {at : Position} {n : ℕ} (y : Layering start part left k r m a ss cs ls bs ss' cs' ls' bs' at n) where
-    pub layering_end : bit m n ≡ false → PutPost start part (layers_left left k r m) 4 a ss cs ls bs at ss' cs' ls' bs'
+    pub layering_end : level_of m ≤ n → PutPost start part (layers_left left k r m) 4 a ss cs ls bs at ss' cs' ls' bs'
     layering_end e =
-        let u = ltb-false n (level_of m) (sym (level_bits n) ∙ e) in
         let d : n ≡ level_of m = omega (arith, y.within) in
         puts_more start part (omega (arith, y.within, o.asks.levels.high)) (puts_as start part (ap (pieces_left (left) k r 0) d) y.puts)
 
-    module _ (e : bit m n ≡ true) where
-      pub below_level : n < level_of m
-      below_level = ltb-true n (level_of m) (sym (level_bits n) ∙ e)
-
-      pub in_four : n < 4
-      in_four = omega (arith, below_level, o.asks.levels.high)
-
+    module _ (below_level : n < level_of m) where
       pub layering_skip : left k n ≤ 0 → Layering start part left k r m a ss cs ls bs ss' cs' ls' bs' at (n + 1)
       layering_skip z =
           let none : layer_at (left) k r n ≡ [] = rw (le-ltb 0 (left k n) z) in

@@ -58,15 +58,14 @@ fn begin(part: &[u32], start: usize, at: Position, ready: u16) -> Position
 {
     let r = ready as usize;
     if at.slot < r {
-        let k = r - start;
-        let c = part[k];
-        return Position {
+        Position {
             slot: r,
-            left: c,
+            left: part[r - start],
             rows: at.rows,
-        };
+        }
+    } else {
+        at
     }
-    at
 }
 
 // The rows made, after a row of b bytes at place n. One without bytes is none: the next is written
@@ -75,10 +74,7 @@ fn rows_with(n: usize, b: u32) -> usize
     requires { n ≤ 5600 }
     ensures { result ≡ cond (eqb b 0) n (n + 1) }
 {
-    if b == 0 {
-        return n;
-    }
-    n + 1
+    if b == 0 { n } else { n + 1 }
 }
 
 // A piece that may begin goes into slot after slot until nothing is left of it. A slot that has no
@@ -109,30 +105,19 @@ fn put_piece(
     while c < left {
         put_row(slots, chunks, layers, bytes, n, t, chunk, layer, c);
         n = rows_with(n, c);
-        left = left - c;
-        t = t + 1;
-        let k = t - start;
-        c = part[k];
+        left -= c;
+        t += 1;
+        c = part[t - start];
     }
     put_row(slots, chunks, layers, bytes, n, t, chunk, layer, left);
-    c = c - left;
-    n = n + 1;
     Position {
         slot: t,
-        left: c,
-        rows: n,
+        left: c - left,
+        rows: n + 1,
     }
 }
 
-// Whether a mark has layer n: fetch's `has` for a layer that a mark may have, without its test.
-fn carries(mark: u8, n: u8) -> bool
-    requires { n < 8 }
-    ensures { result ≡ bit mark n }
-{
-    ((mark as u32) >> n) & 1 == 1
-}
-
-// The layers that a chunk carries.
+// The layers that a chunk carries: its mark has them from the base up.
 fn put_chunk(
     part: &[u32],
     start: usize,
@@ -153,11 +138,9 @@ fn put_chunk(
         result slots.new chunks.new layers.new bytes.new }
 {
     let mut at = begin(part, start, from, ready);
-    let mut n: u8 = 0;
-    while carries(mark, n) {
+    for n in 0..mark.trailing_ones() as u8 {
         let z = core_sizes::size_in(table, chunk, n as usize);
         at = put_piece(part, start, at, chunk, n, z, slots, chunks, layers, bytes);
-        n = n + 1;
     }
     at
 }
@@ -208,16 +191,12 @@ fn put_left(
         result slots.new chunks.new layers.new bytes.new }
 {
     let mut at = from;
-    let mut n: u8 = 0;
-    while fetch::has(mark, n) {
+    for n in 0..mark.trailing_ones() as u8 {
         let z = core_sizes::size_in(left, chunk, n as usize);
         if 0 < z {
             at = put_layer(
                 part, start, at, ready, chunk, n, z, slots, chunks, layers, bytes,
             );
-            n = n + 1;
-        } else {
-            n = n + 1;
         }
     }
     at
@@ -248,8 +227,7 @@ pub fn put_all(
         result slots.new chunks.new layers.new bytes.new }
 {
     let mut at = from;
-    let mut q = first;
-    while q < CHUNKS {
+    for q in first..CHUNKS {
         let chunk = ids[q];
         let r = ready[q];
         let m = mark[q];
@@ -257,12 +235,10 @@ pub fn put_all(
             at = put_left(
                 part, start, table, at, r, chunk, m, slots, chunks, layers, bytes,
             );
-            q = q + 1;
         } else {
             at = put_chunk(
                 part, start, table, at, r, chunk, m, slots, chunks, layers, bytes,
             );
-            q = q + 1;
         }
     }
     at

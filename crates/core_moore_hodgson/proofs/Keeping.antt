@@ -6,7 +6,6 @@ use mathlib.Core.List.{List, []}
 use mathlib.Core.Logic.{◌⊎◌, inl, inr, ⊎_elim}
 use Prim.Native.Nat.{ℕ, suc, ◌+◌, ◌*◌, ◌-◌, ◌≤◌, ◌<◌}
 use native.Mathlib.Omega.{arith}
-use native.Mathlib.Numerals.{add-one}
 use lib.ListN.{length, replicate, length-replicate, get_or-replicate}
 use lib.Dec.{T, not_T, ltb, eqb, ltb→lt, nltb→le, eqb→eq}
 use borrow.Author.Tests.{eq-eqb, ne_eqb}
@@ -44,7 +43,7 @@ zeros_show s t e = rw e (of (replicate 1024 0) (length-replicate {A = ℕ} 1024 
   of : (z : List ℕ) → length z ≡ 1024 → ((q : ℕ) → q < 1024 → at z q ≡ 0) → Shows s z []
   of z l f =
       record {
-        maxima = record { long = l; right = λ q u v. omega (arith, f q (omega arith), f (2 * q) (omega arith), f (2 * q + 1) (omega arith)) };
+        maxima = record { right = λ q u v. omega (arith, f q (omega arith), f (2 * q) (omega arith), f (2 * q + 1) (omega arith)) };
         leaf = λ k u. f (512 + k) (omega arith);
       }
 
@@ -141,7 +140,7 @@ keeping_start p size after tree o =
 
 module _
     (p : Programme) (size : ℕ → ℕ → ℕ) (after : List ℕ) (fit : Fit p size after) (tree : List ℕ) (sum n : ℕ)
-    (w : Keeping p (λ k. size k 0) after tree sum n) (some : n < p.chunks) (z : ℕ) (here : z ≡ size (n + 1) 0) where
+    (w : Keeping p (λ k. size k 0) after tree sum n) (i : ℕ) (next : i ≡ suc n) (some : i ≤ p.chunks) (z : ℕ) (here : z ≡ size i 0) where
   abbrev s : ℕ → ℕ
   s k = size k 0
 
@@ -155,54 +154,54 @@ module _
   one k u v = (fit.bases k u (omega arith)).low
 
   own : z ≡ s (suc n)
-  own = rw add-one at here
+  own = rw next at here
 
   small_base : z ≤ 16777216
-  small_base = rw here (fit.bases (n + 1) (omega arith) (omega arith)).high
+  small_base = rw here (fit.bases i (omega arith) (omega arith)).high
 
   with_one : sum + z ≡ kept_bytes s (added s room n)
   with_one = omega (arith, own, w.bytes, bytes_add s (suc n) (kept_after s room n))
 
   -- What is tested says whether they fit.
-  fits_as : sum + z + at after (due_slot p (n + 1)) ≤ at after 0 → kept_bytes s (added s room n) ≤ room (suc n)
-  fits_as h = let h' = rw add-one at h in omega (arith, with_one)
+  fits_as : sum + z + at after (due_slot p i) ≤ at after 0 → kept_bytes s (added s room n) ≤ room (suc n)
+  fits_as h = let h' = rw next at h in omega (arith, with_one)
 
-  exceeds_as : at after 0 < sum + z + at after (due_slot p (n + 1)) → room (suc n) < kept_bytes s (added s room n)
-  exceeds_as h = let h' = rw add-one at h in omega (arith, with_one, own, one (suc n) (omega arith) (omega arith))
+  exceeds_as : at after 0 < sum + z + at after (due_slot p i) → room (suc n) < kept_bytes s (added s room n)
+  exceeds_as h = let h' = rw next at h in omega (arith, with_one, own, one (suc n) (omega arith) (omega arith))
 
   -- The new chunk's leaf has nothing yet.
-  pub leaf_free : at tree (512 + (n + 1)) ≤ z
-  leaf_free = rw add-one (omega (arith, new_leaf s room n few one tree w.shows))
+  pub leaf_free : at tree (512 + i) ≤ z
+  leaf_free = rw next (omega (arith, new_leaf s room n few one tree w.shows))
 
   pub keeping_stays :
-      (tree' : List ℕ) → LeafPost (512 + (n + 1)) z tree tree' → sum + z + at after (due_slot p (n + 1)) ≤ at after 0 →
-      Keeping p s after tree' (sum + z) (n + 1)
+      (tree' : List ℕ) → LeafPost (512 + i) z tree tree' → sum + z + at after (due_slot p i) ≤ at after 0 →
+      Keeping p s after tree' (sum + z) i
   keeping_stays tree' o h = by_step (step s room n) where
-    by_step : Step s room n → Keeping p s after tree' (sum + z) (n + 1)
+    by_step : Step s room n → Keeping p s after tree' (sum + z) i
     by_step (stays f e) =
-        rw add-one
+        rw next
         (record {
           left = omega arith;
           small = omega (arith, w.small, small_base);
           bytes = with_one ∙ ap (kept_bytes s) (sym e);
-          shows = rw e (add_shows s room n few one tree w.shows tree' (rw (own, add-one) at o));
+          shows = rw e (add_shows s room n few one tree w.shows tree' (rw (own, next) at o));
         })
     by_step (drops f m b e) = absurd (omega (arith, fits_as h))
 
-  module _ (h : at after 0 < sum + z + at after (due_slot p (n + 1))) where
+  module _ (h : at after 0 < sum + z + at after (due_slot p i)) where
     -- The bytes without the dropped one.
     less_one : (m : ℕ) → Largest s (added s room n) m → kept_bytes s (all_but m (added s room n)) + s m ≡ sum + z
     less_one m b = bytes_all_but s m (added s room n) b.in_list ∙ sym with_one
 
     -- The new one is dropped,
-    pub keeping_passes : at tree 1 < z → Keeping p s after tree sum (n + 1)
+    pub keeping_passes : at tree 1 < z → Keeping p s after tree sum i
     keeping_passes u = by_step (step s room n) where
-      by_step : Step s room n → Keeping p s after tree sum (n + 1)
+      by_step : Step s room n → Keeping p s after tree sum i
       by_step (stays f e) = absurd (omega (arith, exceeds_as h))
       by_step (drops f m b e) =
           let u' : at tree 1 < s (suc n) = rw own at u in
           let q = own_is s room n few one tree w.shows m b u' in
-          rw add-one
+          rw next
           (record {
             left = omega arith;
             small = omega (arith, w.small);
@@ -222,18 +221,18 @@ module _
             (omega (arith, (fit.bases m r.0 (omega arith)).high), omega (arith, less_one m b))
 
       pub keeping_drops :
-          (tree' tree'' : List ℕ) → LeafPost (512 + (n + 1)) z tree tree' → LeafPost q 0 tree' tree'' → Keeping p s after tree'' (sum + z - at tree 1) (n + 1)
+          (tree' tree'' : List ℕ) → LeafPost (512 + i) z tree tree' → LeafPost q 0 tree' tree'' → Keeping p s after tree'' (sum + z - at tree 1) i
       keeping_drops tree' tree'' o o' = by_step (step s room n) where
-        by_step : Step s room n → Keeping p s after tree'' (sum + z - at tree 1) (n + 1)
+        by_step : Step s room n → Keeping p s after tree'' (sum + z - at tree 1) i
         by_step (stays f e) = absurd (omega (arith, exceeds_as h))
         by_step (drops f m b e) =
             let l = leaf_is s room n few one tree w.shows m b q leaf (rw own at u) in
-            rw add-one
+            rw next
             (record {
               left = omega arith;
               small = omega (arith, w.small, small_base);
               bytes = rw e (omega (arith, l.1, less_one m b));
-              shows = rw e (drop_shows s room n few one tree w.shows m b tree' tree'' (omega (arith, l.0, leaf.high)) (rw (own, add-one) at o) (rw l.0 at o'));
+              shows = rw e (drop_shows s room n few one tree w.shows m b tree' tree'' (omega (arith, l.0, leaf.high)) (rw (own, next) at o) (rw l.0 at o'));
             })
 
 pub keeping_end : (p : Programme) (size : ℕ → ℕ → ℕ) (after tree : List ℕ) (sum n : ℕ) → Keeping p (λ k. size k 0) after tree sum n → p.chunks ≤ n → KeepOrDropPost p size after tree

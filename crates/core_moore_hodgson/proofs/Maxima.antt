@@ -5,7 +5,7 @@ use mathlib.Core.Logic.{⊎_elim}
 use Prim.Native.Nat.{ℕ, zero, suc, ◌+◌, ◌*◌, ◌/◌, ◌^◌, ◌≤◌, ◌<◌, max}
 use native.Mathlib.Omega.{arith}
 use native.Mathlib.Nat.{mul-le-mul_left}
-use lib.ListN.{length, set, length-set}
+use lib.ListN.{length, set}
 use lib.Pow.{pow_pos}
 use lib.Seq.{get_or-set_same, get_or-set_other}
 use lib.Dec.{ltb, eqb, ltb→lt, nltb→le, eqb→eq}
@@ -23,7 +23,6 @@ RightBut t r = (q : ℕ) → 1 ≤ q → q < 512 → (q ≡ r → ⊥) → at t 
 -- On the way up only p may be wrong.
 pub record Climbing (start t : List ℕ) (p : ℕ) : Type 0 where
   pub below : p < 512
-  pub long : length t ≡ 1024
   pub right : RightBut t p
   pub leaves : (q : ℕ) → 512 ≤ q → at t q ≡ at start q
 
@@ -36,7 +35,6 @@ pub climbing_start : (leaf v : ℕ) (old : List ℕ) → LeafPre leaf old → Cl
 climbing_start leaf v old m =
     record {
       below = omega (arith, m.high);
-      long = length-set old leaf v ∙ m.maxima.long;
       right = λ q u w o.
           let c = other_child leaf q o in
           rw (get_or-set_other old leaf (2 * q) v 0 c.0, get_or-set_other old leaf (2 * q + 1) v 0 c.1, get_or-set_other old leaf q v 0 (λ e. omega (arith, m.low))) (m.maxima.right q u w);
@@ -45,17 +43,16 @@ climbing_start leaf v old m =
 
 module _ (start t : List ℕ) (p : ℕ) (c : Climbing start t p) where
   -- Once p is right, only the place above it may be wrong.
-  pub climbing_more : Climbing start (set t p (under t p)) (p / 2)
-  climbing_more =
+  pub climbing_more : length t ≡ 1024 → Climbing start (set t p (under t p)) (p / 2)
+  climbing_more long =
       record {
         below = omega (arith, c.below);
-        long = length-set t p (under t p) ∙ c.long;
         right = λ q u w o.
             let n = other_child p q o in
             let a = get_or-set_other t p (2 * q) (under t p) 0 n.0 in
             let b = get_or-set_other t p (2 * q + 1) (under t p) 0 n.1 in
             ⊎_elim
-            (λ x. let e = eqb→eq q p x in rw (a, b) (rw e (get_or-set_same t p (under t p) 0 (omega (arith, c.below, c.long)))))
+            (λ x. let e = eqb→eq q p x in rw (a, b) (rw e (get_or-set_same t p (under t p) 0 (omega (arith, c.below)))))
             (λ x.
             let d : q ≡ p → ⊥ = neqb_ne q p x in
             rw (a, b) (get_or-set_other t p q (under t p) 0 d ∙ c.right q u w d))
@@ -67,23 +64,22 @@ module _ (start t : List ℕ) (p : ℕ) (c : Climbing start t p) where
   pub climbing_stops : at t p ≡ under t p → Maxima t
   climbing_stops h =
       record {
-        long = c.long;
         right = λ q u w.
             ⊎_elim (λ x. let e = eqb→eq q p x in rw e h) (λ x. c.right q u w (neqb_ne q p x)) (test (eqb q p));
       }
 
   pub climbing_ends : p ≤ 0 → Maxima t
-  climbing_ends h = record { long = c.long; right = λ q u w. c.right q u w (λ e. omega arith) }
+  climbing_ends h = record { right = λ q u w. c.right q u w (λ e. omega arith) }
 
 -- The leaves are those of the start.
-pub stored : (leaf v : ℕ) (old t : List ℕ) (p : ℕ) → LeafPre leaf old → Climbing (set old leaf v) t p → Maxima t → LeafPost leaf v old t
-stored leaf v old t p h c m =
+pub stored : (leaf v : ℕ) (old t : List ℕ) (p : ℕ) → length old ≡ 1024 → LeafPre leaf old → Climbing (set old leaf v) t p → Maxima t → LeafPost leaf v old t
+stored leaf v old t p long h c m =
     record {
       maxima = m;
       leaves = λ q u.
           c.leaves q u
           ∙ ⊎_elim
-          (λ x. let e = eqb→eq q leaf x in rw (e, eq-eqb leaf leaf refl) (get_or-set_same old leaf v 0 (omega (arith, h.high, h.maxima.long))))
+          (λ x. let e = eqb→eq q leaf x in rw (e, eq-eqb leaf leaf refl) (get_or-set_same old leaf v 0 (omega (arith, h.high))))
           (λ x. let d : q ≡ leaf → ⊥ = neqb_ne q leaf x in rw (ne_eqb q leaf d) (get_or-set_other old leaf q v 0 d))
           (test (eqb q leaf));
     }
@@ -111,21 +107,21 @@ pub record Adding (v : ℕ) (start t : List ℕ) (p : ℕ) : Type 0 where
   pub climbing : Climbing start t p
   pub wants : 1 ≤ p → under t p ≡ max (at t p) v
 
-pub adding_start : (leaf v : ℕ) (old : List ℕ) → LeafPre leaf old → at old leaf ≤ v → Adding v (set old leaf v) (set old leaf v) (leaf / 2)
-adding_start leaf v old m h =
+pub adding_start : (leaf v : ℕ) (old : List ℕ) → length old ≡ 1024 → LeafPre leaf old → at old leaf ≤ v → Adding v (set old leaf v) (set old leaf v) (leaf / 2)
+adding_start leaf v old long m h =
     record {
       climbing = climbing_start leaf v old m;
-      wants = λ g. raise_child old leaf v (omega (arith, m.high, m.maxima.long)) g h (m.maxima.right (leaf / 2) g (omega (arith, m.high)));
+      wants = λ g. raise_child old leaf v (omega (arith, m.high)) g h (m.maxima.right (leaf / 2) g (omega (arith, m.high)));
     }
 
 module _ (v : ℕ) (start t : List ℕ) (p : ℕ) (a : Adding v start t p) (some : 0 < p) where
-  pub adding_more : at t p < v → Adding v start (set t p v) (p / 2)
-  adding_more h =
+  pub adding_more : length t ≡ 1024 → at t p < v → Adding v start (set t p v) (p / 2)
+  adding_more long h =
       let e : under t p ≡ v = omega (arith, a.wants some) in
       let c = a.climbing in
       record {
-        climbing = rw e at (climbing_more start t p c);
-        wants = λ g. raise_child t p v (omega (arith, c.below, c.long)) g (omega arith) (c.right (p / 2) g (omega (arith, c.below)) (λ d. omega arith));
+        climbing = rw e at (climbing_more start t p c long);
+        wants = λ g. raise_child t p v (omega (arith, c.below)) g (omega arith) (c.right (p / 2) g (omega (arith, c.below)) (λ d. omega arith));
       }
 
   pub adding_stops : v ≤ at t p → Maxima t

@@ -8,7 +8,7 @@
 // 500 places, in playing order.
 #![tactic(auto)]
 
-ghost use Rattle.std.specs.Prelude.{◌≡◌, not, ◌≤◌, max};
+ghost use Rattle.std.specs.Prelude.{◌≡◌, not, ◌≤◌};
 ghost use Rattle.core_sizes.specs.Table.{table_at};
 ghost use Rattle.theory_plan.specs.lemmas.Parts.{at};
 ghost use Rattle.core_moore_hodgson.specs.lemmas.Tables.{Maxima, LeafPre, LeafPost, FindLargestPost};
@@ -17,39 +17,19 @@ ghost use Rattle.core_moore_hodgson.specs.lemmas.Tables.{KeepMostPre, KeptIn, eq
 
 use job::{CHUNKS, Programme, SizeTable, SlotSums};
 
-fn larger(a: u32, b: u32) -> u32
-    ensures { result ≡ max a b }
-{
-    if a < b {
-        return b;
-    }
-    a
-}
-
 // Base sizes do not vary: each base has chunk 1's size.
 fn equal_bases(p: Programme, table: &SizeTable) -> bool
     ensures { result ≡ equal_in p.chunks (table_at table.now) }
 {
     let own = core_sizes::size_at(table, 1, 0);
-    let mut i = p.chunks;
-    while 0 < i {
-        if core_sizes::size_at(table, i, 0) != own {
-            return false;
-        }
-        i = i - 1;
-    }
-    true
+    (0..p.chunks).all(|k| core_sizes::size_at(table, k + 1, 0) == own)
 }
 
 // Request 9 settles the bases: the limit holds the programme, and base sizes vary.
 pub fn applies(p: Programme, table: &SizeTable) -> bool
     ensures { result ≡ applies_in p (table_at table.now) }
 {
-    let held = job::held_most(p);
-    if held < p.chunks {
-        return false;
-    }
-    !equal_bases(p, table)
+    p.chunks <= job::held_most(p) && !equal_bases(p, table)
 }
 
 // A leaf gets a value no smaller than its own, and so does each place above it up to the first that
@@ -60,10 +40,7 @@ fn add_leaf(tree: &mut [u32; 1024], leaf: usize, v: u32)
 {
     tree[leaf] = v;
     let mut p = leaf / 2;
-    while 0 < p {
-        if v <= tree[p] {
-            return;
-        }
+    while 0 < p && tree[p] < v {
         tree[p] = v;
         p = p / 2;
     }
@@ -77,9 +54,7 @@ fn clear_leaf(tree: &mut [u32; 1024], leaf: usize)
     tree[leaf] = 0;
     let mut p = leaf / 2;
     while 0 < p {
-        let left = 2 * p;
-        let right = left + 1;
-        let top = larger(tree[left], tree[right]);
+        let top = tree[2 * p].max(tree[2 * p + 1]);
         if tree[p] == top {
             return;
         }
@@ -98,12 +73,7 @@ fn find_largest(tree: &[u32; 1024]) -> usize
     let mut p: usize = 1;
     while p < 512 {
         let left = 2 * p;
-        let right = left + 1;
-        if tree[left] == top {
-            p = left;
-        } else {
-            p = right;
-        }
+        p = if tree[left] == top { left } else { left + 1 };
     }
     p
 }
@@ -116,28 +86,25 @@ fn keep_or_drop(p: Programme, table: &SizeTable, after: &SlotSums, tree: &mut [u
 {
     let all = after[0];
     let mut sum: u64 = 0;
-    let mut n: u16 = 0;
-    while n < p.chunks {
-        let i = n + 1;
+    // Kept: the counter is the chunk less one. Over 1..=C the last turn returns by a way of its own,
+    // so that the proof has each turn twice.
+    for k in 0..p.chunks {
+        let i = k + 1;
         let d = job::due_slot(p, i);
         let z = core_sizes::size_in(table, i, 0);
-        let leaf = 512 + (i as usize);
-        let more = sum + (z as u64);
+        let leaf = 512 + i as usize;
+        let more = sum + z as u64;
         if more + after[d] <= all {
             add_leaf(tree, leaf, z);
             sum = more;
-            n = i;
         } else {
             let top = tree[1];
-            if top < z {
-                // The new one is the largest.
-                n = i;
-            } else {
+            // A new one that is larger than all kept ones is dropped itself.
+            if z <= top {
                 let q = find_largest(tree);
                 add_leaf(tree, leaf, z);
                 clear_leaf(tree, q);
-                sum = more - (top as u64);
-                n = i;
+                sum = more - top as u64;
             }
         }
     }
@@ -152,24 +119,17 @@ fn gather(
     dues: &mut [u16; CHUNKS],
     bytes: &mut [u32; CHUNKS],
 ) -> usize
-    requires { GatherPre p tree.now ids.old dues.old bytes.old }
+    requires { GatherPre p }
     ensures { GatherPost p tree.now result ids.new dues.new bytes.new }
 {
     let mut first: usize = CHUNKS;
-    let mut i = p.chunks;
-    while 0 < i {
-        let leaf = 512 + (i as usize);
-        let z = tree[leaf];
+    for i in (1..=p.chunks).rev() {
+        let z = tree[512 + i as usize];
         if 0 < z {
-            let slot = job::due_slot(p, i);
-            let k = first - 1;
-            ids[k] = i;
-            dues[k] = slot as u16;
-            bytes[k] = z;
-            first = k;
-            i = i - 1;
-        } else {
-            i = i - 1;
+            first -= 1;
+            ids[first] = i;
+            dues[first] = job::due_slot(p, i) as u16;
+            bytes[first] = z;
         }
     }
     first

@@ -10,7 +10,7 @@ ghost use Rattle.core_passes.specs.lemmas.Tables.{TurnPre, TurnPost, PassPre, Pa
 ghost use Rattle.core_passes.specs.lemmas.Tables.{LookPre, LookPost, SeekPre, SeekPost};
 
 use core_covering::LEVELS;
-use core_front::{Front, IDS, Measure, PLACES};
+use core_front::{Front, IDS, Measure, PLACES, Sets};
 use job::CHUNKS;
 
 // Numbers in a row of needs.
@@ -49,16 +49,15 @@ pub struct Sought {
 }
 
 // Puts a chunk behind the set in place b, which has then used up to `used`.
-fn append(number: u16, used: u64, sets: &mut [u16], counts: &mut [u16], useds: &mut [u64], b: usize)
-    requires { AppendPre sets.old counts.old useds.old b }
-    ensures { AppendPost number used sets.old counts.old useds.old b
-        sets.new counts.new useds.new }
+fn append(number: u16, used: u64, sets: &mut Sets, b: usize)
+    requires { AppendPre sets.old b }
+    ensures { AppendPost number used sets.old b sets.new }
 {
-    let count = counts[b];
-    let at = b * CHUNKS + count as usize;
-    sets[at] = number;
-    counts[b] = count + 1;
-    useds[b] = used;
+    let count = sets.counts[b];
+    let at = b * CHUNKS + usize::from(count);
+    sets.chunks[at] = number;
+    sets.counts[b] = count + 1;
+    sets.useds[b] = used;
 }
 
 // Offers set a of a front, without the next chunk, to the next front, which has n sets.
@@ -66,33 +65,16 @@ fn skip(
     by: Measure,
     row: &[u64],
     opens: &[u64; LEVELS],
-    sets: &[u16],
-    counts: &[u16],
-    useds: &[u64],
+    sets: &Sets,
     a: usize,
-    next_sets: &mut [u16],
-    next_counts: &mut [u16],
-    next_useds: &mut [u64],
+    next: &mut Sets,
     n: usize,
 ) -> Front
-    requires { OfferPre by row.now opens.now sets.now counts.now useds.now a
-        next_sets.old next_counts.old next_useds.old n }
-    ensures { OfferPost by row.now opens.now
-        sets.now counts.now useds.now a
-        next_sets.old next_counts.old next_useds.old n result
-        next_sets.new next_counts.new next_useds.new }
+    requires { OfferPre by row.now opens.now sets.now a next.old n }
+    ensures { OfferPost by row.now opens.now sets.now a next.old n result next.new }
 {
-    core_front::copy_set(
-        sets,
-        counts,
-        useds,
-        a,
-        next_sets,
-        next_counts,
-        next_useds,
-        n,
-    );
-    core_front::settle(by, row, opens, next_sets, next_counts, next_useds, n)
+    core_front::copy_set(sets, a, next, n);
+    core_front::settle(by, row, opens, next, n)
 }
 
 // Offers set a of a front with the next chunk to the next front, if the chunk is in time behind it.
@@ -101,25 +83,17 @@ fn keep(
     chunk: Chunk,
     row: &[u64],
     opens: &[u64; LEVELS],
-    sets: &[u16],
-    counts: &[u16],
-    useds: &[u64],
+    sets: &Sets,
     a: usize,
-    next_sets: &mut [u16],
-    next_counts: &mut [u16],
-    next_useds: &mut [u64],
+    next: &mut Sets,
     n: usize,
 ) -> Front
-    requires { KeepPre by chunk row.now opens.now sets.now counts.now useds.now a
-        next_sets.old next_counts.old next_useds.old n }
-    ensures { KeepPost by chunk row.now opens.now
-        sets.now counts.now useds.now a
-        next_sets.old next_counts.old next_useds.old n result
-        next_sets.new next_counts.new next_useds.new }
+    requires { KeepPre by chunk row.now opens.now sets.now a next.old n }
+    ensures { KeepPost by chunk row.now opens.now sets.now a next.old n result next.new }
 {
     let from = a * CHUNKS;
-    let to = from + counts[a] as usize;
-    let level = core_covering::next_from(by.held, opens, &sets[from..to], useds[a]);
+    let to = from + usize::from(sets.counts[a]);
+    let level = core_covering::next_from(by.held, opens, &sets.chunks[from..to], sets.useds[a]);
     let used = level + chunk.base;
     if chunk.end < used {
         return Front {
@@ -127,28 +101,9 @@ fn keep(
             whole: true,
         };
     }
-    core_front::copy_set(
-        sets,
-        counts,
-        useds,
-        a,
-        next_sets,
-        next_counts,
-        next_useds,
-        n,
-    );
-    append(chunk.number, used, next_sets, next_counts, next_useds, n);
-    core_front::settle(by, row, opens, next_sets, next_counts, next_useds, n)
-}
-
-// Whether both hold.
-fn both(a: bool, b: bool) -> bool
-    ensures { result ≡ true → (a ≡ true) × (b ≡ true) }
-{
-    if a {
-        return b;
-    }
-    false
+    core_front::copy_set(sets, a, next, n);
+    append(chunk.number, used, next, n);
+    core_front::settle(by, row, opens, next, n)
 }
 
 // The next front: each set of the front without the next chunk, and with it if that is in time.
@@ -157,77 +112,31 @@ fn step(
     chunk: Chunk,
     row: &[u64],
     opens: &[u64; LEVELS],
-    sets: &[u16],
-    counts: &[u16],
-    useds: &[u64],
+    sets: &Sets,
     n: usize,
-    next_sets: &mut [u16],
-    next_counts: &mut [u16],
-    next_useds: &mut [u64],
+    next: &mut Sets,
 ) -> Front
-    requires { StepPre by chunk row.now opens.now sets.now counts.now useds.now n
-        next_sets.old next_counts.old next_useds.old }
-    ensures { StepPost by chunk row.now opens.now
-        sets.now counts.now useds.now n result
-        next_sets.new next_counts.new next_useds.new }
+    requires { StepPre by chunk row.now opens.now sets.now n next.old }
+    ensures { StepPost by chunk row.now opens.now sets.now n result next.new }
 {
     let mut kept: usize = 0;
     let mut whole = true;
-    let mut a: usize = 0;
-    while a < n {
-        let without = skip(
-            by,
-            row,
-            opens,
-            sets,
-            counts,
-            useds,
-            a,
-            next_sets,
-            next_counts,
-            next_useds,
-            kept,
-        );
-        let with = keep(
-            by,
-            chunk,
-            row,
-            opens,
-            sets,
-            counts,
-            useds,
-            a,
-            next_sets,
-            next_counts,
-            next_useds,
-            without.sets,
-        );
+    for a in 0..n {
+        let without = skip(by, row, opens, sets, a, next, kept);
+        let with = keep(by, chunk, row, opens, sets, a, next, without.sets);
         kept = with.sets;
-        whole = both(whole, both(without.whole, with.whole));
-        a = a + 1;
+        whole = whole && without.whole && with.whole;
     }
     Front { sets: kept, whole }
 }
 
 // Copies the first n sets of a front to another.
-fn copy_front(
-    sets: &[u16],
-    counts: &[u16],
-    useds: &[u64],
-    n: usize,
-    to_sets: &mut [u16],
-    to_counts: &mut [u16],
-    to_useds: &mut [u64],
-)
-    requires { CopyFrontPre sets.now counts.now useds.now n
-        to_sets.old to_counts.old to_useds.old }
-    ensures { CopyFrontPost sets.now counts.now useds.now n
-        to_sets.new to_counts.new to_useds.new }
+fn copy_front(sets: &Sets, n: usize, to: &mut Sets)
+    requires { CopyFrontPre sets.now n to.old }
+    ensures { CopyFrontPost sets.now n to.new }
 {
-    let mut a: usize = 0;
-    while a < n {
-        core_front::copy_set(sets, counts, useds, a, to_sets, to_counts, to_useds, a);
-        a = a + 1;
+    for a in 0..n {
+        core_front::copy_set(sets, a, to, a);
     }
 }
 
@@ -242,59 +151,31 @@ fn turn(
     bases: &[u64; LEVELS],
     smallest: &[u64; LEVELS],
     work: &[u64],
-    sets: &mut [u16],
-    counts: &mut [u16],
-    useds: &mut [u64],
+    sets: &mut Sets,
     n: usize,
-    next_sets: &mut [u16],
-    next_counts: &mut [u16],
-    next_useds: &mut [u64],
+    next: &mut Sets,
 ) -> Front
     requires { TurnPre film target i ends.now opens.now bases.now smallest.now work.now
-        sets.old counts.old useds.old n next_sets.old next_counts.old next_useds.old }
+        sets.old n next.old }
     ensures { TurnPost film target i ends.now opens.now bases.now
-        smallest.now work.now
-        sets.old counts.old useds.old n result
-        sets.new counts.new useds.new
-        next_sets.new next_counts.new next_useds.new }
+        smallest.now work.now sets.old n result sets.new next.new }
 {
     let k = i + 1;
     let from = k * ROW;
-    let to = from + ROW;
-    let least = smallest[k];
-    let number = k as u16;
-    let base = bases[k];
-    let end = ends[k];
     let by = Measure {
         target,
         held: film.held,
         all: film.all,
-        smallest: least,
+        smallest: smallest[k],
     };
-    let chunk = Chunk { number, base, end };
-    let next = step(
-        by,
-        chunk,
-        &work[from..to],
-        opens,
-        sets,
-        counts,
-        useds,
-        n,
-        next_sets,
-        next_counts,
-        next_useds,
-    );
-    copy_front(
-        next_sets,
-        next_counts,
-        next_useds,
-        next.sets,
-        sets,
-        counts,
-        useds,
-    );
-    next
+    let chunk = Chunk {
+        number: k as u16,
+        base: bases[k],
+        end: ends[k],
+    };
+    let made = step(by, chunk, &work[from..from + ROW], opens, sets, n, next);
+    copy_front(next, made.sets, sets);
+    made
 }
 
 // One pass over all chunks with a target, from the empty set on. The sets at the end stand in the
@@ -307,62 +188,38 @@ fn pass(
     bases: &[u64; LEVELS],
     smallest: &[u64; LEVELS],
     work: &[u64],
-    sets: &mut [u16],
-    counts: &mut [u16],
-    useds: &mut [u64],
-    next_sets: &mut [u16],
-    next_counts: &mut [u16],
-    next_useds: &mut [u64],
+    sets: &mut Sets,
+    next: &mut Sets,
 ) -> Front
     requires { PassPre film target ends.now opens.now bases.now smallest.now work.now
-        sets.old counts.old useds.old next_sets.old next_counts.old next_useds.old }
+        sets.old next.old }
     ensures { PassPost film target ends.now opens.now bases.now
-        smallest.now work.now result
-        sets.new counts.new useds.new
-        next_sets.new next_counts.new next_useds.new }
+        smallest.now work.now result sets.new next.new }
 {
-    counts[0] = 0;
-    useds[0] = 0;
+    sets.counts[0] = 0;
+    sets.useds[0] = 0;
     let mut n: usize = 1;
     let mut whole = true;
-    let mut i: usize = 0;
-    while i < film.count {
-        let next = turn(
-            film,
-            target,
-            i,
-            ends,
-            opens,
-            bases,
-            smallest,
-            work,
-            sets,
-            counts,
-            useds,
-            n,
-            next_sets,
-            next_counts,
-            next_useds,
+    for i in 0..film.count {
+        let made = turn(
+            film, target, i, ends, opens, bases, smallest, work, sets, n, next,
         );
-        n = next.sets;
-        whole = both(whole, next.whole);
-        i = i + 1;
+        n = made.sets;
+        whole = whole && made.whole;
     }
     Front { sets: n, whole }
 }
 
 // The place of a set of most chunks among the first n; 0 where there is none.
-fn largest_set(counts: &[u16], n: usize) -> usize
-    requires { (n ≤ 64) × (length counts.now ≡ 65) }
+fn largest_set(counts: &[u16; PLACES], n: usize) -> usize
+    requires { n ≤ 64 }
     ensures { LargestPost counts.now n result }
 {
     let mut best: usize = 0;
-    let mut a: usize = 0;
-    while a < n {
+    for a in 0..n {
         if counts[best] < counts[a] {
             best = a;
         }
-        a = a + 1;
     }
     best
 }
@@ -372,10 +229,7 @@ fn is_reached(target: usize, n: usize, count: usize) -> bool
     ensures found { result ≡ true → (0 < n) × (target ≤ count) }
     ensures none { result ≡ false → 0 < n → count < target }
 {
-    if n == 0 {
-        return false;
-    }
-    target <= count
+    0 < n && target <= count
 }
 
 // No set, beside a bound.
@@ -401,44 +255,23 @@ fn look(
     bases: &[u64; LEVELS],
     smallest: &[u64; LEVELS],
     work: &[u64],
-    sets: &mut [u16],
-    counts: &mut [u16],
-    useds: &mut [u64],
-    next_sets: &mut [u16],
-    next_counts: &mut [u16],
-    next_useds: &mut [u64],
+    sets: &mut Sets,
+    next: &mut Sets,
 ) -> Found
     requires { LookPre film bound ends.now opens.now bases.now smallest.now work.now
-        sets.old counts.old useds.old next_sets.old next_counts.old next_useds.old }
+        sets.old next.old }
     ensures { LookPost film bound has ends.now opens.now bases.now
-        smallest.now work.now result
-        sets.new counts.new useds.new }
+        smallest.now work.now result sets.new }
 {
     let mut most = bound;
-    let mut target = bound;
-    let mut left = passes;
-    while has < target {
-        if left == 0 {
-            return none_found(most);
-        }
-        left = left - 1;
+    let lowest = has.max(bound.saturating_sub(passes as usize));
+    for below in (lowest..bound).rev() {
+        let target = below + 1;
         let front = pass(
-            film,
-            target,
-            ends,
-            opens,
-            bases,
-            smallest,
-            work,
-            sets,
-            counts,
-            useds,
-            next_sets,
-            next_counts,
-            next_useds,
+            film, target, ends, opens, bases, smallest, work, sets, next,
         );
-        let place = largest_set(counts, front.sets);
-        let count = counts[place] as usize;
+        let place = largest_set(&sets.counts, front.sets);
+        let count = usize::from(sets.counts[place]);
         if is_reached(target, front.sets, count) {
             return Found {
                 place,
@@ -446,9 +279,8 @@ fn look(
                 bound: most,
             };
         }
-        target = target - 1;
         if front.whole {
-            most = target;
+            most = below;
         }
     }
     none_found(most)
@@ -473,29 +305,19 @@ pub fn seek(
         smallest.now work.now first ids.old
         result ids.new }
 {
-    let mut sets = [0u16; IDS];
-    let mut counts = [0u16; PLACES];
-    let mut useds = [0u64; PLACES];
-    let mut next_sets = [0u16; IDS];
-    let mut next_counts = [0u16; PLACES];
-    let mut next_useds = [0u64; PLACES];
+    let mut sets = Sets {
+        chunks: [0; IDS],
+        counts: [0; PLACES],
+        useds: [0; PLACES],
+    };
+    let mut next = Sets {
+        chunks: [0; IDS],
+        counts: [0; PLACES],
+        useds: [0; PLACES],
+    };
     let has = CHUNKS - first;
     let found = look(
-        film,
-        bound,
-        has,
-        passes,
-        ends,
-        opens,
-        bases,
-        smallest,
-        work,
-        &mut sets,
-        &mut counts,
-        &mut useds,
-        &mut next_sets,
-        &mut next_counts,
-        &mut next_useds,
+        film, bound, has, passes, ends, opens, bases, smallest, work, &mut sets, &mut next,
     );
     if found.count <= has {
         return Sought {
@@ -505,7 +327,7 @@ pub fn seek(
     }
     let from = found.place * CHUNKS;
     let to = from + found.count;
-    let start = core_covering::place_at_end(&sets[from..to], ids);
+    let start = core_covering::place_at_end(&sets.chunks[from..to], ids);
     Sought {
         first: start,
         bound: found.bound,

@@ -3,7 +3,7 @@ use mathlib.Core.Path.{◌≡◌, refl, ap, ◌∙◌}
 use mathlib.Core.List.{List}
 use Prim.Native.Nat.{ℕ, zero, suc, ◌+◌, ◌-◌, ◌≤◌}
 use native.Mathlib.Omega.{arith}
-use lib.ListN.{get_or}
+use lib.ListN.{length, get_or}
 use Rattle.theory_reasons.specs.lemmas.First.{opens}
 use Rattle.theory_reasons.specs.lemmas.Search as Search
 use Rattle.core_reasons.specs.declared.passes.Begin.{Begin}
@@ -20,7 +20,7 @@ back_no_due : (w d d' r F : ℕ → ℕ) (most s k : ℕ) → Search.back w d r 
 back_no_due w d d' r F most s zero = refl
 back_no_due w d d' r F most s (suc k) = rw (opens_no_due w d d' r F k, back_no_due w d d' r F most (s + w k) k)
 
-module _ (after dues ready bytes : List ℕ) (first : ℕ) (o : FindStretchPre after dues ready bytes first) (m : ℕ) (e : m ≡ first + late_in after dues ready bytes first) where
+module _ (after dues ready bytes : List ℕ) (first : ℕ) (o : FindStretchPre after dues ready first) (long : length dues ≡ 500) (m : ℕ) (e : m ≡ first + late_in after dues ready bytes first) where
   searched : (b : Begin) (most : ℕ) → most ≡ up_to_in after (get_or dues m 0) → begun b ≡ back_in after ready bytes first most m → record { first = b.first; last = get_or dues m 0; carry = b.carry; need = b.need } ≡ search_in after dues ready bytes first
   searched b most f g =
       let x = late_in after dues ready bytes first in
@@ -36,8 +36,8 @@ module _ (after dues ready bytes : List ℕ) (first : ℕ) (o : FindStretchPre a
 
   pub named_found : (b : Begin) (most : ℕ) → most ≡ up_to_in after (get_or dues m 0) → begun b ≡ back_in after ready bytes first most m → FindStretchPost after dues ready bytes first (record { first = b.first; last = get_or dues m 0; carry = b.carry; need = b.need })
   named_found b most f g =
-      record { found = λ j a choice ok never h. searched b most f g ∙ tables_stretch j a choice after dues ready bytes first h o.long.1 ok never }
+      record { found = λ j a choice ok never h. searched b most f g ∙ tables_stretch j a choice after dues ready bytes first h long ok never }
 
   pub named_none : (s : Stretch) → 500 ≤ m → FindStretchPost after dues ready bytes first s
   named_none s l =
-      record { found = λ j a choice ok never h. absurd (omega (arith, e, tables_late j a choice after dues ready bytes first h o.long.1 ok never, o.within)) }
+      record { found = λ j a choice ok never h. absurd (omega (arith, e, tables_late j a choice after dues ready bytes first h long ok never, o.within)) }

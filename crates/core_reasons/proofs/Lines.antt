@@ -18,7 +18,7 @@ use Rattle.theory_plan.specs.lemmas.Words.{layer_of}
 use Rattle.theory_reasons.specs.Lines.{line_at, short_line}
 use Rattle.theory_reasons.specs.Statement.{Place, lower, missing_of, missing_to, sentence}
 use Rattle.core_reasons.specs.declared.passes.Stretch.{Stretch}
-use Rattle.core_reasons.specs.lemmas.All.{PutReasonsPost, PutReasonsPre, PutChunkPost, PutChunkPre, Facts, PutLinePost, PutLinePre, Scratch, against_by, cap_of, sentence_at, text_at}
+use Rattle.core_reasons.specs.lemmas.All.{PutReasonsPost, PutReasonsPre, PutChunkPost, PutChunkPre, Facts, PutLinePost, PutLinePre, against_by, cap_of, sentence_at, text_at}
 use Rattle.core_reasons.specs.lemmas.Tables.{FindShortPost}
 use Rattle.core_text.specs.lemmas.Places.{Put, put_length, put_none, put_room, put_then}
 use Rattle.core_reasons.specs.lemmas.Sentences.{short_of}
@@ -100,29 +100,27 @@ module _ (j : Job) (plan : ℕ → ℕ) (most : Bool) where
 -- ---- the lines of a chunk
 
 module _ (p : Programme) (layers : ℕ) (most : Bool) (sums after levels : List ℕ) (i : ℕ) (old : List ℕ) (at : ℕ) where
-  pub record Lining (dues ready bytes out : List ℕ) (next n : ℕ) : Type 0 where
-    pub scratch : Scratch dues ready bytes
+  pub record Lining (out : List ℕ) (next n : ℕ) : Type 0 where
     pub same : length out ≡ length old
     pub low : get_or levels (i - 1) 0 ≤ n
     pub high : n ≤ layers
     pub put : (j : Job) (plan : ℕ → ℕ) → Facts j plan p most sums after levels → layers ≡ Job.layers j → Put old at (text_at j plan most (missing_of plan i n)) out next
 
-  module _ (held : ℕ) (dues₀ ready₀ bytes₀ : List ℕ) (o : PutChunkPre p held layers most sums after levels i dues₀ ready₀ bytes₀ old at) where
+  module _ (held : ℕ) (o : PutChunkPre p held layers most sums after levels i old at) where
     level_is : (j : Job) (plan : ℕ → ℕ) → Facts j plan p most sums after levels → get_or levels (i - 1) 0 ≡ plan i
     level_is j plan f = f.given.carried i o.chunk_low (omega (arith, o.chunk_high, ap (λ (q : Programme). q.chunks) f.given.same))
 
-    pub lining_start : Lining dues₀ ready₀ bytes₀ old at (get_or levels (i - 1) 0)
+    pub lining_start : Lining old at (get_or levels (i - 1) 0)
     lining_start =
         record {
-          scratch = o.scratch;
           same = refl;
           low = omega arith;
           high = omega (arith, level_is o.job o.plan o.facts, o.facts.choice i o.chunk_low (omega (arith, o.chunk_high, ap (λ (q : Programme). q.chunks) o.facts.given.same)), o.layers_is);
           put = λ j plan f e. rw (missing_none j plan most i (get_or levels (i - 1) 0) (omega (arith, level_is j plan f))) (put_none old at);
         }
 
-    module _ (dues ready bytes out : List ℕ) (next n : ℕ) (l : Lining dues ready bytes out next n) (h : n < layers) where
-      pub line_from : PutLinePre p held most sums after levels i n (get_or levels (i - 1) 0) dues ready bytes out next
+    module _ (out : List ℕ) (next n : ℕ) (l : Lining out next n) (h : n < layers) where
+      pub line_from : PutLinePre p held most sums after levels i n (get_or levels (i - 1) 0) out next
       line_from =
           let j = o.job in
           let plan = o.plan in
@@ -131,7 +129,6 @@ module _ (p : Programme) (layers : ℕ) (most : Bool) (sums after levels : List 
           let m = lines_mono j plan most i (suc n) layers h in
           record {
             tables = o.tables;
-            scratch = l.scratch;
             chunk_low = o.chunk_low;
             chunk_high = o.chunk_high;
             layer = omega (arith, o.layers_is, o.facts.accepted.layers_in.high);
@@ -166,10 +163,9 @@ module _ (p : Programme) (layers : ℕ) (most : Bool) (sums after levels : List 
             length-append (text_at j plan most (missing_of plan i n)) (sentence_at j plan most x),
           )
 
-      pub lining_more : (dues' ready' bytes' out' : List ℕ) (next' : ℕ) → Scratch dues' ready' bytes' → PutLinePost p most sums after levels i n out next out' next' → Lining dues' ready' bytes' out' next' (n + 1)
-      lining_more dues' ready' bytes' out' next' s d =
+      pub lining_more : (out' : List ℕ) (next' : ℕ) → PutLinePost p most sums after levels i n out next out' next' → Lining out' next' (n + 1)
+      lining_more out' next' d =
           record {
-            scratch = s;
             same = put_length (d.put line_from.job line_from.plan line_from.facts line_from.in_job) ∙ l.same;
             low = omega (arith, l.low);
             high = omega arith;
@@ -178,25 +174,24 @@ module _ (p : Programme) (layers : ℕ) (most : Bool) (sums after levels : List 
                 rw (add-one, x) (put_then (text_at j plan most (missing_of plan i n)) (sentence_at j plan most (record { chunk = i; layer = n })) (fits j plan f e out' next' d) (l.put j plan f e) (d.put j plan f (omega (arith, e))));
           }
 
-  pub lining_end : (dues ready bytes out : List ℕ) (next n : ℕ) → Lining dues ready bytes out next n → layers ≤ n → PutChunkPost p layers most sums after levels i old at out next
-  lining_end dues ready bytes out next n l h =
+  pub lining_end : (out : List ℕ) (next n : ℕ) → Lining out next n → layers ≤ n → PutChunkPost p layers most sums after levels i old at out next
+  lining_end out next n l h =
       let e : n ≡ layers = omega (arith, l.high) in
       record { put = rw e at l.put }
 
 -- ---- the lines of all chunks
 
 module _ (p : Programme) (held layers : ℕ) (most : Bool) (sums after levels old : List ℕ) where
-  pub record Telling (dues ready bytes out : List ℕ) (next k : ℕ) : Type 0 where
-    pub scratch : Scratch dues ready bytes
+  pub record Telling (out : List ℕ) (next k : ℕ) : Type 0 where
     pub same : length out ≡ length old
     pub high : k ≤ p.chunks
     pub put : (j : Job) (plan : ℕ → ℕ) → Facts j plan p most sums after levels → layers ≡ Job.layers j → Put old 0 (text_at j plan most (missing_to plan layers k)) out next
 
   module _ (o : PutReasonsPre p held layers most sums after levels old) where
-    pub telling_start : (dues ready bytes : List ℕ) → Scratch dues ready bytes → Telling dues ready bytes old 0 0
-    telling_start dues ready bytes s = record { scratch = s; same = refl; high = omega arith; put = λ j plan f e. put_none old 0 }
+    pub telling_start : Telling old 0 0
+    telling_start = record { same = refl; high = omega arith; put = λ j plan f e. put_none old 0 }
 
-    module _ (dues ready bytes out : List ℕ) (next k : ℕ) (l : Telling dues ready bytes out next k) (h : k < p.chunks) where
+    module _ (out : List ℕ) (next k : ℕ) (l : Telling out next k) (h : k < p.chunks) where
       whole : 0 + length (text_at o.job o.plan most (missing_to o.plan layers k) ++ text_at o.job o.plan most (missing_of o.plan (suc k) layers)) ≤ length old
       whole =
           let same = ap (λ (q : Programme). q.chunks) o.facts.given.same in
@@ -208,12 +203,11 @@ module _ (p : Programme) (held layers : ℕ) (most : Bool) (sums after levels ol
             ap (λ (m : ℕ). length (text_at o.job o.plan most (missing_to o.plan m (chunks o.job)))) o.layers_is,
           )
 
-      pub chunk_from : PutChunkPre p held layers most sums after levels (k + 1) dues ready bytes out next
+      pub chunk_from : PutChunkPre p held layers most sums after levels (k + 1) out next
       chunk_from =
           rw add-one
           (record {
             tables = o.tables;
-            scratch = l.scratch;
             chunk_low = omega arith;
             chunk_high = h;
             job = o.job;
@@ -236,12 +230,11 @@ module _ (p : Programme) (held layers : ℕ) (most : Bool) (sums after levels ol
             length-append (text_at j plan most (missing_to plan layers k)) (text_at j plan most (missing_of plan (suc k) layers)),
           )
 
-      pub telling_more : (dues' ready' bytes' out' : List ℕ) (next' : ℕ) → Scratch dues' ready' bytes' → PutChunkPost p layers most sums after levels (k + 1) out next out' next' → Telling dues' ready' bytes' out' next' (k + 1)
-      telling_more dues' ready' bytes' out' next' s d' =
+      pub telling_more : (out' : List ℕ) (next' : ℕ) → PutChunkPost p layers most sums after levels (k + 1) out next out' next' → Telling out' next' (k + 1)
+      telling_more out' next' d' =
           let d : PutChunkPost p layers most sums after levels (suc k) out next out' next' = rw add-one at d' in
           rw add-one
           (record {
-            scratch = s;
             same = put_length (d'.put chunk_from.job chunk_from.plan chunk_from.facts chunk_from.layers_is) ∙ l.same;
             high = h;
             put = λ j plan f e.
@@ -249,8 +242,8 @@ module _ (p : Programme) (held layers : ℕ) (most : Bool) (sums after levels ol
                 (put_then (text_at j plan most (missing_to plan layers k)) (text_at j plan most (missing_of plan (suc k) layers)) (fits_all j plan f e out' next' d) (l.put j plan f e) (d.put j plan f e));
           })
 
-  pub telling_end : (dues ready bytes out : List ℕ) (next k : ℕ) → Telling dues ready bytes out next k → p.chunks ≤ k → PutReasonsPost p layers most sums after levels old out next
-  telling_end dues ready bytes out next k l h =
+  pub telling_end : (out : List ℕ) (next k : ℕ) → Telling out next k → p.chunks ≤ k → PutReasonsPost p layers most sums after levels old out next
+  telling_end out next k l h =
       record {
         put = λ j plan f e.
             let c : k ≡ chunks j = omega (arith, l.high, ap (λ (q : Programme). q.chunks) f.given.same) in

@@ -1,12 +1,11 @@
 -- Laws on the pass back. Assumes nothing.
 use mathlib.Core.Path.{◌≡◌, refl, sym, ◌∙◌}
-use mathlib.Core.Bool.{Bool, true, false, cond, ◌&&◌, and-false}
+use mathlib.Core.Bool.{Bool, true, false, cond, ◌&&◌}
 use mathlib.Core.List.{List}
 use Prim.Native.Nat.{ℕ, zero, suc, ◌+◌, ◌*◌, ◌-◌, ◌≤◌, ◌<◌}
 use native.Mathlib.Omega.{arith}
 use lib.ListN.{get_or}
 use lib.Dec.{ltb}
-use borrow.Author.Tests.{le-ltb, lt-ltb}
 use Rattle.theory_reasons.specs.lemmas.First.{opens}
 use Rattle.theory_reasons.specs.lemmas.Search.{Begin, back}
 use Rattle.core_reasons.specs.lemmas.Passes.{back_in, place, starts_in, up_to_in}
@@ -54,23 +53,3 @@ module _ (after ready bytes : List ℕ) (first most m : ℕ) where
   backing_end sum k b h =
       let z : k - first ≡ 0 = omega arith in
       sym (b.says ∙ rw z)
-
--- ---- the test
-
-module _ (ready : List ℕ) (first h most reach : ℕ) where
-  pub starts_not : reach ≤ most → false ≡ starts_in ready first (h - first) && ltb most reach
-  starts_not l = rw (le-ltb most reach l) (sym (and-false (starts_in ready first (h - first))))
-
-  pub starts_first : most < reach → h ≡ first → true ≡ starts_in ready first (h - first) && ltb most reach
-  starts_first l e = let z : h - first ≡ 0 = omega arith in rw (lt-ltb most reach l, z)
-
-  pub starts_next : most < reach → first < h → ltb (get_or ready (h - 1) 0) (get_or ready h 0) ≡ starts_in ready first (h - first) && ltb most reach
-  starts_next l e =
-      let z : h - first ≡ suc (h - 1 - first) = omega arith in
-      let a : first + (h - 1 - first) ≡ h - 1 = omega arith in
-      let b : first + suc (h - 1 - first) ≡ h = omega arith in
-      rw (lt-ltb most reach l, z, a, b) (yes (ltb (get_or ready (h - 1) 0) (get_or ready h 0)))
-    where
-      yes : (b : Bool) → b ≡ b && true
-      yes true = refl
-      yes false = refl

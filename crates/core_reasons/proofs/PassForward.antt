@@ -10,10 +10,6 @@ use borrow.Author.Tests.{lt-ltb, le-ltb}
 use Rattle.theory_reasons.specs.lemmas.Search.{forward}
 use Rattle.core_reasons.specs.lemmas.Passes.{late_in, place, up_to_in}
 
--- Place q - first is place q of the table.
-pub at_place : (first : ℕ) (table : List ℕ) (q : ℕ) → first ≤ q → place first table (q - first) ≡ get_or table q 0
-at_place first table q h = let e : first + (q - first) ≡ q = omega arith in rw e
-
 module _ (after dues ready bytes : List ℕ) (first : ℕ) where
   abbrev pub ahead : ℕ → ℕ → ℕ → ℕ
   ahead = forward (place first bytes) (place first dues) (place first ready) (up_to_in after)

@@ -2,23 +2,16 @@
 use mathlib.Core.Path.{◌≡◌, ◌∙◌, ap}
 use mathlib.Core.Bool.{Bool, true, false, cond}
 use mathlib.Core.List.{List, [], ◌∷◌, map}
-use Prim.Native.Nat.{ℕ, suc, ◌+◌, ◌-◌, ◌≤◌, ◌<◌, min}
+use Prim.Native.Nat.{ℕ, suc, ◌+◌, ◌-◌, ◌≤◌, ◌<◌}
 use native.Mathlib.Omega.{arith}
-use lib.ListN.{length, get_or, set, drop, length-set, drop_of_length-le}
-use lib.Dec.{eqb, leb, ltb}
+use lib.ListN.{length, set, drop, length-set, drop_of_length-le}
+use lib.Dec.{leb}
 use borrow.Author.Tests.{le-leb, lt-leb}
-use Rattle.theory_basics.specs.lemmas.Tests.{by_cond}
 use Rattle.job.specs.declared.Programme.{Programme}
 use Rattle.job.specs.Job.{due_slot}
 use Rattle.theory_plan.specs.Plan.{picked}
-use Rattle.core_reasons.specs.lemmas.Tables.{SetTablesPre, SetTablesPost, bytes_in, level_in}
+use Rattle.core_reasons.specs.lemmas.Tables.{SetTablesPost, bytes_in, level_in}
 use Rattle.theory_basics.specs.lemmas.Tables.{set_before}
-
--- A trial has at most four layers of a chunk.
-pub level_most : (levels : List ℕ) (i n cap k : ℕ) → n ≤ 3 → cap ≤ 4 → level_in levels i n cap k ≤ 4
-level_most levels i n cap k u v =
-    by_cond (λ (m : ℕ). m ≤ 4) (eqb k i) (λ t. omega arith) (λ t.
-    by_cond (λ (m : ℕ). min (get_or levels (k - 1) 0) m ≤ 4) (ltb i k) (λ s. omega arith) (λ s. omega arith))
 
 module _ (p : Programme) (sums levels : List ℕ) (i n cap : ℕ) where
   abbrev level : ℕ → ℕ
@@ -42,12 +35,12 @@ module _ (p : Programme) (sums levels : List ℕ) (i n cap : ℕ) where
     pub left : k ≤ p.chunks
     pub long : (length dues ≡ 500) × (length bytes ≡ 500)
 
-  pub setting_start : (dues bytes : List ℕ) → SetTablesPre p sums levels n cap dues bytes → Setting dues bytes 500 p.chunks
-  setting_start dues bytes o =
+  pub setting_start : (dues bytes : List ℕ) → p.chunks ≤ 500 → length dues ≡ 500 → length bytes ≡ 500 → Setting dues bytes 500 p.chunks
+  setting_start dues bytes few d b =
       let z : p.chunks - p.chunks ≡ 0 = omega arith in
-      let f : drop 500 dues ≡ [] = drop_of_length-le dues {i = 500} (omega (arith, o.long.2)) in
-      let g : drop 500 bytes ≡ [] = drop_of_length-le bytes {i = 500} (omega (arith, o.long.3)) in
-      record { due_slots = rw (z, f); carried = rw (z, g); room = omega arith; within = omega arith; left = omega arith; long = (o.long.2, o.long.3) }
+      let f : drop 500 dues ≡ [] = drop_of_length-le dues {i = 500} (omega (arith, d)) in
+      let g : drop 500 bytes ≡ [] = drop_of_length-le bytes {i = 500} (omega (arith, b)) in
+      record { due_slots = rw (z, f); carried = rw (z, g); room = omega arith; within = omega arith; left = omega arith; long = (d, b) }
 
   module _ (dues bytes : List ℕ) (first k : ℕ) (b : Setting dues bytes first k) (some : 0 < k) (few : p.chunks ≤ 500) where
     some_place : 0 < first
@@ -91,4 +84,4 @@ module _ (p : Programme) (sums levels : List ℕ) (i n cap : ℕ) where
       let e : k ≡ 0 = omega arith in
       let b' : Setting dues bytes first 0 = rw e at b in
       let s : p.chunks - 0 ≡ p.chunks = omega arith in
-      record { within = b.within; due_slots = rw s at b'.due_slots; carried = rw s at b'.carried; long = b.long }
+      record { within = b.within; due_slots = rw s at b'.due_slots; carried = rw s at b'.carried }

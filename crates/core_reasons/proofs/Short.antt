@@ -30,16 +30,15 @@ module _ (p : Programme) (held : ℕ) (sums after levels : List ℕ) (i n cap fi
       (all_of_map (Within 1 3600) (due_slot p) (chunks_in p levels i n cap)
       (picked_each (λ k. leb 1 (level_in levels i n cap k)) (λ k. Within 1 3600 (due_slot p k)) 0 p.chunks (λ k u v t. record { low = omega arith; high = omega (arith, due_by p k (omega arith)) })))
 
-  pub pass_from : (dues₀ ready₀ bytes₀ : List ℕ) → FindShortPre p held sums after levels n cap dues₀ ready₀ bytes₀ → length ready ≡ 500 → FindStretchPre after dues ready bytes first
-  pass_from dues₀ ready₀ bytes₀ o e =
+  pub pass_from : FindShortPre p held after n cap → length dues ≡ 500 → length ready ≡ 500 → FindStretchPre after dues ready first
+  pass_from o d e =
       let s = slots o.late o.few o.ends in
       let b : All (Within 1 3600) (drop first ready) = rw r (release_slots held (500 - first) (drop first dues) s) in
       record {
         within = l.within;
         sums = o.forecasts;
-        due_slots = λ k u v. all_from (Within 1 3600) dues first k s u (omega (arith, l.long.0));
+        due_slots = λ k u v. all_from (Within 1 3600) dues first k s u (omega (arith, d));
         begins = λ k u v. all_from (Within 1 3600) ready first k b u (omega (arith, e));
-        long = (o.long.1, l.long.0, e, l.long.1);
       }
 
   -- ---- the kept chunks

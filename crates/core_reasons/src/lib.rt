@@ -9,23 +9,16 @@ mod passes;
 mod sentences;
 mod stretch;
 
-ghost use Rattle.std.specs.Prelude.{◌≡◌, ◌/◌};
-ghost use Rattle.job.specs.declared.Programme.{Programme};
+ghost use Rattle.std.specs.Prelude.{◌≡◌};
 ghost use Rattle.core_reasons.specs.lemmas.All.{cap_of, PutLinePre, PutLinePost, PutChunkPre, PutChunkPost};
-ghost use Rattle.core_reasons.specs.lemmas.All.{PutReasonsPre, PutReasonsPost, Scratch};
+ghost use Rattle.core_reasons.specs.lemmas.All.{PutReasonsPre, PutReasonsPost};
 
 // How many layers the chunks before the missing one may have in its trial. most: bases were settled
 // by request 9.
 fn cap_of(most: bool, n: u8) -> u8
     ensures { result ≡ cap_of most n }
 {
-    if n == 0 {
-        if most {
-            return 1;
-        }
-        return 0;
-    }
-    n
+    if most && n == 0 { 1 } else { n }
 }
 
 // The line under layer n of chunk i. have: how many layers the plan carries of it.
@@ -45,22 +38,20 @@ fn put_line(
     out: &mut [u8],
     at: usize,
 ) -> usize
-    requires { PutLinePre p held most sums.now after.now levels.now i n have dues.old ready.old bytes.old
-        out.old at }
-    ensures line { PutLinePost p most sums.now after.now levels.now i n
+    requires { PutLinePre p held most sums.now after.now levels.now i n have out.old at }
+    ensures { PutLinePost p most sums.now after.now levels.now i n
         out.old at
         out.new result }
-    ensures room { Scratch dues.new ready.new bytes.new }
 {
     let chunk = i as u64;
     let layer = n as u64;
     if n == have {
         let cap = cap_of(most, n);
         let s = stretch::find_short(p, held, sums, after, levels, i, n, cap, dues, ready, bytes);
-        return sentences::put_short(out, at, chunk, layer, s);
+        sentences::put_short(out, at, chunk, layer, s)
+    } else {
+        sentences::put_lower(out, at, chunk, layer, layer - 1)
     }
-    let below = layer - 1;
-    sentences::put_lower(out, at, chunk, layer, below)
 }
 
 // The lines of chunk i.
@@ -79,22 +70,17 @@ fn put_chunk(
     out: &mut [u8],
     at: usize,
 ) -> usize
-    requires { PutChunkPre p held layers most sums.now after.now levels.now i dues.old ready.old bytes.old
-        out.old at }
-    ensures lines { PutChunkPost p layers most sums.now after.now levels.now i
+    requires { PutChunkPre p held layers most sums.now after.now levels.now i out.old at }
+    ensures { PutChunkPost p layers most sums.now after.now levels.now i
         out.old at
         out.new result }
-    ensures room { Scratch dues.new ready.new bytes.new }
 {
-    let place = i as usize - 1;
-    let have = levels[place];
+    let have = levels[i as usize - 1];
     let mut next = at;
-    let mut n = have;
-    while n < layers {
+    for n in have..layers {
         next = put_line(
             p, held, most, sums, after, levels, i, n, have, dues, ready, bytes, out, next,
         );
-        n = n + 1;
     }
     next
 }
@@ -120,15 +106,13 @@ pub fn put_reasons(
     let mut dues = [0u16; CHUNKS];
     let mut ready = [0u16; CHUNKS];
     let mut bytes = [0u32; CHUNKS];
-    let mut next: usize = 0;
-    let mut k: u16 = 0;
-    while k < p.chunks {
+    let mut next = 0;
+    for k in 0..p.chunks {
         let i = k + 1;
         next = put_chunk(
             p, held, layers, most, sums, after, levels, i, &mut dues, &mut ready, &mut bytes, out,
             next,
         );
-        k = i;
     }
     next
 }

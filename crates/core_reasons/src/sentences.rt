@@ -1,7 +1,7 @@
 // A sentence of either kind into a buffer.
-ghost use Rattle.std.specs.Prelude.{◌≡◌, [], ◌∷◌, ◌++◌, ◌+◌, ◌≤◌, length};
+ghost use Rattle.std.specs.Prelude.{◌++◌, ◌+◌, ◌≤◌, length};
 ghost use Rattle.theory_basics.specs.Text.{digits};
-ghost use Rattle.theory_reasons.specs.Statement.{sentence, short, lower};
+ghost use Rattle.theory_reasons.specs.Statement.{sentence, lower};
 ghost use Rattle.core_text.specs.lemmas.Places.{Put};
 ghost use Rattle.core_reasons.specs.lemmas.Sentences.{short_of};
 
@@ -24,11 +24,9 @@ pub(crate) fn put_short(out: &mut [u8], at: usize, chunk: u64, layer: u64, s: St
 {
     let first = s.first as u64;
     let last = s.last as u64;
-    let carry = s.carry;
-    let need = s.need;
     let slots = put_two(out, at, b"chunk ", chunk, b" layer ", layer);
     let bytes = put_two(out, slots, b": slots ", first, b" to ", last);
-    let end = put_two(out, bytes, b" carry ", carry, b", need ", need);
+    let end = put_two(out, bytes, b" carry ", s.carry, b", need ", s.need);
     core_text::put_word(out, end, b"\n")
 }
 

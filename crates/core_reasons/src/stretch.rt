@@ -1,6 +1,6 @@
 // The tables of one trial: the kept chunks of the layers settled before, with layer n of chunk i
 // added, at the end of tables of 500 places, in playing order.
-ghost use Rattle.std.specs.Prelude.{◌≡◌, ◌-◌, ◌≤◌, ◌<◌, min, length, take, drop};
+ghost use Rattle.std.specs.Prelude.{◌≡◌, ◌≤◌};
 ghost use Rattle.core_reasons.specs.lemmas.Tables.{level_in, SetTablesPre, SetTablesPost, FindShortPre};
 ghost use Rattle.core_reasons.specs.lemmas.Tables.{FindShortPost};
 
@@ -8,31 +8,20 @@ use crate::passes;
 use crate::passes::Stretch;
 use job::{CHUNKS, Programme, SizeTable, SlotSums};
 
-fn smaller(a: u8, b: u8) -> u8
-    ensures { result ≡ min a b }
-{
-    if a < b {
-        return a;
-    }
-    b
-}
-
 // How many layers chunk k has in the trial of layer n of chunk i. cap: how many the chunks before i
 // may have.
 fn level_of(levels: &[u8; CHUNKS], k: u16, i: u16, n: u8, cap: u8) -> u8
-    requires { (1 ≤ k) × (k ≤ 500) × (n ≤ 3) × (length levels.now ≡ 500) }
+    requires { (1 ≤ k) × (k ≤ 500) × (n ≤ 3) }
     ensures { result ≡ level_in levels.now i n cap k }
 {
-    let more = n + 1;
+    let have = levels[k as usize - 1];
     if k == i {
-        return more;
+        n + 1
+    } else if i < k {
+        have.min(n + 1)
+    } else {
+        have.min(cap)
     }
-    let at = k as usize - 1;
-    let have = levels[at];
-    if i < k {
-        return smaller(have, more);
-    }
-    smaller(have, cap)
 }
 
 // The due slots and the bytes of the kept chunks, from the last to the first. sums: the bytes of
@@ -47,25 +36,17 @@ fn set_tables(
     dues: &mut [u16; CHUNKS],
     bytes: &mut [u32; CHUNKS],
 ) -> usize
-    requires { SetTablesPre p sums.now levels.now n cap dues.old bytes.old }
+    requires { SetTablesPre p n cap }
     ensures { SetTablesPost p sums.now levels.now i n cap
         result dues.new bytes.new }
 {
-    let mut first: usize = CHUNKS;
-    let mut k = p.chunks;
-    while 0 < k {
+    let mut first = CHUNKS;
+    for k in (1..p.chunks + 1).rev() {
         let m = level_of(levels, k, i, n, cap);
         if 0 < m {
-            let slot = job::due_slot(p, k);
-            let row = (k as usize - 1) * 4;
-            let at = row + (m as usize - 1);
-            let q = first - 1;
-            dues[q] = slot as u16;
-            bytes[q] = sums[at];
-            first = q;
-            k = k - 1;
-        } else {
-            k = k - 1;
+            first -= 1;
+            dues[first] = job::due_slot(p, k) as u16;
+            bytes[first] = sums[(k as usize - 1) * 4 + (m as usize - 1)];
         }
     }
     first
@@ -85,11 +66,8 @@ pub(crate) fn find_short(
     ready: &mut [u16; CHUNKS],
     bytes: &mut [u32; CHUNKS],
 ) -> Stretch
-    requires { FindShortPre p held sums.now after.now levels.now n cap dues.old ready.old bytes.old }
-    ensures stretch { FindShortPost p sums.now after.now levels.now i n cap result }
-    ensures room { (length dues.new ≡ 500)
-        × (length ready.new ≡ 500)
-        × (length bytes.new ≡ 500) }
+    requires { FindShortPre p held after.now n cap }
+    ensures { FindShortPost p sums.now after.now levels.now i n cap result }
 {
     let first = set_tables(p, sums, levels, i, n, cap, dues, bytes);
     core_decide::set_releases(held, dues, first, ready);

@@ -9,8 +9,8 @@ use native.Mathlib.Omega.{arith}
 use lib.ListN.{length, get_or, set, drop, length-set, drop_of_length-le, get_or-eq_default}
 use lib.Seq.{drop-set-lt, get_or-drop, get_or-set_other, get_or-set_same}
 use lib.Dec.{T, leb, eqb, ltb, leb→le, le→leb, ltb→lt, nltb→le}
-use borrow.Author.Tests.{le-leb, lt-leb, le-ltb, lt-ltb}
-use Rattle.theory_basics.specs.lemmas.Tables.{set_before, written_before}
+use borrow.Author.Tests.{le-ltb, lt-ltb}
+use Rattle.theory_basics.specs.lemmas.Tables.{set_before}
 use Rattle.theory_basics.specs.lemmas.Tests.{and_T, same_test, T_and, test, true_T}
 use Rattle.job.specs.Job.{due_slot}
 use Rattle.job.specs.declared.Programme.{Programme}
@@ -21,7 +21,7 @@ use Rattle.theory_plan.specs.lemmas.Words.{due_by}
 use Rattle.theory_plan.specs.lemmas.Trials.{candidate, keeps, Stack}
 use Rattle.theory_replan.specs.lemmas.Passes.{bases_new, front_ok}
 use Rattle.core_replan_decide.proofs.Front.{front_rises, front_stays, front_test, Fronted, fronted_start}
-use Rattle.core_replan_decide.specs.lemmas.Tables.{base_of, bases_caps, cap_of, caps_ok, PlacesBelowPost, Fine, FindFrontPost, FindFrontPre, is_begun, keeps_caps, NewBasesPost, NewBasesPre, of, NeedCapPost, CanKeepPost, CanKeepPre}
+use Rattle.core_replan_decide.specs.lemmas.Tables.{base_of, bases_caps, cap_of, caps_ok, PlacesBelowPost, Fine, FindFrontPre, is_begun, keeps_caps, NewBasesPost, NewBasesPre, of, NeedCapPost, CanKeepPost}
 use Rattle.theory_plan.specs.Bases.{Asc}
 
 -- ---- due slots
@@ -34,13 +34,6 @@ due_in {p} f i h = (omega (arith, f.late), omega (arith, f.ends, due_by p i h))
 pub record Lasting (begun : List ℕ) (most i : ℕ) : Type 0 where
   pub within : i ≤ most
   pub behind : (k : ℕ) → i < k → k ≤ most → eqb (of begun k) 1 ≡ false
-
-pub lasting_more : {begun : List ℕ} {most i : ℕ} → Lasting begun most i → 0 < i → eqb (of begun i) 1 ≡ false → Lasting begun most (i - 1)
-lasting_more {begun} {most} {i} l h e =
-    record {
-      within = omega (arith, l.within);
-      behind = λ k u v. ⊎_elim (λ t. l.behind k (ltb→lt i k t) v) (λ t. let q : k ≡ i = omega (arith, nltb→le i k t) in rw q e) (test (ltb i k));
-    }
 
 -- ---- the begun chunks in front
 
@@ -100,58 +93,6 @@ module _ {p : Programme} {start last : ℕ} {begun after front caps : List ℕ} 
         left = omega (arith, b.left);
         long = (simp length-set b.long.0, simp length-set b.long.1);
       }
-
-pub fronting_end : {p : Programme} {start last : ℕ} {begun after front caps : List ℕ} {head i : ℕ} → Fronting p start last begun after front caps head i → i ≤ 0 → FindFrontPost p start last begun after head front caps
-fronting_end {last = last} {front = front} {head = head} {i = i} b h =
-    let e : i ≡ 0 = omega arith in
-    let s : last - i ≡ last = omega arith in
-    record {
-      within = b.within;
-      chunks = b.chunks ∙ rw (s, e);
-      caps_are = b.caps_are;
-      ascending = asc_lower 1 (suc i) last (drop head front) (omega arith) b.ascending;
-      room = omega (arith, b.room);
-      long = b.long;
-    }
-
--- ---- the test of a new chunk
-
-module _ {p : Programme} {held : ℕ} {left : ℕ → ℕ → ℕ} {after : List ℕ} {i first : ℕ} {needs : List ℕ} (f : CanKeepPre p held left after i first needs) where
-  abbrev cand : ℕ
-  cand = candidate (base_of left) (due_slot p) (at after) (drop first needs) i
-
-  pub cand_is : {x y n d : ℕ} → x ≡ base_of left i → y ≡ max (at after d) n → d ≡ due_slot p i → n ≡ get_or needs (first + 0) 0 → x + y ≡ cand
-  cand_is {x} {y} {n} {d} u v e z = rw (u, v, e, z, get_or-drop first needs 0 0)
-
-  pub cand_small : cand ≤ 60414754816
-  cand_small =
-      let e : first + 0 ≡ first = omega arith in
-      let t : get_or (drop first needs) 0 0 ≤ 60397977600 = rw (get_or-drop first needs 0 0, e) (omega (arith, f.top, f.sums 0)) in
-      omega (arith, f.small i 0, f.sums (due_slot p i))
-
-  -- The need H places on, once the candidate is written in front.
-  pub held_is : get_or (set needs (first - 1) cand) (first - 1 + held) 0 ≡ get_or (cand ∷ drop first needs) held 0
-  held_is = written_before needs first cand held (omega (arith, f.some, f.room)) (omega (arith, f.within, f.long.1))
-
-  abbrev Tells : ℕ → ℕ → ℕ → Bool → Type 0
-  Tells start cap lowest r = CanKeepPost p start held left after cap lowest i first needs (set needs (first - 1) cand) r
-
-  pub tested_early : {start cap lowest : ℕ} → due_slot p i < start → Tells start cap lowest false
-  tested_early {start} edge = record { is = rw (lt-leb start (due_slot p i) edge); wrote = refl }
-
-  module _ {start cap lowest : ℕ} (u : start ≤ due_slot p i) where
-    pub tested_not_all : at after 0 < cand → Tells start cap lowest false
-    tested_not_all edge = record { is = rw (le-leb start (due_slot p i) u, lt-leb cand (at after 0) edge); wrote = refl }
-
-    pub tested_not_held : cand ≤ at after 0 → at after (due_slot p i - 1) < get_or (cand ∷ drop first needs) held 0 → Tells start cap lowest false
-    tested_not_held edge k = record { is = rw (le-leb start (due_slot p i) u, le-leb cand (at after 0) edge, lt-leb _ _ k); wrote = refl }
-
-    module _ (edge : cand ≤ at after 0) (k : get_or (cand ∷ drop first needs) held 0 ≤ at after (due_slot p i - 1)) where
-      pub tested_low : first - 1 < lowest → Tells start cap lowest false
-      tested_low l = record { is = rw (le-leb start (due_slot p i) u, le-leb cand (at after 0) edge, le-leb _ _ k, lt-leb lowest (first - 1) l); wrote = refl }
-
-      pub tested_roof : lowest ≤ first - 1 → Tells start cap lowest (leb cand cap)
-      tested_roof l = record { is = rw (le-leb start (due_slot p i) u, le-leb cand (at after 0) edge, le-leb _ _ k, le-leb lowest (first - 1) l); wrote = refl }
 
 -- ---- the new chunks
 

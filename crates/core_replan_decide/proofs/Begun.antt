@@ -1,5 +1,5 @@
 -- Laws on the pass over the begun chunks. Assumes nothing.
-use mathlib.Core.Path.{◌≡◌, refl, sym, ◌∙◌, ap}
+use mathlib.Core.Path.{◌≡◌, refl, ◌∙◌}
 use mathlib.Core.List.{List, ◌∷◌, ◌++◌}
 use Prim.Native.Nat.{ℕ, ◌+◌, ◌-◌, ◌≤◌, ◌<◌, max}
 use native.Mathlib.Omega.{arith}
@@ -12,11 +12,10 @@ use Rattle.job.specs.Job.{due_slot, Within}
 use Rattle.job.specs.declared.Programme.{Programme}
 use Rattle.fetch.specs.Marks.{bit}
 use Rattle.theory_plan.specs.lemmas.Parts.{at}
-use Rattle.theory_plan.specs.lemmas.Trials.{Tried}
 use Rattle.core_decide.specs.lemmas.Decision.{kept_of, Slot}
 use Rattle.core_replan_decide.proofs.Bases.{due_in}
 use Rattle.core_replan_decide.specs.declared.Chosen.{Chosen}
-use Rattle.core_replan_decide.specs.lemmas.Begun.{KeepBegunPost, KeepBegunPre, choose, scan_front}
+use Rattle.core_replan_decide.specs.lemmas.Begun.{KeepBegunPre, choose, scan_front}
 use Rattle.core_replan_decide.specs.lemmas.Tables.{base_of, of}
 
 choose_small : (w z want all : ℕ) → want ≤ 60397977600 → all ≤ 60397977600 → z ≤ 16777216 → ((choose w z want all).need ≤ 60397977600) × ((choose w z want all).bytes ≤ 16777216)
@@ -55,19 +54,6 @@ module _ {p : Programme} {left : ℕ → ℕ → ℕ} {whole after front : List 
       }
 
   module _ {ids dues bytes mark : List ℕ} {used first q : ℕ} (b : Walking p left whole after front head need from ids₀ dues₀ bytes₀ mark₀ ids dues bytes mark used first q) where
-    pub begun_end : q ≤ head → KeepBegunPost p left whole after front head need from ids₀ dues₀ bytes₀ mark₀ first ids dues bytes mark
-    begun_end h =
-        let e : q ≡ head = omega (arith, b.low) in
-        record {
-          within = omega (arith, b.place, b.high, o.within);
-          kept = sym (ap (λ (t : Tried). t.kept) (rw e at b.says));
-          ids_are = rw e at b.ids_are;
-          ids_in = b.ids_in;
-          slots = b.slots;
-          light = b.light;
-          long = b.long;
-        }
-
     module _ (h : head < q) where
       abbrev it : ℕ
       it = get_or front (q - 1) 0

@@ -10,7 +10,7 @@ use lib.ListN.{length, get_or, drop, length-drop}
 use lib.Seq.{get_or-drop}
 use lib.Dec.{T, leb, leb→le, nleb→lt, le→leb, ltb, ltb→lt, nltb→le}
 use Rattle.theory_basics.specs.lemmas.Tests.{and_T, T_and, test}
-use Rattle.core_replan_decide.specs.lemmas.Tables.{caps_ok, PlacesBelowPost, Falls, NeedCapPost}
+use Rattle.core_replan_decide.specs.lemmas.Tables.{caps_ok, Falls, NeedCapPost}
 
 -- ---- what the caps say, place by place
 
@@ -225,29 +225,7 @@ module _ {h : ℕ} {caps : List ℕ} {head : ℕ} {ns : List ℕ} {first lowest 
 
 -- ---- the roof and the place in the caps
 
-pub roof_at : (h : ℕ) (caps : List ℕ) (head x : ℕ) → Falls caps head → head ≤ x → x < 500 → h ≤ 500 - x → ((y : ℕ) → y < 500 → h ≤ 500 - y → y ≤ x) → NeedCapPost h caps head (get_or caps x 0)
-roof_at h caps head x falls l u k most =
-    record {
-      is = λ y a b m c v w. omega (arith, falls y x a (most y b m) u);
-      only = λ c w v f. omega (arith, f x l u k);
-    }
-
-pub roof_none : (h : ℕ) (caps : List ℕ) (head : ℕ) → ((y : ℕ) → head ≤ y → y < 500 → h ≤ 500 - y → ⊥) → NeedCapPost h caps head 60414754816
-roof_none h caps head none =
-    record { is = λ y a b m c v w. absurd (none y a b m); only = λ c w v f. omega arith }
-
 pub record Falling (caps : List ℕ) (head edge₀ c edge : ℕ) : Type 0 where
   pub low : head ≤ edge
   pub high : edge ≤ edge₀
   pub above : (x : ℕ) → edge ≤ x → x < edge₀ → get_or caps x 0 < c
-
-pub falling_more : {caps : List ℕ} {head edge₀ c edge : ℕ} → Falling caps head edge₀ c edge → head < edge → get_or caps (edge - 1) 0 < c → Falling caps head edge₀ c (edge - 1)
-falling_more {caps} {head} {edge₀} {c} {edge} f h l =
-    record {
-      low = omega arith;
-      high = omega (arith, f.high);
-      above = λ x a b. ⊎_elim (λ t. f.above x (leb→le edge x t) b) (λ t. let e : x ≡ edge - 1 = omega (arith, nleb→lt edge x t) in rw e l) (test (leb edge x));
-    }
-
-pub fallen : {caps : List ℕ} {head edge₀ c edge : ℕ} → Falling caps head edge₀ c edge → (head < edge → c ≤ get_or caps (edge - 1) 0) → PlacesBelowPost caps head edge₀ c edge
-fallen f l = record { low = f.low; high = f.high; above = f.above; last = l }

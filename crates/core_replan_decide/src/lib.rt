@@ -18,40 +18,17 @@ use job::{CHUNKS, Programme, SUMS, SizeTable, SlotSums};
 // More than any need: 3,601 times the most bytes of a slot.
 const NO_CAP: u64 = 60414754816;
 
-// What is left of a after b, or 0.
-fn fewer(a: usize, b: usize) -> usize
-    ensures { result ≡ a - b }
-{
-    if a < b {
-        return 0;
-    }
-    a - b
-}
-
 // The last begun chunk, or 0.
 pub fn last_begun(p: Programme, begun: &[u8; CHUNKS]) -> u16
-    requires { (p.chunks ≤ 500) × (length begun.now ≡ 500) }
+    requires { p.chunks ≤ 500 }
     ensures { LastBegunPost p begun.now result }
 {
-    let mut i = p.chunks;
-    while 0 < i {
-        let c = i as usize - 1;
-        if begun[c] == 1 {
-            return i;
+    for i in (0..p.chunks).rev() {
+        if begun[i as usize] == 1 {
+            return i + 1;
         }
-        i = i - 1;
     }
     0
-}
-
-// A chunk with its flag set that is due from slot start on.
-fn asks(flag: u8, d: usize, start: usize) -> bool
-    ensures { result ≡ eqb flag 1 && leb start d }
-{
-    if flag == 1 {
-        return start <= d;
-    }
-    false
 }
 
 // The begun chunks that are due from slot start on, and what is forecast from the due slot of each
@@ -70,19 +47,12 @@ fn find_front(
         result front.new caps.new }
 {
     let mut head: usize = CHUNKS;
-    let mut i = last;
-    while 0 < i {
-        let c = i as usize - 1;
-        let d = job::due_slot(p, i);
-        let k = head - 1;
-        let e = d - 1;
-        if asks(begun[c], d, start) {
-            front[k] = i;
-            caps[k] = after[e];
-            head = k;
-            i = i - 1;
-        } else {
-            i = i - 1;
+    for i in (0..last).rev() {
+        let d = job::due_slot(p, i + 1);
+        if begun[i as usize] == 1 && start <= d {
+            head -= 1;
+            front[head] = i + 1;
+            caps[head] = after[d - 1];
         }
     }
     head
@@ -94,20 +64,12 @@ fn need_cap(caps: &[u64; CHUNKS], head: usize, held: usize) -> u64
     requires { (head ≤ 500) × Falls caps.now head × (length caps.now ≡ 500) }
     ensures { NeedCapPost held caps.now head result }
 {
-    if CHUNKS < held {
-        return NO_CAP;
+    let place = CHUNKS.saturating_sub(held).min(CHUNKS - 1);
+    if held <= CHUNKS && head <= place {
+        caps[place]
+    } else {
+        NO_CAP
     }
-    let back = CHUNKS - held;
-    if back < head {
-        return NO_CAP;
-    }
-    if back < CHUNKS {
-        return caps[back];
-    }
-    if head == CHUNKS {
-        return NO_CAP;
-    }
-    caps[499]
 }
 
 // From place g down to the first place from which on the caps are below a need.
@@ -116,13 +78,8 @@ fn places_below(caps: &[u64; CHUNKS], head: usize, from: usize, need: u64) -> us
     ensures { PlacesBelowPost caps.now head from need result }
 {
     let mut edge = from;
-    while head < edge {
-        let y = edge - 1;
-        if caps[y] < need {
-            edge = y;
-        } else {
-            return edge;
-        }
+    while head < edge && caps[edge - 1] < need {
+        edge -= 1;
     }
     edge
 }
@@ -133,14 +90,11 @@ fn raise_lowest(lowest: usize, k: usize, edge: usize, held: usize) -> usize
     requires { (k ≤ 500) × (edge ≤ 500) × (held ≤ 65535) }
     ensures { result ≡ cond (ltb edge 500) (max lowest (k + 501 - (edge + held))) lowest }
 {
-    if CHUNKS <= edge {
-        return lowest;
+    if edge < CHUNKS {
+        lowest.max((k + 501).saturating_sub(edge + held))
+    } else {
+        lowest
     }
-    let up = fewer(k + 501, edge + held);
-    if lowest < up {
-        return up;
-    }
-    lowest
 }
 
 // Whether the base of chunk i, not begun, can be kept in front of the kept ones. Its need is
@@ -163,24 +117,12 @@ fn can_keep(
         needs.new result }
 {
     let d = job::due_slot(p, i);
-    let e = d - 1;
     let k = first - 1;
-    let cand = core_decide::wide(core_sizes::size_in(left, i, 0))
-        + core_decide::larger(after[d], core_decide::need_at(needs, first, 0));
+    let cand = core_sizes::size_in(left, i, 0) as u64
+        + after[d].max(core_decide::need_at(needs, first, 0));
     needs[k] = cand;
-    if d < start {
-        return false;
-    }
-    if after[0] < cand {
-        return false;
-    }
-    if after[e] < core_decide::need_at(needs, k, held) {
-        return false;
-    }
-    if k < lowest {
-        return false;
-    }
-    cand <= cap
+    let hold = core_decide::need_at(needs, k, held);
+    start <= d && cand <= after[0] && hold <= after[d - 1] && lowest <= k && cand <= cap
 }
 
 // The bases of the chunks that play after all begun ones, from the last down.
@@ -209,23 +151,16 @@ fn new_bases(
     let mut first: usize = CHUNKS;
     let mut lowest: usize = 0;
     let mut edge: usize = CHUNKS;
-    let mut i = p.chunks;
-    while last < i {
+    for before in (last..p.chunks).rev() {
+        let i = before + 1;
         if can_keep(p, start, held, left, after, cap, lowest, i, first, needs) {
-            let k = first - 1;
-            let need = needs[k];
-            let lower = places_below(caps, head, edge, need);
-            let higher = raise_lowest(lowest, k, lower, held);
-            ids[k] = i;
-            dues[k] = job::due_slot(p, i) as u16;
-            bytes[k] = core_sizes::size_in(left, i, 0);
-            mark[k] = 1;
-            lowest = higher;
-            edge = lower;
-            first = k;
-            i = i - 1;
-        } else {
-            i = i - 1;
+            first -= 1;
+            edge = places_below(caps, head, edge, needs[first]);
+            lowest = raise_lowest(lowest, first, edge, held);
+            ids[first] = i;
+            dues[first] = job::due_slot(p, i) as u16;
+            bytes[first] = core_sizes::size_in(left, i, 0);
+            mark[first] = 1;
         }
     }
     first
@@ -245,26 +180,25 @@ fn try_begun(w: u8, z: u32, want: u64, all: u64) -> Chosen
     requires { want ≤ 60397977600 }
     ensures { result ≡ choose w z want all }
 {
+    let more = z as u64 + want;
     if fetch::has(w, 0) {
-        return Chosen {
+        Chosen {
             need: want,
             bytes: 0,
             mark: w,
-        };
-    }
-    let more = core_decide::wide(z) + want;
-    let tried = fetch::with(0, 0);
-    if more <= all {
-        return Chosen {
+        }
+    } else if more <= all {
+        Chosen {
             need: more,
             bytes: z,
-            mark: tried,
-        };
-    }
-    Chosen {
-        need: want,
-        bytes: 0,
-        mark: fetch::without(tried, 0),
+            mark: 1,
+        }
+    } else {
+        Chosen {
+            need: want,
+            bytes: 0,
+            mark: 0,
+        }
     }
 }
 
@@ -294,22 +228,17 @@ fn keep_begun(
     let all = after[0];
     let mut used = need;
     let mut first = from;
-    let mut q: usize = CHUNKS;
-    while head < q {
-        let r = q - 1;
-        let b = front[r];
-        let c = b as usize - 1;
+    for q in (head..CHUNKS).rev() {
+        let b = front[q];
         let d = job::due_slot(p, b);
-        let k = first - 1;
-        let want = core_decide::larger(after[d], used);
-        let one = try_begun(whole[c], core_sizes::size_in(left, b, 0), want, all);
-        ids[k] = b;
-        dues[k] = d as u16;
-        bytes[k] = one.bytes;
-        mark[k] = one.mark;
+        let size = core_sizes::size_in(left, b, 0);
+        let one = try_begun(whole[b as usize - 1], size, after[d].max(used), all);
+        first -= 1;
+        ids[first] = b;
+        dues[first] = d as u16;
+        bytes[first] = one.bytes;
+        mark[first] = one.mark;
         used = one.need;
-        first = k;
-        q = r;
     }
     first
 }

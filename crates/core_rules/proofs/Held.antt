@@ -6,7 +6,7 @@ use mathlib.Core.Bool.{Bool, true, false, cond, ◌&&◌}
 use mathlib.Core.List.{List}
 use native.Mathlib.Omega.{arith}
 use native.Mathlib.Numerals.{add-one}
-use lib.ListN.{length, get_or, set, length-set, replicate, length-replicate, get_or-replicate}
+use lib.ListN.{length, get_or, set, replicate, get_or-replicate}
 use lib.Seq.{get_or-set_same, get_or-set_other}
 use lib.Dec.{ltb, leb, eqb}
 use borrow.Author.Tests.{le-leb, lt-leb, lt-ltb, le-ltb, ne_eqb, eqb-true, eqb-false, ltb-true, ltb-false, leb-true, leb-false}
@@ -77,8 +77,6 @@ module _ (p : Programme) (first : List ℕ) where
   marked_none = record {
     begin_at = λ t h. get_or-replicate {A = ℕ} 3601 t 0 0 (omega arith);
     end_at = λ t h. get_or-replicate {A = ℕ} 3601 t 0 0 (omega arith);
-    begin_long = length-replicate {A = ℕ} 3601 0;
-    end_long = length-replicate {A = ℕ} 3601 0;
   }
 
   module _ (begins ends : List ℕ) (i : ℕ) (m : MarkTimesPost p first i begins ends) where
@@ -94,8 +92,6 @@ module _ (p : Programme) (first : List ℕ) where
         record {
           begin_at = λ t w. m.begin_at t w ∙ sym (count_more i (starts_at p first t) ∙ rw e (omega arith));
           end_at = λ t w. m.end_at t w ∙ sym (count_more i (ends_at p first t) ∙ rw e (omega arith));
-          begin_long = m.begin_long;
-          end_long = m.end_long;
         }
 
     bump : (l : List ℕ) (v t c : ℕ) → v ≤ 3600 → t ≤ 3600 → length l ≡ 3601 → get_or l t 0 ≡ c → (e : Bool) → eqb v t ≡ e → get_or (set l v (get_or l v 0 + 1)) t 0 ≡ c + bit e
@@ -104,14 +100,12 @@ module _ (p : Programme) (first : List ℕ) where
         rw (z, get_or-set_same l t (get_or l t 0 + 1) 0 (omega arith)) (omega arith)
     bump l v t c a b n q false e = rw (get_or-set_other l v t (get_or l v 0 + 1) 0 (λ z. eqb-false _ _ e (sym z))) (omega arith)
 
-    pub marked_more : f < d → d ≤ 3600 → MarkTimesPost p first (i + 1) (set begins f (get_or begins f 0 + 1)) (set ends d (get_or ends d 0 + 1))
-    marked_more h k =
+    pub marked_more : f < d → d ≤ 3600 → length begins ≡ 3601 → length ends ≡ 3601 → MarkTimesPost p first (i + 1) (set begins f (get_or begins f 0 + 1)) (set ends d (get_or ends d 0 + 1))
+    marked_more h k n q =
         let e = lt-ltb f d h in
         record {
-          begin_at = λ t w. bump begins f t (count (starts_at p first t) i) (omega arith) w m.begin_long (m.begin_at t w) (eqb f t) refl ∙ sym (count_more i (starts_at p first t) ∙ rw e);
-          end_at = λ t w. bump ends d t (count (ends_at p first t) i) k w m.end_long (m.end_at t w) (eqb d t) refl ∙ sym (count_more i (ends_at p first t) ∙ rw e);
-          begin_long = simp length-set m.begin_long;
-          end_long = simp length-set m.end_long;
+          begin_at = λ t w. bump begins f t (count (starts_at p first t) i) (omega arith) w n (m.begin_at t w) (eqb f t) refl ∙ sym (count_more i (starts_at p first t) ∙ rw e);
+          end_at = λ t w. bump ends d t (count (ends_at p first t) i) k w q (m.end_at t w) (eqb d t) refl ∙ sym (count_more i (ends_at p first t) ∙ rw e);
         }
 
     pub marked_small : (t : ℕ) → t ≤ 3600 → (get_or begins t 0 ≤ i) × (get_or ends t 0 ≤ i)
@@ -127,7 +121,6 @@ pub record Fine (begins ends : List ℕ) (t : ℕ) : Type 0 where
   pub end_held : get_or ends (t + 1) 0 ≤ held_at begins ends t + get_or begins (t + 1) 0
 
 pub record Sweeping (last most : ℕ) (begins ends : List ℕ) (held t : ℕ) : Type 0 where
-  pub reached : t ≤ last
   pub now_held : held ≡ held_at begins ends t
   pub kept : all_to t (λ u. leb (held_at begins ends u) most) ≡ true
   pub short : last ≤ 3600
@@ -145,7 +138,6 @@ module _ (last most : ℕ) (begins ends : List ℕ) (held t : ℕ) (s : Sweeping
 
   pub sweeping_more : next ≤ most → Sweeping last most begins ends next (t + 1)
   sweeping_more k = record {
-    reached = omega arith;
     now_held = sym next_is;
     kept = all_to_holds t (λ u. leb (held_at begins ends u) most) s.kept (le-leb (held_at begins ends (t + 1)) most (omega (arith, next_is)));
     short = s.short;
@@ -182,7 +174,7 @@ module _ (p : Programme) (first begins ends : List ℕ) (few : p.chunks ≤ 500)
   }
 
   pub sweeping_start : (last most : ℕ) → last ≤ 3600 → Sweeping last most begins ends 0 0
-  sweeping_start last most h = record { reached = omega arith; now_held = refl; kept = refl; short = h; fine = held_fine }
+  sweeping_start last most h = record { now_held = refl; kept = refl; short = h; fine = held_fine }
 
   -- The sweep by the tables is rule 6 by first slots.
   pub sweep_is : (last most : ℕ) → last ≤ 3600 → most ≡ p.limit / p.span

@@ -6,7 +6,7 @@ use mathlib.Core.List.{List, [], ◌∷◌, ◌++◌}
 use mathlib.Core.Logic.{⊎_elim}
 use native.Mathlib.Omega.{arith}
 use native.Mathlib.Numerals.{add-one}
-use lib.ListN.{length, get_or, set, length-set, replicate, length-replicate, get_or-replicate}
+use lib.ListN.{length, get_or, set, length-set, replicate, get_or-replicate}
 use lib.Seq.{get_or-set_same, get_or-set_other}
 use lib.Dec.{T, eqb}
 use borrow.Author.Tests.{eqb-true, eqb-false}
@@ -49,12 +49,9 @@ tallied_none = record {
   by_layer = λ i n a b d. rw (rep_at 2000 0 (4 * (i - 1) + n) (omega arith)) (omega arith);
   firsts = λ i a b. rep_at 501 65535 i (omega arith);
   some_slot = λ i a b. rw (rep_at 501 65535 i (omega arith)) (omega arith);
-  slot_long = length-replicate {A = ℕ} 3601 0;
-  layer_long = length-replicate {A = ℕ} 2000 0;
-  first_long = length-replicate {A = ℕ} 501 65535;
 }
 
-module _ (l : List Row) (T L F : List ℕ) (s c n b : ℕ) (h : Tallied l T L F) (hs : s ≤ 3600) (hs' : 1 ≤ s) (hc : 1 ≤ c) (hc' : c ≤ 500) (hn : n < 4) where
+module _ (l : List Row) (T L F : List ℕ) (s c n b : ℕ) (h : Tallied l T L F) (long : (length T ≡ 3601) × (length L ≡ 2000) × (length F ≡ 501)) (hs : s ≤ 3600) (hs' : 1 ≤ s) (hc : 1 ≤ c) (hc' : c ≤ 500) (hn : n < 4) where
   abbrev x : Row
   x = record { slot = s; chunk = c; layer = n; bytes = b }
 
@@ -73,7 +70,7 @@ module _ (l : List Row) (T L F : List ℕ) (s c n b : ℕ) (h : Tallied l T L F)
   slot_case : (t : ℕ) → t ≤ 3600 → (e : Bool) → eqb s t ≡ e → get_or T' t 0 ≡ min cap (bytes_in_slot l t + cond e b 0)
   slot_case t w true e =
       let q : s ≡ t = eqb-true _ _ e in
-      rw (sym q, get_or-set_same T s (min cap (get_or T s 0 + b)) 0 (omega (arith, h.slot_long))) (omega (arith, h.by_slot s hs, ap (λ (y : ℕ). bytes_in_slot l y) q))
+      rw (sym q, get_or-set_same T s (min cap (get_or T s 0 + b)) 0 (omega arith)) (omega (arith, h.by_slot s hs, ap (λ (y : ℕ). bytes_in_slot l y) q))
   slot_case t w false e =
       rw (get_or-set_other T s t (min cap (get_or T s 0 + b)) 0 (λ q. eqb-false _ _ e (sym q))) (omega (arith, h.by_slot t w))
 
@@ -81,7 +78,7 @@ module _ (l : List Row) (T L F : List ℕ) (s c n b : ℕ) (h : Tallied l T L F)
   layer_case i m u v w true e true g =
       let q : c ≡ i = eqb-true _ _ e in
       let r : n ≡ m = eqb-true _ _ g in
-      rw (sym q, sym r, get_or-set_same L at (min cap (get_or L at 0 + b)) 0 (omega (arith, h.layer_long)))
+      rw (sym q, sym r, get_or-set_same L at (min cap (get_or L at 0 + b)) 0 (omega arith))
       (omega (arith, h.by_layer c n hc hc' hn))
   layer_case i m u v w true e false g =
       let r : n ≡ m → ⊥ = eqb-false _ _ g in
@@ -93,7 +90,7 @@ module _ (l : List Row) (T L F : List ℕ) (s c n b : ℕ) (h : Tallied l T L F)
   first_case : (i : ℕ) → 1 ≤ i → i ≤ 500 → (e : Bool) → eqb c i ≡ e → (get_or F' i 0 ≡ min (first_of i l) (cond e s 65535)) × (1 ≤ get_or F' i 0)
   first_case i u v true e =
       let q : c ≡ i = eqb-true _ _ e in
-      rw (sym q, get_or-set_same F c (min (get_or F c 0) s) 0 (omega (arith, h.first_long)))
+      rw (sym q, get_or-set_same F c (min (get_or F c 0) s) 0 (omega arith))
       (omega (arith, h.firsts c hc hc'), omega (arith, h.some_slot c hc hc'))
   first_case i u v false e =
       rw (get_or-set_other F c i (min (get_or F c 0) s) 0 (λ q. eqb-false _ _ e (sym q)))
@@ -105,9 +102,6 @@ module _ (l : List Row) (T L F : List ℕ) (s c n b : ℕ) (h : Tallied l T L F)
     by_layer = λ i m u v w. layer_case i m u v w (eqb c i) refl (eqb n m) refl ∙ ap (min cap) (sym (bytes_snoc (λ y. eqb y.chunk i && eqb y.layer m) l x));
     firsts = λ i u v. (first_case i u v (eqb c i) refl).0 ∙ sym (first_snoc i l x);
     some_slot = λ i u v. (first_case i u v (eqb c i) refl).1;
-    slot_long = simp length-set h.slot_long;
-    layer_long = simp length-set h.layer_long;
-    first_long = simp length-set h.first_long;
   }
 
 -- What rule 1 of a row says of its places in the tables.
@@ -126,22 +120,20 @@ places D C K x e d c k =
 -- ---- the pass
 
 pub record Tallying (p : Programme) (last depth : ℕ) (ss cs ls bs T L F : List ℕ) (timely : Bool) (i : ℕ) : Type 0 where
-  pub within : i ≤ length ss
   pub tables : Tallied (up_to (row_at ss cs ls bs) i) T L F
   pub ranged : all (in_range last p.chunks depth) (up_to (row_at ss cs ls bs) i) ≡ true
   pub timed : timely ≡ all (on_time p) (up_to (row_at ss cs ls bs) i)
 
 module _ (p : Programme) (D K : ℕ) (ss cs ls bs : List ℕ) where
   pub tallying_start : (T L F : List ℕ) → T ≡ replicate 3601 0 → L ≡ replicate 2000 0 → F ≡ replicate 501 65535 → Tallying p D K ss cs ls bs T L F true 0
-  tallying_start T L F a b c = record { within = omega arith; tables = rw (a, b, c) tallied_none; ranged = refl; timed = refl }
+  tallying_start T L F a b c = record { tables = rw (a, b, c) tallied_none; ranged = refl; timed = refl }
 
   module _ (T L F : List ℕ) (timely : Bool) (i : ℕ) (t : Tallying p D K ss cs ls bs T L F timely i) where
     abbrev now_row : Row
     now_row = row_at ss cs ls bs i
 
-    pub tallying_end : length ss ≤ i → TallyPost p D K (rows_of ss cs ls bs) (record { ranged = true; timely = timely }) T L F
-    tallying_end h =
-        let e : i ≡ length ss = omega (arith, t.within) in
+    pub tallying_end : i ≡ length ss → TallyPost p D K (rows_of ss cs ls bs) (record { ranged = true; timely = timely }) T L F
+    tallying_end e =
         record {
           ranged = sym (rw e at t.ranged);
           timely = λ _. rw e at t.timed;
@@ -173,16 +165,15 @@ module _ (p : Programme) (D K : ℕ) (ss cs ls bs : List ℕ) where
           omega (arith, t.tables.by_layer now_row.chunk now_row.layer f.chunk_low f.chunk_high f.layer_in),
         )
 
-        pub tallying_more : (T' L' F' : List ℕ) (timely' : Bool)
+        pub tallying_more : (T' L' F' : List ℕ) (timely' : Bool) → (length T' ≡ 3601) × (length L' ≡ 2000) × (length F' ≡ 501)
             → T' ≡ set T now_row.slot (min cap (get_or T now_row.slot 0 + now_row.bytes))
             → L' ≡ set L (4 * (now_row.chunk - 1) + now_row.layer) (min cap (get_or L (4 * (now_row.chunk - 1) + now_row.layer) 0 + now_row.bytes))
             → F' ≡ set F now_row.chunk (min (get_or F now_row.chunk 0) now_row.slot)
             → timely' ≡ timely && on_time p now_row
             → Tallying p D K ss cs ls bs T' L' F' timely' (i + 1)
-        tallying_more T' L' F' timely' x y z w =
+        tallying_more T' L' F' timely' long x y z w =
             rw (add-one, x, y, z, w) (record {
-              within = omega arith;
-              tables = tallied_more (up_to (row_at ss cs ls bs) i) T L F now_row.slot now_row.chunk now_row.layer now_row.bytes t.tables f.slot_high f.slot_low f.chunk_low f.chunk_high f.layer_in;
+              tables = tallied_more (up_to (row_at ss cs ls bs) i) T L F now_row.slot now_row.chunk now_row.layer now_row.bytes t.tables (simp length-set at (rw x at long.0), simp length-set at (rw y at long.1), simp length-set at (rw z at long.2)) f.slot_high f.slot_low f.chunk_low f.chunk_high f.layer_in;
               ranged = all_snoc (in_range D p.chunks K) (up_to (row_at ss cs ls bs) i) now_row ∙ rw (t.ranged, sym s ∙ e);
               timed = ap (λ (b : Bool). b && on_time p now_row) t.timed ∙ sym (all_snoc (on_time p) (up_to (row_at ss cs ls bs) i) now_row);
             })

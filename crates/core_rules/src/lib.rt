@@ -41,33 +41,7 @@ const CAP: u64 = 1099511627776;
 pub fn both(a: bool, b: bool) -> bool
     ensures { result ≡ a && b }
 {
-    if a {
-        return b;
-    }
-    false
-}
-
-// Saturates: a direct call may hand more rows than 64 bits can sum, and any sum above CAP breaks
-// rule 2 or 4 alike.
-fn add(sum: u64, more: u32) -> u64
-    requires { sum ≤ cap }
-    ensures { result ≡ min cap (sum + more) }
-{
-    let next = sum + (more as u64);
-    if CAP < next {
-        return CAP;
-    }
-    next
-}
-
-// The earlier of two first slots.
-fn sooner(a: u16, b: u16) -> u16
-    ensures { result ≡ min a b }
-{
-    if a < b {
-        return a;
-    }
-    b
+    a && b
 }
 
 pub fn wide(x: u16) -> usize
@@ -80,25 +54,11 @@ pub fn wide(x: u16) -> usize
 fn in_range(last: usize, count: u16, depth: usize, s: u16, c: u16, l: u8, b: u32) -> bool
     ensures { result ≡ in_range last count depth (record { slot = s; chunk = c; layer = l; bytes = b }) }
 {
-    if s < 1 {
-        return false;
-    }
-    if last < (s as usize) {
-        return false;
-    }
-    if c < 1 {
-        return false;
-    }
-    if count < c {
-        return false;
-    }
-    if depth <= (l as usize) {
-        return false;
-    }
-    1 <= b
+    1 <= s && s as usize <= last && 1 <= c && c <= count && (l as usize) < depth && 1 <= b
 }
 
-// A row goes into the tables.
+// A row goes into the tables. The sums stop at CAP: a direct call may hand more rows than 64 bits
+// can sum, and any sum above CAP breaks rule 2 or 4 alike.
 fn add_row(
     slotsum: &mut SlotSums,
     layersum: &mut [u64; SIZES],
@@ -123,9 +83,9 @@ fn add_row(
     let t = s as usize;
     let i = c as usize;
     let at = 4 * (i - 1) + (l as usize);
-    slotsum[t] = add(slotsum[t], b);
-    layersum[at] = add(layersum[at], b);
-    first[i] = sooner(first[i], s);
+    slotsum[t] = CAP.min(slotsum[t] + b as u64);
+    layersum[at] = CAP.min(layersum[at] + b as u64);
+    first[i] = first[i].min(s);
 }
 
 // One pass over the rows: rule 1, rule 5 and the tables. A row out of range ends it.
@@ -155,22 +115,18 @@ pub fn tally(
         result slotsum.new layersum.new first.new }
 {
     let mut timely = true;
-    let mut i: usize = 0;
-    while i < slots.len() {
-        let s = slots[i];
+    for (i, &s) in slots.iter().enumerate() {
         let c = chunks[i];
         let l = layers[i];
         let b = bytes[i];
-        if in_range(last, p.chunks, depth, s, c, l, b) {
-            timely = both(timely, wide(s) <= job::due_slot(p, c));
-            add_row(slotsum, layersum, first, s, c, l, b);
-            i = i + 1;
-        } else {
+        if !in_range(last, p.chunks, depth, s, c, l, b) {
             return Pass {
                 ranged: false,
                 timely: false,
             };
         }
+        timely &= s as usize <= job::due_slot(p, c);
+        add_row(slotsum, layersum, first, s, c, l, b);
     }
     Pass {
         ranged: true,
@@ -183,26 +139,21 @@ pub fn see_chunk(table: &SizeTable, depth: usize, layersum: &[u64; SIZES], i: u1
     requires { (depth ≤ 4) × (1 ≤ i) × (i ≤ 500) }
     ensures { SeeChunkPost (table_at table.now) layersum.now depth i result }
 {
-    let from = 4 * (wide(i) - 1);
+    let from = 4 * (i as usize - 1);
     let mut mark: u8 = 0;
     let mut whole = true;
     let mut lower = true;
     let mut below = true;
-    let mut n: usize = 0;
-    while n < depth {
-        let at = from + n;
-        let sum = layersum[at];
-        let size = core_sizes::size_at(table, i, n) as u64;
-        if sum == size {
+    for n in 0..depth {
+        let sum = layersum[from + n];
+        let carried = sum == core_sizes::size_at(table, i, n) as u64;
+        if carried {
             mark = fetch::with(mark, n as u8);
-            lower = both(below, lower);
-            below = true;
-            n = n + 1;
+            lower &= below;
         } else {
-            whole = both(sum == 0, whole);
-            below = false;
-            n = n + 1;
+            whole &= sum == 0;
         }
+        below = carried;
     }
     Seen { mark, whole, lower }
 }
@@ -222,15 +173,11 @@ pub fn see_all(
     let mut whole = true;
     let mut lower = true;
     let mut said = true;
-    let mut i: u16 = 0;
-    while i < count {
-        let at = i as usize;
-        let next = i + 1;
-        let seen = see_chunk(table, depth, layersum, next);
-        whole = both(seen.whole, whole);
-        lower = both(seen.lower, lower);
-        said = both(marks[at] == seen.mark, said);
-        i = next;
+    for i in 0..count {
+        let seen = see_chunk(table, depth, layersum, i + 1);
+        whole &= seen.whole;
+        lower &= seen.lower;
+        said &= marks[i as usize] == seen.mark;
     }
     Layers { whole, lower, said }
 }
@@ -241,13 +188,10 @@ pub fn within(forecast: &[u32], slotsum: &SlotSums) -> bool
     ensures { result ≡ all_to (length forecast.now)
         (λ t. leb (get_or slotsum.now t 0) (get_or forecast.now (t - 1) 0)) }
 {
-    let mut t: usize = 0;
-    while t < forecast.len() {
-        let u = t + 1;
-        if (forecast[t] as u64) < slotsum[u] {
+    for (t, &most) in forecast.iter().enumerate() {
+        if (most as u64) < slotsum[t + 1] {
             return false;
         }
-        t = u;
     }
     true
 }
@@ -261,19 +205,12 @@ fn mark_times(p: Programme, first: &[u16; 501], begins: &mut [u16; SUMS], ends: 
         × (ends.old ≡ replicate 3601 0) }
     ensures { MarkTimesPost p first.now p.chunks begins.new ends.new }
 {
-    let n = p.chunks;
-    let mut i: u16 = 0;
-    while i < n {
-        let next = i + 1;
-        let k = next as usize;
-        let a = wide(first[k]);
-        let d = job::due_slot(p, next);
+    for i in 0..p.chunks {
+        let a = first[i as usize + 1] as usize;
+        let d = job::due_slot(p, i + 1);
         if a < d {
-            begins[a] = begins[a] + 1;
-            ends[d] = ends[d] + 1;
-            i = next;
-        } else {
-            i = next;
+            begins[a] += 1;
+            ends[d] += 1;
         }
     }
 }
@@ -291,15 +228,12 @@ pub fn sweep(p: Programme, last: usize, first: &[u16; 501]) -> bool
     let mut ends = [0u16; SUMS];
     mark_times(p, first, &mut begins, &mut ends);
     let mut held: u16 = 0;
-    let mut t: usize = 0;
-    while t < last {
-        let u = t + 1;
-        let more = held + begins[u];
-        held = more - ends[u];
+    for t in 0..last {
+        let more = held + begins[t + 1];
+        held = more - ends[t + 1];
         if most < held {
             return false;
         }
-        t = u;
     }
     true
 }

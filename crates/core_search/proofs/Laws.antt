@@ -16,7 +16,7 @@ use Rattle.theory_plan.specs.lemmas.Trials.{Stack, candidate, keeps}
 use Rattle.theory_search.specs.Search.{Walked, better, cut, goes_on, meet, spend}
 use Rattle.theory_search.specs.lemmas.Stack.{in_front, search_keeps, search_skips, search_stops, search_stack}
 use Rattle.theory_search.proofs.Walk.{better_stays}
-use Rattle.core_search.specs.lemmas.Tables.{base_of, of, stack_at, best_at, walked, CopyEndPost, Given, KeepBestPost, CanKeepPost, CanKeepPre, SearchPre, SearchPost}
+use Rattle.core_search.specs.lemmas.Tables.{base_of, of, stack_at, best_at, walked, Given, KeepBestPost, CanKeepPost, CanKeepPre, SearchPre, SearchPost}
 
 -- ---- the end of a table
 
@@ -25,17 +25,6 @@ pub drop_after : (a b : List ℕ) (q : ℕ) → 0 < q → drop (q - 1) a ≡ dro
 drop_after a b q h e =
     let s : q - 1 + 1 ≡ q = omega arith in
     rw s at (sym (drop-drop 1 (q - 1) a) ∙ ap (drop 1) e ∙ drop-drop 1 (q - 1) b)
-
-pub ending_start : (from to : List ℕ) → length from ≡ 500 → length to ≡ 500 → CopyEndPost 500 from to
-ending_start from to e f =
-    record { long = f; same = drop_of_length-le to {i = 500} (omega arith) ∙ sym (drop_of_length-le from {i = 500} (omega arith)) }
-
-pub ending_more : {q : ℕ} {from to : List ℕ} → CopyEndPost q from to → 0 < q → q ≤ 500 → length from ≡ 500 → CopyEndPost (q - 1) from (set to (q - 1) (get_or from (q - 1) 0))
-ending_more {q} {from} {to} e h k l =
-    record {
-      long = simp length-set e.long;
-      same = set_before to q (get_or from (q - 1) 0) h (omega (arith, e.long)) ∙ ap (λ (l : List ℕ). get_or from (q - 1) 0 ∷ l) e.same ∙ sym (drop_before from q h (omega arith));
-    }
 
 -- ---- a set is met
 
@@ -55,15 +44,15 @@ module _ (k : ℕ) (ids best : List ℕ) (count : ℕ) (within : k ≤ 500) (few
         long = held;
       }
 
-  pub noted_more : (best' : List ℕ) → count < 500 - k → CopyEndPost k ids best' → KeepBestPost k ids best count best' (500 - k)
-  noted_more best' h e =
+  pub noted_more : (best' : List ℕ) → count < 500 - k → drop k best' ≡ drop k ids → length best' ≡ 500 → KeepBestPost k ids best count best' (500 - k)
+  noted_more best' h e l =
       let t : ltb (length (best_at count best)) (length (drop k ids)) ≡ true = lt-ltb (length (best_at count best)) (length (drop k ids)) (omega (arith, ids_long, best_long count best few held)) in
       let z : 500 - (500 - k) ≡ k = omega arith in
       record {
-        is = rw (t, z) e.same;
+        is = rw (t, z) e;
         more = omega arith;
         few = omega arith;
-        long = e.long;
+        long = l;
       }
 
 -- ---- the test

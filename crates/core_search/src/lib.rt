@@ -3,11 +3,11 @@
 // best set met so far at the end of best.
 #![tactic(auto)]
 
-ghost use Rattle.std.specs.Prelude.{◌≡◌, ℕ, ◌≤◌, length, drop};
+ghost use Rattle.std.specs.Prelude.{◌≤◌, drop};
 ghost use Rattle.job.specs.Job.{last_due};
 ghost use Rattle.core_sizes.specs.Table.{table_at};
 ghost use Rattle.core_moore_hodgson.specs.lemmas.Tables.{KeptIn};
-ghost use Rattle.core_search.specs.lemmas.Tables.{CopyEndPost, KeepBestPost, CanKeepPost, CanKeepPre, SearchPre};
+ghost use Rattle.core_search.specs.lemmas.Tables.{KeepBestPost, CanKeepPost, CanKeepPre, SearchPre};
 ghost use Rattle.core_search.specs.lemmas.Tables.{SearchPost, DueTable, PlaceBestPre, FindBestPre, FindBestPost};
 
 use job::{CHUNKS, Programme, SizeTable, SlotSums};
@@ -20,32 +20,17 @@ pub struct Outcome {
     pub ended: bool,
 }
 
-// The end of a table, from place k on.
-fn copy_end(from: &[u16; CHUNKS], k: usize, to: &mut [u16; CHUNKS])
-    requires { (k ≤ 500) × (length from.now ≡ 500) × (length to.old ≡ 500) }
-    ensures { CopyEndPost k from.now to.new }
-{
-    let mut q: usize = CHUNKS;
-    while k < q {
-        let p = q - 1;
-        to[p] = from[p];
-        q = p;
-    }
-}
-
 // The set at the end of ids is met: it is copied if it has more chunks than the best one.
 fn keep_best(k: usize, ids: &[u16; CHUNKS], best: &mut [u16; CHUNKS], count: &mut usize)
-    requires { (k ≤ 500) × (count.old ≤ 500) × (length ids.now ≡ 500) × (length best.old ≡ 500) }
+    requires { (k ≤ 500) × (count.old ≤ 500) }
     ensures { KeepBestPost k ids.now best.old count.old
         best.new count.new }
 {
     let size = CHUNKS - k;
-    let most = *count;
-    if size <= most {
-        return;
+    if *count < size {
+        best[k..].copy_from_slice(&ids[k..]);
+        *count = size;
     }
-    copy_end(ids, k, best);
-    *count = size;
 }
 
 // Whether chunk i can be kept in front of the kept ones. Its need is written one place before
@@ -64,23 +49,18 @@ fn can_keep(
         needs.old
         needs.new result }
 {
-    let c = i as usize - 1;
     let k = first - 1;
-    let d = dues[c] as usize;
+    let d = usize::from(dues[usize::from(i) - 1]);
     let z = core_sizes::size_in(table, i, 0);
-    let cand = core_decide::wide(z)
-        + core_decide::larger(after[d], core_decide::need_at(needs, first, 0));
-    let e = d - 1;
+    let cand = u64::from(z) + after[d].max(core_decide::need_at(needs, first, 0));
     needs[k] = cand;
-    if after[0] < cand {
-        return false;
-    }
-    core_decide::need_at(needs, k, held) <= after[e]
+    cand <= after[0] && core_decide::need_at(needs, k, held) <= after[d - 1]
 }
 
 // The chunks i down to 1, beside the kept ones: chunk i is tried kept and then skipped, each try a
 // step. left is one more than the steps of the budget not yet taken, and 0 once a step was wanted
 // that the budget does not have; so is the result.
+// Kept: the result is a number and no Option, since a compound result took half of the run time.
 fn search(
     i: u16,
     first: usize,
@@ -128,16 +108,11 @@ fn search(
 
 // The due slot of each chunk, chunk 1's at place 0.
 fn set_dues(p: Programme, dues: &mut [u16; CHUNKS])
-    requires { (p.chunks ≤ 500) × (last_due p ≤ 3600) × (length dues.old ≡ 500) }
+    requires { (p.chunks ≤ 500) × (last_due p ≤ 3600) }
     ensures { DueTable p p.chunks dues.new }
 {
-    let mut n: u16 = 0;
-    while n < p.chunks {
-        let i = n + 1;
-        let slot = job::due_slot(p, i);
-        let k = n as usize;
-        dues[k] = slot as u16;
-        n = i;
+    for n in 0..p.chunks {
+        dues[usize::from(n)] = job::due_slot(p, n + 1) as u16;
     }
 }
 
@@ -154,14 +129,10 @@ pub fn set_bases(
     ensures { KeptIn p (table_at table.now) (drop first ids.now) first ids.now
         dues.new bytes.new }
 {
-    let mut q: usize = CHUNKS;
-    while first < q {
-        let k = q - 1;
-        let i = ids[k];
-        let slot = job::due_slot(p, i);
-        dues[k] = slot as u16;
-        bytes[k] = core_sizes::size_in(table, i, 0);
-        q = k;
+    for q in (first..CHUNKS).rev() {
+        let i = ids[q];
+        dues[q] = job::due_slot(p, i) as u16;
+        bytes[q] = core_sizes::size_in(table, i, 0);
     }
 }
 
@@ -192,17 +163,16 @@ pub fn best_within(
     let first = CHUNKS - count;
     set_bases(p, table, first, ids, dues, bytes);
     if left == 0 {
-        return Outcome {
+        Outcome {
             first,
             steps: budget,
             ended: false,
-        };
-    }
-    let taken = all - left;
-    let steps = taken as u32;
-    Outcome {
-        first,
-        steps,
-        ended: true,
+        }
+    } else {
+        Outcome {
+            first,
+            steps: (all - left) as u32,
+            ended: true,
+        }
     }
 }

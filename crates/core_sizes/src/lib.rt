@@ -3,76 +3,52 @@
 // is one read without a test.
 #![tactic(auto)]
 
-ghost use Rattle.std.specs.Prelude.{◌≡◌, ◌≤◌, ◌<◌, length};
+ghost use Rattle.std.specs.Prelude.{◌≡◌, ◌≤◌, ◌<◌};
 ghost use Rattle.job.specs.Job.{Within};
-ghost use Rattle.job.specs.Input.{overrides_of};
+ghost use Rattle.job.specs.Handed.{handed_overrides};
 ghost use Rattle.core_sizes.specs.Table.{spot, own_sizes, overridden_by, sizes_table, table_at};
-ghost use Rattle.core_sizes.specs.lemmas.Table.{FillFirstPost};
 
-use job::{LAYERS, SIZES, SizeTable};
+use job::{JobInput, LAYERS, Overrides, SIZES, SizeTable};
 
 // Where layer n of chunk i stands in the table of sizes.
 fn spot_of(i: u16, n: usize) -> usize
     requires { n ≤ 255 }
     ensures { result ≡ spot i n }
 {
-    if i == 0 {
-        return n;
-    }
-    (i as usize - 1) * LAYERS + n
+    (i as usize).saturating_sub(1) * LAYERS + n
 }
 
-// The layers' own sizes of chunk 1.
-fn fill_first(sizes: &[u32], table: &mut SizeTable)
-    ensures { FillFirstPost sizes.now table.old table.new }
-{
-    table[0] = job::own_size(sizes, 0);
-    table[1] = job::own_size(sizes, 1);
-    table[2] = job::own_size(sizes, 2);
-    table[3] = job::own_size(sizes, 3);
-}
-
-// The layers' own sizes, for 500 chunks: each chunk's are copied from those of the one before it,
-// which takes a word of four numbers at a time.
+// The layers' own sizes, for 500 chunks: chunk 1's are read, and each other chunk's are copied from
+// those of the one before it, which takes a word of four numbers at a time.
 fn fill_own(sizes: &[u32], table: &mut SizeTable)
-    ensures { length table.old ≡ 2000 → table.new ≡ own_sizes sizes.now }
+    ensures { table.new ≡ own_sizes sizes.now }
 {
-    fill_first(sizes, table);
-    let mut k: usize = LAYERS;
-    while k < SIZES {
-        let before = k - LAYERS;
-        table[k] = table[before];
-        k = k + 1;
+    for n in 0..LAYERS {
+        table[n] = job::own_size(sizes, n);
+    }
+    for k in LAYERS..SIZES {
+        table[k] = table[k - LAYERS];
     }
 }
 
 // The SZs, from the last to the first. One that has no place is not written.
-fn write_over(cs: &[u16], ls: &[u8], bs: &[u32], table: &mut SizeTable)
-    ensures { length table.old ≡ 2000
-        → table.new ≡ overridden_by (overrides_of cs.now ls.now bs.now)
-        table.old }
+fn write_over(overrides: &Overrides, table: &mut SizeTable)
+    ensures { table.new ≡ overridden_by (handed_overrides overrides.now) table.old }
 {
-    let mut i = job::fewest(cs.len(), ls.len(), bs.len());
-    while 0 < i {
-        let k = i - 1;
-        let at = spot_of(cs[k], ls[k] as usize);
+    for i in (0..overrides.whole()).rev() {
+        let at = spot_of(overrides.chunks[i], overrides.layers[i] as usize);
         if at < SIZES {
-            table[at] = bs[k];
-            i = k;
-        } else {
-            i = k;
+            table[at] = overrides.bytes[i];
         }
     }
 }
 
 // The table of all sizes, which a call fills once: read it by size_at.
-pub fn fill_sizes(sizes: &[u32], cs: &[u16], ls: &[u8], bs: &[u32], table: &mut SizeTable)
-    ensures { length table.old ≡ 2000
-        → table.new ≡ sizes_table sizes.now
-        (overrides_of cs.now ls.now bs.now) }
+pub fn fill_sizes(job: &JobInput, table: &mut SizeTable)
+    ensures { table.new ≡ sizes_table job.now.sizes.now (handed_overrides job.now.overrides) }
 {
-    fill_own(sizes, table);
-    write_over(cs, ls, bs, table);
+    fill_own(job.sizes, table);
+    write_over(&job.overrides, table);
 }
 
 // The bytes of layer n of chunk i, out of the table of all sizes. For an accepted job this is its
@@ -82,12 +58,10 @@ pub fn size_at(table: &SizeTable, i: u16, n: usize) -> u32
 {
     if n < LAYERS {
         let at = spot_of(i, n);
-        if at < SIZES {
-            return table[at];
-        }
-        return table[n];
+        if at < SIZES { table[at] } else { table[n] }
+    } else {
+        0
     }
-    0
 }
 
 // The size of layer n of chunk i, for a chunk and a layer of the job.
@@ -95,6 +69,6 @@ pub fn size_in(table: &SizeTable, i: u16, n: usize) -> u32
     requires { Within 1 500 i × (n < 4) }
     ensures { result ≡ table_at table.now i n }
 {
-    let at = (i as usize - 1) * 4 + n;
+    let at = (i as usize - 1) * LAYERS + n;
     table[at]
 }

@@ -27,54 +27,17 @@ pub fn count_layers(marks: &[u8]) -> [u16; 4]
     [base, first, second, third]
 }
 
-// The first n bytes of one slice over those of another.
-pub fn copy8(from: &[u8], n: usize, to: &mut [u8])
+// The first n elements of one slice over those of another.
+pub fn copy_over<T: Copy>(from: &[T], n: usize, to: &mut [T])
     requires { (n ≤ length from.now) × (n ≤ length to.old) }
     ensures { to.new ≡ over (take n from.now) to.old }
 {
-    let mut i: usize = 0;
-    while i < n {
-        to[i] = from[i];
-        i = i + 1;
-    }
-}
-
-// The first n 16-bit numbers of one slice over those of another.
-pub fn copy16(from: &[u16], n: usize, to: &mut [u16])
-    requires { (n ≤ length from.now) × (n ≤ length to.old) }
-    ensures { to.new ≡ over (take n from.now) to.old }
-{
-    let mut i: usize = 0;
-    while i < n {
-        to[i] = from[i];
-        i = i + 1;
-    }
-}
-
-// The first n 32-bit numbers of one slice over those of another.
-pub fn copy32(from: &[u32], n: usize, to: &mut [u32])
-    requires { (n ≤ length from.now) × (n ≤ length to.old) }
-    ensures { to.new ≡ over (take n from.now) to.old }
-{
-    let mut i: usize = 0;
-    while i < n {
-        to[i] = from[i];
-        i = i + 1;
-    }
+    to[..n].copy_from_slice(&from[..n]);
 }
 
 // Whether each of four lengths is at least n.
 pub fn all_at_least(n: usize, a: usize, b: usize, c: usize, d: usize) -> bool
     ensures { result ≡ leb n a && (leb n b && (leb n c && leb n d)) }
 {
-    if a < n {
-        return false;
-    }
-    if b < n {
-        return false;
-    }
-    if c < n {
-        return false;
-    }
-    n <= d
+    n <= a && n <= b && n <= c && n <= d
 }

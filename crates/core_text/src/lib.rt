@@ -12,12 +12,13 @@ pub fn put_number(out: &mut [u8], at: usize, n: u64) -> usize
     ensures { Put out.old at (digits n) out.new result }
 {
     if n < 10 {
-        out[at] = 48 + (n as u8);
-        return at + 1;
+        out[at] = b'0' + n as u8;
+        at + 1
+    } else {
+        let next = put_number(out, at, n / 10);
+        out[next] = b'0' + (n % 10) as u8;
+        next + 1
     }
-    let next = put_number(out, at, n / 10);
-    out[next] = 48 + ((n % 10) as u8);
-    next + 1
 }
 
 // A word goes to out at a place. The place after it.

@@ -1,19 +1,20 @@
 -- Lemmas. The walk by words and the walk by bytes: eight marks as a word, and what is counted so
 -- far. Assumes nothing.
 use Prim.Native.Nat.{ℕ, suc, ◌+◌, ◌*◌, ◌/◌, ◌≤◌, ◌<◌}
-use mathlib.Core.Path.{◌≡◌, sym, ap, ◌∙◌}
-use mathlib.Core.Bool.{cond}
+use mathlib.Core.Path.{◌≡◌, refl, sym, ap, ◌∙◌}
+use mathlib.Core.Bool.{Bool, true, false, cond}
 use mathlib.Core.List.{List, ◌∷◌}
 use native.Mathlib.Omega.{arith}
 use native.Mathlib.Numerals.{add-one, towards_suc}
-use lib.ListN.{length, get_or, take, drop, drop_of_length-le, length-drop}
+use lib.ListN.{length, get_or, take, drop}
 use lib.Seq.{drop-cons}
 use Rattle.theory_basics.specs.Sums.{sum}
-use Rattle.theory_basics.specs.lemmas.Tables.{drop_next}
+use Rattle.std.specs.List.{count_by}
+use Rattle.std.proofs.lemmas.List.Recursion.{is_count_by}
 use Rattle.fetch.specs.Marks.{bit}
-use Rattle.fetch.specs.Counts.{mark_count, word_count, word_of, word_at, over_words, over_rest}
+use Rattle.fetch.specs.Counts.{mark_count, word_count, word_of, word_at, over_words}
 use Rattle.fetch.specs.Words.{word_few}
-use Rattle.fetch.specs.lemmas.Counts.{count_le, eight}
+use Rattle.fetch.specs.lemmas.Counts.{eight}
 
 -- ---- eight marks as a word
 
@@ -58,27 +59,9 @@ module _ {l : List ℕ} {n s k : ℕ} (b : ByWords l n s k) where
 
 -- ---- by bytes
 
-pub record ByBytes (marks : List ℕ) (n sum' at : ℕ) : Type 0 where
-  pub within : at ≤ length marks
-  pub says : sum' + mark_count n (drop at marks) ≡ over_rest n marks
+one_more : (b : Bool) (k : ℕ) → cond b 1 0 + k ≡ cond b (1 + k) k
+one_more true k = refl
+one_more false k = omega arith
 
-pub rest_start : (l : List ℕ) (n : ℕ) → ByBytes l n 0 (length l / 8 * 8)
-unfolding over_rest
-rest_start l n = record { within = omega arith; says = omega arith }
-
-pub rest_le : (l : List ℕ) (n : ℕ) → over_rest n l ≤ 7
-unfolding over_rest
-rest_le l n = omega (arith, count_le n (drop (length l / 8 * 8) l), length-drop (length l / 8 * 8) l)
-
-module _ {l : List ℕ} {n s at : ℕ} (b : ByBytes l n s at) where
-  pub rest_more : {r : ℕ} → at < length l → r ≡ cond (bit (get_or l at 0) n) 1 0 → ByBytes l n (s + r) (at + 1)
-  rest_more h c =
-      let e : mark_count n (drop at l) ≡ cond (bit (get_or l at 0) n) 1 0 + mark_count n (drop (at + 1) l) = rw (drop_next l at h) in
-      record { within = omega arith; says = omega (arith, b.says, e) }
-
-  pub rest_end : length l ≤ at → s ≡ over_rest n l
-  rest_end h = let e : mark_count n (drop at l) ≡ 0 = rw (drop_of_length-le l {i = at} h) in omega (arith, b.says, e)
-
-  -- The odd rest is fewer than eight marks.
-  pub counted_le : s ≤ 7
-  counted_le = omega (arith, b.says, rest_le l n)
+pub counted_by_bit : (n : ℕ) (l : List ℕ) → mark_count n l ≡ count_by (λ m. bit m n) l
+counted_by_bit n = is_count_by (mark_count n) (λ m. bit m n) refl (λ m ms. one_more (bit m n) (mark_count n ms))

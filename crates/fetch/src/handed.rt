@@ -35,13 +35,17 @@ pub struct LentList<'a> {
 }
 
 // Refusal 8 of a list handed with its marks.
+#[tactic(auto, unfolding(crate::specs::Input::list_refusal))]
 pub fn accept_list(count: u16, list: &FetchList) -> Result<(), Refusal>
     ensures { refusal_number result ≡ slices_refusal count (handed_list list.now) }
 {
     let rows = list.rows;
     let n = rows.slots.len();
     let whole = n == rows.chunks.len() && n == rows.layers.len() && n == rows.bytes.len();
-    refuse_unless(list.marks.len() == (count as usize) && whole, Refusal::NotWhole)
+    refuse_unless(
+        list.marks.len() == (count as usize) && whole,
+        Refusal::NotWhole,
+    )
 }
 
 // 21: a slot not from 1 to d(C).

@@ -2,7 +2,7 @@
 // and slots as calls hand them over.
 #![tactic(auto)]
 
-ghost use Rattle.std.specs.Prelude.{◌≡◌, ◌+◌, ◌*◌, ◌^◌, ◌≤◌, ◌<◌, length};
+ghost use Rattle.std.specs.Prelude.{◌≡◌, ◌+◌, ◌*◌, ◌^◌, ◌≤◌, ◌<◌, length, drop, count_by};
 ghost use Rattle.fetch.specs.Marks.{bit, with_layer, without_layer};
 ghost use Rattle.fetch.specs.Counts.{CountMarksPromise, word_count, word_of, over_words, over_rest};
 ghost use Rattle.fetch.specs.lemmas.Counts.{eight};
@@ -79,12 +79,18 @@ fn count_words(marks: &[u8], n: u8) -> usize
     sum
 }
 
+// How many marks from a place on have layer n, one by one.
+fn count_from(marks: &[u8], from: usize, n: u8) -> usize
+    ensures { result ≡ count_by (λ m. bit m n) (drop from marks.now) }
+{
+    marks.iter().skip(from).filter(|&&m| has(m, n)).count()
+}
+
 // The sum over the odd rest, by bytes.
 fn count_rest(marks: &[u8], n: u8) -> usize
     ensures { result ≡ over_rest n marks.now }
 {
-    let rest = &marks[marks.len() / 8 * 8..];
-    rest.iter().filter(|m| has(**m, n)).count()
+    count_from(marks, marks.len() / 8 * 8, n)
 }
 
 // How many marks have layer n, for marks of any length: eight at once, and the odd rest by bytes.
@@ -93,4 +99,3 @@ pub fn count_marks(marks: &[u8], n: u8) -> usize
 {
     count_words(marks, n) + count_rest(marks, n)
 }
-

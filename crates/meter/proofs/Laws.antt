@@ -2,20 +2,29 @@
 -- after a sample. Assumes nothing.
 use Prim.Native.Nat.{ℕ, zero, suc, ◌+◌, ◌-◌, min, ◌≤◌, ◌<◌}
 use mathlib.Core.Path.{◌≡◌, refl, sym, ◌∙◌}
-use mathlib.Core.Bool.{Bool, true, false, not}
+use mathlib.Core.Bool.{Bool, true, false}
 use mathlib.Core.List.{List, [], ◌∷◌, ◌++◌, map, map-append, append_assoc}
 use native.Mathlib.Omega.{arith}
 use native.Mathlib.Numerals.{add-one}
 use lib.ListN.{length, get_or, take, drop, length-append, length-drop, drop_of_length-le}
 use lib.Seq.{drop-cons, take-suc, set_split}
-use lib.Dec.{T_not, ltb, ltb→lt, nltb→le}
+use lib.Dec.{T_not, eqb, ltb, ltb→lt, nltb→le}
 use borrow.Author.Tests.{lt-ltb, le-ltb}
-use Rattle.theory_basics.specs.lemmas.Tests.{by_cond, true_T, answer_true, answer_false}
+use mathlib.Core.Logic.{⊎_elim}
+use Rattle.theory_basics.specs.lemmas.Tests.{by_cond, true_T}
+use Rattle.std.specs.Int.{div_ceil}
+use Rattle.std.proofs.lemmas.Grind.{div_ceil_times}
+use Rattle.std.proofs.Common.{lt_of_mul-lt-mul_right}
+use Rattle.theory_basics.specs.lemmas.Division.{divided_up_enough, divided_up_near}
+use Rattle.theory_basics.specs.Division.{divided_up}
 use Rattle.theory_basics.specs.Lists.{up_to}
 use Rattle.theory_basics.specs.lemmas.Lists.{length_up_to}
 use Rattle.meter.specs.declared.Meter.{Meter}
-use Rattle.meter.specs.declared.Taken.{Taken}
-use Rattle.meter.specs.Meter.{Sample, sample, samples_of, storing, SampleInRange, in_range, last_sample_slot, InOrder, in_order, with_sample, taken}
+use Rattle.std.specs.Prelude.{Result, Ok, Err}
+use Rattle.refusals.specs.declared.Refusal.{Refusal}
+use Rattle.refusals.specs.Numbers.{answered, number_of}
+use Rattle.theory_basics.specs.lemmas.Tests.{test, T_true, not_T_false}
+use Rattle.meter.specs.Meter.{Sample, sample, samples_of, storing, SampleInRange, in_range, last_sample_slot, InOrder, in_order, with_sample, taken, take_answer, take_refusal, UpdatePromise}
 use Rattle.meter.specs.lemmas.Cells.{next_cells}
 use Rattle.meter.proofs.Promises.{few_kept}
 use Rattle.meter.specs.lemmas.Order.{in_order_iff, in_range_iff, test_false, test_true, Fine, fine_snoc, fine_before, last_slot_snoc}
@@ -32,11 +41,11 @@ pub record Looked (m : Meter) (before i : ℕ) : Type 0 where
   pub last : before ≡ last_sample_slot 0 (up_to (cell m) i)
 
 -- What the answer r of the range test says of a sample.
-pub found_in : (x : Sample) (r : Bool) → r ≡ in_range x → not r ≡ false → SampleInRange x
-found_in x r e f = (in_range_iff x).0 (true_T (in_range x) (answer_true r (in_range x) e f))
+pub found_in : (x : Sample) (r : Bool) → r ≡ in_range x → r ≡ true → SampleInRange x
+found_in x r e f = (in_range_iff x).0 (true_T (in_range x) (sym e ∙ f))
 
-pub found_out : (x : Sample) (r : Bool) → r ≡ in_range x → not r ≡ true → SampleInRange x → ⊥
-found_out x r e f w = T_not (in_range x) (rw (answer_false r (in_range x) e f) tt) ((in_range_iff x).1 w)
+pub found_out : (x : Sample) (r : Bool) → r ≡ in_range x → r ≡ false → SampleInRange x → ⊥
+found_out x r e f w = T_not (in_range x) (rw (sym e ∙ f) tt) ((in_range_iff x).1 w)
 
 pub looked_start : (m : Meter) → Looked m 0 0
 looked_start m = record { fine = record { each = tt; rises = tt }; last = refl }
@@ -79,19 +88,19 @@ last_slot_at m (suc n) h =
 
 -- ---- ten cells and one more
 
-pub ten : (l : List ℕ) (v : ℕ) → length l ≡ 10
-    → get_or l 1 0 ∷ get_or l 2 0 ∷ get_or l 3 0 ∷ get_or l 4 0 ∷ get_or l 5 0 ∷ get_or l 6 0 ∷ get_or l 7 0 ∷ get_or l 8 0 ∷ get_or l 9 0 ∷ v ∷ [] ≡ drop 1 l ++ (v ∷ [])
-ten l v h =
+pub ten : {A : Type 0} (l : List A) (v a b c d e f g h i : A) → length l ≡ 10
+    → get_or l 1 a ∷ get_or l 2 b ∷ get_or l 3 c ∷ get_or l 4 d ∷ get_or l 5 e ∷ get_or l 6 f ∷ get_or l 7 g ∷ get_or l 8 h ∷ get_or l 9 i ∷ v ∷ [] ≡ drop 1 l ++ (v ∷ [])
+ten l v a b c d e f g h i n =
     rw (
-      drop-cons l 1 0 (omega arith),
-      drop-cons l 2 0 (omega arith),
-      drop-cons l 3 0 (omega arith),
-      drop-cons l 4 0 (omega arith),
-      drop-cons l 5 0 (omega arith),
-      drop-cons l 6 0 (omega arith),
-      drop-cons l 7 0 (omega arith),
-      drop-cons l 8 0 (omega arith),
-      drop-cons l 9 0 (omega arith),
+      drop-cons l 1 a (omega arith),
+      drop-cons l 2 b (omega arith),
+      drop-cons l 3 c (omega arith),
+      drop-cons l 4 d (omega arith),
+      drop-cons l 5 e (omega arith),
+      drop-cons l 6 f (omega arith),
+      drop-cons l 7 g (omega arith),
+      drop-cons l 8 h (omega arith),
+      drop-cons l 9 i (omega arith),
       drop_of_length-le l {i = 10} (omega arith),
     )
 
@@ -108,9 +117,9 @@ module _ (g : Sample → ℕ) (f : ℕ → Sample) (cells : List ℕ) (held : (k
 
   -- Fewer than ten are kept: the next cell takes the sample, and the others stay. Ten: all move by
   -- one, and it comes last.
-  pub next_cells_lem : (x : Sample) (n : ℕ) → length cells ≡ 10 → n ≤ 10
+  pub next_cells_store : (x : Sample) (n : ℕ) → length cells ≡ 10 → n ≤ 10
       → next_cells cells n (g x) ≡ map g (with_sample (up_to f n) x) ++ drop (length (with_sample (up_to f n) x)) cells
-  next_cells_lem x n full h =
+  next_cells_store x n full h =
       by_cond (λ (l : List ℕ). l ≡ map g (with_sample (up_to f n) x) ++ drop (length (with_sample (up_to f n) x)) cells) (ltb n 10)
       (λ t.
       let few : n < 10 = ltb→lt n 10 t in
@@ -118,7 +127,7 @@ module _ (g : Sample → ℕ) (f : ℕ → Sample) (cells : List ℕ) (held : (k
       (λ t.
       let e : n ≡ 10 = omega (arith, nltb→le n 10 t) in
       rw (e, held 1, held 2, held 3, held 4, held 5, held 6, held 7, held 8, held 9, drop_of_length-le cells {i = 10} (omega arith))
-      (sym (ten cells (g x) full)))
+      (sym (ten cells (g x) 0 0 0 0 0 0 0 0 0 full)))
 
 -- The meter that stores the samples after x, cell by cell.
 pub stored : (m : Meter) (x : Sample) (kept : ℕ) → length m.slots ≡ 10 → length m.bytes ≡ 10 → m.kept ≤ 10
@@ -128,8 +137,8 @@ stored m x kept s b h e =
     let l = up_to (cell m) m.kept ++ (x ∷ []) in
     let k : kept ≡ length (with_sample (samples_of m) x) = omega (arith, length-drop (length l - 10) l, length_snoc (cell m) m.kept x) in
     rw (
-      next_cells_lem (λ x. x.slot) (cell m) m.slots (λ k. refl) x m.kept s h,
-      next_cells_lem (λ x. x.bytes) (cell m) m.bytes (λ k. refl) x m.kept b h,
+      next_cells_store (λ x. x.slot) (cell m) m.slots (λ k. refl) x m.kept s h,
+      next_cells_store (λ x. x.bytes) (cell m) m.bytes (λ k. refl) x m.kept b h,
       k,
     )
 
@@ -139,21 +148,53 @@ module _ (m : Meter) (slot bytes : ℕ) where
   abbrev x : Sample
   x = sample slot bytes
 
-  pub answers_out : in_range x ≡ false → ◌≡◌ {A = Taken} (record { code = 10; meter = m }) (taken m slot bytes)
+  pub answers_out : in_range x ≡ false → Err 10 ≡ take_answer m slot bytes
   unfolding taken
   answers_out e = rw e
 
   module _ (ranged : in_range x ≡ true) where
-    pub answers_disorder : in_order (samples_of m) ≡ false → ◌≡◌ {A = Taken} (record { code = 10; meter = m }) (taken m slot bytes)
+    pub answers_disorder : in_order (samples_of m) ≡ false → Err 10 ≡ take_answer m slot bytes
     unfolding taken
     answers_disorder e = rw (ranged, e)
 
     module _ (ordered : in_order (samples_of m) ≡ true) where
-      pub answers_late : slot ≤ last_sample_slot 0 (samples_of m) → ◌≡◌ {A = Taken} (record { code = 13; meter = m }) (taken m slot bytes)
+      pub answers_late : slot ≤ last_sample_slot 0 (samples_of m) → Err 13 ≡ take_answer m slot bytes
       unfolding taken
       answers_late h = rw (ranged, ordered, le-ltb (last_sample_slot 0 (samples_of m)) slot h)
 
       pub answers_taken : last_sample_slot 0 (samples_of m) < slot
-          → ◌≡◌ {A = Taken} (record { code = 0; meter = storing (with_sample (samples_of m) x) m }) (taken m slot bytes)
+          → Ok (storing (with_sample (samples_of m) x) m) ≡ take_answer m slot bytes
       unfolding taken
       answers_taken h = rw (ranged, ordered, lt-ltb (last_sample_slot 0 (samples_of m)) slot h)
+
+-- ---- a refusal leaves the meter as it was
+
+module _ (m : Meter) (slot bytes : ℕ) (e : Refusal) where
+  told : (n k : ℕ) (y : Meter) → answered n y ≡ Err k → (k ≡ n) × (eqb n 0 ≡ false)
+  told n k y h =
+      ⊎_elim
+      (λ t. absurd (not_both y k (rw (T_true (eqb n 0) t) at h)))
+      (λ t. let f = not_T_false (eqb n 0) t in (sym (same_number_in n k (rw f at h)), f))
+      (test (eqb n 0))
+    where
+      not_both : (y : Meter) (k : ℕ) → ◌≡◌ {A = Result Meter ℕ} (Ok y) (Err k) → ⊥
+      not_both y k h = cc
+
+      same_number_in : (n k : ℕ) → ◌≡◌ {A = Result Meter ℕ} (Err n) (Err k) → n ≡ k
+      same_number_in n k h = cc
+
+  pub stays : Err (number_of e) ≡ take_answer m slot bytes → UpdatePromise m slot bytes (Err e) m
+  unfolding taken
+  stays h =
+      let n = take_refusal (samples_of m) (sample slot bytes) in
+      let t = told n (number_of e) _ (sym h) in
+      record { code = t.0; meter = sym (rw t.1) }
+
+-- ---- quotients rounded up
+
+pub rounded_up : (x z : ℕ) → 0 < z → div_ceil x z ≡ divided_up x z
+rounded_up x z h =
+    let d = div_ceil_times x z h in
+    let a : div_ceil x z < divided_up x z + 1 = lt_of_mul-lt-mul_right z (omega (arith, d.1, divided_up_enough x z h)) in
+    let b : divided_up x z < div_ceil x z + 1 = lt_of_mul-lt-mul_right z (omega (arith, d.0, divided_up_near x z h)) in
+    omega arith

@@ -3,14 +3,18 @@
 // 13.
 #![tactic(auto)]
 
-ghost use Rattle.std.specs.Prelude.{◌≡◌, ◌≤◌, ◌<◌, length};
+ghost use Rattle.std.specs.Prelude.{◌≡◌, ◌≤◌, ◌<◌};
 ghost use Rattle.meter.specs.lemmas.Cells.{next_cells};
 ghost use Rattle.meter.specs.Forecast.{share, bytes_of, forecast_of};
 ghost use Rattle.meter.specs.Calls.{ForecastPromise};
 ghost use Rattle.meter.specs.Meter.{sample, samples_of, storing, empty, in_range, in_order, last_sample_slot};
-ghost use Rattle.meter.specs.Meter.{with_sample, taken, InOrder, UpdatePromise};
+ghost use Rattle.meter.specs.Meter.{with_sample, take_answer, InOrder, UpdatePromise};
+ghost use Rattle.refusals.specs.Numbers.{by_number};
+
+use refusals::Refusal;
 
 // Ten cells, the first `kept` of which hold a sample each, a slot and its bytes, the newest last.
+// Kept: the C interface hands a meter over in this layout, two arrays and a count.
 #[derive(Clone, Copy)]
 pub struct Meter {
     pub slots: [u16; 10],
@@ -18,28 +22,11 @@ pub struct Meter {
     pub kept: u8,
 }
 
-// What a sample handed to a meter gives: 0 or the refusal, and the meter afterwards.
-#[derive(Clone, Copy)]
-pub struct Taken {
-    pub code: u8,
-    pub meter: Meter,
-}
-
-// What a forecast gives: the bytes of a slot, or the refusal.
-#[derive(Clone, Copy)]
-pub enum Answer {
-    Bytes(u32),
-    Refused(u8),
-}
-
 // A sample in range: slot 1 to 65,535, bytes 0 to 16,777,216.
 fn in_range(slot: u16, bytes: u32) -> bool
     ensures { result ≡ in_range (sample slot bytes) }
 {
-    if slot == 0 {
-        return false;
-    }
-    bytes <= 16777216
+    slot != 0 && bytes <= 16777216
 }
 
 // What refusal 10 asks of the kept samples.
@@ -49,20 +36,13 @@ fn in_order(m: Meter) -> bool
     if 10 < m.kept {
         return false;
     }
-    let kept = m.kept as usize;
-    let mut before: u16 = 0;
-    let mut i: usize = 0;
-    while i < kept {
+    let mut before = 0;
+    for i in 0..m.kept as usize {
         let slot = m.slots[i];
-        let bytes = m.bytes[i];
-        if !in_range(slot, bytes) {
-            return false;
-        }
-        if slot <= before {
+        if !in_range(slot, m.bytes[i]) || slot <= before {
             return false;
         }
         before = slot;
-        i += 1;
     }
     true
 }
@@ -72,39 +52,27 @@ fn last_slot(m: Meter) -> u16
     requires { m.kept ≤ 10 }
     ensures { result ≡ last_sample_slot 0 (samples_of m) }
 {
-    let kept = m.kept as usize;
-    if kept == 0 {
-        return 0;
+    if m.kept == 0 {
+        0
+    } else {
+        m.slots[m.kept as usize - 1]
     }
-    let at = kept - 1;
-    m.slots[at]
 }
 
-// The ten slots with one more: it goes into the cell `at`; where all ten are kept, each moves by
-// one and it comes last.
-fn next_slots(a: [u16; 10], at: usize, v: u16) -> [u16; 10]
+// Ten cells with one more: it goes into the cell `at`; where all ten are kept, each moves by one
+// and it comes last.
+fn next_cells<T: Copy>(cells: [T; 10], at: usize, v: T) -> [T; 10]
     requires { at ≤ 10 }
-    ensures { (result ≡ next_cells a at v) × (length a ≡ 10) }
+    ensures { result ≡ next_cells cells at v }
 {
     if at < 10 {
-        let mut next = a;
+        let mut next = cells;
         next[at] = v;
-        return next;
+        next
+    } else {
+        let [_, b, c, d, e, f, g, h, i, j] = cells;
+        [b, c, d, e, f, g, h, i, j, v]
     }
-    [a[1], a[2], a[3], a[4], a[5], a[6], a[7], a[8], a[9], v]
-}
-
-// The bytes of ten samples with one more, which goes where its slot goes in next_slots.
-fn next_bytes(b: [u32; 10], at: usize, v: u32) -> [u32; 10]
-    requires { at ≤ 10 }
-    ensures { (result ≡ next_cells b at v) × (length b ≡ 10) }
-{
-    if at < 10 {
-        let mut next = b;
-        next[at] = v;
-        return next;
-    }
-    [b[1], b[2], b[3], b[4], b[5], b[6], b[7], b[8], b[9], v]
 }
 
 // The sample comes last; where ten are kept, the oldest goes.
@@ -113,13 +81,10 @@ fn keep(m: Meter, slot: u16, bytes: u32) -> Meter
     ensures { result ≡ storing (with_sample (samples_of m) (sample slot bytes)) m }
 {
     let at = m.kept as usize;
-    let slots = m.slots;
-    let cells = m.bytes;
-    let kept = if at < 10 { m.kept + 1 } else { 10 };
     Meter {
-        slots: next_slots(slots, at, slot),
-        bytes: next_bytes(cells, at, bytes),
-        kept,
+        slots: next_cells(m.slots, at, slot),
+        bytes: next_cells(m.bytes, at, bytes),
+        kept: (m.kept + 1).min(10),
     }
 }
 
@@ -131,10 +96,7 @@ fn share(bytes: u32) -> u64
     requires { 0 < bytes }
     ensures { result ≡ share bytes }
 {
-    let divisor = bytes as u64;
-    let rest = divisor - 1;
-    let dividend = WHOLE + rest;
-    dividend / divisor
+    WHOLE.div_ceil(u64::from(bytes))
 }
 
 // The forecast of a meter in order that keeps samples.
@@ -142,19 +104,14 @@ fn mean(m: Meter) -> u32
     requires { InOrder (samples_of m) × (0 < m.kept) }
     ensures { result ≡ forecast_of (bytes_of (samples_of m)) }
 {
-    let kept = m.kept as usize;
     let mut sum: u64 = 0;
-    let mut i: usize = 0;
-    while i < kept {
-        let bytes = m.bytes[i];
-        if bytes == 0 {
+    for bytes in &m.bytes[..m.kept as usize] {
+        if *bytes == 0 {
             return 0;
         }
-        sum += share(bytes);
-        i += 1;
+        sum += share(*bytes);
     }
-    let all = (kept as u64) * WHOLE;
-    (all / sum) as u32
+    (u64::from(m.kept) * WHOLE / sum) as u32
 }
 
 // A meter without samples.
@@ -168,44 +125,37 @@ pub fn new() -> Meter
     }
 }
 
-// A sample by value: the meter after it, or the refusal, 10 or 13, and the meter as it was handed.
-pub fn take(m: Meter, slot: u16, bytes: u32) -> Taken
-    ensures { result ≡ taken m slot bytes }
+// A sample by value: the meter after it, or the refusal, 10 or 13.
+pub fn take(m: Meter, slot: u16, bytes: u32) -> Result<Meter, Refusal>
+    ensures { by_number result ≡ take_answer m slot bytes }
 {
-    if !in_range(slot, bytes) {
-        return Taken { code: 10, meter: m };
-    }
-    if !in_order(m) {
-        return Taken { code: 10, meter: m };
-    }
-    if slot <= last_slot(m) {
-        return Taken { code: 13, meter: m };
-    }
-    Taken {
-        code: 0,
-        meter: keep(m, slot, bytes),
+    if !in_range(slot, bytes) || !in_order(m) {
+        Err(Refusal::Sample)
+    } else if slot <= last_slot(m) {
+        Err(Refusal::LateSample)
+    } else {
+        Ok(keep(m, slot, bytes))
     }
 }
 
 // The forecast by value: the bytes of a slot, or the refusal, 10 or 12.
-pub fn forecast(m: Meter) -> Answer
+pub fn forecast(m: Meter) -> Result<u32, Refusal>
     ensures { ForecastPromise m result }
 {
     if !in_order(m) {
-        return Answer::Refused(10);
+        Err(Refusal::Sample)
+    } else if m.kept == 0 {
+        Err(Refusal::NoSamples)
+    } else {
+        Ok(mean(m))
     }
-    if m.kept == 0 {
-        return Answer::Refused(12);
-    }
-    Answer::Bytes(mean(m))
 }
 
 // "The meter lent by the link reader is brought up to date in its own storage." The lent meter is
-// then the one that `take` answers: on a refusal the meter as it was.
-pub fn update(m: &mut Meter, slot: u16, bytes: u32) -> u8
+// then the one that `take` answers; on a refusal it stays as it was.
+pub fn update(m: &mut Meter, slot: u16, bytes: u32) -> Result<(), Refusal>
     ensures { UpdatePromise m.old slot bytes result m.new }
 {
-    let a = take(*m, slot, bytes);
-    *m = a.meter;
-    a.code
+    *m = take(*m, slot, bytes)?;
+    Ok(())
 }

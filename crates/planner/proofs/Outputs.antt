@@ -1,7 +1,7 @@
 -- Laws on what the public call hands over. Assumes nothing.
 use mathlib.Core.Path.{◌≡◌, refl, sym, ◌∙◌, ap, subst}
-use mathlib.Core.Bool.{Bool, true, false, cond}
-use mathlib.Core.List.{List, [], ◌∷◌}
+use mathlib.Core.Bool.{Bool, true, false}
+use mathlib.Core.List.{List}
 use mathlib.Core.Logic.{⊎_elim}
 use Prim.Native.Nat.{ℕ, ◌≤◌, ◌<◌}
 use native.Mathlib.Omega.{arith}
@@ -29,25 +29,24 @@ use Rattle.core_slices.specs.lemmas.Slices.{Result, rows_hold, Stands}
 use Rattle.core_output.specs.declared.Output.{Output}
 use Rattle.core_output.specs.lemmas.Writing.{Decided, WritePost, own_result}
 use Rattle.core_output.proofs.Writing.{unlaid}
-use Rattle.planner.specs.declared.Answer.TheVariants.{Rows, Refused}
+use Rattle.std.specs.Prelude.{Result as Answer, Ok, Err}
+use Rattle.refusals.specs.declared.Refusal.{Refusal}
+use Rattle.refusals.specs.declared.Refusal.TheVariants.{ShortBuffer}
+use Rattle.refusals.specs.Numbers.{by_number, number_of}
+use Rattle.refusals.specs.Laws.{number_above_0}
 use Rattle.planner.specs.declared.Planned.{Planned}
 use Rattle.planner.specs.Answer.{plan_rows, holds, plan_refusal, OwnListCarries, Pictures, PlanOutput, PlanPromise}
-use Rattle.planner.specs.lemmas.Outputs.{Outputs, short_refusal}
+use Rattle.planner.specs.lemmas.Outputs.{Outputs, laid, short_refusal}
 use Rattle.theory_sensitivity.proofs.Theorems.{steady}
 
 -- ---- what is handed over, by the refusal
 
--- Nothing but a number.
-abbrev pub OnlyNumber : Planned → ℕ → Type 0
-OnlyNumber r k = (r.answer ≡ Refused k) × (r.counts ≡ 0 ∷ 0 ∷ 0 ∷ 0 ∷ [])
-
-module _ (x : Result) {marks slots cs layers bytes : List ℕ} {r : Planned} where
-  pub over_refused : (refused k : ℕ) → refused ≡ k → (k ≡ 0 → ⊥) → OnlyNumber r k → Outputs refused x marks slots cs layers bytes r marks slots cs layers bytes
+module _ (x : Result) {marks slots cs layers bytes : List ℕ} {r : Answer Planned Refusal} where
+  pub over_refused : (refused k : ℕ) → refused ≡ k → (k ≡ 0 → ⊥) → by_number r ≡ Err k → Outputs refused x marks slots cs layers bytes r marks slots cs layers bytes
   over_refused refused k e o n =
       let g : eqb refused 0 ≡ false = ap (λ (n : ℕ). eqb n 0) e ∙ ne_eqb k 0 o in
       record {
-        answer = n.0 ∙ sym (rw (g, e));
-        counts = n.1 ∙ sym (rw g);
+        answer = n ∙ sym (rw (g, e));
         marks_are = sym (rw g);
         slots_are = sym (rw g);
         chunks_are = sym (rw g);
@@ -56,13 +55,12 @@ module _ (x : Result) {marks slots cs layers bytes : List ℕ} {r : Planned} whe
       }
 
   pub over_given :
-      (refused : ℕ) → refused ≡ 0 → {n : ℕ} {counts : List ℕ} → (r.answer ≡ Rows n) × (r.counts ≡ counts) → {marks' slots' cs' layers' bytes' : List ℕ} →
+      (refused : ℕ) → refused ≡ 0 → {n : ℕ} {counts : List ℕ} → by_number r ≡ Ok (record { rows = n; counts = counts }) → {marks' slots' cs' layers' bytes' : List ℕ} →
       Stands x n counts marks slots cs layers bytes marks' slots' cs' layers' bytes' → Outputs refused x marks slots cs layers bytes r marks' slots' cs' layers' bytes'
   over_given refused e a s =
       let g : eqb refused 0 ≡ true = eq-eqb refused 0 e in
       record {
-        answer = a.0 ∙ ap Rows s.rows_are ∙ sym (rw g);
-        counts = a.1 ∙ s.counts_are ∙ sym (rw g);
+        answer = a ∙ rw (s.rows_are, s.counts_are) (sym (rw g));
         marks_are = s.marks_are ∙ sym (rw g);
         slots_are = s.slots_are ∙ sym (rw g);
         chunks_are = s.chunks_are ∙ sym (rw g);
@@ -72,13 +70,13 @@ module _ (x : Result) {marks slots cs layers bytes : List ℕ} {r : Planned} whe
 
   -- Where the marks fit: the rows, or 11.
   pub over_fits :
-      {n : ℕ} {counts : List ℕ} → rows_hold n slots cs layers bytes ≡ true → (r.answer ≡ Rows n) × (r.counts ≡ counts) → {marks' slots' cs' layers' bytes' : List ℕ} →
+      {n : ℕ} {counts : List ℕ} → rows_hold n slots cs layers bytes ≡ true → by_number r ≡ Ok (record { rows = n; counts = counts }) → {marks' slots' cs' layers' bytes' : List ℕ} →
       Stands x n counts marks slots cs layers bytes marks' slots' cs' layers' bytes' →
       Outputs (short_refusal x.rows slots cs layers bytes) x marks slots cs layers bytes r marks' slots' cs' layers' bytes'
   over_fits {n} h a s = over_given (short_refusal x.rows slots cs layers bytes) (ap (λ (m : ℕ). unless 11 (rows_hold m slots cs layers bytes)) (sym s.rows_are) ∙ rw h) a s
 
   pub over_short :
-      {n : ℕ} → n ≡ length x.rows → rows_hold n slots cs layers bytes ≡ false → OnlyNumber r 11 →
+      {n : ℕ} → n ≡ length x.rows → rows_hold n slots cs layers bytes ≡ false → by_number r ≡ Err 11 →
       Outputs (short_refusal x.rows slots cs layers bytes) x marks slots cs layers bytes r marks slots cs layers bytes
   over_short {n} e h o =
       over_refused (short_refusal x.rows slots cs layers bytes) 11 (ap (λ (m : ℕ). unless 11 (rows_hold m slots cs layers bytes)) (sym e) ∙ rw h) (λ z. omega arith) o
@@ -103,15 +101,15 @@ module _
   room v t = ap (λ (n : ℕ). rows_hold n slots cs layers bytes) l.rows ∙ sym l.whole ∙ t
 
   pub over_laid :
-      {r : Planned} → (r.answer ≡ cond made.whole (Rows made.rows) (Refused 11)) × (r.counts ≡ cond made.whole made.counts (0 ∷ 0 ∷ 0 ∷ 0 ∷ [])) →
+      {r : Answer Planned Refusal} → by_number r ≡ laid made →
       Outputs (short_refusal x.rows slots cs layers bytes) x marks slots cs layers bytes r marks' slots' cs' layers' bytes'
   over_laid {r} a =
       ⊎_elim
-      (λ t. let e = T_true made.whole t in over_fits x (room true e) (a.0 ∙ rw e, a.1 ∙ rw e) (stands e))
+      (λ t. let e = T_true made.whole t in over_fits x (room true e) (a ∙ rw e) (stands e))
       (λ t.
       let e = not_T_false made.whole t in
       unlaid l e (λ m s c y b. Outputs (short_refusal x.rows slots cs layers bytes) x marks slots cs layers bytes r m s c y b)
-      (over_short x l.rows (room false e) (a.0 ∙ rw e, a.1 ∙ rw e)))
+      (over_short x l.rows (room false e) (a ∙ rw e)))
       (test made.whole)
 
 -- ---- so for the plan
@@ -128,13 +126,12 @@ module _ (h : JobInput) (marks slots cs layers bytes : List ℕ) where
   lent = slices_of marks slots cs layers bytes
 
   output_by :
-      (refused : ℕ) → plan_refusal h lent ≡ refused → {r : Planned} {marks' slots' cs' layers' bytes' : List ℕ} →
+      (refused : ℕ) → plan_refusal h lent ≡ refused → {r : Answer Planned Refusal} {marks' slots' cs' layers' bytes' : List ℕ} →
       Outputs refused (planned j) marks slots cs layers bytes r marks' slots' cs' layers' bytes' → PlanOutput h (slices_of marks slots cs layers bytes) r (slices_of marks' slots' cs' layers' bytes')
   output_by refused e {r} {marks'} {slots'} {cs'} {layers'} {bytes'} x =
       let y = subst (λ (k : ℕ). Outputs k (planned j) marks slots cs layers bytes r marks' slots' cs' layers' bytes') (sym e) x in
       record {
         answer = y.answer;
-        counts = y.counts;
         marks_are = y.marks_are;
         slots_are = y.slots_are;
         chunks_are = y.chunks_are;
@@ -143,18 +140,20 @@ module _ (h : JobInput) (marks slots cs layers bytes : List ℕ) where
       }
 
   -- 5, 6, 18 or 7.
-  pub refused_input : (k : ℕ) → k ≡ job_refusal h → 0 < k → (r : Planned) → OnlyNumber r k → PlanOutput h (slices_of marks slots cs layers bytes) r (slices_of marks slots cs layers bytes)
-  refused_input k e o r x =
-      output_by k (or_else_some (job_refusal h) (unless 11 (holds j lent)) (λ z. omega arith) ∙ sym e) (over_refused (planned j) k k refl (λ z. omega arith) x)
+  pub refused_input : (e : Refusal) → number_of e ≡ job_refusal h → PlanOutput h (slices_of marks slots cs layers bytes) (Err e) (slices_of marks slots cs layers bytes)
+  refused_input e is =
+      let k = number_of e in
+      let above : k ≡ 0 → ⊥ = λ z. omega (arith, number_above_0 e) in
+      output_by k (or_else_some (job_refusal h) (unless 11 (holds j lent)) (λ z. above (is ∙ z)) ∙ sym is) (over_refused (planned j) k k refl above refl)
 
   -- 11.
-  pub short_marks : job_refusal h ≡ 0 → length marks < chunks j → (r : Planned) → OnlyNumber r 11 → PlanOutput h (slices_of marks slots cs layers bytes) r (slices_of marks slots cs layers bytes)
-  short_marks e f r x =
-      output_by 11 (or_else_none (job_refusal h) (unless 11 (holds j lent)) e ∙ rw (lt-leb (chunks j) (length marks) f)) (over_refused (planned j) 11 11 refl (λ z. omega arith) x)
+  pub short_marks : job_refusal h ≡ 0 → length marks < chunks j → PlanOutput h (slices_of marks slots cs layers bytes) (Err ShortBuffer) (slices_of marks slots cs layers bytes)
+  short_marks e f =
+      output_by 11 (or_else_none (job_refusal h) (unless 11 (holds j lent)) e ∙ rw (lt-leb (chunks j) (length marks) f)) (over_refused (planned j) 11 11 refl (λ z. omega arith) refl)
 
   -- The marks fit: the rows say.
   pub fit_marks :
-      job_refusal h ≡ 0 → chunks j ≤ length marks → {r : Planned} {marks' slots' cs' layers' bytes' : List ℕ} →
+      job_refusal h ≡ 0 → chunks j ≤ length marks → {r : Answer Planned Refusal} {marks' slots' cs' layers' bytes' : List ℕ} →
       Outputs (short_refusal (plan_rows j) slots cs layers bytes) (planned j) marks slots cs layers bytes r marks' slots' cs' layers' bytes' →
       PlanOutput h (slices_of marks slots cs layers bytes) r (slices_of marks' slots' cs' layers' bytes')
   fit_marks e f =
@@ -164,7 +163,7 @@ module _ (h : JobInput) (marks slots cs layers bytes : List ℕ) where
   pub output_laid :
       job_refusal h ≡ 0 → chunks j ≤ length marks → {made : Output} {marks' slots' cs' layers' bytes' : List ℕ} →
       WritePost (planned j) marks slots cs layers bytes made marks' slots' cs' layers' bytes' →
-      (r : Planned) → (r.answer ≡ cond made.whole (Rows made.rows) (Refused 11)) × (r.counts ≡ cond made.whole made.counts (0 ∷ 0 ∷ 0 ∷ 0 ∷ [])) →
+      (r : Answer Planned Refusal) → by_number r ≡ laid made →
       PlanOutput h (slices_of marks slots cs layers bytes) r (slices_of marks' slots' cs' layers' bytes')
   output_laid z fit l r x = fit_marks z fit (over_laid (planned j) l x)
 
@@ -210,7 +209,7 @@ module _ (h : JobInput) (z : job_refusal h ≡ 0) where
       }
 
 -- The rest of the promise needs no look at the code.
-pub promise_of : {h : JobInput} {lent lent' : ListSlices} {r : Planned} → PlanOutput h lent r lent' → PlanPromise h lent r lent'
+pub promise_of : {h : JobInput} {lent lent' : ListSlices} {r : Answer Planned Refusal} → PlanOutput h lent r lent' → PlanPromise h lent r lent'
 promise_of {h} x =
     record {
       output = x;

@@ -1,7 +1,7 @@
 -- Meaning. What the planner's public calls hand over: the plan of a job as document 01 decides and
 -- lists it, or a refusal's number. The plan itself, its marks, counts and own list, and demand 3,
 -- are stated in theory_plan: Statement, Own.
-use Rattle.std.specs.Prelude.{ℕ, ◌≤◌, ◌<◌, ◌≡◌, Bool, cond, List, [], ◌∷◌, map, length, ltb, eqb}
+use Rattle.std.specs.Prelude.{ℕ, ◌≤◌, ◌<◌, ◌≡◌, Bool, cond, List, [], ◌∷◌, map, length, ltb, Result}
 use Rattle.theory_basics.specs.Refusals.{unless, ◌or_else◌}
 use Rattle.job.specs.Job.{EqualBases, EqualChunks, HoldsAll, Job, chunks, layers}
 use Rattle.job.specs.Input.{JobInput, job_in, job_refusal}
@@ -12,10 +12,10 @@ use Rattle.theory_plan.specs.Own.{Ascending, own_list}
 use Rattle.theory_plan.specs.Plan.{plan}
 use Rattle.theory_plan.specs.Statement.{BasesMooreHodgson, Best, IsPlan, MostPictures, Same as SameChoice, SettledByTrials, count_of, counts_of, marks_of}
 use Rattle.theory_sensitivity.specs.Statement.{Steady}
-use Rattle.planner.specs.declared.Answer.{Answer}
-use Rattle.planner.specs.declared.Answer.TheVariants.{Rows, Refused}
-use Rattle.planner.specs.declared.Order.{Order}
-use Rattle.planner.specs.declared.Order.TheVariants.{Less, Same, More}
+use Rattle.refusals.specs.declared.Refusal.{Refusal}
+use Rattle.refusals.specs.Numbers.{answered, by_number}
+use Rattle.std.specs.declared.cmp.Ordering.{Ordering}
+use Rattle.std.specs.declared.cmp.Ordering.TheVariants.{Less, Equal, Greater}
 use Rattle.planner.specs.declared.Planned.{Planned}
 use Rattle.theory_basics.specs.Lent.{lent_after}
 
@@ -32,29 +32,20 @@ holds j lent = room lent (chunks j) (length (plan_rows j))
 abbrev pub plan_refusal : JobInput → ListSlices → ℕ
 plan_refusal h l = job_refusal h or_else unless 11 (holds (job_in h) l)
 
--- The plan is handed over.
-abbrev pub given : JobInput → ListSlices → Bool
-given h l = eqb (plan_refusal h l) 0
-
--- How many rows, or the refusal's number.
-abbrev pub answer_of : JobInput → ListSlices → Answer
-answer_of h l = cond (given h l) (Rows (length (plan_rows (job_in h)))) (Refused (plan_refusal h l))
-
--- The four counts; zeros beside a refusal.
-abbrev pub plan_counts : JobInput → ListSlices → List ℕ
-plan_counts h l = cond (given h l) (counts_of (job_in h) (plan (job_in h))) (0 ∷ 0 ∷ 0 ∷ 0 ∷ [])
+-- How many rows, and the four counts: "The four layer counts say how many chunks carry each layer,
+-- 0 for absent layers."
+abbrev pub plan_numbers : Job → Planned
+plan_numbers j = record { rows = length (plan_rows j); counts = counts_of j (plan j) }
 
 -- A lent slice at exit: the result, then the old contents; on a refusal the old contents alone.
 abbrev pub slice_after : JobInput → ListSlices → List ℕ → List ℕ → List ℕ
 slice_after h l result old = lent_after (plan_refusal h l) result old
 
 -- What a call of the planner hands over, and what it leaves in the lent slices.
-pub record PlanOutput (h : JobInput) (lent : ListSlices) (r : Planned) (lent' : ListSlices) : Type 0 where
+pub record PlanOutput (h : JobInput) (lent : ListSlices) (r : Result Planned Refusal) (lent' : ListSlices) : Type 0 where
   -- "The marks, rows and counts that the planner, lent enough room, hands over for the job alone",
-  -- or a refusal's number alone. The answer says how many rows, or that number.
-  pub answer : r.answer ≡ answer_of h lent
-  -- "The four layer counts say how many chunks carry each layer, 0 for absent layers."
-  pub counts : r.counts ≡ plan_counts h lent
+  -- or a refusal's number alone.
+  pub answer : by_number r ≡ answered (plan_refusal h lent) (plan_numbers (job_in h))
   -- The marks; in the lent slices "the bytes past the result stay unchanged", on a refusal all of
   -- them.
   pub marks_are : lent'.marks ≡ slice_after h lent (marks_of (job_in h) (plan (job_in h))) lent.marks
@@ -90,7 +81,7 @@ pub record Pictures (j : Job) (choice : ℕ → ℕ) : Type 0 where
 
 -- The promise of `plan`: for every input, what is handed over (`output`); and for every accepted
 -- job what document 01 and requests 9 and 10 say of it.
-pub record PlanPromise (h : JobInput) (lent : ListSlices) (r : Planned) (lent' : ListSlices) : Type 0 where
+pub record PlanPromise (h : JobInput) (lent : ListSlices) (r : Result Planned Refusal) (lent' : ListSlices) : Type 0 where
   -- The plan's marks, rows and counts, or the refusal's number; every lent byte, on a refusal too.
   pub output : PlanOutput h lent r lent'
   -- "The plan carries a layer of a chunk if and only if, beside the layers already settled, some
@@ -110,7 +101,7 @@ pub record PlanPromise (h : JobInput) (lent : ListSlices) (r : Planned) (lent' :
   pub steady : job_refusal h ≡ 0 → EqualChunks (job_in h) → Steady (job_in h) (λ k. counts_of k (plan k))
 
 -- Counts "compared entry by entry from the base": at the first entry where they differ.
-abbrev pub compared : List ℕ → List ℕ → Order
-compared [] bs = Same
-compared (a ∷ as') [] = Same
-compared (a ∷ as') (b ∷ bs) = cond (ltb a b) Less (cond (ltb b a) More (compared as' bs))
+abbrev pub compared : List ℕ → List ℕ → Ordering
+compared [] bs = Equal
+compared (a ∷ as') [] = Equal
+compared (a ∷ as') (b ∷ bs) = cond (ltb a b) Less (cond (ltb b a) Greater (compared as' bs))

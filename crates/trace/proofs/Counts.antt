@@ -1,21 +1,27 @@
--- Laws on the table of counts: a line in no slot, the test of its first places, the forecast made
--- of them. Assumes nothing.
-use Prim.Native.Nat.{ℕ, suc, ◌+◌, ◌*◌, ◌-◌, ◌/◌, ◌≤◌, ◌<◌, min}
+-- Laws on the table of counts: one more line, a line in no slot, what the test of 15 says of a
+-- count, the forecast made of them. Assumes nothing.
+use Prim.Native.Nat.{ℕ, ◌+◌, ◌*◌, ◌/◌, ◌≤◌, ◌<◌, min}
 use mathlib.Core.Path.{◌≡◌, refl, sym, ap, ◌∙◌}
-use mathlib.Core.Bool.{true, false}
+use mathlib.Core.Bool.{true}
 use mathlib.Core.List.{List, [], ◌∷◌, ◌++◌}
 use native.Mathlib.Omega.{arith}
 use native.Mathlib.Numerals.{add-one}
-use lib.ListN.{length, get_or, set, take, drop, length-set, length-map}
-use lib.Seq.{drop-cons, get_or-take, length-take-le, set_out, take-suc}
+use lib.ListN.{length, get_or, set, take, length-set, length-map}
+use lib.Seq.{get_or-take, length-take-le, set_out, take-suc}
 use lib.Dec.{leb, leb→le}
-use borrow.Author.Tests.{le-leb, lt-leb}
 use Rattle.theory_basics.specs.Lent.{over}
 use Rattle.theory_basics.proofs.Lent.{map_snoc, over_next}
 use Rattle.theory_basics.specs.lemmas.Tables.{all_at}
 use Rattle.theory_basics.specs.lemmas.Tests.{all_All, true_T}
 use Rattle.trace.specs.lemmas.Tally.{bump}
 use Rattle.trace.specs.lemmas.Passes.{few_lines, lines_forecast}
+
+-- One more, up to 11,185.
+pub bump_more : (counts : List ℕ) (t : ℕ) → bump 11185 counts t ≡ set counts (t / 1000) (min (get_or counts (t / 1000) 0) 11184 + 1)
+bump_more counts t =
+    let n = get_or counts (t / 1000) 0 in
+    let e : min 11185 (n + 1) ≡ min n 11184 + 1 = omega arith in
+    rw e
 
 -- A time after the last slot.
 pub bump_past : (counts : List ℕ) (t : ℕ) → length counts ≤ t / 1000 → bump 11185 counts t ≡ counts
@@ -29,31 +35,6 @@ few_at counts slots k l s e h =
     let a = all_All (λ n. leb n 11184) (λ n. n ≤ 11184) (λ n t. leb→le n 11184 t) first (true_T (few_lines first) e) in
     let n : length first ≡ slots = length-take-le slots counts (omega arith) in
     rw get_or-take at (all_at (λ n. n ≤ 11184) first k (omega arith) a)
-
--- The places from k on decide.
-pub record Testing (counts : List ℕ) (slots k : ℕ) : Type 0 where
-  pub inside : k ≤ slots
-  pub says : few_lines (take slots counts) ≡ few_lines (take (slots - k) (drop k counts))
-
-pub testing_start : (counts : List ℕ) (slots : ℕ) → Testing counts slots 0
-testing_start counts slots = let e : slots - 0 ≡ slots = omega arith in record { inside = omega arith; says = rw e }
-
-module _ (counts : List ℕ) (slots k : ℕ) (t : Testing counts slots k) where
-  module _ (here : k < slots) (room : slots ≤ length counts) where
-    next : take (slots - k) (drop k counts) ≡ get_or counts k 0 ∷ take (slots - (k + 1)) (drop (k + 1) counts)
-    next =
-        let e : slots - k ≡ suc (slots - (k + 1)) = omega arith in
-        let l : k < length counts = omega arith in
-        rw (e, add-one, drop-cons counts k 0)
-
-    pub testing_more : get_or counts k 0 ≤ 11184 → Testing counts slots (k + 1)
-    testing_more h = record { inside = omega arith; says = t.says ∙ ap few_lines next ∙ rw (le-leb (get_or counts k 0) 11184 h) }
-
-    pub testing_many : 11184 < get_or counts k 0 → false ≡ few_lines (take slots counts)
-    testing_many h = sym (t.says ∙ ap few_lines next ∙ rw (lt-leb (get_or counts k 0) 11184 h))
-
-  pub testing_end : slots ≤ k → true ≡ few_lines (take slots counts)
-  testing_end h = let e : slots - k ≡ 0 = omega arith in sym (t.says ∙ rw e)
 
 -- ---- the forecast
 

@@ -1,61 +1,14 @@
--- Laws on lines in a buffer: a copy behind itself, and lines of one time that double. Assumes
--- nothing.
+-- Laws on lines in a buffer: lines of one time that double. Assumes nothing.
 use Prim.Native.Nat.{ℕ, zero, suc, ◌+◌, ◌*◌, ◌-◌, ◌≤◌, ◌<◌, min}
 use mathlib.Core.Path.{◌≡◌, refl, sym, ap, ◌∙◌}
 use mathlib.Core.List.{List, [], ◌∷◌, ◌++◌, append_assoc}
 use native.Mathlib.Omega.{arith}
 use native.Mathlib.Nat.{mul-le-mul_right}
-use native.Mathlib.Numerals.{add-one}
-use lib.ListN.{length, get_or, take, drop, set, replicate, length-append, length-set, length-drop, replicate-append-replicate, get_or-append}
-use lib.Seq.{take-length, paste, paste-zero, paste-suc, length-take-le, get_or-take, get_or-drop, take_at, drop_at, drop-append-add, drop-drop}
+use lib.ListN.{length, take, drop, replicate, length-append, replicate-append-replicate}
+use lib.Seq.{length-take-le, take_at, drop_at, drop-append-add, drop-drop}
 use Rattle.trace.specs.Trace.{lines_bytes}
 use Rattle.records.specs.lemmas.Puts.{written_fits}
 use Rattle.core_text.specs.lemmas.Places.{Put, put_between, put_length, put_none, put_then}
-
--- ---- a copy
-
-pub record Copying (old : List ℕ) (from to n : ℕ) (out : List ℕ) (i : ℕ) : Type 0 where
-  pub inside : i ≤ n
-  pub long : length out ≡ length old
-  pub says : out ≡ paste old to (take n (drop from old)) i
-
-module _ (old : List ℕ) (from to n : ℕ) (apart : from + n ≤ to) (room : to + n ≤ length old) where
-  pub source_long : length (take n (drop from old)) ≡ n
-  source_long = length-take-le n (drop from old) (rw length-drop (omega arith))
-
-  pub copying_start : Copying old from to n old 0
-  copying_start = record { inside = omega arith; long = refl; says = paste-zero old to (take n (drop from old)) }
-
-  module _ (out : List ℕ) (i : ℕ) (c : Copying old from to n out i) where
-    -- What is read is still the old.
-    same : i < n → get_or out (from + i) 0 ≡ get_or (take n (drop from old)) i 0
-    same h =
-        let s = take n (drop from old) in
-        let k : length (take to old) ≡ to = length-take-le to old (omega arith) in
-        rw c.says
-        (ap (λ (l : List ℕ). get_or l (from + i) 0) (append_assoc (take to old) (take i s) (drop (to + i) old))
-        ∙ get_or-append (take to old) (take i s ++ drop (to + i) old) 0 (from + i) (omega (arith, k))
-        ∙ get_or-take to old (from + i) 0 (omega arith)
-        ∙ sym (get_or-drop from old i 0)
-        ∙ sym (get_or-take n (drop from old) i 0 h))
-
-    pub copying_more : i < n → Copying old from to n (set out (to + i) (get_or out (from + i) 0)) (i + 1)
-    copying_more h =
-        let s = take n (drop from old) in
-        record {
-          inside = omega arith;
-          long = simp length-set c.long;
-          says = rw (same h, add-one) (ap (λ (l : List ℕ). set l (to + i) (get_or s i 0)) c.says ∙ paste-suc old to s i 0 (omega arith) (omega (arith, source_long)));
-        }
-
-    pub copying_end : n ≤ i → Put old to (take n (drop from old)) out (to + i)
-    copying_end h =
-        let s = take n (drop from old) in
-        let e : i ≡ length s = omega (arith, c.inside, source_long) in
-        record {
-          buffer = c.says ∙ rw e (ap (λ (l : List ℕ). (take to old ++ l) ++ drop (to + length s) old) (take-length s) ∙ sym (written_fits old to s (omega (arith, source_long))));
-          place = rw e;
-        }
 
 -- ---- lines of one time
 

@@ -1,16 +1,16 @@
 -- Laws on the pass over the trace: what is read and counted so far, and the rest of the bytes, give
 -- the whole. Assumes nothing.
-use Prim.Native.Nat.{ℕ, ◌+◌, ◌*◌, ◌-◌, ◌/◌, ◌^◌, ◌≤◌, ◌<◌, min}
+use Prim.Native.Nat.{ℕ, ◌+◌, ◌*◌, ◌-◌, ◌^◌, ◌≤◌, ◌<◌, min}
 use mathlib.Core.Path.{◌≡◌, refl, sym, ap, ◌∙◌}
-use mathlib.Core.Bool.{Bool, true, false, not, ◌&&◌, and-false}
+use mathlib.Core.Bool.{Bool, true, false, ◌&&◌, and-false}
 use mathlib.Core.List.{List, [], ◌∷◌}
 use mathlib.Core.Logic.{⊎_elim}
 use native.Mathlib.Omega.{arith}
 use native.Mathlib.Nat.{pow-suc, pow-le-pow_right}
 use native.Mathlib.Numerals.{add-one}
-use lib.ListN.{length, get_or, drop, length-set, drop_of_length-le}
+use lib.ListN.{length, get_or, drop, drop_of_length-le}
 use lib.Dec.{ltb, eqb, eqb→eq, ltb→lt, nltb→le}
-use borrow.Author.Tests.{le-leb, lt-leb, ne_eqb, not-true, not-false}
+use borrow.Author.Tests.{le-leb, lt-leb, ne_eqb}
 use Rattle.theory_basics.specs.lemmas.Tables.{drop_next}
 use Rattle.theory_basics.specs.lemmas.Tests.{T_true, not_T_false, test, true_T, tests, neqb_ne}
 use Rattle.trace.specs.lemmas.Scan.{Scanned, scan, scan_bad, scan_long}
@@ -28,11 +28,11 @@ scan_digit n v t b bs h =
 scan_other : (n v t b : ℕ) (bs : List ℕ) → within 48 57 b ≡ false → (b ≡ 10 → ⊥) → (scan n v true t (b ∷ bs)).fine ≡ false
 scan_other n v t b bs h o = rw (ne_eqb b 10 o, h) (scan_bad (n + 1) (v * 10 + (b - 48)) t bs (omega arith))
 
-pub digit_low : (b : ℕ) (r : Bool) → r ≡ within 48 57 b → not r ≡ false → 48 ≤ b
-digit_low b r is h = let u = simp tests at (true_T (within 48 57 b) (sym is ∙ not-false r h)) in u.0
+pub digit_low : (b : ℕ) (r : Bool) → r ≡ within 48 57 b → r ≡ true → 48 ≤ b
+digit_low b r is h = let u = simp tests at (true_T (within 48 57 b) (sym is ∙ h)) in u.0
 
-pub digit_high : (b : ℕ) (r : Bool) → r ≡ within 48 57 b → not r ≡ false → b ≤ 57
-digit_high b r is h = let u = simp tests at (true_T (within 48 57 b) (sym is ∙ not-false r h)) in u.1
+pub digit_high : (b : ℕ) (r : Bool) → r ≡ within 48 57 b → r ≡ true → b ≤ 57
+digit_high b r is h = let u = simp tests at (true_T (within 48 57 b) (sym is ∙ h)) in u.1
 
 -- ---- the digits of a line
 
@@ -51,16 +51,16 @@ module _ (trace : List ℕ) (from end value next : ℕ) (r : Reading trace from 
   pub reading_end : end ≤ next → DigitsRead trace from end value next
   reading_end h = record { low = r.low; high = r.high; small = r.small; says = r.says; stops = λ l. absurd (omega arith) }
 
-  pub reading_stop : (b : Bool) → b ≡ within 48 57 (get_or trace next 0) → not b ≡ true → DigitsRead trace from end value next
-  reading_stop b is h = record { low = r.low; high = r.high; small = r.small; says = r.says; stops = λ l. sym is ∙ not-true b h }
+  pub reading_stop : (b : Bool) → b ≡ within 48 57 (get_or trace next 0) → b ≡ false → DigitsRead trace from end value next
+  reading_stop b is h = record { low = r.low; high = r.high; small = r.small; says = r.says; stops = λ l. sym is ∙ h }
 
   module _ (few : end ≤ from + 7) (here : next < end) where
     pub value_small : value < 1000000
     value_small = let l : next - from ≤ 6 = omega (arith, r.low) in omega (arith, r.small, pow-le-pow_right {n = 10} (omega arith) l)
 
-    pub reading_more : end ≤ length trace → (b : Bool) → b ≡ within 48 57 (get_or trace next 0) → not b ≡ false → Reading trace from end (value * 10 + (get_or trace next 0 - 48)) (next + 1)
+    pub reading_more : end ≤ length trace → (b : Bool) → b ≡ within 48 57 (get_or trace next 0) → b ≡ true → Reading trace from end (value * 10 + (get_or trace next 0 - 48)) (next + 1)
     reading_more inside b is h =
-        let d = sym is ∙ not-false b h in
+        let d = sym is ∙ h in
         let e : next + 1 - from ≡ next - from + 1 = omega (arith, r.low) in
         let p : 10 ^ (next - from + 1) ≡ 10 ^ (next - from) * 10 = rw (add-one (next - from)) (pow-suc 10 (next - from)) in
         record {
@@ -76,23 +76,22 @@ pub record Scanning (trace old counts : List ℕ) (i t : ℕ) : Type 0 where
   pub inside : i ≤ length trace
   pub fine : (scan 0 0 true 0 trace).fine ≡ (scan 0 0 true t (drop i trace)).fine
   pub times : tally 11185 old (scan 0 0 true 0 trace).times ≡ tally 11185 counts (scan 0 0 true t (drop i trace)).times
-  pub long : length counts ≡ 3600
 
-pub scanning_start : (trace old : List ℕ) → length old ≡ 3600 → Scanning trace old old 0 0
-scanning_start trace old h = record { inside = omega arith; fine = refl; times = refl; long = h }
+pub scanning_start : (trace old : List ℕ) → Scanning trace old old 0 0
+scanning_start trace old = record { inside = omega arith; fine = refl; times = refl }
 
 module _ (trace old counts : List ℕ) (i t : ℕ) (s : Scanning trace old counts i t) where
   pub scanning_end : length trace ≤ i → Counted trace old counts true
   scanning_end h =
       let e : drop i trace ≡ [] = drop_of_length-le trace {i = i} h in
-      record { long = s.long; fine = sym (s.fine ∙ rw e); counts = λ u. sym (s.times ∙ rw e) }
+      record { fine = sym (s.fine ∙ rw e); counts = λ u. sym (s.times ∙ rw e) }
 
   module _ (here : i < length trace) (end v next : ℕ) (seven : end ≡ min (i + 7) (length trace)) (d : DigitsRead trace i end v next) where
     abbrev n : ℕ
     n = next - i
 
     broken : (scan n v true t (drop next trace)).fine ≡ false → Counted trace old counts false
-    broken e = record { long = s.long; fine = sym (s.fine ∙ ap (λ (x : Scanned). x.fine) (d.says t) ∙ e); counts = λ u. absurd u }
+    broken e = record { fine = sym (s.fine ∙ ap (λ (x : Scanned). x.fine) (d.says t) ∙ e); counts = λ u. absurd u }
 
     -- A byte that is no digit, other than a line feed.
     no_digit : next < length trace → within 48 57 (get_or trace next 0) ≡ false → (get_or trace next 0 ≡ 10 → ⊥) → Counted trace old counts false
@@ -164,5 +163,4 @@ module _ (trace old counts : List ℕ) (i t : ℕ) (s : Scanning trace old count
                 s.times
                 ∙ ap (λ (x : Scanned). tally 11185 counts x.times) (d.says t)
                 ∙ ap (λ (bs : List ℕ). tally 11185 counts (scan n v true t bs).times) at_feed;
-            long = length-set counts (v / 1000) (min 11185 (get_or counts (v / 1000) 0 + 1)) ∙ s.long;
           }

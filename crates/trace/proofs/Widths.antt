@@ -1,46 +1,15 @@
--- Laws on a forecast to be written: whole lines, the bytes of a line, of all lines. Assumes
--- nothing.
+-- Laws on a forecast to be written: the bytes of a line, of all lines. Assumes nothing.
 use Prim.Native.Nat.{ℕ, ◌+◌, ◌*◌, ◌/◌, ◌≤◌, ◌<◌}
-use mathlib.Core.Path.{◌≡◌, refl, sym, ap, ◌∙◌}
-use mathlib.Core.Bool.{Bool, true, false, not}
-use mathlib.Core.List.{List, ◌∷◌}
+use mathlib.Core.Path.{◌≡◌, ap}
+use mathlib.Core.List.{List}
 use native.Mathlib.Omega.{arith}
 use native.Mathlib.Nat.{mul-le-mul}
 use native.Mathlib.Numerals.{add-one}
 use lib.ListN.{length, get_or, drop, drop_of_length-le}
 use lib.Seq.{drop-cons}
-use borrow.Author.Tests.{not-true, not-false}
-use Rattle.theory_basics.specs.Tests.{all}
-use Rattle.theory_basics.specs.lemmas.Tables.{drop_next}
 use Rattle.theory_basics.specs.lemmas.Digits.{digits_one, digits_length}
 use Rattle.trace.specs.lemmas.Tally.{width_from}
 use Rattle.theory_basics.specs.Text.{digits}
-use Rattle.trace.specs.Trace.{writable}
-
--- ---- whole lines
-
--- The slots from t on decide.
-pub record Trying (f : List ℕ) (t : ℕ) : Type 0 where
-  pub inside : t ≤ length f
-  pub says : all writable f ≡ all writable (drop t f)
-
-pub trying_start : (f : List ℕ) → Trying f 0
-trying_start f = record { inside = omega arith; says = refl }
-
-module _ (f : List ℕ) (t : ℕ) (s : Trying f t) where
-  pub trying_end : length f ≤ t → true ≡ all writable f
-  trying_end h = sym (s.says ∙ ap (all writable) (drop_of_length-le f {i = t} h))
-
-  module _ (here : t < length f) (r : Bool) (is : r ≡ writable (get_or f t 0)) where
-    next : all writable f ≡ all writable (get_or f t 0 ∷ drop (t + 1) f)
-    next =
-        s.says ∙ ap (all writable) (drop_next f t here)
-
-    pub trying_no : not r ≡ true → false ≡ all writable f
-    trying_no e = sym (next ∙ rw (sym is, not-true r e))
-
-    pub trying_more : not r ≡ false → Trying f (t + 1)
-    trying_more e = record { inside = omega arith; says = next ∙ rw (sym is, not-false r e) }
 
 -- ---- the bytes of a line
 

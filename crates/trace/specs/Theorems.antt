@@ -43,7 +43,7 @@ lines_unique trace a b m n = sym (means_found trace a m) ∙ means_found trace b
 pub record Readable (slots : ℕ) (trace : List ℕ) : Type 0 where
   pub slots_in : Within 1 3600 slots
   pub is_lines : IsLines trace
-  pub bytes_in_lem : All (Within 0 16777216) (forecast_of slots trace)
+  pub bytes_within : All (Within 0 16777216) (forecast_of slots trace)
 
 slots_iff : (slots : ℕ) → (slots_refusal slots ≡ 0) ↔ Within 1 3600 slots
 slots_iff slots = unless_as 7 (within 1 3600 slots) (omega arith) (within_iff 1 3600 slots)
@@ -58,8 +58,8 @@ read_iff slots trace =
     let r =
     or_else_as (slots_refusal slots) (lines_refusal trace or_else above_refusal (forecast_of slots trace)) (slots_iff slots)
     (or_else_as (lines_refusal trace) (above_refusal (forecast_of slots trace)) (fourteen_iff trace) (above_iff (forecast_of slots trace))) in (
-      λ e. let u = r.0 e in record { slots_in = u.0; is_lines = u.1.0; bytes_in_lem = u.1.1 },
-      λ u. r.1 (u.slots_in, (u.is_lines, u.bytes_in_lem)),
+      λ e. let u = r.0 e in record { slots_in = u.0; is_lines = u.1.0; bytes_within = u.1.1 },
+      λ u. r.1 (u.slots_in, (u.is_lines, u.bytes_within)),
     )
 
 -- A slot that can be written: at most 16,777,216 bytes, "multiples of 1,500".
@@ -91,11 +91,11 @@ unfolding forecast_of
 forecast_slots slots trace = length_up_to _ slots
 
 -- "Slot j gets 1,500 times the lines from (j − 1) × 1,000 up to, but not including, j × 1,000."
-pub slot_bytes_lem :
+pub slot_bytes_are :
     (slots : ℕ) (trace : List ℕ) (ls : List (List ℕ)) → Means trace ls → (j : ℕ) → 1 ≤ j → j ≤ slots →
     get_or (forecast_of slots trace) (j - 1) 0 ≡ 1500 * how_many (in_slot j) (map time ls)
 unfolding forecast_of times
-slot_bytes_lem slots trace ls m j g h =
+slot_bytes_are slots trace ls m j g h =
     let e : j - 1 + 1 ≡ j = omega arith in
     rw e at (get_d_up_to (λ k. slot_bytes (times trace) (k + 1)) slots (j - 1) 0 (omega arith))
     ∙ ap (λ (k : List (List ℕ)). 1500 * how_many (in_slot j) (map time k)) (means_found trace ls m)
@@ -115,7 +115,7 @@ empty_read slots w =
     (read_iff slots []).1 (record {
       slots_in = w;
       is_lines = record { lines = []; means = record { bytes = refl; each = tt; rises = tt } };
-      bytes_in_lem = subst (All (Within 0 16777216)) (sym (empty_zeros slots)) (All_replicate (Within 0 16777216) slots 0 (record { low = omega arith; high = omega arith }));
+      bytes_within = subst (All (Within 0 16777216)) (sym (empty_zeros slots)) (All_replicate (Within 0 16777216) slots 0 (record { low = omega arith; high = omega arith }));
     })
 
 -- ---- what is written
@@ -157,7 +157,7 @@ reads_back f e =
     let q : i + 1 - 1 ≡ i = omega arith in
     let z : 0 + i ≡ i = omega arith in
     let c : get_or (forecast_of (length f) (trace_of f)) i 0 ≡ 1500 * how_many (in_slot (i + 1)) (map time (lines_from 0 f)) =
-    rw q at (slot_bytes_lem (length f) (trace_of f) (lines_from 0 f) m (i + 1) (omega arith) (omega arith)) in
+    rw q at (slot_bytes_are (length f) (trace_of f) (lines_from 0 f) m (i + 1) (omega arith) (omega arith)) in
     let a : how_many (in_slot (i + 1)) (times_from 0 f) ≡ get_or f i 0 / 1500 = rw z at (many_at i 0 f) in
     let b : how_many (in_slot (i + 1)) (map time (lines_from 0 f)) ≡ get_or f i 0 / 1500 = ap (how_many (in_slot (i + 1))) (times_are 0 f) ∙ a in
     omega (arith, c, b, (all_at WholeLines f i l u.each).multiple))
@@ -169,5 +169,5 @@ never_refused f e =
     (read_iff (length f) (trace_of f)).1 (record {
       slots_in = u.slots_in;
       is_lines = record { lines = lines_from 0 f; means = written_means f u.slots_in.high };
-      bytes_in_lem = subst (All (Within 0 16777216)) (sym (reads_back f e)) (all_map WholeLines (Within 0 16777216) f (λ b l. record { low = omega arith; high = l.high }) u.each);
+      bytes_within = subst (All (Within 0 16777216)) (sym (reads_back f e)) (all_map WholeLines (Within 0 16777216) f (λ b l. record { low = omega arith; high = l.high }) u.each);
     })

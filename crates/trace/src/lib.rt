@@ -4,27 +4,19 @@
 #![tactic(auto)]
 
 use job::{MOST_BYTES, SLOTS};
-use records::Written;
+use refusals::Refusal;
 
 mod repeated;
 
-ghost use Rattle.std.specs.Prelude.{◌≡◌, true, ◌+◌, ◌*◌, ◌≤◌, ◌<◌, min, length, take};
+ghost use Rattle.std.specs.Prelude.{◌≡◌, true, ◌+◌, ◌*◌, ◌≤◌, ◌<◌, length, take};
 ghost use Rattle.theory_basics.specs.Lent.{over};
 ghost use Rattle.theory_basics.specs.Tests.{all};
 ghost use Rattle.theory_basics.specs.Text.{digits};
-ghost use Rattle.job.specs.Refusal.{within};
 ghost use Rattle.core_text.specs.lemmas.Places.{Put};
 ghost use Rattle.trace.specs.Answer.{TraceReadPromise, TraceWritePromise};
 ghost use Rattle.trace.specs.Trace.{trace_of, writable};
 ghost use Rattle.trace.specs.lemmas.Passes.{Counted, DigitsRead, few_lines, lines_forecast};
 ghost use Rattle.trace.specs.lemmas.Tally.{bump, width_from};
-
-// What reading a trace gives: the number of slots in the lent forecast, or a refusal.
-#[derive(Clone, Copy)]
-pub enum TraceRead {
-    Slots(usize),
-    Refused(u8),
-}
 
 // The number that digits say, and the place after them.
 #[derive(Clone, Copy)]
@@ -33,34 +25,13 @@ struct Digits {
     pub next: usize,
 }
 
-// The byte is an ASCII digit.
-fn is_digit(b: u8) -> bool
-    ensures { result ≡ within 48 57 b }
-{
-    if b < 48 {
-        return false;
-    }
-    b <= 57
-}
-
-// One more, up to 11,185.
-fn one_more(n: u32) -> u32
-    ensures { result ≡ min 11185 (n + 1) }
-{
-    if n < 11185 {
-        return n + 1;
-    }
-    11185
-}
-
 // A line is counted in the slot of its time; a time after the last slot changes nothing.
 fn count_line(counts: &mut [u32; SLOTS], time: u32)
-    requires { length counts.old ≡ 3600 }
     ensures { counts.new ≡ bump 11185 counts.old time }
 {
     let k = (time / 1000) as usize;
     if k < SLOTS {
-        counts[k] = one_more(counts[k]);
+        counts[k] = counts[k].min(11184) + 1;
     }
 }
 
@@ -69,53 +40,28 @@ fn digits_from(trace: &[u8], from: usize, end: usize) -> Digits
     requires { (from ≤ end) × (end ≤ from + 7) × (end ≤ length trace.now) }
     ensures { DigitsRead trace.now from end result.value result.next }
 {
-    let mut value: u32 = 0;
-    let mut next = from;
-    while next < end {
+    let mut value = 0;
+    for next in from..end {
         let b = trace[next];
-        if !is_digit(b) {
+        if !b.is_ascii_digit() {
             return Digits { value, next };
         }
-        value = value * 10 + ((b - 48) as u32);
-        next = next + 1;
+        value = value * 10 + u32::from(b - b'0');
     }
-    Digits { value, next }
-}
-
-// The place after the seven bytes from i on, or the end of the trace.
-fn number_end(i: usize, len: usize) -> usize
-    requires { i ≤ len }
-    ensures { result ≡ min (i + 7) len }
-{
-    if len - i < 7 {
-        return len;
-    }
-    i + 7
+    Digits { value, next: end }
 }
 
 // The whole trace, line by line, each in its slot; whether no line is refused. t is the time
 // before. No more than seven digits are read, so that an eighth stands where the line feed should.
 fn count_lines(trace: &[u8], counts: &mut [u32; SLOTS]) -> bool
-    requires { length counts.old ≡ 3600 }
     ensures { Counted trace.now counts.old counts.new result }
 {
     let mut i: usize = 0;
     let mut t: u32 = 0;
     while i < trace.len() {
-        let end = number_end(i, trace.len());
-        let read = digits_from(trace, i, end);
-        let next = read.next;
-        let time = read.value;
-        if next <= i {
-            return false;
-        }
-        if trace.len() <= next {
-            return false;
-        }
-        if trace[next] != b'\n' {
-            return false;
-        }
-        if time < t {
+        let end = trace.len().min(i + 7);
+        let Digits { value: time, next } = digits_from(trace, i, end);
+        if next <= i || trace.len() <= next || trace[next] != b'\n' || time < t {
             return false;
         }
         count_line(counts, time);
@@ -126,83 +72,59 @@ fn count_lines(trace: &[u8], counts: &mut [u32; SLOTS]) -> bool
 }
 
 // Whether the first so many counts are lines of at most 16,777,216 bytes.
-#[tactic(auto, using(crate::proofs::Counts::testing_many))]
 fn few_lines(counts: &[u32; SLOTS], slots: usize) -> bool
-    requires { (slots ≤ 3600) × (length counts.now ≡ 3600) }
+    requires { slots ≤ 3600 }
     ensures { result ≡ few_lines (take slots counts.now) }
 {
-    let mut k: usize = 0;
-    while k < slots {
-        if 11184 < counts[k] {
-            return false;
-        }
-        k = k + 1;
-    }
-    true
+    counts[..slots].iter().all(|n| *n <= 11184)
 }
 
 // 1,500 bytes for each line.
 fn put_forecast(counts: &[u32; SLOTS], slots: usize, out: &mut [u32])
     requires { (slots ≤ 3600)
         × (slots ≤ length out.old)
-        × (length counts.now ≡ 3600)
         × (few_lines (take slots counts.now) ≡ true) }
     ensures { out.new ≡ over (lines_forecast (take slots counts.now)) out.old }
 {
-    let mut k: usize = 0;
-    while k < slots {
+    for k in 0..slots {
         out[k] = counts[k] * 1500;
-        k = k + 1;
     }
 }
 
 // The forecast of so many slots that a trace gives. Refused: 7, 14, 15, then 11 exactly if out has
 // fewer places than slots.
-pub fn read_trace(trace: &[u8], slots: usize, out: &mut [u32]) -> TraceRead
+pub fn read_trace(trace: &[u8], slots: usize, out: &mut [u32]) -> Result<usize, Refusal>
     ensures { TraceReadPromise trace.now slots out.old result out.new }
 {
-    if slots < 1 {
-        return TraceRead::Refused(7);
-    }
-    if SLOTS < slots {
-        return TraceRead::Refused(7);
+    if slots < 1 || SLOTS < slots {
+        return Err(Refusal::Forecast);
     }
     let mut counts = [0u32; SLOTS];
-    let fine = job::refuse_unless(14, count_lines(trace, &mut counts));
-    let few = job::refuse_unless(15, few_lines(&counts, slots));
-    let no = job::or_else(fine, few);
-    if no != 0 {
-        return TraceRead::Refused(no);
+    if !count_lines(trace, &mut counts) {
+        return Err(Refusal::TraceLine);
+    }
+    if !few_lines(&counts, slots) {
+        return Err(Refusal::TraceSlot);
     }
     if out.len() < slots {
-        return TraceRead::Refused(11);
+        return Err(Refusal::ShortBuffer);
     }
     put_forecast(&counts, slots, out);
-    TraceRead::Slots(slots)
+    Ok(slots)
 }
 
 // At most 16,777,216 bytes, and whole lines.
 fn is_writable(b: u32) -> bool
     ensures { result ≡ writable b }
 {
-    if MOST_BYTES < b {
-        return false;
-    }
-    b % 1500 == 0
+    b <= MOST_BYTES && b % 1500 == 0
 }
 
 // Every slot is a multiple of 1,500 bytes within range.
 fn all_writable(forecast: &[u32]) -> bool
     ensures { result ≡ all writable forecast.now }
 {
-    let mut t: usize = 0;
-    while t < forecast.len() {
-        if !is_writable(forecast[t]) {
-            return false;
-        }
-        t = t + 1;
-    }
-    true
+    forecast.iter().all(|b| is_writable(*b))
 }
 
 // The bytes of a line of the slot after t, with its line feed.
@@ -210,19 +132,13 @@ fn line_width(t: usize) -> usize
     requires { t < 3600 }
     ensures { (result ≡ length (digits (t * 1000)) + 1) × (result ≤ 8) }
 {
-    if t < 1 {
-        return 2;
+    match t {
+        0 => 2,
+        1..=9 => 5,
+        10..=99 => 6,
+        100..=999 => 7,
+        _ => 8,
     }
-    if t < 10 {
-        return 5;
-    }
-    if t < 100 {
-        return 6;
-    }
-    if t < 1000 {
-        return 7;
-    }
-    8
 }
 
 // The bytes of all lines.
@@ -230,13 +146,9 @@ fn width(forecast: &[u32]) -> usize
     requires { length forecast.now ≤ 3600 }
     ensures { result ≡ width_from 0 forecast.now }
 {
-    let mut sum: usize = 0;
-    let mut t: usize = 0;
-    while t < forecast.len() {
-        let count = (forecast[t] / 1500) as usize;
-        let each = line_width(t);
-        sum = sum + count * each;
-        t = t + 1;
+    let mut sum = 0;
+    for (t, bytes) in forecast.iter().enumerate() {
+        sum += (bytes / 1500) as usize * line_width(t);
     }
     sum
 }
@@ -246,33 +158,27 @@ fn put_trace(forecast: &[u32], out: &mut [u8]) -> usize
     requires { (length forecast.now ≤ 3600) × (length (trace_of forecast.now) ≤ length out.old) }
     ensures { Put out.old 0 (trace_of forecast.now) out.new result }
 {
-    let mut next: usize = 0;
-    let mut t: usize = 0;
-    while t < forecast.len() {
-        let count = (forecast[t] / 1500) as usize;
+    let mut next = 0;
+    for (t, bytes) in forecast.iter().enumerate() {
         let time = (t * 1000) as u64;
-        next = repeated::put_lines(out, next, time, count);
-        t = t + 1;
+        next = repeated::put_lines(out, next, time, (bytes / 1500) as usize);
     }
     next
 }
 
 // The trace of a forecast, each slot's lines at its first millisecond. Refused: 7, 15, then 11
 // exactly if out is shorter than the trace.
-pub fn write_trace(forecast: &[u32], out: &mut [u8]) -> Written
+pub fn write_trace(forecast: &[u32], out: &mut [u8]) -> Result<usize, Refusal>
     ensures { TraceWritePromise forecast.now out.old result out.new }
 {
-    if forecast.len() < 1 {
-        return Written::Refused(7);
-    }
-    if SLOTS < forecast.len() {
-        return Written::Refused(7);
+    if forecast.is_empty() || SLOTS < forecast.len() {
+        return Err(Refusal::Forecast);
     }
     if !all_writable(forecast) {
-        return Written::Refused(15);
+        return Err(Refusal::TraceSlot);
     }
     if out.len() < width(forecast) {
-        return Written::Refused(11);
+        return Err(Refusal::ShortBuffer);
     }
-    Written::Bytes(put_trace(forecast, out))
+    Ok(put_trace(forecast, out))
 }

@@ -1,6 +1,6 @@
 -- Laws on the public call: what it answers after its input is judged, and that the answer means
 -- what its contract says. Assumes nothing.
-use Prim.Native.Nat.{ℕ, ◌≤◌, ◌<◌}
+use Prim.Native.Nat.{ℕ}
 use mathlib.Core.Path.{◌≡◌, sym, ◌∙◌, ap, subst}
 use native.Mathlib.Omega.{arith}
 use borrow.Author.Tests.{le-ltb, lt-ltb}
@@ -17,24 +17,24 @@ module _ (h : WaitInput) where
       record { answer = is; delay = subst (DelayMeans h) (sym is) (answered_iff h); sixteen = subst (SixteenMeans h) (sym is) (sixteen_iff h) }
 
   module _ (no : ℕ) (is : no ≡ input_refusal h) where
-    pub refused_input : 0 < no → WaitPromise h (Refused no)
+    pub refused_input : (no ≡ 0 → ⊥) → WaitPromise h (Refused no)
     refused_input some = means (Refused no) (ap Refused is ∙ sym (input_first h (omega (arith, is))))
 
-    module _ (none : no ≤ 0) where
-      pub in_range_lem : FilmInRange (film_in h)
-      in_range_lem = ((input_iff h).0 (sym is ∙ (omega arith))).1
+    module _ (none : no ≡ 0) where
+      pub range_of_film : FilmInRange (film_in h)
+      range_of_film = ((input_iff h).0 (sym is ∙ (omega arith))).1
 
       module _ (s : ℕ) (found : s ≡ shortest (film_in h)) where
         past : wait_refusal h ≡ sixteen_refusal (film_in h)
         unfolding wait_refusal
         past = or_else_none (input_refusal h) (sixteen_refusal (film_in h)) (sym is ∙ (omega arith))
 
-        pub refused_sixteen : s < 1 → WaitPromise h (Refused 16)
+        pub refused_sixteen : s ≡ 0 → WaitPromise h (Refused 16)
         refused_sixteen low =
             let r : wait_refusal h ≡ 16 = past ∙ rw (le-ltb 0 (shortest (film_in h)) (omega (arith, found))) in
             means (Refused 16) (sym (rw r))
 
-        pub delayed : 1 ≤ s → WaitPromise h (Delay s)
+        pub delayed : (s ≡ 0 → ⊥) → WaitPromise h (Delay s)
         delayed some =
             let r : wait_refusal h ≡ 0 = past ∙ rw (lt-ltb 0 (shortest (film_in h)) (omega (arith, found))) in
             means (Delay s) (sym (rw (r, found)))

@@ -62,16 +62,16 @@ module _ (chunks span held s : ℕ) (bases sums : List ℕ) where
     pub free : Free chunks begins
     pub long : length begins ≡ 1000
 
-  pub passing_start : (begins : List ℕ) → KeepsAllPre chunks span held s bases sums begins → Passing begins total chunks
-  passing_start begins o =
+  pub passing_start : (begins : List ℕ) → KeepsAllPre chunks span held s bases sums begins → length begins ≡ 1000 → Passing begins total chunks
+  passing_start begins o l =
       let z : chunks - chunks ≡ 0 = omega arith in
       record {
         inside = omega arith;
         all = rw z;
         top = rw z (omega arith);
-        table = λ k l h. rw (z, o.free k l h) (same_free total never o.most);
+        table = λ k u h. rw (z, o.free k u h) (same_free total never o.most);
         free = o.free;
-        long = o.long;
+        long = l;
       }
 
   module _ (begins : List ℕ) (begin i : ℕ) (p : Passing begins begin i) (first : List ℕ) (o : KeepsAllPre chunks span held s bases sums first) where
@@ -80,7 +80,7 @@ module _ (chunks span held s : ℕ) (bases sums : List ℕ) where
     passing_end h =
         let e : i ≡ 0 = omega arith in
         let z : chunks - 0 ≡ chunks = omega arith in
-        record { answer = sym (rw (e, z) at p.all); free = p.free; long = p.long }
+        record { answer = sym (rw (e, z) at p.all); free = p.free }
 
     module _ (here : 0 < i) where
       abbrev q : ℕ
@@ -131,19 +131,19 @@ module _ (chunks span held s : ℕ) (bases sums : List ℕ) where
       kept_is : kept q ≡ fits
       kept_is = kept_step ∙ rw p.all
 
-      no : kept q ≡ false → (begins' : List ℕ) → Free chunks begins' → length begins' ≡ 1000 → KeepsAllPost chunks span held s bases sums begins' false
+      no : kept q ≡ false → (begins' : List ℕ) → Free chunks begins' → KeepsAllPost chunks span held s bases sums begins' false
       unfolding kept_by
-      no e begins' f l = record { answer = sym (fails (size_at bases) (due_at span s) (left_at sums last) held chunks q (chunks - q) (omega (arith, p.inside)) e); free = f; long = l }
+      no e begins' f = record { answer = sym (fails (size_at bases) (due_at span s) (left_at sums last) held chunks q (chunks - q) (omega (arith, p.inside)) e); free = f }
 
       -- No room for its own bytes.
       pub passing_large : by < size → KeepsAllPost chunks span held s bases sums begins false
-      passing_large h = no (kept_is ∙ rw (all_left, lt-leb cand total (cand_large h))) begins p.free p.long
+      passing_large h = no (kept_is ∙ rw (all_left, lt-leb cand total (cand_large h))) begins p.free
 
       module _ (room : size ≤ by) where
         abbrev stored : List ℕ
         stored = set begins q (by - size)
 
-        pub stored_long : length stored ≡ 1000
+        stored_long : length stored ≡ 1000
         stored_long = length-set begins q (by - size) ∙ p.long
 
         stored_free : Free chunks stored
@@ -174,7 +174,7 @@ module _ (chunks span held s : ℕ) (bases sums : List ℕ) where
         kept_tested = kept_is ∙ rw (all_left, le-leb cand total (omega (arith, cand_small room)), tested)
 
         pub passing_held : get_or stored (q + held) 0 < get_or sums (due - 1) 0 → KeepsAllPost chunks span held s bases sums stored false
-        passing_held h = no (kept_tested ∙ lt-leb (get_or sums (due - 1) 0) (get_or stored (q + held) 0) h) stored stored_free stored_long
+        passing_held h = no (kept_tested ∙ lt-leb (get_or sums (due - 1) 0) (get_or stored (q + held) 0) h) stored stored_free
 
         pub passing_more : get_or sums (due - 1) 0 ≤ get_or stored (q + held) 0 → Passing stored (by - size) q
         passing_more h = record {

@@ -7,7 +7,7 @@ use mathlib.Core.List.{List, ◌∷◌}
 use mathlib.Core.Logic.{⊎_elim}
 use native.Mathlib.Omega.{arith}
 use native.Mathlib.Numerals.{add-one}
-use lib.ListN.{length, get_or, replicate, get_or-replicate, length-replicate, get_or-eq_default}
+use lib.ListN.{length, get_or, replicate, get_or-replicate, get_or-eq_default}
 use lib.Dec.{leb, ltb, ltb→lt, nltb→le}
 use Rattle.theory_basics.specs.lemmas.Ranges.{pre_mono, pre_most}
 use Rattle.theory_basics.specs.lemmas.Tests.{same_test, test}
@@ -36,13 +36,12 @@ pub record Searching (chunks span held n : ℕ) (bases sums begins : List ℕ) (
   pub inside : s ≤ n + 1
   pub says : first_from (kept_by chunks span held bases sums) 1 n ≡ first_from (kept_by chunks span held bases sums) s (n + 1 - s)
   pub free : Free chunks begins
-  pub long : length begins ≡ 1000
 
 module _ (chunks span held n : ℕ) (bases sums : List ℕ) where
   pub searching_start : (begins : List ℕ) → FindDelayPre chunks span held n bases sums begins → Searching chunks span held n bases sums begins 1
   searching_start begins o =
       let e : n + 1 - 1 ≡ n = omega arith in
-      record { low = omega arith; inside = omega arith; says = rw e; free = o.free; long = o.long }
+      record { low = omega arith; inside = omega arith; says = rw e; free = o.free }
 
   module _ (begins : List ℕ) (s : ℕ) (w : Searching chunks span held n bases sums begins s) where
     pub searching_end : n < s → 0 ≡ first_from (kept_by chunks span held bases sums) 1 n
@@ -60,7 +59,7 @@ module _ (chunks span held n : ℕ) (bases sums : List ℕ) where
       searching_found e = sym (next ∙ rw e)
 
       pub searching_more : r ≡ false → Searching chunks span held n bases sums begins' (s + 1)
-      searching_more e = record { low = omega arith; inside = omega arith; says = next ∙ rw e; free = d.free; long = d.long }
+      searching_more e = record { low = omega arith; inside = omega arith; says = next ∙ rw e; free = d.free }
 
 -- ---- the pass sees no more than the tables have
 
@@ -117,7 +116,7 @@ module _ (chunks span limit : ℕ) (sizes : List ℕ) (os : List Override) (f : 
     pub search_from : (held : ℕ) → held ≤ 500 → FindDelayPre chunks span held (tries film) bases sums (replicate 1000 never)
     search_from held in_held =
         record {
-          each = λ s l h begins free long.
+          each = λ s l h begins free.
               let last : ℕ = (chunks - 1) * span + s in
               let in_f : last ≤ length f = omega arith in
               record {
@@ -130,11 +129,9 @@ module _ (chunks span limit : ℕ) (sizes : List ℕ) (os : List Override) (f : 
                 rise = λ a b u v. omega (arith, table.is a (omega arith), table.is b (omega arith), pre_mono (λ t. get_or f (t - 1) 0) a b u);
                 most = omega (arith, table.is last in_f, pre_most (λ t. get_or f (t - 1) 0) 16777216 last (λ t. bytes_small (t - 1)), r.slots_in.high);
                 free = free;
-                long = long;
               };
           few = omega (arith, r.slots_in.high);
           free = λ k l h. get_or-replicate 1000 k never 0 h;
-          long = length-replicate 1000 never;
         }
 
     module _ (table-of-bases : BaseTable chunks (sizes_table sizes os) bases) where

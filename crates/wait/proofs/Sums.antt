@@ -51,7 +51,7 @@ module _ (f sums : List ℕ) (sum t : ℕ) (s : Summing f sums sum t) where
       }
 
   pub summing_end : length f ≤ t → SumTable f sums
-  summing_end h = record { long = s.long; is = λ k l. s.table k (omega arith) }
+  summing_end h = record { is = λ k l. s.table k (omega arith) }
 
 -- ---- the bases
 

@@ -21,48 +21,26 @@ pub enum Answer {
     Refused(u8),
 }
 
-fn wide(x: u32) -> u64
-    ensures { result ≡ x }
-{
-    x as u64
-}
-
-fn smaller(a: u64, b: u64) -> u64
-    ensures { result ≡ min a b }
-{
-    if a < b {
-        return a;
-    }
-    b
-}
-
 // What the forecast brings up to each slot, from 0 on. Sums in 64 bits: 3,600 slots need 36.
 fn add_up(forecast: &[u32], sums: &mut SlotSums)
-    requires { (length forecast.now ≤ 3600) × Small forecast.now × (length sums.old ≡ 3601) }
+    requires { (length forecast.now ≤ 3600) × Small forecast.now }
     ensures { SumTable forecast.now sums.new }
 {
     let mut sum: u64 = 0;
-    let mut t: usize = 0;
     sums[0] = 0;
-    while t < forecast.len() {
-        let next = t + 1;
-        sum = sum + wide(forecast[t]);
-        sums[next] = sum;
-        t = next;
+    for (t, bytes) in forecast.iter().enumerate() {
+        sum += u64::from(*bytes);
+        sums[t + 1] = sum;
     }
 }
 
 // The base's bytes of each chunk, out of the table of all sizes.
 fn read_bases(chunks: u16, table: &SizeTable, bases: &mut [u32; CHUNKS])
-    requires { (chunks ≤ 500) × (length bases.old ≡ 500) }
+    requires { chunks ≤ 500 }
     ensures { BaseTable chunks table.now bases.new }
 {
-    let mut i: u16 = 0;
-    while i < chunks {
-        let next = i + 1;
-        let q = i as usize;
-        bases[q] = core_sizes::size_at(table, next, 0);
-        i = next;
+    for i in 0..chunks {
+        bases[i as usize] = core_sizes::size_at(table, i + 1, 0);
     }
 }
 
@@ -75,7 +53,7 @@ fn set_bases(
     size_bytes: &[u32],
     bases: &mut [u32; CHUNKS],
 )
-    requires { (chunks ≤ 500) × (length bases.old ≡ 500) }
+    requires { chunks ≤ 500 }
     ensures { BaseTable chunks
         (sizes_table sizes.now
         (overrides_of size_chunks.now size_layers.now size_bytes.now))
@@ -105,13 +83,11 @@ fn keeps_all(
 {
     let last = (chunks - 1) * span + s;
     let mut begin = sums[last];
-    let mut i = chunks;
-    while 0 < i {
-        let q = i - 1;
+    for q in (0..chunks).rev() {
         let due = q * span + s;
         let before = due - 1;
-        let by = smaller(sums[due], begin);
-        let size = wide(bases[q]);
+        let by = sums[due].min(begin);
+        let size = u64::from(bases[q]);
         if by < size {
             return false;
         }
@@ -121,13 +97,13 @@ fn keeps_all(
         if begins[back] < sums[before] {
             return false;
         }
-        i = q;
     }
     true
 }
 
 // The first s that keeps every base, or 0. A pass writes only places below C, so one table serves
 // every s.
+// Kept: 0 for none, as in the meaning, since every s is at least 1.
 fn find_delay(
     chunks: usize,
     span: usize,
@@ -140,12 +116,10 @@ fn find_delay(
     requires { FindDelayPre chunks span held tries bases.now sums.now begins.old }
     ensures { result ≡ first_from (kept_by chunks span held bases.now sums.now) 1 tries }
 {
-    let mut s: usize = 1;
-    while s <= tries {
+    for s in 1..=tries {
         if keeps_all(chunks, span, held, s, bases, sums, begins) {
             return s;
         }
-        s = s + 1;
     }
     0
 }
@@ -154,11 +128,7 @@ fn find_delay(
 fn held_behind(p: Programme) -> usize
     ensures { result ≡ min (p.limit / p.span) 500 }
 {
-    let held = job::held_most(p) as usize;
-    if held < CHUNKS {
-        return held;
-    }
-    CHUNKS
+    (job::held_most(p) as usize).min(CHUNKS)
 }
 
 // How many s the forecast reaches, p being the programme with s = 1.
@@ -166,11 +136,7 @@ fn count_tries(p: Programme, slots: usize) -> usize
     requires { p.delay ≡ 1 }
     ensures { result ≡ slots - (p.chunks - 1) * p.span }
 {
-    let last = job::last_due(p);
-    if slots < last {
-        return 0;
-    }
-    slots - last + 1
+    slots.saturating_sub(job::last_due(p) - 1)
 }
 
 // The shortest wait of a film in range, p being its programme with s = 1; 0 if no s within the
@@ -195,7 +161,7 @@ fn shortest_delay(
         × (result ≤ 3600) }
 {
     let unset = p.chunks as u32;
-    let mut sums = [wide(unset); SUMS];
+    let mut sums = [u64::from(unset); SUMS];
     let mut bases = [unset; CHUNKS];
     let mut begins = [60397977600u64; 1000];
     add_up(forecast, &mut sums);
@@ -224,10 +190,7 @@ fn shortest_delay(
 fn slots_refusal(forecast: &[u32]) -> u8
     ensures { result ≡ slots_refusal forecast.now }
 {
-    if forecast.len() < 1 {
-        return 7;
-    }
-    job::refuse_unless(7, forecast.len() <= SLOTS)
+    job::refuse_unless(7, !forecast.is_empty() && forecast.len() <= SLOTS)
 }
 
 // 5, 6, 18, 7 in that order, or 0 for none; s and d(C) are no part of it.
@@ -276,13 +239,13 @@ pub fn wait(
         limit,
     };
     let no = input_refusal(p, sizes, size_chunks, size_layers, size_bytes, forecast);
-    if 0 < no {
+    if no != 0 {
         return Answer::Refused(no);
     }
     let s = shortest_delay(p, sizes, size_chunks, size_layers, size_bytes, forecast);
-    if s < 1 {
-        return Answer::Refused(16);
+    if s == 0 {
+        Answer::Refused(16)
+    } else {
+        Answer::Delay(s as u16)
     }
-    let delay = s as u16;
-    Answer::Delay(delay)
 }

@@ -1,12 +1,8 @@
--- Lemmas. What the checker's private functions say: rule 2 of the second call by tables, and the
--- verdict of every job that the tables show.
-use Rattle.std.specs.Prelude.{ℕ, ◌+◌, ◌*◌, ◌-◌, ◌≤◌, ◌<◌, ◌≡◌, Bool, true, ◌&&◌, ◌||◌, List, length, get_or, ltb, eqb}
-use Rattle.theory_basics.specs.Tests.{all}
-use Rattle.job.specs.declared.Programme.{Programme}
-use Rattle.job.specs.Job.{Override, job_of}
-use Rattle.fetch.specs.Rows.{Row, rows_of}
-use Rattle.fetch.specs.VerdictFrom.{layer_before, verdict_from}
-use Rattle.core_rules.specs.lemmas.Tables.{Shown, in_range}
+-- Lemmas. What the checker's private functions say: rule 2 of the second call by tables.
+use Rattle.std.specs.Prelude.{ℕ, ◌+◌, ◌*◌, ◌-◌, ◌≤◌, ◌<◌, ◌≡◌, Bool, false, not, ◌&&◌, ◌||◌, List, length, get_or, ltb, eqb}
+use Rattle.fetch.specs.Rows.{Row, row_at}
+use Rattle.fetch.specs.Slices.{RowSlices}
+use Rattle.fetch.specs.VerdictFrom.{layer_before}
 
 -- ---- rule 2 of the second call
 
@@ -18,26 +14,21 @@ allowed_sum s z before = eqb s 0 || (eqb s z || (ltb s z && before))
 abbrev pub allowed_by : (ℕ → ℕ → ℕ) → List ℕ → (ℕ → ℕ → Bool) → ℕ → ℕ → Bool
 allowed_by size layersum before i n = allowed_sum (get_or layersum (4 * (i - 1) + n) 0) (size i n) (before i n)
 
--- A table has 0 for a layer whose rows are all before.
-abbrev pub early : List ℕ → ℕ → ℕ → Bool
-early late i n = eqb (get_or late (4 * (i - 1) + n) 0) 0
+-- A table has no flag for a layer whose rows are all before.
+abbrev pub early : List Bool → ℕ → ℕ → Bool
+early late i n = not (get_or late (4 * (i - 1) + n) false)
 
-pub record MarkLatePost (from : ℕ) (rows : List Row) (late : List ℕ) : Type 0 where
+pub record MarkLatePost (from : ℕ) (rows : List Row) (late : List Bool) : Type 0 where
   pub is : (i n : ℕ) → 1 ≤ i → i ≤ 500 → n < 4 → early late i n ≡ layer_before from rows i n
-  pub long : length late ≡ 2000
 
--- Rows in range of a job of so many slots, chunks and layers, handed whole.
-pub record InTables (last count depth : ℕ) (ss cs ls bs : List ℕ) : Type 0 where
-  pub slots_few : last ≤ 3600
-  pub chunks_few : count ≤ 500
-  pub layers_few : depth ≤ 4
-  pub ranged : all (in_range last count depth) (rows_of ss cs ls bs) ≡ true
-  pub chunk_each : length ss ≡ length cs
-  pub layer_each : length ss ≡ length ls
+-- The row has a place in the tables of chunks and layers.
+pub record Placed (x : Row) : Type 0 where
+  pub chunk_low : 1 ≤ x.chunk
+  pub chunk_high : x.chunk ≤ 500
+  pub layer_in : x.layer < 4
 
--- ---- the job
-
--- The verdict from a slot on of every job so shown.
-abbrev pub Judged : Programme → List ℕ → ℕ → List ℕ → ℕ → List ℕ → List Row → ℕ → Type 0
-Judged p table depth forecast from marks rows r =
-    (sizes : List ℕ) (os : List Override) → Shown table depth (job_of p sizes os forecast) → r ≡ verdict_from (job_of p sizes os forecast) from marks rows
+-- So have all rows, and each has a chunk and a layer.
+pub record InTables (r : RowSlices) : Type 0 where
+  pub placed : (k : ℕ) → k < length r.slots → Placed (row_at r.slots r.chunks r.layers r.bytes k)
+  pub chunk_each : length r.slots ≡ length r.chunks
+  pub layer_each : length r.slots ≡ length r.layers

@@ -3,8 +3,5 @@ use Rattle.core_sizes.specs.Table.{table_at}
 use Rattle.core_bounds.proofs.Bounds.{AnyLoop}
 use Rattle.core_bounds.proofs.any_order.Given as goal
 
-abbrev pub invariant-loop-k : goal.invariant-loop-k
-invariant-loop-k l = AnyLoop l.p (table_at l.table) l.after l.k l.row
-
-abbrev pub decreases-loop-k : goal.decreases-loop-k
-decreases-loop-k l = l.k
+abbrev pub invariant-loop-i : goal.invariant-loop-i
+invariant-loop-i l = AnyLoop l.p (table_at l.table) l.after l.i l.row

@@ -1,10 +1,6 @@
 -- `fill_row` meets its contract: the row's places up to c are written over the rows behind it.
-use Prim.Native.Nat.{◌-◌}
 use Rattle.core_bounds.proofs.Rows.{Filling}
 use Rattle.core_bounds.proofs.fill_row.Given as goal
 
 abbrev pub invariant-loop-c : goal.invariant-loop-c
 invariant-loop-c l = Filling l.i l.count l.held l.base l.left l.late l.none l.c l.initial.work l.work
-
-abbrev pub decreases-loop-c : goal.decreases-loop-c
-decreases-loop-c l = l.count - l.c

@@ -4,8 +4,5 @@ use Rattle.core_sizes.specs.Table.{table_at}
 use Rattle.core_bounds.proofs.Bounds.{OrderLoop}
 use Rattle.core_bounds.proofs.in_order.Given as goal
 
-abbrev pub invariant-loop-k : goal.invariant-loop-k
-invariant-loop-k l = OrderLoop l.p (table_at l.table) l.after (length l.initial.work) l.k l.work
-
-abbrev pub decreases-loop-k : goal.decreases-loop-k
-decreases-loop-k l = l.k
+abbrev pub invariant-loop-i : goal.invariant-loop-i
+invariant-loop-i l = OrderLoop l.p (table_at l.table) l.after (length l.initial.work) l.i l.work

@@ -1,5 +1,4 @@
 -- `most_within` meets its contract: the largest up to c is the largest of all.
-use Prim.Native.Nat.{◌≤◌}
 use mathlib.Core.Path.{◌≡◌}
 use lib.ListN.{get_or}
 use lib.Dec.{leb}
@@ -7,7 +6,4 @@ use Rattle.theory_most.specs.Statement.{largest}
 use Rattle.core_bounds.proofs.most_within.Given as goal
 
 abbrev pub invariant-loop-c : goal.invariant-loop-c
-invariant-loop-c l = (l.c ≤ l.count) × (largest (λ k. leb (get_or l.row k 0) l.level) l.count ≡ largest (λ k. leb (get_or l.row k 0) l.level) l.c)
-
-abbrev pub decreases-loop-c : goal.decreases-loop-c
-decreases-loop-c l = l.c
+invariant-loop-c l = largest (λ k. leb (get_or l.row k 0) l.level) l.count ≡ largest (λ k. leb (get_or l.row k 0) l.level) l.c

@@ -4,6 +4,3 @@ use Rattle.core_bounds.proofs.put_in_front.Given as goal
 
 abbrev pub invariant-loop-c : goal.invariant-loop-c
 invariant-loop-c l = InFront l.base l.left l.count l.c l.initial.row l.row
-
-abbrev pub decreases-loop-c : goal.decreases-loop-c
-decreases-loop-c l = l.c

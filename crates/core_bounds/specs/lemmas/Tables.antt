@@ -17,7 +17,6 @@ pub record RowPre (base left count : ℕ) (row : List ℕ) : Type 0 where
   pub sums : left ≤ 60397977600
   pub few : count ≤ 500
   pub needs : Needs count (λ c. get_or row c 0)
-  pub long : length row ≡ 501
 
 pub record ClearRowPost (none : ℕ) (row : List ℕ) : Type 0 where
   pub first : get_or row 0 0 ≡ 0
@@ -28,11 +27,10 @@ pub record ClearRowPost (none : ℕ) (row : List ℕ) : Type 0 where
 pub record InFrontPost (base left count : ℕ) (old new : List ℕ) : Type 0 where
   pub first : get_or new 0 0 ≡ get_or old 0 0
   pub others : (c : ℕ) → c < count → get_or new (suc c) 0 ≡ min (get_or old (suc c) 0) (base + max left (get_or old c 0))
-  pub long : length new ≡ 501
 
-pub record CutAbovePost (none most count : ℕ) (old new : List ℕ) : Type 0 where
-  pub is : (c : ℕ) → c ≤ count → get_or new c 0 ≡ cond (leb c most) (get_or old c 0) none
-  pub long : length new ≡ 501
+abbrev pub CutAbovePost : ℕ → ℕ → ℕ → List ℕ → List ℕ → Type 0
+CutAbovePost none most count old new =
+    (c : ℕ) → c ≤ count → get_or new c 0 ≡ cond (leb c most) (get_or old c 0) none
 
 -- ---- the bound in any order
 

@@ -4,6 +4,3 @@ use Rattle.core_covering.proofs.waits_covered.Given as goal
 
 abbrev pub invariant-loop-q : goal.invariant-loop-q
 invariant-loop-q l = CoveredFrom l.held l.smallest l.opens l.u l.s l.used_s l.lead l.q
-
-abbrev pub decreases-loop-q : goal.decreases-loop-q
-decreases-loop-q l = l.q

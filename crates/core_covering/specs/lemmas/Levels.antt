@@ -68,12 +68,6 @@ set_waits_up j i ks s q (suc n) h =
 -- ---- a set in a table
 
 module _ (j : Job) (held : ℕ) (opens set : List ℕ) (o : SetOf j held opens set) where
-  pub few_in : length set ≤ 500
-  few_in = omega (arith, set_few j o.chunk set o.is_set, o.inside, o.accepted.chunks_in.high)
-
-  pub held_in : held ≤ 65535
-  held_in = omega (arith, o.held_is, held_small j o.accepted)
-
   pub wait_none : (q : ℕ) → q < held → length set + q < held → (after_set j set).waits q ≡ 0
   wait_none q h l =
       let m : length set + q < held_most j = omega (arith, o.held_is) in

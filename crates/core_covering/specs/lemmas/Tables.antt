@@ -15,13 +15,11 @@ use Rattle.theory_most.specs.lemmas.InTables.{EachJob, Says, SomeJob}
 -- A table by chunk number holds f for chunks 1 to C.
 pub record ByChunk (j : Job) (f : ℕ → ℕ) (table : List ℕ) : Type 0 where
   pub is : (k : ℕ) → 1 ≤ k → k ≤ chunks j → get_or table k 0 ≡ f k
-  pub long : length table ≡ 501
 
 -- A number for each i that no base after chunk i is below.
 pub record LeastBases (j : Job) (smallest : List ℕ) : Type 0 where
   pub is : (i : ℕ) → 1 ≤ i → i ≤ chunks j → LeastAfter j i (get_or smallest i 0)
   pub small : (i : ℕ) → 1 ≤ i → i ≤ chunks j → get_or smallest i 0 ≤ 16777216
-  pub long : length smallest ≡ 501
 
 pub record LevelsOf (j : Job) (ends opens bases smallest : List ℕ) : Type 0 where
   pub ends_are : ByChunk j (end_of j) ends
@@ -29,9 +27,8 @@ pub record LevelsOf (j : Job) (ends opens bases smallest : List ℕ) : Type 0 wh
   pub bases_are : ByChunk j (base_size j) bases
   pub least_are : LeastBases j smallest
 
-pub record SetLevelsPre (p : Programme) (sizes : ℕ → ℕ → ℕ) (left ends opens bases smallest : List ℕ) : Type 0 where
-  pub job : SomeJob p (λ j. Says j sizes left)
-  pub long : (length ends ≡ 501) × (length opens ≡ 501) × (length bases ≡ 501) × (length smallest ≡ 501)
+abbrev pub SetLevelsPre : Programme → (ℕ → ℕ → ℕ) → List ℕ → Type 0
+SetLevelsPre p sizes left = SomeJob p (λ j. Says j sizes left)
 
 abbrev pub SetLevelsPost : Programme → (ℕ → ℕ → ℕ) → List ℕ → List ℕ → List ℕ → List ℕ → List ℕ → Type 0
 SetLevelsPost p sizes left ends opens bases smallest = EachJob p (λ j. Says j sizes left → LevelsOf j ends opens bases smallest)
@@ -137,10 +134,9 @@ pub record ForwardFor (j : Job) (count held : ℕ) (ends opens bases : List ℕ)
   pub opens_are : ByChunk j (open_of j) opens
   pub bases_are : ByChunk j (base_size j) bases
 
-pub record ForwardPre (count held : ℕ) (ends opens bases ids : List ℕ) : Type 0 where
+pub record ForwardPre (count held : ℕ) (ends opens bases : List ℕ) : Type 0 where
   pub job : Job
   pub holds : ForwardFor job count held ends opens bases
-  pub long : length ids ≡ 500
 
 pub record ForwardOf (j : Job) (r : ℕ) (ids : List ℕ) : Type 0 where
   pub kept : take r ids ≡ forward j (chunks j)
@@ -155,4 +151,3 @@ ForwardPost count held ends opens bases r ids = (j : Job) → ForwardFor j count
 pub record PlacedPost (set : List ℕ) (first : ℕ) (ids : List ℕ) : Type 0 where
   pub within : first + length set ≡ 500
   pub kept : drop first ids ≡ set
-  pub long : length ids ≡ 500

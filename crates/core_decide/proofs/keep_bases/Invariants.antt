@@ -6,6 +6,3 @@ use Rattle.core_decide.proofs.keep_bases.Given as goal
 
 abbrev pub invariant-loop-i : goal.invariant-loop-i
 invariant-loop-i l = Basing l.p (table_at l.table) l.after l.ids l.dues l.bytes l.needs l.last l.first l.i
-
-abbrev pub decreases-loop-i : goal.decreases-loop-i
-decreases-loop-i l = l.i

@@ -4,6 +4,3 @@ use Rattle.core_decide.proofs.sum_after.Given as goal
 
 abbrev pub invariant-loop-u : goal.invariant-loop-u
 invariant-loop-u l = Summed l.start l.part l.after l.sum l.u
-
-abbrev pub decreases-loop-u : goal.decreases-loop-u
-decreases-loop-u l = l.u

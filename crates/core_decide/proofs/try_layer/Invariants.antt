@@ -4,8 +4,5 @@ use Rattle.core_sizes.specs.Table.{table_at}
 use Rattle.core_decide.proofs.Trials.{Backing}
 use Rattle.core_decide.proofs.try_layer.Given as goal
 
-abbrev pub invariant-loop-q : goal.invariant-loop-q
-invariant-loop-q l = Backing (table_at l.table) l.n l.after l.ids l.dues l.room l.first l.initial.bytes l.initial.mark l.bytes l.mark l.need l.q
-
-abbrev pub decreases-loop-q : goal.decreases-loop-q
-decreases-loop-q l = l.q
+abbrev pub invariant-loop-k : goal.invariant-loop-k
+invariant-loop-k l = Backing (table_at l.table) l.n l.after l.ids l.dues l.room l.first l.initial.bytes l.initial.mark l.bytes l.mark l.need l.k

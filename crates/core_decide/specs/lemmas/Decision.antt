@@ -1,7 +1,7 @@
 -- Lemmas. What the functions of decide.rt hand each other: tables of 500 places whose end, from a
 -- first place on, holds the kept chunks in playing order. The definitions behind them are those of
 -- theory_plan, Trials.
-use Rattle.std.specs.Prelude.{ℕ, suc, ◌+◌, ◌*◌, ◌-◌, ◌/◌, ◌≤◌, ◌≡◌, cond, ◌&&◌, List, [], ◌∷◌, map, length, get_or, take, drop, replicate, leb, ltb}
+use Rattle.std.specs.Prelude.{ℕ, suc, ◌+◌, ◌*◌, ◌-◌, ◌/◌, ◌≤◌, ◌≡◌, cond, List, [], ◌∷◌, map, length, get_or, take, drop, replicate}
 use Rattle.theory_basics.specs.Tests.{All}
 use Rattle.job.specs.declared.Programme.{Programme}
 use Rattle.job.specs.Job.{Job, Override, Within, job_of, size_in, due, due_slot, held_most, last_due}
@@ -14,12 +14,6 @@ use Rattle.theory_plan.specs.lemmas.Queue.{releases}
 -- The sums of a forecast that can be: 3,600 slots of 16,777,216 bytes.
 abbrev pub Sums : List ℕ → Type 0
 Sums after = (k : ℕ) → get_or after k 0 ≤ 60397977600
-
--- The places from .. k - 1 of a table hold v, the others what they had.
-pub record SetPlacesPost (from k v : ℕ) (old new : List ℕ) : Type 0 where
-  pub reached : from ≤ k
-  pub long : length new ≡ 3601
-  pub places : (m : ℕ) → get_or new m 0 ≡ cond (leb from m && ltb m k) v (get_or old m 0)
 
 -- A table holds what is left after each slot.
 pub record SumTable (start : ℕ) (part after : List ℕ) : Type 0 where

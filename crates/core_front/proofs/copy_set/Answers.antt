@@ -1,19 +1,20 @@
-use mathlib.Core.Path.{refl}
+-- `copy_set` meets its contract.
+use Prim.Native.Nat.{◌+◌, ◌*◌, ◌-◌}
+use mathlib.Core.Path.{◌≡◌, refl, sym}
 use native.Mathlib.Omega.{arith}
-use Rattle.core_front.specs.lemmas.Sets.{copy_end, copying_more, copying_start}
+use lib.ListN.{get_or, take, drop, length-drop, length-take}
+use Rattle.std.proofs.lemmas.Slice.{put_mid-paste}
+use Rattle.core_front.specs.lemmas.Sets.{copy_end, copying_part}
 use Rattle.core_front.proofs.copy_set.Goals as goal
 
-pub long-n-requires : goal.long-n-requires
-long-n-requires c = tt
-
-pub loop-q-init : goal.loop-q-init
-loop-q-init c = (copying_start _ _ _ _, omega arith)
-
-pub bounds-to_sets-to : goal.bounds-to_sets-to
-bounds-to_sets-to c = omega (arith, c.loop-q.invariant.0.long)
-
-pub loop-q-preserved : goal.loop-q-preserved
-loop-q-preserved c = let v = c.loop-q.invariant in (copying_more v.0 (omega arith) _ refl, omega arith)
-
 pub returns : goal.returns
-returns c = let v = c.loop-q.invariant in copy_end c.requires c.loop-q.q c.loop-q.to_sets (omega arith) v.0
+returns c =
+    let g = c.requires in
+    let a = c.args in
+    let n = get_or a.sets.now.counts a.a 0 in
+    let k : a.b * 500 + c.from-n.result - a.b * 500 ≡ n = omega arith in
+    let m : a.a * 500 + c.from-n.result - a.a * 500 ≡ n = omega arith in
+    let part : c.copy_from_slice.new.self ≡ take n (drop (a.a * 500) a.sets.now.chunks) = rw m at c.copy_from_slice.ensures.after in
+    copy_end g _
+    (copying_part a.sets.now.chunks a.to.now.chunks c.copy_from_slice.new.self _ (a.a * 500) (a.b * 500) n (omega (arith, g.from_long.sets_long)) (omega (arith, g.to_long.sets_long)) part
+    (put_mid-paste (a.b * 500) _ _ _ c.copy_from_slice.new.self n refl (sym k) (rw part (omega (arith, length-take n (drop (a.a * 500) a.sets.now.chunks), length-drop (a.a * 500) a.sets.now.chunks, g.from_long.sets_long)))))

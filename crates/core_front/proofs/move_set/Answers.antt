@@ -1,23 +1,23 @@
-use Prim.Native.Nat.{◌+◌, ◌*◌}
-use mathlib.Core.Logic.{inr}
+-- `move_set` meets its contract.
+use Prim.Native.Nat.{ℕ, ◌+◌, ◌*◌, ◌-◌}
+use mathlib.Core.Path.{◌≡◌, ap, ◌∙◌}
+use mathlib.Core.Logic.{⊎_elim}
 use native.Mathlib.Omega.{arith}
-use Rattle.core_front.specs.lemmas.Sets.{copying_more, copying_start, move_end}
+use lib.ListN.{get_or}
+use Rattle.core_front.specs.lemmas.Sets.{Copying, move_end}
 use Rattle.core_front.proofs.move_set.Goals as goal
 
-pub long-n-requires : goal.long-n-requires
-long-n-requires c = tt
-
-pub loop-q-init : goal.loop-q-init
-loop-q-init c = (copying_start _ _ _ _, omega arith)
-
-pub bounds-sets-from : goal.bounds-sets-from
-bounds-sets-from c = omega (arith, c.loop-q.invariant.0.long)
-
-pub bounds-sets-to : goal.bounds-sets-to
-bounds-sets-to c = omega (arith, c.loop-q.invariant.0.long)
-
-pub loop-q-preserved : goal.loop-q-preserved
-loop-q-preserved c = let v = c.loop-q.invariant in (copying_more v.0 (omega arith) _ (v.0.kept (c.args.a * 500 + c.loop-q.q) (inr (omega arith))), omega arith)
-
 pub returns : goal.returns
-returns c = let v = c.loop-q.invariant in move_end c.requires c.loop-q.q c.loop-q.sets (omega arith) v.0
+returns c =
+    let a = c.args in
+    let s = a.sets.now in
+    let moved = c.copy_within.ensures.by_index in
+    let z : Copying s.chunks s.chunks (a.a * 500) (a.b * 500) (get_or s.counts a.a 0) c.copy_within.new.self =
+    record {
+      long = c.copy_within.ensures.len;
+      copied = λ p u.
+          let e : a.b * 500 + p - a.b * 500 ≡ p = omega arith in
+          moved.0 (a.b * 500 + p) 0 (omega arith) (omega (arith, c.from.ensures)) ∙ ap (λ (x : ℕ). get_or s.chunks (a.a * 500 + x) 0) e;
+      kept = λ p u. ⊎_elim (λ l. moved.1 p 0 l) (λ l. moved.2 p 0 (omega (arith, c.from.ensures))) u;
+    } in
+    move_end c.requires c.copy_within.new.self z

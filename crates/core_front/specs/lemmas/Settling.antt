@@ -8,88 +8,89 @@ use Rattle.job.specs.Job.{Job}
 use Rattle.theory_most.specs.Statement.{Settled, covered, hopeless, stays}
 use Rattle.core_covering.specs.lemmas.Tables.{CoveredBy}
 use Rattle.core_front.specs.declared.Measure.{Measure}
+use Rattle.core_front.specs.declared.Sets.{Sets}
 use Rattle.core_front.specs.lemmas.Tables.{FrontIn, IsCoveredPost, IsHopelessPost, Long, MoveSetPost, MoveSetPre, Same, SetCoversFor, SetCoversPost, SetCoversPre, SetIn, SettleFor, SettledOf, SettlePost, SettlePre, TakeOutPost, TrialFor, TrialPre, front_of, set_at}
 use Rattle.core_front.specs.lemmas.Sets.{before_or_at}
 
 -- ---- the sets of a front
 
-pub front_has : (sets counts : List ℕ) (n a : ℕ) → a < n → In (set_at sets counts a) (front_of sets counts n)
-front_has sets counts zero a h = absurd (omega arith)
-front_has sets counts (suc n) a h = ⊎_elim (λ u. there (front_has sets counts n a u)) (λ e. rw e here) (before_or_at a n (omega arith))
+pub front_has : (sets : Sets) (n a : ℕ) → a < n → In (set_at sets a) (front_of sets n)
+front_has sets zero a h = absurd (omega arith)
+front_has sets (suc n) a h = ⊎_elim (λ u. there (front_has sets n a u)) (λ e. rw e here) (before_or_at a n (omega arith))
 
 -- What is in it stands in one of its places.
-pub record PlaceOf (sets counts : List ℕ) (n : ℕ) (ks : List ℕ) : Type 0 where
+pub record PlaceOf (sets : Sets) (n : ℕ) (ks : List ℕ) : Type 0 where
   pub place : ℕ
   pub inside : place < n
-  pub is : set_at sets counts place ≡ ks
+  pub is : set_at sets place ≡ ks
 
-pub place_of : (sets counts : List ℕ) (n : ℕ) (ks : List ℕ) → In ks (front_of sets counts n) → PlaceOf sets counts n ks
-place_of sets counts zero ks x' = elim x' [ ]
-place_of sets counts (suc n) ks here = record { place = n; inside = omega arith; is = refl }
-place_of sets counts (suc n) ks (there m) =
-    let p = place_of sets counts n ks m in record { place = p.place; inside = omega (arith, p.inside); is = p.is }
+pub place_of : (sets : Sets) (n : ℕ) (ks : List ℕ) → In ks (front_of sets n) → PlaceOf sets n ks
+place_of sets zero ks x' = elim x' [ ]
+place_of sets (suc n) ks here = record { place = n; inside = omega arith; is = refl }
+place_of sets (suc n) ks (there m) =
+    let p = place_of sets n ks m in record { place = p.place; inside = omega (arith, p.inside); is = p.is }
 
-pub place_has : (sets counts : List ℕ) (n : ℕ) {ks : List ℕ} → PlaceOf sets counts n ks → In ks (front_of sets counts n)
-place_has sets counts n p = subst (λ (l : List ℕ). In l (front_of sets counts n)) p.is (front_has sets counts n p.place p.inside)
+pub place_has : (sets : Sets) (n : ℕ) {ks : List ℕ} → PlaceOf sets n ks → In ks (front_of sets n)
+place_has sets n p = subst (λ (l : List ℕ). In l (front_of sets n)) p.is (front_has sets n p.place p.inside)
 
 -- ---- places that hold the same
 
-pub same_self : (sets counts useds : List ℕ) (a : ℕ) → Same sets counts useds a sets counts useds a
-same_self sets counts useds a = record { set_is = refl; count_is = refl; used_is = refl }
+pub same_self : (sets : Sets) (a : ℕ) → Same sets a sets a
+same_self sets a = record { set_is = refl; count_is = refl; used_is = refl }
 
 pub same_then :
-    {sets counts useds sets' counts' useds' sets'' counts'' useds'' : List ℕ} {a b c : ℕ} → Same sets counts useds a sets' counts' useds' b →
-    Same sets' counts' useds' b sets'' counts'' useds'' c → Same sets counts useds a sets'' counts'' useds'' c
+    {sets sets' sets'' : Sets} {a b c : ℕ} → Same sets a sets' b →
+    Same sets' b sets'' c → Same sets a sets'' c
 same_then s t = record { set_is = t.set_is ∙ s.set_is; count_is = t.count_is ∙ s.count_is; used_is = t.used_is ∙ s.used_is }
 
 pub same_in :
-    {j : Job} {i : ℕ} {sets counts useds sets' counts' useds' : List ℕ} {a b : ℕ} → Same sets counts useds a sets' counts' useds' b →
-    SetIn j i sets counts useds a → SetIn j i sets' counts' useds' b
-same_in {j} {i} {sets} {counts} {useds} {sets'} {counts'} {useds'} {a} {b} s h =
+    {j : Job} {i : ℕ} {sets sets' : Sets} {a b : ℕ} → Same sets a sets' b →
+    SetIn j i sets a → SetIn j i sets' b
+same_in {j} {i} {sets} {sets'} {a} {b} s h =
     record { is_set = rw s.set_is h.is_set; used_is = rw s.set_is (s.used_is ∙ h.used_is); few = omega (arith, s.count_is, h.few) }
 
 -- ---- covered sets are taken out
 
 -- A place that holds what one of the first n held.
-pub record Kept (sets counts useds : List ℕ) (n : ℕ) (sets' counts' useds' : List ℕ) (b : ℕ) : Type 0 where
+pub record Kept (sets : Sets) (n : ℕ) (sets' : Sets) (b : ℕ) : Type 0 where
   pub place : ℕ
   pub inside : place < n
-  pub same : Same sets counts useds place sets' counts' useds' b
+  pub same : Same sets place sets' b
 
 kept_on :
-    {sets counts useds sets' counts' useds' sets'' counts'' useds'' : List ℕ} {n b c : ℕ} → Kept sets counts useds n sets' counts' useds' b →
-    Same sets' counts' useds' b sets'' counts'' useds'' c → Kept sets counts useds n sets'' counts'' useds'' c
+    {sets sets' sets'' : Sets} {n b c : ℕ} → Kept sets n sets' b →
+    Same sets' b sets'' c → Kept sets n sets'' c
 kept_on k s = record { place = k.place; inside = k.inside; same = same_then k.same s }
 
 -- After a turns: `left` sets stay, in the first places; those from place a on are as they were.
-pub record Taking (by : Measure) (opens sets counts useds : List ℕ) (n : ℕ) (sets' counts' useds' : List ℕ) (left a : ℕ) : Type 0 where
-  pub long : Long sets' counts' useds'
+pub record Taking (by : Measure) (opens : List ℕ) (sets : Sets) (n : ℕ) (sets' : Sets) (left a : ℕ) : Type 0 where
+  pub long : Long sets'
   pub up : left ≤ a
   pub inside : a ≤ n
-  pub ahead : (b : ℕ) → a ≤ b → b ≤ n → Same sets counts useds b sets' counts' useds' b
-  pub kept : (b : ℕ) → b < left → Kept sets counts useds n sets' counts' useds' b
+  pub ahead : (b : ℕ) → a ≤ b → b ≤ n → Same sets b sets' b
+  pub kept : (b : ℕ) → b < left → Kept sets n sets' b
   pub gone :
       (p : ℕ) → p < a →
-      PlaceOf sets' counts' left (set_at sets counts p)
-      ⊎ ((j : Job) (i : ℕ) → TrialFor j i by opens sets counts useds n → CoveredBy j by.smallest (set_at sets counts n) (set_at sets counts p))
+      PlaceOf sets' left (set_at sets p)
+      ⊎ ((j : Job) (i : ℕ) → TrialFor j i by opens sets n → CoveredBy j by.smallest (set_at sets n) (set_at sets p))
 
-module _ {by : Measure} {opens sets counts useds : List ℕ} {n : ℕ} (g : TrialPre by opens sets counts useds n) where
-  few_at : (a : ℕ) → a ≤ n → get_or counts a 0 ≤ 500
+module _ {by : Measure} {opens : List ℕ} {sets : Sets} {n : ℕ} (g : TrialPre by opens sets n) where
+  few_at : (a : ℕ) → a ≤ n → get_or sets.counts a 0 ≤ 500
   few_at a h = (g.holds.front.each a (omega arith)).few
 
-  pub taking_start : Taking by opens sets counts useds n sets counts useds 0 0
+  pub taking_start : Taking by opens sets n sets 0 0
   taking_start =
       record {
         long = g.holds.front.long;
         up = omega arith;
         inside = omega arith;
-        ahead = λ b u v. same_self sets counts useds b;
+        ahead = λ b u v. same_self sets b;
         kept = λ b h. absurd (omega arith);
         gone = λ p h. absurd (omega arith);
       }
 
-  module _ {sets' counts' useds' : List ℕ} {left a : ℕ} (t : Taking by opens sets counts useds n sets' counts' useds' left a) (h : a < n) where
-    taking_two : {j : Job} {i : ℕ} → TrialFor j i by opens sets counts useds n → (b c : ℕ) → a ≤ b → b ≤ n → a ≤ c → c ≤ n → SetCoversFor j i by opens sets' counts' useds' b c
+  module _ {sets' : Sets} {left a : ℕ} (t : Taking by opens sets n sets' left a) (h : a < n) where
+    taking_two : {j : Job} {i : ℕ} → TrialFor j i by opens sets n → (b c : ℕ) → a ≤ b → b ≤ n → a ≤ c → c ≤ n → SetCoversFor j i by opens sets' b c
     taking_two f b c p q r s =
         record {
           measure = f.measure;
@@ -97,7 +98,7 @@ module _ {by : Measure} {opens sets counts useds : List ℕ} {n : ℕ} (g : Tria
           other = same_in (t.ahead c r s) (f.front.each c (omega arith));
         }
 
-    pub taking_asked : (b c : ℕ) → a ≤ b → b ≤ n → a ≤ c → c ≤ n → SetCoversPre by opens sets' counts' useds' b c
+    pub taking_asked : (b c : ℕ) → a ≤ b → b ≤ n → a ≤ c → c ≤ n → SetCoversPre by opens sets' b c
     taking_asked b c p q r s =
         record {
           job = g.job;
@@ -108,11 +109,11 @@ module _ {by : Measure} {opens sets counts useds : List ℕ} {n : ℕ} (g : Tria
           other_in = omega (arith, g.holds.room);
         }
 
-    pub taking_out : (r : Bool) → r ≡ true → SetCoversPost by opens sets' counts' useds' n a r → Taking by opens sets counts useds n sets' counts' useds' left (a + 1)
+    pub taking_out : (r : Bool) → r ≡ true → SetCoversPost by opens sets' n a r → Taking by opens sets n sets' left (a + 1)
     taking_out r e p =
         let u = (t.ahead n t.inside (omega arith)).set_is in
         let v = (t.ahead a (omega arith) t.inside).set_is in
-        let c : (j : Job) (i : ℕ) → TrialFor j i by opens sets counts useds n → CoveredBy j by.smallest (set_at sets counts n) (set_at sets counts a) = λ j i f. rw (u, v) at (p j i (taking_two f n a t.inside (omega arith) (omega arith) t.inside) e) in
+        let c : (j : Job) (i : ℕ) → TrialFor j i by opens sets n → CoveredBy j by.smallest (set_at sets n) (set_at sets a) = λ j i f. rw (u, v) at (p j i (taking_two f n a t.inside (omega arith) (omega arith) t.inside) e) in
         record {
           long = t.long;
           up = omega (arith, t.up);
@@ -126,7 +127,7 @@ module _ {by : Measure} {opens sets counts useds : List ℕ} {n : ℕ} (g : Tria
               (before_or_at q a (omega arith));
         }
 
-    pub moving_asked : MoveSetPre sets' counts' useds' a left
+    pub moving_asked : MoveSetPre sets' a left
     moving_asked =
         record {
           long = t.long;
@@ -135,13 +136,13 @@ module _ {by : Measure} {opens sets counts useds : List ℕ} {n : ℕ} (g : Tria
           few = omega (arith, few_at a (omega arith), (t.ahead a (omega arith) t.inside).count_is);
         }
 
-    module _ {sets'' counts'' useds'' : List ℕ} (m : MoveSetPost sets' counts' useds' a left sets'' counts'' useds'') where
-      others_stay : (b : ℕ) → b < left → Same sets' counts' useds' b sets'' counts'' useds'' b
+    module _ {sets'' : Sets} (m : MoveSetPost sets' a left sets'') where
+      others_stay : (b : ℕ) → b < left → Same sets' b sets'' b
       others_stay b x =
           let k = t.kept b x in
           m.others b (inl x) (omega (arith, g.holds.room, t.up)) (omega (arith, k.same.count_is, few_at k.place (omega (arith, k.inside))))
 
-      pub taking_on : Taking by opens sets counts useds n sets'' counts'' useds'' (left + 1) (a + 1)
+      pub taking_on : Taking by opens sets n sets'' (left + 1) (a + 1)
       taking_on =
           let e = same_then (t.ahead a (omega arith) t.inside) m.moved in
           record {
@@ -167,8 +168,8 @@ module _ {by : Measure} {opens sets counts useds : List ℕ} {n : ℕ} (g : Tria
                 (before_or_at q a (omega arith));
           }
 
-  pub taking_end : {sets' counts' useds' : List ℕ} {left a : ℕ} → Taking by opens sets counts useds n sets' counts' useds' left a → n ≤ a → TakeOutPost by opens sets counts useds n left sets' counts' useds'
-  taking_end {sets'} {counts'} {useds'} {left} {a} t h =
+  pub taking_end : {sets' : Sets} {left a : ℕ} → Taking by opens sets n sets' left a → n ≤ a → TakeOutPost by opens sets n left sets'
+  taking_end {sets'} {left} {a} t h =
       let s = t.ahead n t.inside (omega arith) in
       record {
         each = λ j i f. record {
@@ -178,21 +179,21 @@ module _ {by : Measure} {opens sets counts useds : List ℕ} {n : ℕ} (g : Tria
           };
           trial = same_in s (f.front.each n (omega arith));
           trial_is = s.set_is;
-          stay_or_covered = λ p x. ⊎_elim (λ z. inl (place_has sets' counts' left z)) (λ z. inr (z j i f)) (t.gone p (omega (arith, t.inside)));
+          stay_or_covered = λ p x. ⊎_elim (λ z. inl (place_has sets' left z)) (λ z. inr (z j i f)) (t.gone p (omega (arith, t.inside)));
         };
         fewer = omega (arith, t.up, t.inside);
       }
 
 -- ---- a set is settled
 
-module _ {by : Measure} {row opens sets counts useds : List ℕ} {n : ℕ} (g : SettlePre by row opens sets counts useds n) where
-  front_stays : {j : Job} {i : ℕ} → SettleFor j i by row opens sets counts useds n → FrontIn j i sets counts useds n
+module _ {by : Measure} {row opens : List ℕ} {sets : Sets} {n : ℕ} (g : SettlePre by row opens sets n) where
+  front_stays : {j : Job} {i : ℕ} → SettleFor j i by row opens sets n → FrontIn j i sets n
   front_stays f = record { each = λ a h. f.trial.front.each a (omega arith); long = f.trial.front.long }
 
   -- The set in place n is left out.
   left_out :
-      ((j : Job) (i : ℕ) → SettleFor j i by row opens sets counts useds n → Settled j by.target i (front_of sets counts n) (set_at sets counts n)) →
-      SettlePost by row opens sets counts useds n (record { sets = n; whole = true }) sets counts useds
+      ((j : Job) (i : ℕ) → SettleFor j i by row opens sets n → Settled j by.target i (front_of sets n) (set_at sets n)) →
+      SettlePost by row opens sets n (record { sets = n; whole = true }) sets
   left_out s =
       record {
         each = λ j i f. record { front = front_stays f; settled = λ e ks m. of_cons (s j i f) m };
@@ -200,68 +201,68 @@ module _ {by : Measure} {row opens sets counts useds : List ℕ} {n : ℕ} (g : 
       }
     where
       of_cons :
-          {j : Job} {i : ℕ} {ks : List ℕ} → Settled j by.target i (front_of sets counts n) (set_at sets counts n) →
-          In ks (front_of sets counts (suc n)) → Settled j by.target i (front_of sets counts n) ks
+          {j : Job} {i : ℕ} {ks : List ℕ} → Settled j by.target i (front_of sets n) (set_at sets n) →
+          In ks (front_of sets (suc n)) → Settled j by.target i (front_of sets n) ks
       of_cons s here = s
       of_cons s (there m) = stays m
 
   pub settled_hopeless :
-      (r : Bool) → r ≡ true → IsHopelessPost by row opens sets counts useds n r →
-      SettlePost by row opens sets counts useds n (record { sets = n; whole = true }) sets counts useds
+      (r : Bool) → r ≡ true → IsHopelessPost by row opens sets n r →
+      SettlePost by row opens sets n (record { sets = n; whole = true }) sets
   settled_hopeless r e p =
       left_out (λ j i f. let h = p j i f e in hopeless (f.trial.front.each n (omega arith)).is_set h.fewer h.too_much)
 
   pub settled_covered :
-      (r : Bool) → r ≡ true → IsCoveredPost by opens sets counts useds n r →
-      SettlePost by row opens sets counts useds n (record { sets = n; whole = true }) sets counts useds
+      (r : Bool) → r ≡ true → IsCoveredPost by opens sets n r →
+      SettlePost by row opens sets n (record { sets = n; whole = true }) sets
   settled_covered r e p =
       left_out (λ j i f.
       let q = p j i f.trial e in
       let h = q.covered in
-      covered (set_at sets counts q.place) by.smallest (f.trial.front.each q.place (omega (arith, q.inside))).is_set
+      covered (set_at sets q.place) by.smallest (f.trial.front.each q.place (omega (arith, q.inside))).is_set
       h.no_fewer
       f.trial.measure.least_is
       h.covers
-      (stays (front_has sets counts n q.place q.inside)))
+      (stays (front_has sets n q.place q.inside)))
 
-  module _ {sets' counts' useds' : List ℕ} {left : ℕ} (t : TakeOutPost by opens sets counts useds n left sets' counts' useds') where
+  module _ {sets' : Sets} {left : ℕ} (t : TakeOutPost by opens sets n left sets') where
     -- There is no room: the set is dropped.
-    pub dropped : SettlePost by row opens sets counts useds n (record { sets = left; whole = false }) sets' counts' useds'
+    pub dropped : SettlePost by row opens sets n (record { sets = left; whole = false }) sets'
     dropped =
         record {
           each = λ j i f. record { front = (t.each j i f.trial).front; settled = λ e. absurd (false≢true e) };
           room = omega (arith, g.holds.trial.room, t.fewer);
         }
 
-    pub last_asked : MoveSetPre sets' counts' useds' n left
+    pub last_asked : MoveSetPre sets' n left
     last_asked =
         let w = t.each g.job g.chunk g.holds.trial in
         record { long = w.front.long; from_in = omega (arith, g.holds.trial.room); up = t.fewer; few = w.trial.few }
 
     -- There is: it takes the place behind those that are left.
-    module _ {sets'' counts'' useds'' : List ℕ} (room : left < 64) (m : MoveSetPost sets' counts' useds' n left sets'' counts'' useds'') where
-      put_last : {j : Job} {i : ℕ} → SettleFor j i by row opens sets counts useds n → SettledOf j i by sets counts n (record { sets = left + 1; whole = true }) sets'' counts'' useds''
+    module _ {sets'' : Sets} (room : left < 64) (m : MoveSetPost sets' n left sets'') where
+      put_last : {j : Job} {i : ℕ} → SettleFor j i by row opens sets n → SettledOf j i by sets n (record { sets = left + 1; whole = true }) sets''
       put_last {j} {i} f =
           let w = t.each j i f.trial in
-          let same : (a : ℕ) → a < left → Same sets' counts' useds' a sets'' counts'' useds'' a = λ a h. m.others a (inl h) (omega arith) (w.front.each a h).few in
-          let new : set_at sets'' counts'' left ≡ set_at sets counts n = m.moved.set_is ∙ w.trial_is in
-          let newest : In (set_at sets counts n) (front_of sets'' counts'' (left + 1)) = place_has sets'' counts'' (left + 1) (record { place = left; inside = omega arith; is = new }) in
+          let same : (a : ℕ) → a < left → Same sets' a sets'' a = λ a h. m.others a (inl h) (omega arith) (w.front.each a h).few in
+          let new : set_at sets'' left ≡ set_at sets n = m.moved.set_is ∙ w.trial_is in
+          let newest : In (set_at sets n) (front_of sets'' (left + 1)) = place_has sets'' (left + 1) (record { place = left; inside = omega arith; is = new }) in
           record {
             front = record {
               each = λ a h. ⊎_elim (λ x. same_in (same a x) (w.front.each a x)) (λ x. rw x (same_in m.moved w.trial)) (before_or_at a left (omega arith));
               long = m.long;
             };
             settled = λ e ks k.
-                let p = place_of sets counts (suc n) ks k in
-                subst (λ (l : List ℕ). Settled j by.target i (front_of sets'' counts'' (left + 1)) l) p.is
+                let p = place_of sets (suc n) ks k in
+                subst (λ (l : List ℕ). Settled j by.target i (front_of sets'' (left + 1)) l) p.is
                 (⊎_elim
                 (λ x.
                 ⊎_elim
                 (λ z.
-                let q = place_of sets' counts' left (set_at sets counts p.place) z in
-                stays (place_has sets'' counts'' (left + 1) (record { place = q.place; inside = omega (arith, q.inside); is = (same q.place q.inside).set_is ∙ q.is })))
+                let q = place_of sets' left (set_at sets p.place) z in
+                stays (place_has sets'' (left + 1) (record { place = q.place; inside = omega (arith, q.inside); is = (same q.place q.inside).set_is ∙ q.is })))
                 (λ z.
-                covered (set_at sets counts n) by.smallest (f.trial.front.each n (omega arith)).is_set
+                covered (set_at sets n) by.smallest (f.trial.front.each n (omega arith)).is_set
                 z.no_fewer
                 f.trial.measure.least_is
                 z.covers
@@ -271,5 +272,5 @@ module _ {by : Measure} {row opens sets counts useds : List ℕ} {n : ℕ} (g : 
                 (before_or_at p.place n (omega (arith, p.inside))));
           }
 
-      pub settled_last : SettlePost by row opens sets counts useds n (record { sets = left + 1; whole = true }) sets'' counts'' useds''
+      pub settled_last : SettlePost by row opens sets n (record { sets = left + 1; whole = true }) sets''
       settled_last = record { each = λ j i f. put_last f; room = omega arith }

@@ -7,18 +7,19 @@ use mathlib.Core.List.{List}
 use Rattle.job.specs.Job.{Job}
 use Rattle.core_covering.specs.lemmas.Tables.{CoversPost, CoversPre, HopelessFor, HopelessPost, HopelessPre, TwoSets}
 use Rattle.core_front.specs.declared.Measure.{Measure}
+use Rattle.core_front.specs.declared.Sets.{Sets}
 use Rattle.core_front.specs.lemmas.Tables.{IsCoveredPost, IsHopelessPost, SetCoversFor, SetCoversPost, SetCoversPre, SettleFor, SettlePre, TrialFor, TrialPre, set_at}
 
 -- A slice from the first place of a set to the one behind its last.
-pub part_is : (sets counts : List ℕ) (a n : ℕ) → n ≡ get_or counts a 0 → take (a * 500 + n - a * 500) (drop (a * 500) sets) ≡ set_at sets counts a
-part_is sets counts a n e = let h : a * 500 + n - a * 500 ≡ get_or counts a 0 = omega arith in ap (λ k. take k (drop (a * 500) sets)) h
+pub part_is : (sets : Sets) (a n : ℕ) → n ≡ get_or sets.counts a 0 → take (a * 500 + n - a * 500) (drop (a * 500) sets.chunks) ≡ set_at sets a
+part_is sets a n e = let h : a * 500 + n - a * 500 ≡ get_or sets.counts a 0 = omega arith in ap (λ k. take k (drop (a * 500) sets.chunks)) h
 
 -- ---- one set against another
 
-module _ {by : Measure} {opens sets counts useds : List ℕ} {a b : ℕ} where
+module _ {by : Measure} {opens : List ℕ} {sets : Sets} {a b : ℕ} where
   two_sets :
-      {j : Job} {i : ℕ} → SetCoversFor j i by opens sets counts useds a b →
-      TwoSets j by.held by.smallest opens (set_at sets counts a) (get_or useds a 0) (set_at sets counts b) (get_or useds b 0)
+      {j : Job} {i : ℕ} → SetCoversFor j i by opens sets a b →
+      TwoSets j by.held by.smallest opens (set_at sets a) (get_or sets.useds a 0) (set_at sets b) (get_or sets.useds b 0)
   two_sets {j} {i} h =
       let m = h.measure in
       record {
@@ -36,27 +37,27 @@ module _ {by : Measure} {opens sets counts useds : List ℕ} {a b : ℕ} where
       }
 
   pub covers_asked :
-      SetCoversPre by opens sets counts useds a b → (u s : List ℕ) → u ≡ set_at sets counts a → s ≡ set_at sets counts b →
-      CoversPre by.held by.smallest opens u (get_or useds a 0) s (get_or useds b 0)
+      SetCoversPre by opens sets a b → (u s : List ℕ) → u ≡ set_at sets a → s ≡ set_at sets b →
+      CoversPre by.held by.smallest opens u (get_or sets.useds a 0) s (get_or sets.useds b 0)
   covers_asked g u s e f =
-      subst (λ (u : List ℕ). CoversPre by.held by.smallest opens u (get_or useds a 0) s (get_or useds b 0)) (sym e)
-      (subst (λ (s : List ℕ). CoversPre by.held by.smallest opens (set_at sets counts a) (get_or useds a 0) s (get_or useds b 0)) (sym f)
+      subst (λ (u : List ℕ). CoversPre by.held by.smallest opens u (get_or sets.useds a 0) s (get_or sets.useds b 0)) (sym e)
+      (subst (λ (s : List ℕ). CoversPre by.held by.smallest opens (set_at sets a) (get_or sets.useds a 0) s (get_or sets.useds b 0)) (sym f)
       (record { job = g.job; holds = two_sets g.holds }))
 
   pub covers_says :
-      (u s : List ℕ) (r : Bool) → u ≡ set_at sets counts a → s ≡ set_at sets counts b →
-      CoversPost by.held by.smallest opens u (get_or useds a 0) s (get_or useds b 0) r → SetCoversPost by opens sets counts useds a b r
+      (u s : List ℕ) (r : Bool) → u ≡ set_at sets a → s ≡ set_at sets b →
+      CoversPost by.held by.smallest opens u (get_or sets.useds a 0) s (get_or sets.useds b 0) r → SetCoversPost by opens sets a b r
   covers_says u s r e f p j i h t =
-      subst (λ (s : List ℕ). CoversPost by.held by.smallest opens (set_at sets counts a) (get_or useds a 0) s (get_or useds b 0) r) f
-      (subst (λ (u : List ℕ). CoversPost by.held by.smallest opens u (get_or useds a 0) s (get_or useds b 0) r) e p)
+      subst (λ (s : List ℕ). CoversPost by.held by.smallest opens (set_at sets a) (get_or sets.useds a 0) s (get_or sets.useds b 0) r) f
+      (subst (λ (u : List ℕ). CoversPost by.held by.smallest opens u (get_or sets.useds a 0) s (get_or sets.useds b 0) r) e p)
       j (two_sets h) t
 
 -- ---- one set beside the row
 
-module _ {by : Measure} {row opens sets counts useds : List ℕ} {n : ℕ} where
+module _ {by : Measure} {row opens : List ℕ} {sets : Sets} {n : ℕ} where
   hopeless_for :
-      {j : Job} {i : ℕ} → SettleFor j i by row opens sets counts useds n →
-      HopelessFor j by.target by.held row opens (set_at sets counts n) (get_or useds n 0)
+      {j : Job} {i : ℕ} → SettleFor j i by row opens sets n →
+      HopelessFor j by.target by.held row opens (set_at sets n) (get_or sets.useds n 0)
   hopeless_for {j} {i} h =
       let m = h.trial.measure in
       let s = h.trial.front.each n (omega arith) in
@@ -76,26 +77,26 @@ module _ {by : Measure} {row opens sets counts useds : List ℕ} {n : ℕ} where
       }
 
   pub hopeless_asked :
-      SettlePre by row opens sets counts useds n → (set : List ℕ) → set ≡ set_at sets counts n →
-      HopelessPre by.target by.held row opens set (get_or useds n 0)
+      SettlePre by row opens sets n → (set : List ℕ) → set ≡ set_at sets n →
+      HopelessPre by.target by.held row opens set (get_or sets.useds n 0)
   hopeless_asked g set e =
-      subst (λ (set : List ℕ). HopelessPre by.target by.held row opens set (get_or useds n 0)) (sym e)
+      subst (λ (set : List ℕ). HopelessPre by.target by.held row opens set (get_or sets.useds n 0)) (sym e)
       (record { job = g.job; holds = hopeless_for g.holds })
 
   pub hopeless_says :
-      (set : List ℕ) (r : Bool) → set ≡ set_at sets counts n → HopelessPost by.target by.held by.all row opens set (get_or useds n 0) r →
-      IsHopelessPost by row opens sets counts useds n r
+      (set : List ℕ) (r : Bool) → set ≡ set_at sets n → HopelessPost by.target by.held by.all row opens set (get_or sets.useds n 0) r →
+      IsHopelessPost by row opens sets n r
   unfolding hopeless_for
   hopeless_says set r e p j i h t =
-      subst (λ (set : List ℕ). HopelessPost by.target by.held by.all row opens set (get_or useds n 0) r) e p j (hopeless_for h) h.trial.measure.all_is t
+      subst (λ (set : List ℕ). HopelessPost by.target by.held by.all row opens set (get_or sets.useds n 0) r) e p j (hopeless_for h) h.trial.measure.all_is t
 
 -- ---- the sets of a front against the one in place n
 
-module _ {by : Measure} {opens sets counts useds : List ℕ} {n : ℕ} where
-  pub two_of : {j : Job} {i : ℕ} → TrialFor j i by opens sets counts useds n → (a b : ℕ) → a ≤ n → b ≤ n → SetCoversFor j i by opens sets counts useds a b
+module _ {by : Measure} {opens : List ℕ} {sets : Sets} {n : ℕ} where
+  pub two_of : {j : Job} {i : ℕ} → TrialFor j i by opens sets n → (a b : ℕ) → a ≤ n → b ≤ n → SetCoversFor j i by opens sets a b
   two_of h a b u v = record { measure = h.measure; one = h.front.each a (omega arith); other = h.front.each b (omega arith) }
 
-  pub two_asked : TrialPre by opens sets counts useds n → (a b : ℕ) → a ≤ n → b ≤ n → SetCoversPre by opens sets counts useds a b
+  pub two_asked : TrialPre by opens sets n → (a b : ℕ) → a ≤ n → b ≤ n → SetCoversPre by opens sets a b
   two_asked g a b u v =
       record {
         job = g.job;
@@ -106,5 +107,5 @@ module _ {by : Measure} {opens sets counts useds : List ℕ} {n : ℕ} where
         other_in = omega (arith, g.holds.room);
       }
 
-  pub covered_by : (a : ℕ) (r : Bool) → a < n → r ≡ true → SetCoversPost by opens sets counts useds a n r → IsCoveredPost by opens sets counts useds n true
+  pub covered_by : (a : ℕ) (r : Bool) → a < n → r ≡ true → SetCoversPost by opens sets a n r → IsCoveredPost by opens sets n true
   covered_by a r u e p j i h t = record { place = a; inside = u; covered = p j i (two_of h a n (omega arith) (omega arith)) e }

@@ -1,44 +1,37 @@
-use Prim.Native.Nat.{ℕ, zero, suc, ◌-◌, ◌<◌}
-use mathlib.Core.Path.{◌≡◌, refl, ap, sym, ◌∙◌}
-use mathlib.Core.Bool.{Bool, ◌&&◌}
-use native.Mathlib.Omega.{arith}
-use borrow.Author.Tests.{eq-eqb, ne_eqb}
-use lib.Dec.{eqb}
+-- `equal_bases` meets its contract: the chunks are tried from the first to the last. Assumes
+-- nothing.
+use Rattle.std.proofs.Common.{◌≡◌, ℕ, zero, suc, ◌+◌, ◌&&◌, Bool, true, false, List, [], ◌∷◌, ◌++◌, eqb, refl, ap, ◌∙◌, arith, rules, tests}
+use Rattle.std.specs.List.{list_all, range_with_len}
+use Rattle.std.proofs.lemmas.Iterator.{YieldsList-from_range}
+use Rattle.std.proofs.lemmas.Iterator.Search.{all_from_yields_List}
+use Rattle.std.proofs.lemmas.List.Folds.{list_all-append}
 use Rattle.theory_basics.specs.Tests.{all_to}
 use Rattle.core_sizes.specs.Table.{table_at}
-use Rattle.core_moore_hodgson.specs.lemmas.Tables.{equal_in}
 use Rattle.core_moore_hodgson.proofs.equal_bases.Goals as goal
 
--- The test of chunk i, then those before it.
-first_test : (f : ℕ → Bool) (i : ℕ) → 0 < i → all_to i f ≡ f i && all_to (i - 1) f
-first_test f zero h = absurd (omega arith)
-first_test f (suc n) h = let e : suc n - 1 ≡ n = omega arith in rw e
+range_ends : (a n : ℕ) → range_with_len a (suc n) ≡ range_with_len a n ++ ((a + n) ∷ [])
+range_ends a zero = let e : a + 0 ≡ a = omega arith in rw e
+range_ends a (suc n) = let e : a + 1 + n ≡ a + suc n = omega arith in ap (λ (l : List ℕ). a ∷ l) (rw e at (range_ends (a + 1) n))
 
-pub loop-i-init : goal.loop-i-init
-loop-i-init c = refl
+swapped : (a b : Bool) → a && (b && true) ≡ b && a
+swapped true true = refl
+swapped true false = refl
+swapped false true = refl
+swapped false false = refl
 
-pub returns-then-size_at-own : goal.returns-then-size_at-own
-returns-then-size_at-own c =
-    let l = c.loop-i in
-    let t = table_at c.args.table.now in
-    let n : t l.i 0 ≡ t 1 0 → ⊥ = λ e. c.if-size_at-own.true (c.size_at.ensures ∙ e ∙ sym c.size_at-own.ensures) in
-    sym (l.invariant ∙ first_test (λ i. eqb (t i 0) (t 1 0)) l.i c.loop-i-test.true ∙ rw (ne_eqb (t l.i 0) (t 1 0) n))
-
-pub overflow_sub-i : goal.overflow_sub-i
-overflow_sub-i c = omega (arith, c.loop-i-test.true)
-
-pub loop-i-smaller : goal.loop-i-smaller
-loop-i-smaller c = omega (arith, c.loop-i-test.true)
-
-pub loop-i-preserved : goal.loop-i-preserved
-loop-i-preserved c =
-    let l = c.loop-i in
-    let t = table_at c.args.table.now in
-    let e : t l.i 0 ≡ t 1 0 = sym c.size_at.ensures ∙ c.if-size_at-own.false ∙ c.size_at-own.ensures in
-    l.invariant ∙ first_test (λ i. eqb (t i 0) (t 1 0)) l.i c.loop-i-test.true ∙ rw (eq-eqb (t l.i 0) (t 1 0) e)
+-- The numbers of 1 .. n, from the first and from the last.
+tried_to : (f : ℕ → Bool) (n : ℕ) → list_all (λ k. f (k + 1)) (range_with_len 0 n) ≡ all_to n f
+tried_to f zero = refl
+tried_to f (suc n) =
+    let e : 0 + n + 1 ≡ suc n = omega arith in
+    ap (list_all (λ k. f (k + 1))) (range_ends 0 n)
+    ∙ list_all-append (λ k. f (k + 1)) (range_with_len 0 n) ((0 + n) ∷ [])
+    ∙ swapped (list_all (λ k. f (k + 1)) (range_with_len 0 n)) (f (0 + n + 1))
+    ∙ rw (e, tried_to f n)
 
 pub returns : goal.returns
 returns c =
-    let l = c.loop-i in
-    let z : l.i ≡ 0 = omega (arith, c.loop-i-test.false) in
-    sym (l.invariant ∙ ap (λ (n : ℕ). equal_in n (table_at c.args.table.now)) z)
+    let n = c.args.p.chunks in
+    let t = table_at c.args.table.now in
+    let e = all_from_yields_List (λ k. eqb (t (k + 1) 0) (t 1 0)) _ _ c.all.result c.all.ensures.ran (YieldsList-from_range 0 n n refl (omega arith)) (λ x b q k. search (rules, tests)) in
+    e ∙ tried_to (λ i. eqb (t i 0) (t 1 0)) n

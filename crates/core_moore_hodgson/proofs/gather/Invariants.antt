@@ -5,6 +5,3 @@ use Rattle.core_moore_hodgson.proofs.gather.Given as goal
 
 abbrev pub invariant-loop-i : goal.invariant-loop-i
 invariant-loop-i l = Gathering l.p l.tree l.ids l.dues l.bytes l.first l.i
-
-abbrev pub decreases-loop-i : goal.decreases-loop-i
-decreases-loop-i l = l.i

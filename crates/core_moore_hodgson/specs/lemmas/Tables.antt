@@ -26,7 +26,6 @@ under t q = max (at t (2 * q)) (at t (2 * q + 1))
 
 -- Each place below 512 has the larger of the two under it.
 pub record Maxima (t : List ℕ) : Type 0 where
-  pub long : length t ≡ 1024
   pub right : (q : ℕ) → 1 ≤ q → q < 512 → at t q ≡ under t q
 
 -- A leaf of such a table.
@@ -88,18 +87,15 @@ Long ids dues bytes = (length ids ≡ 500) × (length dues ≡ 500) × (length b
 abbrev pub stands : List ℕ → ℕ → Bool
 stands tree i = ltb 0 (at tree (512 + i))
 
-pub record GatherPre (p : Programme) (tree ids dues bytes : List ℕ) : Type 0 where
+pub record GatherPre (p : Programme) : Type 0 where
   pub few : p.chunks ≤ 500
   pub ends : last_due p ≤ 3600
-  pub tree_long : length tree ≡ 1024
-  pub long : Long ids dues bytes
 
 pub record GatherPost (p : Programme) (tree : List ℕ) (first : ℕ) (ids dues bytes : List ℕ) : Type 0 where
   pub within : first ≤ 500
   pub kept : drop first ids ≡ picked (stands tree) 0 p.chunks
   pub due_slots : drop first dues ≡ map (due_slot p) (drop first ids)
   pub base_bytes : drop first bytes ≡ map (λ i. at tree (512 + i)) (drop first ids)
-  pub long : Long ids dues bytes
 
 -- ---- the whole
 

@@ -1,10 +1,6 @@
 -- `largest_set` meets its contract.
-use Prim.Native.Nat.{◌-◌}
 use Rattle.core_passes.specs.lemmas.Passing.{Larger}
 use Rattle.core_passes.proofs.largest_set.Given as goal
 
 abbrev pub invariant-loop-a : goal.invariant-loop-a
 invariant-loop-a l = Larger l.counts l.n l.best l.a
-
-abbrev pub decreases-loop-a : goal.decreases-loop-a
-decreases-loop-a l = l.n - l.a

@@ -1,9 +1,6 @@
 -- `skip` meets its contract.
-use Rattle.core_passes.specs.lemmas.Fronts.{copy_pre, skip_post, skip_settle_pre}
+use Rattle.core_passes.specs.lemmas.Fronts.{skip_post, skip_settle_pre}
 use Rattle.core_passes.proofs.skip.Goals as goal
-
-pub copy_set-requires : goal.copy_set-requires
-copy_set-requires c = copy_pre c.requires.holds
 
 pub settle-requires : goal.settle-requires
 settle-requires c = skip_settle_pre c.copy_set.ensures c.requires

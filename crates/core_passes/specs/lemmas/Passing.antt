@@ -11,6 +11,7 @@ use Rattle.theory_most.proofs.Bounds.{largest_le}
 use Rattle.core_covering.specs.lemmas.Tables.{PlacedPost, RowOf}
 use Rattle.core_front.specs.declared.Front.{Front}
 use Rattle.core_front.specs.declared.Measure.{Measure}
+use Rattle.core_front.specs.declared.Sets.{Sets}
 use Rattle.core_front.specs.lemmas.Sets.{before_or_at, set_long}
 use Rattle.core_front.specs.lemmas.Tests.{part_is}
 use Rattle.core_front.specs.lemmas.Tables.{FrontIn, Long, SetIn, front_of, set_at}
@@ -47,10 +48,10 @@ row_at_lem {work = work} f k h =
       long = omega (arith, length-take (k * 501 + 501 - k * 501) (drop (k * 501) work), length-drop (k * 501) work, f.long);
     }
 
-module _ {film : Film} {target i : ℕ} {ends opens bases smallest work sets counts useds : List ℕ} {n : ℕ} where
+module _ {film : Film} {target i : ℕ} {ends opens bases smallest work : List ℕ} {sets : Sets} {n : ℕ} where
   step_for :
-      {j : Job} → TurnFor j film target i ends opens bases smallest work sets counts useds n → (k : ℕ) → k ≡ suc i →
-      StepFor j i (measure_at film target smallest k) (chunk_at bases ends k) (row_at work k) opens sets counts useds n
+      {j : Job} → TurnFor j film target i ends opens bases smallest work sets n → (k : ℕ) → k ≡ suc i →
+      StepFor j i (measure_at film target smallest k) (chunk_at bases ends k) (row_at work k) opens sets n
   step_for {j} t k e =
       let f = t.film_is in
       let in_job : suc i ≤ chunks j = omega (arith, t.inside) in
@@ -78,21 +79,21 @@ module _ {film : Film} {target i : ℕ} {ends opens bases smallest work sets cou
         room = t.room;
       }
 
-  module _ {nextSets nextCounts nextUseds : List ℕ} (p : TurnPre film target i ends opens bases smallest work sets counts useds n nextSets nextCounts nextUseds) (k : ℕ) (e : k ≡ suc i) where
+  module _ {nextSets : Sets} (p : TurnPre film target i ends opens bases smallest work sets n nextSets) (k : ℕ) (e : k ≡ suc i) where
     pub turn_step_pre :
-        StepPre (measure_at film target smallest k) (chunk_at bases ends k) (row_at work k) opens sets counts useds n nextSets nextCounts nextUseds
+        StepPre (measure_at film target smallest k) (chunk_at bases ends k) (row_at work k) opens sets n nextSets
     turn_step_pre = record { job = p.job; before = i; holds = step_for p.holds k e; long = p.next_long }
 
-    module _ {r : Front} {s c u : List ℕ} (stepped : StepPost (measure_at film target smallest k) (chunk_at bases ends k) (row_at work k) opens sets counts useds n r s c u) where
-      pub turn_copy_pre : CopyFrontPre s c u r.sets sets counts useds
+    module _ {r : Front} {S : Sets} (stepped : StepPost (measure_at film target smallest k) (chunk_at bases ends k) (row_at work k) opens sets n r S) where
+      pub turn_copy_pre : CopyFrontPre S r.sets sets
       turn_copy_pre =
           let f = (stepped.each p.job i (step_for p.holds k e)).front in
           record { long = f.long; to_long = p.holds.front.long; few = λ a h. (f.each a h).few; room = stepped.room }
 
       pub turn_post :
-          {s' c' u' : List ℕ} → CopyFrontPost s c u r.sets s' c' u' →
-          TurnPost film target i ends opens bases smallest work sets counts useds n r s' c' u' s c u
-      turn_post {s'} {c'} {u'} copied =
+          {S' : Sets} → CopyFrontPost S r.sets S' →
+          TurnPost film target i ends opens bases smallest work sets n r S' S
+      turn_post {S'} copied =
           record {
             each = λ j t.
                 let o = stepped.each j i (step_for t k e) in
@@ -101,7 +102,7 @@ module _ {film : Film} {target i : ℕ} {ends opens bases smallest work sets cou
                     each = λ a h. set_moves (copied.same a h) (copied.same_counts a h) (copied.same_useds a h) (o.front.each a h);
                     long = copied.long;
                   };
-                  next = λ w. subst (λ (l : List (List ℕ)). Next j target i (front_of sets counts n) l) (sym (front_same s c s' c' r.sets copied.same)) (o.next w);
+                  next = λ w. subst (λ (l : List (List ℕ)). Next j target i (front_of sets n) l) (sym (front_same S S' r.sets copied.same)) (o.next w);
                 };
             room = stepped.room;
             next_long = (stepped.each p.job i (step_for p.holds k e)).front.long;
@@ -110,67 +111,70 @@ module _ {film : Film} {target i : ℕ} {ends opens bases smallest work sets cou
 -- ---- a pass
 
 -- The front after chunk i.
-pub record PassingOf (j : Job) (target : ℕ) (sets counts useds : List ℕ) (n : ℕ) (whole : Bool) (i : ℕ) : Type 0 where
-  pub front : FrontIn j i sets counts useds n
-  pub pass : whole ≡ true → Pass j target i (front_of sets counts n)
+pub record PassingOf (j : Job) (target : ℕ) (sets : Sets) (n : ℕ) (whole : Bool) (i : ℕ) : Type 0 where
+  pub front : FrontIn j i sets n
+  pub pass : whole ≡ true → Pass j target i (front_of sets n)
 
-pub record Passing (film : Film) (target : ℕ) (ends opens bases smallest work sets counts useds nextSets nextCounts nextUseds : List ℕ) (n : ℕ) (whole : Bool) (i : ℕ) : Type 0 where
-  pub each : (j : Job) → FilmOf j film ends opens bases smallest work → target ≤ chunks j → PassingOf j target sets counts useds n whole i
+pub record Passing (film : Film) (target : ℕ) (ends opens bases smallest work : List ℕ) (sets nextSets : Sets) (n : ℕ) (whole : Bool) (i : ℕ) : Type 0 where
+  pub each : (j : Job) → FilmOf j film ends opens bases smallest work → target ≤ chunks j → PassingOf j target sets n whole i
   pub room : n ≤ 64
   pub so_far : i ≤ film.count
-  pub next_long : Long nextSets nextCounts nextUseds
+  pub next_long : Long nextSets
 
 -- The empty set alone.
+abbrev pub with_none : Sets → Sets
+with_none sets = record { chunks = sets.chunks; counts = set sets.counts 0 0; useds = set sets.useds 0 0 }
+
 pub passing_start :
-    {film : Film} {target : ℕ} {ends opens bases smallest work sets counts useds nextSets nextCounts nextUseds : List ℕ} {whole : Bool} →
-    PassPre film target ends opens bases smallest work sets counts useds nextSets nextCounts nextUseds →
-    Passing film target ends opens bases smallest work sets (set counts 0 0) (set useds 0 0) nextSets nextCounts nextUseds 1 whole 0
-passing_start {film} {target} {ends} {opens} {bases} {smallest} {work} {sets} {counts} {useds} {whole = whole} p =
+    {film : Film} {target : ℕ} {ends opens bases smallest work : List ℕ} {sets nextSets : Sets} {whole : Bool} →
+    PassPre film target ends opens bases smallest work sets nextSets →
+    Passing film target ends opens bases smallest work (with_none sets) nextSets 1 whole 0
+passing_start {film} {target} {ends} {opens} {bases} {smallest} {work} {sets} {whole = whole} p =
     record { each = λ j f t. on j; room = omega arith; so_far = omega arith; next_long = p.next_long }
   where
-    count_none : get_or (set counts 0 0) 0 0 ≡ 0
-    count_none = get_or-set_same counts 0 0 0 (omega (arith, p.long.counts_long))
+    count_none : get_or (set sets.counts 0 0) 0 0 ≡ 0
+    count_none = get_or-set_same sets.counts 0 0 0 (omega (arith, p.long.counts_long))
 
-    none : set_at sets (set counts 0 0) 0 ≡ []
+    none : set_at (with_none sets) 0 ≡ []
     none = rw count_none
 
-    empty : (j : Job) → SetIn j 0 sets (set counts 0 0) (set useds 0 0) 0
+    empty : (j : Job) → SetIn j 0 (with_none sets) 0
     empty j =
         record {
           is_set = subst (λ (ks : List ℕ). Set j 0 ks) (sym none) (record { ascending = tt; in_time_lem = tt });
-          used_is = get_or-set_same useds 0 0 0 (omega (arith, p.long.useds_long)) ∙ ap (λ (ks : List ℕ). (after_set j ks).used) (sym none);
+          used_is = get_or-set_same sets.useds 0 0 0 (omega (arith, p.long.useds_long)) ∙ ap (λ (ks : List ℕ). (after_set j ks).used) (sym none);
           few = omega (arith, count_none);
         }
 
-    on : (j : Job) → PassingOf j target sets (set counts 0 0) (set useds 0 0) 1 whole 0
+    on : (j : Job) → PassingOf j target (with_none sets) 1 whole 0
     on j =
         record {
           front = record {
-            each = λ a h. let e : 0 ≡ a = omega arith in subst (λ (x : ℕ). SetIn j 0 sets (set counts 0 0) (set useds 0 0) x) e (empty j);
+            each = λ a h. let e : 0 ≡ a = omega arith in subst (λ (x : ℕ). SetIn j 0 (with_none sets) x) e (empty j);
             long = record { sets_long = p.long.sets_long; counts_long = simp length-set p.long.counts_long; useds_long = simp length-set p.long.useds_long };
           };
           pass = λ w. subst (λ (ks : List ℕ). Pass j target 0 (ks ∷ [])) (sym none) begin;
         }
 
-module _ {film : Film} {target : ℕ} {ends opens bases smallest work sets counts useds nextSets nextCounts nextUseds : List ℕ} {n : ℕ} {whole : Bool} {i : ℕ} (v : Passing film target ends opens bases smallest work sets counts useds nextSets nextCounts nextUseds n whole i) (more : i < film.count) where
+module _ {film : Film} {target : ℕ} {ends opens bases smallest work : List ℕ} {sets nextSets : Sets} {n : ℕ} {whole : Bool} {i : ℕ} (v : Passing film target ends opens bases smallest work sets nextSets n whole i) (more : i < film.count) where
   turn_for :
-      {j : Job} → FilmOf j film ends opens bases smallest work → target ≤ chunks j → TurnFor j film target i ends opens bases smallest work sets counts useds n
+      {j : Job} → FilmOf j film ends opens bases smallest work → target ≤ chunks j → TurnFor j film target i ends opens bases smallest work sets n
   turn_for {j} f t =
       record { film_is = f; target_in = t; inside = omega (arith, f.count_is); front = (v.each j f t).front; room = v.room }
 
   pub passing_turn_pre :
-      {s₀ c₀ u₀ ns₀ nc₀ nu₀ : List ℕ} → PassPre film target ends opens bases smallest work s₀ c₀ u₀ ns₀ nc₀ nu₀ →
-      TurnPre film target i ends opens bases smallest work sets counts useds n nextSets nextCounts nextUseds
+      {S₀ N₀ : Sets} → PassPre film target ends opens bases smallest work S₀ N₀ →
+      TurnPre film target i ends opens bases smallest work sets n nextSets
   passing_turn_pre p = record { job = p.job; holds = turn_for p.film_is (omega (arith, p.target_in, p.film_is.count_is)); next_long = v.next_long }
 
   pub passing_more :
-      {r : Front} {s c u ns nc nu : List ℕ} {whole' : Bool} → TurnPost film target i ends opens bases smallest work sets counts useds n r s c u ns nc nu →
+      {r : Front} {S N : Sets} {whole' : Bool} → TurnPost film target i ends opens bases smallest work sets n r S N →
       (whole' ≡ true → (whole ≡ true) × (r.whole ≡ true)) →
-      Passing film target ends opens bases smallest work s c u ns nc nu r.sets whole' (i + 1)
-  passing_more {r} {s} {c} {u} {ns} {nc} {nu} {whole'} turned both =
+      Passing film target ends opens bases smallest work S N r.sets whole' (i + 1)
+  passing_more {r} {S} {N} {whole'} turned both =
       record { each = on; room = turned.room; so_far = omega arith; next_long = turned.next_long }
     where
-      on : (j : Job) → FilmOf j film ends opens bases smallest work → target ≤ chunks j → PassingOf j target s c u r.sets whole' (i + 1)
+      on : (j : Job) → FilmOf j film ends opens bases smallest work → target ≤ chunks j → PassingOf j target S r.sets whole' (i + 1)
       on j f t =
           let o = turned.each j (turn_for f t) in
           rw (add-one i)
@@ -180,21 +184,21 @@ module _ {film : Film} {target : ℕ} {ends opens bases smallest work sets count
           })
 
 pub passing_long :
-    {film : Film} {target : ℕ} {ends opens bases smallest work sets counts useds nextSets nextCounts nextUseds : List ℕ} {n : ℕ} {whole : Bool} {i : ℕ} →
-    Passing film target ends opens bases smallest work sets counts useds nextSets nextCounts nextUseds n whole i →
-    {s₀ c₀ u₀ ns₀ nc₀ nu₀ : List ℕ} → PassPre film target ends opens bases smallest work s₀ c₀ u₀ ns₀ nc₀ nu₀ → Long sets counts useds
+    {film : Film} {target : ℕ} {ends opens bases smallest work : List ℕ} {sets nextSets : Sets} {n : ℕ} {whole : Bool} {i : ℕ} →
+    Passing film target ends opens bases smallest work sets nextSets n whole i →
+    {S₀ N₀ : Sets} → PassPre film target ends opens bases smallest work S₀ N₀ → Long sets
 passing_long v p = (v.each p.job p.film_is (omega (arith, p.target_in, p.film_is.count_is))).front.long
 
 pub passing_end :
-    {film : Film} {target : ℕ} {ends opens bases smallest work sets counts useds nextSets nextCounts nextUseds : List ℕ} {i : ℕ} (r : Front) →
-    {s₀ c₀ u₀ ns₀ nc₀ nu₀ : List ℕ} → PassPre film target ends opens bases smallest work s₀ c₀ u₀ ns₀ nc₀ nu₀ →
-    Passing film target ends opens bases smallest work sets counts useds nextSets nextCounts nextUseds r.sets r.whole i → film.count ≤ i →
-    PassPost film target ends opens bases smallest work r sets counts useds nextSets nextCounts nextUseds
-passing_end {film} {target} {sets = sets} {counts} {useds} {i = i} r p v h =
+    {film : Film} {target : ℕ} {ends opens bases smallest work : List ℕ} {sets nextSets : Sets} {i : ℕ} (r : Front) →
+    {S₀ N₀ : Sets} → PassPre film target ends opens bases smallest work S₀ N₀ →
+    Passing film target ends opens bases smallest work sets nextSets r.sets r.whole i → film.count ≤ i →
+    PassPost film target ends opens bases smallest work r sets nextSets
+passing_end {film} {target} {sets = sets} {i = i} r p v h =
     record {
       each = λ j f t.
           let e : i ≡ chunks j = omega (arith, f.count_is, v.so_far) in
-          let o = subst (λ (x : ℕ). PassingOf j target sets counts useds r.sets r.whole x) e (v.each j f t) in
+          let o = subst (λ (x : ℕ). PassingOf j target sets r.sets r.whole x) e (v.each j f t) in
           record { front = o.front; pass = o.pass };
       room = v.room;
       long = passing_long v p;
@@ -244,16 +248,16 @@ bound_few : (j : Job) → bound j ≤ chunks j
 unfolding bound
 bound_few j = largest_le (λ c. leb (least j 0 c) (after j 0)) (chunks j)
 
-pub record Looking (film : Film) (most : ℕ) (ends opens bases smallest work sets counts useds nextSets nextCounts nextUseds : List ℕ) (lowest target : ℕ) : Type 0 where
+pub record Looking (film : Film) (most : ℕ) (ends opens bases smallest work : List ℕ) (sets nextSets : Sets) (lowest target : ℕ) : Type 0 where
   pub each : (j : Job) → FilmOf j film ends opens bases smallest work → most ≡ bound j → NoneAboveInOrder j lowest × (lowest ≤ bound j)
   pub target_in : target ≤ most
-  pub long : Long sets counts useds
-  pub next_long : Long nextSets nextCounts nextUseds
+  pub long : Long sets
+  pub next_long : Long nextSets
 
 pub looking_start :
-    {film : Film} {most : ℕ} {ends opens bases smallest work sets counts useds nextSets nextCounts nextUseds : List ℕ} →
-    LookPre film most ends opens bases smallest work sets counts useds nextSets nextCounts nextUseds →
-    Looking film most ends opens bases smallest work sets counts useds nextSets nextCounts nextUseds most most
+    {film : Film} {most : ℕ} {ends opens bases smallest work : List ℕ} {sets nextSets : Sets} →
+    LookPre film most ends opens bases smallest work sets nextSets →
+    Looking film most ends opens bases smallest work sets nextSets most most
 looking_start p =
     record {
       each = λ j f e. (rw e (bound_in_order j f.accepted), omega (arith, e));
@@ -262,9 +266,9 @@ looking_start p =
       next_long = p.next_long;
     }
 
-module _ {film : Film} {most : ℕ} {ends opens bases smallest work sets counts useds nextSets nextCounts nextUseds : List ℕ} {lowest target : ℕ} (v : Looking film most ends opens bases smallest work sets counts useds nextSets nextCounts nextUseds lowest target) where
-  module _ {s₀ c₀ u₀ ns₀ nc₀ nu₀ : List ℕ} (p : LookPre film most ends opens bases smallest work s₀ c₀ u₀ ns₀ nc₀ nu₀) where
-    pub looking_pass_pre : PassPre film target ends opens bases smallest work sets counts useds nextSets nextCounts nextUseds
+module _ {film : Film} {most : ℕ} {ends opens bases smallest work : List ℕ} {sets nextSets : Sets} {lowest target : ℕ} (v : Looking film most ends opens bases smallest work sets nextSets lowest target) where
+  module _ {S₀ N₀ : Sets} (p : LookPre film most ends opens bases smallest work S₀ N₀) where
+    pub looking_pass_pre : PassPre film target ends opens bases smallest work sets nextSets
     looking_pass_pre =
         record {
           job = p.job;
@@ -276,10 +280,10 @@ module _ {film : Film} {most : ℕ} {ends opens bases smallest work sets counts 
 
     -- A set that reaches the target is found.
     pub looked_found :
-        {r : Front} {s c u ns nc nu : List ℕ} (has : ℕ) (out : Found) → PassPost film target ends opens bases smallest work r s c u ns nc nu →
-        out.place < r.sets → out.count ≡ get_or c out.place 0 → out.bound ≡ lowest →
-        LookPost film most has ends opens bases smallest work out s c u
-    looked_found {r} {s} {c} {u} has out q inside counted lowered =
+        {r : Front} {S N : Sets} (has : ℕ) (out : Found) → PassPost film target ends opens bases smallest work r S N →
+        out.place < r.sets → out.count ≡ get_or S.counts out.place 0 → out.bound ≡ lowest →
+        LookPost film most has ends opens bases smallest work out S
+    looked_found {r} {S} has out q inside counted lowered =
         let f = (q.each p.job p.film_is (omega (arith, v.target_in, p.bound_is, bound_few p.job))).front in
         record {
           each = λ j g e. record {
@@ -295,26 +299,26 @@ module _ {film : Film} {most : ℕ} {ends opens bases smallest work sets counts 
 
   -- A pass that found none: the target falls.
   pub looking_on :
-      {r : Front} {s c u ns nc nu : List ℕ} {next : ℕ} → PassPost film target ends opens bases smallest work r s c u ns nc nu → next + 1 ≡ target →
-      Looking film most ends opens bases smallest work s c u ns nc nu lowest next
+      {r : Front} {S N : Sets} {next : ℕ} → PassPost film target ends opens bases smallest work r S N → next + 1 ≡ target →
+      Looking film most ends opens bases smallest work S N lowest next
   looking_on q e = record { each = v.each; target_in = omega (arith, v.target_in); long = q.long; next_long = q.next_long }
 
   -- And if it was whole, so does the bound.
   pub looking_lower :
-      {r : Front} {s c u ns nc nu : List ℕ} {next place low : ℕ} → PassPost film target ends opens bases smallest work r s c u ns nc nu → next + 1 ≡ target →
-      LargestPost c r.sets place → (0 < r.sets → get_or c place 0 < target) → r.whole ≡ true → low ≡ next →
-      Looking film most ends opens bases smallest work s c u ns nc nu low next
-  looking_lower {r} {s} {c} {u} {next = next} {place = place} {low = low} q e l small whole lowered =
+      {r : Front} {S N : Sets} {next place low : ℕ} → PassPost film target ends opens bases smallest work r S N → next + 1 ≡ target →
+      LargestPost S.counts r.sets place → (0 < r.sets → get_or S.counts place 0 < target) → r.whole ≡ true → low ≡ next →
+      Looking film most ends opens bases smallest work S N low next
+  looking_lower {r} {S} {next = next} {place = place} {low = low} q e l small whole lowered =
       record {
         each = λ j f b.
             let o = q.each j f (omega (arith, v.target_in, b, bound_few j)) in
             let d : target - 1 ≡ low = omega arith in (
               subst (NoneAboveInOrder j) d
-                  (pass_ends j f.accepted target (front_of s c r.sets) (o.pass whole)
-                  (front_all (λ ks. length ks < target) s c r.sets
+                  (pass_ends j f.accepted target (front_of S r.sets) (o.pass whole)
+                  (front_all (λ ks. length ks < target) S r.sets
                   (λ a h.
                   let one = o.front.each a h in
-                  omega (arith, set_long s c a q.long.sets_long (omega (arith, q.room)) one.few, l.most a h, small (omega arith))))),
+                  omega (arith, set_long S a q.long.sets_long (omega (arith, q.room)) one.few, l.most a h, small (omega arith))))),
               omega (arith, v.target_in, b),
             );
         target_in = omega (arith, v.target_in);
@@ -323,7 +327,7 @@ module _ {film : Film} {most : ℕ} {ends opens bases smallest work sets counts 
       }
 
   pub looked_none :
-      (has : ℕ) (out : Found) → out.place ≡ 0 → out.count ≡ 0 → out.bound ≡ lowest → LookPost film most has ends opens bases smallest work out sets counts useds
+      (has : ℕ) (out : Found) → out.place ≡ 0 → out.count ≡ 0 → out.bound ≡ lowest → LookPost film most has ends opens bases smallest work out sets
   looked_none has out first none lowered =
       record {
         each = λ j g e. record {
@@ -341,13 +345,13 @@ module _ {film : Film} {most : ℕ} {ends opens bases smallest work sets counts 
 
 module _ {film : Film} {most : ℕ} {ends opens bases smallest work : List ℕ} {first : ℕ} {ids : List ℕ} (p : SeekPre film most ends opens bases smallest work first ids) where
   pub seek_look_pre :
-      {sets counts useds nextSets nextCounts nextUseds : List ℕ} → Long sets counts useds → Long nextSets nextCounts nextUseds →
-      LookPre film most ends opens bases smallest work sets counts useds nextSets nextCounts nextUseds
+      {sets nextSets : Sets} → Long sets → Long nextSets →
+      LookPre film most ends opens bases smallest work sets nextSets
   seek_look_pre l m = record { job = p.job; film_is = p.holds.film_is; bound_is = p.holds.bound_is; long = l; next_long = m }
 
-  module _ {out : Found} {s c u : List ℕ} (o : LookPost film most (500 - first) ends opens bases smallest work out s c u) where
-    pub seek_none : (r : Sought) → r.first ≡ first → r.bound ≡ out.bound → SeekPost film most ends opens bases smallest work first ids r ids
-    seek_none r e b =
+  module _ {out : Found} {S : Sets} (o : LookPost film most (500 - first) ends opens bases smallest work out S) where
+    pub seek_none : (r : Sought) → r.first ≡ first → r.bound ≡ out.bound → length ids ≡ 500 → SeekPost film most ends opens bases smallest work first ids r ids
+    seek_none r e b long =
         record {
           each = λ j k.
               let g = o.each j k.film_is k.bound_is in
@@ -358,22 +362,22 @@ module _ {film : Film} {most : ℕ} {ends opens bases smallest work : List ℕ} 
                 no_higher = omega (arith, b, g.no_higher);
               };
           within = omega (arith, e, p.within);
-          long = p.long;
+          long = long;
         }
 
     pub seek_place_pre :
-        (length (take (out.place * 500 + out.count - out.place * 500) (drop (out.place * 500) s)) ≤ 500) × (length ids ≡ 500)
+        length (take (out.place * 500 + out.count - out.place * 500) (drop (out.place * 500) S.chunks)) ≤ 500
     seek_place_pre =
-        (omega (arith, length-take (out.place * 500 + out.count - out.place * 500) (drop (out.place * 500) s), o.few), p.long)
+        omega (arith, length-take (out.place * 500 + out.count - out.place * 500) (drop (out.place * 500) S.chunks), o.few)
 
     pub seek_found :
         {ids' : List ℕ} (r : Sought) → 500 - first < out.count →
-        PlacedPost (take (out.place * 500 + out.count - out.place * 500) (drop (out.place * 500) s)) r.first ids' → r.bound ≡ out.bound →
+        PlacedPost (take (out.place * 500 + out.count - out.place * 500) (drop (out.place * 500) S.chunks)) r.first ids' → r.bound ≡ out.bound → length ids' ≡ 500 →
         SeekPost film most ends opens bases smallest work first ids r ids'
-    seek_found {ids'} r h placed b =
+    seek_found {ids'} r h placed b long =
         let n = o.count_is h in
-        let q = subst (λ (l : List ℕ). PlacedPost l r.first ids') (part_is s c out.place out.count n) placed in
-        let l = set_long s c out.place o.long.sets_long o.place_in (omega (arith, n, o.few)) in
+        let q = subst (λ (l : List ℕ). PlacedPost l r.first ids') (part_is S out.place out.count n) placed in
+        let l = set_long S out.place o.long.sets_long o.place_in (omega (arith, n, o.few)) in
         record {
           each = λ j k.
               let g = o.each j k.film_is k.bound_is in
@@ -384,5 +388,5 @@ module _ {film : Film} {most : ℕ} {ends opens bases smallest work : List ℕ} 
                 no_higher = omega (arith, b, g.no_higher);
               };
           within = omega (arith, q.within);
-          long = q.long;
+          long = long;
         }

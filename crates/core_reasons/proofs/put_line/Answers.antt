@@ -16,29 +16,21 @@ find_short-s-requires c =
       layer = o.layer;
       cap_in = omega (arith, c.cap_of-cap.ensures, cap_most c.args.most c.args.n o.layer);
       forecasts = t.forecasts;
-      long = (t.long.0, t.long.1, t.long.2, o.scratch.dues_long, o.scratch.ready_long, o.scratch.bytes_long);
     }
 
 pub put_short-requires : goal.put_short-requires
 put_short-requires c =
     let a = c.args in
     let o = c.requires in
-    let x = rw c.cap_of-cap.ensures at c.find_short-s.ensures.stretch in
+    let x = rw c.cap_of-cap.ensures at c.find_short-s.ensures in
     short_room a.p a.most a.sums.now a.after.now a.levels.now a.i a.n o.chunk_low o.chunk_high o.job o.plan o.facts o.in_job a.at a.out.now o.room (c.if-n-have.true ∙ o.have_is) c.find_short-s.result x
 
 pub returns-then-n-have : goal.returns-then-n-have
 returns-then-n-have c =
     let a = c.args in
     let o = c.requires in
-    let x = rw c.cap_of-cap.ensures at c.find_short-s.ensures.stretch in
-    let r = c.find_short-s.ensures.room in
-    record {
-      line = short_done a.p a.most a.sums.now a.after.now a.levels.now a.i a.n o.chunk_low o.chunk_high a.out.now a.at _ _ (c.if-n-have.true ∙ o.have_is) c.find_short-s.result x c.put_short.ensures;
-      room = record { dues_long = r.0; ready_long = r.1; bytes_long = r.2 };
-    }
-
-pub overflow_sub-below : goal.overflow_sub-below
-overflow_sub-below c = omega (arith, c.requires.missing)
+    let x = rw c.cap_of-cap.ensures at c.find_short-s.ensures in
+    short_done a.p a.most a.sums.now a.after.now a.levels.now a.i a.n o.chunk_low o.chunk_high a.out.now a.at _ _ (c.if-n-have.true ∙ o.have_is) c.find_short-s.result x c.put_short.ensures
 
 pub put_lower-requires : goal.put_lower-requires
 put_lower-requires c =
@@ -46,11 +38,8 @@ put_lower-requires c =
     let o = c.requires in
     lower_room a.p a.most a.sums.now a.after.now a.levels.now a.i a.n o.chunk_low o.chunk_high o.job o.plan o.facts a.at a.out.now o.room (omega (arith, o.missing, o.have_is))
 
-pub returns : goal.returns
-returns c =
+pub returns-else-n-have : goal.returns-else-n-have
+returns-else-n-have c =
     let a = c.args in
     let o = c.requires in
-    record {
-      line = lower_done a.p a.most a.sums.now a.after.now a.levels.now a.i a.n o.chunk_low o.chunk_high a.out.now a.at _ _ (omega (arith, o.missing, o.have_is)) c.put_lower.ensures;
-      room = o.scratch;
-    }
+    lower_done a.p a.most a.sums.now a.after.now a.levels.now a.i a.n o.chunk_low o.chunk_high a.out.now a.at _ _ (omega (arith, o.missing, o.have_is)) c.put_lower.ensures

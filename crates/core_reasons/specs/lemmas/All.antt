@@ -39,11 +39,6 @@ text_at j plan most xs = reasons_text (map (λ x. line_at j plan (against_by mos
 
 -- ---- what is handed
 
-pub record Scratch (dues ready bytes : List ℕ) : Type 0 where
-  pub dues_long : length dues ≡ 500
-  pub ready_long : length ready ≡ 500
-  pub bytes_long : length bytes ≡ 500
-
 pub record TablesPre (p : Programme) (held : ℕ) (sums after levels : List ℕ) : Type 0 where
   pub few : p.chunks ≤ 500
   pub late : 1 ≤ p.delay
@@ -54,9 +49,8 @@ pub record TablesPre (p : Programme) (held : ℕ) (sums after levels : List ℕ)
 
 -- A job and a plan of which these are the tables are part of what is asked: the room asked for is
 -- that of their lines.
-pub record PutLinePre (p : Programme) (held : ℕ) (most : Bool) (sums after levels : List ℕ) (i n have : ℕ) (dues ready bytes out : List ℕ) (at : ℕ) : Type 0 where
+pub record PutLinePre (p : Programme) (held : ℕ) (most : Bool) (sums after levels : List ℕ) (i n have : ℕ) (out : List ℕ) (at : ℕ) : Type 0 where
   pub tables : TablesPre p held sums after levels
-  pub scratch : Scratch dues ready bytes
   pub chunk_low : 1 ≤ i
   pub chunk_high : i ≤ p.chunks
   pub layer : n ≤ 3
@@ -72,9 +66,8 @@ pub record PutLinePre (p : Programme) (held : ℕ) (most : Bool) (sums after lev
 pub record PutLinePost (p : Programme) (most : Bool) (sums after levels : List ℕ) (i n : ℕ) (old : List ℕ) (at : ℕ) (out : List ℕ) (next : ℕ) : Type 0 where
   pub put : (j : Job) (plan : ℕ → ℕ) → Facts j plan p most sums after levels → n < Job.layers j → Put old at (sentence_at j plan most (record { chunk = i; layer = n })) out next
 
-pub record PutChunkPre (p : Programme) (held layers : ℕ) (most : Bool) (sums after levels : List ℕ) (i : ℕ) (dues ready bytes out : List ℕ) (at : ℕ) : Type 0 where
+pub record PutChunkPre (p : Programme) (held layers : ℕ) (most : Bool) (sums after levels : List ℕ) (i : ℕ) (out : List ℕ) (at : ℕ) : Type 0 where
   pub tables : TablesPre p held sums after levels
-  pub scratch : Scratch dues ready bytes
   pub chunk_low : 1 ≤ i
   pub chunk_high : i ≤ p.chunks
   pub job : Job

@@ -1,6 +1,6 @@
 -- Lemmas. What the two passes hand each other. The kept chunks stand in tables from a first place
 -- on; place q of the theory is place first + q.
-use Rattle.std.specs.Prelude.{ℕ, zero, suc, ◌+◌, ◌-◌, ◌≤◌, ◌<◌, ◌≡◌, Bool, true, List, map, length, get_or, take, drop, ltb}
+use Rattle.std.specs.Prelude.{ℕ, zero, suc, ◌+◌, ◌-◌, ◌≤◌, ◌<◌, ◌≡◌, Bool, true, List, map, get_or, take, drop, ltb}
 use Rattle.job.specs.Job.{Accepted, Job, Within, due, held_most}
 use Rattle.theory_plan.specs.Plan as Plan
 use Rattle.theory_plan.specs.Plan.{kept}
@@ -42,19 +42,17 @@ spelled s = record { first = s.first; last = s.last; carry = s.carry; need = s.n
 
 -- ---- what is asked
 
-pub record FindBeginPre (after ready bytes : List ℕ) (first m : ℕ) : Type 0 where
+pub record FindBeginPre (after ready : List ℕ) (first m : ℕ) : Type 0 where
   pub low : first ≤ m
   pub high : m < 500
   pub sums : (t : ℕ) → get_or after t 0 ≤ 60397977600
   pub begins : (k : ℕ) → first ≤ k → k < 500 → Within 1 3600 (get_or ready k 0)
-  pub long : (length after ≡ 3601) × (length ready ≡ 500) × (length bytes ≡ 500)
 
-pub record FindStretchPre (after dues ready bytes : List ℕ) (first : ℕ) : Type 0 where
+pub record FindStretchPre (after dues ready : List ℕ) (first : ℕ) : Type 0 where
   pub within : first ≤ 500
   pub sums : (t : ℕ) → get_or after t 0 ≤ 60397977600
   pub due_slots : (k : ℕ) → first ≤ k → k < 500 → Within 1 3600 (get_or dues k 0)
   pub begins : (k : ℕ) → first ≤ k → k < 500 → Within 1 3600 (get_or ready k 0)
-  pub long : (length after ≡ 3601) × (length dues ≡ 500) × (length ready ≡ 500) × (length bytes ≡ 500)
 
 -- ---- what is found
 

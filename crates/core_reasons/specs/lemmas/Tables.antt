@@ -1,5 +1,5 @@
 -- Lemmas. What the functions of stretch.rt hand each other, and the choice that a trial is.
-use Rattle.std.specs.Prelude.{ℕ, suc, ◌+◌, ◌*◌, ◌-◌, ◌/◌, ◌≤◌, min, ◌≡◌, cond, List, map, length, get_or, drop, leb, ltb, eqb}
+use Rattle.std.specs.Prelude.{ℕ, suc, ◌+◌, ◌*◌, ◌-◌, ◌/◌, ◌≤◌, min, ◌≡◌, cond, List, map, get_or, drop, leb, ltb, eqb}
 use Rattle.theory_basics.specs.Sums.{sum}
 use Rattle.job.specs.declared.Programme.{Programme}
 use Rattle.job.specs.Job.{Accepted, Job, chunks, due_slot, last_due, layers, size}
@@ -32,18 +32,16 @@ chunks_in p levels i n cap = picked (λ k. leb 1 (level_in levels i n cap k)) 0 
 
 -- ---- the tables
 
-pub record SetTablesPre (p : Programme) (sums levels : List ℕ) (n cap : ℕ) (dues bytes : List ℕ) : Type 0 where
+pub record SetTablesPre (p : Programme) (n cap : ℕ) : Type 0 where
   pub few : p.chunks ≤ 500
   pub ends : last_due p ≤ 3600
   pub layer : n ≤ 3
   pub cap_in : cap ≤ 4
-  pub long : (length sums ≡ 2000) × (length levels ≡ 500) × (length dues ≡ 500) × (length bytes ≡ 500)
 
 pub record SetTablesPost (p : Programme) (sums levels : List ℕ) (i n cap first : ℕ) (dues bytes : List ℕ) : Type 0 where
   pub within : first ≤ 500
   pub due_slots : drop first dues ≡ map (due_slot p) (chunks_in p levels i n cap)
   pub carried : drop first bytes ≡ map (λ k. bytes_in sums k (level_in levels i n cap k)) (chunks_in p levels i n cap)
-  pub long : (length dues ≡ 500) × (length bytes ≡ 500)
 
 -- ---- the stretch of a trial
 
@@ -54,7 +52,7 @@ pub record Given (j : Job) (plan : ℕ → ℕ) (p : Programme) (sums after leve
   pub forecasts : (t : ℕ) → get_or after t 0 ≡ Plan.after j t
   pub carried : (k : ℕ) → 1 ≤ k → k ≤ chunks j → get_or levels (k - 1) 0 ≡ plan k
 
-pub record FindShortPre (p : Programme) (held : ℕ) (sums after levels : List ℕ) (n cap : ℕ) (dues ready bytes : List ℕ) : Type 0 where
+pub record FindShortPre (p : Programme) (held : ℕ) (after : List ℕ) (n cap : ℕ) : Type 0 where
   pub few : p.chunks ≤ 500
   pub late : 1 ≤ p.delay
   pub ends : last_due p ≤ 3600
@@ -62,7 +60,6 @@ pub record FindShortPre (p : Programme) (held : ℕ) (sums after levels : List �
   pub layer : n ≤ 3
   pub cap_in : cap ≤ 4
   pub forecasts : (t : ℕ) → get_or after t 0 ≤ 60397977600
-  pub long : (length sums ≡ 2000) × (length after ≡ 3601) × (length levels ≡ 500) × (length dues ≡ 500) × (length ready ≡ 500) × (length bytes ≡ 500)
 
 -- The stretch is the one named, for every job and plan of which these are the tables.
 pub record FindShortPost (p : Programme) (sums after levels : List ℕ) (i n cap : ℕ) (s : Stretch) : Type 0 where

@@ -4,6 +4,3 @@ use Rattle.core_replan_decide.proofs.find_front.Given as goal
 
 abbrev pub invariant-loop-i : goal.invariant-loop-i
 invariant-loop-i l = Fronting l.p l.start l.last l.begun l.after l.front l.caps l.head l.i
-
-abbrev pub decreases-loop-i : goal.decreases-loop-i
-decreases-loop-i l = l.i

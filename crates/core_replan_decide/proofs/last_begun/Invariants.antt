@@ -4,6 +4,3 @@ use Rattle.core_replan_decide.proofs.last_begun.Given as goal
 
 abbrev pub invariant-loop-i : goal.invariant-loop-i
 invariant-loop-i l = Lasting l.begun l.initial.i l.i
-
-abbrev pub decreases-loop-i : goal.decreases-loop-i
-decreases-loop-i l = l.i

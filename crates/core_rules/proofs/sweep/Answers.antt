@@ -1,10 +1,7 @@
-use mathlib.Core.Path.{◌≡◌, refl, sym, ◌∙◌}
+use mathlib.Core.Path.{◌≡◌, sym, ◌∙◌}
 use native.Mathlib.Omega.{arith}
 use Rattle.core_rules.proofs.Held.{sweeping_start, sweeping_fine, sweeping_more, sweeping_stop, sweep_is}
 use Rattle.core_rules.proofs.sweep.Goals as goal
-
-pub mark_times-requires : goal.mark_times-requires
-mark_times-requires c = (c.requires.0, c.requires.2, refl, refl)
 
 pub loop-t-init : goal.loop-t-init
 loop-t-init c =
@@ -17,12 +14,6 @@ overflow_add-more c =
     let l = c.loop-t in
     let f = sweeping_fine _ _ _ _ l.held l.t l.invariant c.loop-t-test.true in
     omega (arith, f, l.invariant.now_held)
-
-pub offset_bounds-ends-u : goal.offset_bounds-ends-u
-offset_bounds-ends-u c = omega (arith, c.loop-t-test.true, c.loop-t.invariant.short)
-
-pub bounds-ends-u : goal.bounds-ends-u
-bounds-ends-u c = omega (arith, c.loop-t-test.true, c.loop-t.invariant.short)
 
 pub overflow_sub-held : goal.overflow_sub-held
 overflow_sub-held c =
@@ -38,9 +29,6 @@ returns-then-most-held c =
     sym (sweeping_stop a.last _ _ _ l.held l.t l.invariant c.loop-t-test.true c.if-most-held.true)
     ∙ sweep_is a.p a.first.now _ _ o.0 o.3 c.mark_times.ensures a.last _ o.1 c.held_most-most.ensures
 
-pub loop-t-smaller : goal.loop-t-smaller
-loop-t-smaller c = omega (arith, c.loop-t-test.true)
-
 pub loop-t-preserved : goal.loop-t-preserved
 loop-t-preserved c =
     let l = c.loop-t in
@@ -51,6 +39,6 @@ returns c =
     let a = c.args in
     let o = c.requires in
     let l = c.loop-t in
-    let e : l.t ≡ a.last = omega (arith, l.invariant.reached) in
+    let e : l.t ≡ a.last = omega arith in
     sym (rw e at l.invariant.kept)
     ∙ sweep_is a.p a.first.now _ _ o.0 o.3 c.mark_times.ensures a.last _ o.1 c.held_most-most.ensures

@@ -1,6 +1,6 @@
 -- Lemmas. What the tables hold of a list of rows: the contracts of the functions speak of these,
 -- those of no public call do.
-use Rattle.std.specs.Prelude.{ℕ, zero, suc, ◌+◌, ◌*◌, ◌-◌, ◌≤◌, ◌<◌, min, ◌≡◌, Bool, true, not, cond, ◌&&◌, ◌||◌, List, [], ◌∷◌, length, get_or, leb, ltb, eqb}
+use Rattle.std.specs.Prelude.{ℕ, zero, suc, ◌+◌, ◌*◌, ◌-◌, ◌≤◌, ◌<◌, min, ◌≡◌, Bool, true, not, cond, ◌&&◌, ◌||◌, List, [], ◌∷◌, get_or, leb, ltb, eqb}
 use Rattle.theory_basics.specs.Tests.{all, all_to, all_below}
 use Rattle.theory_basics.specs.Sums.{count}
 use Rattle.job.specs.declared.Programme.{Programme}
@@ -35,9 +35,6 @@ pub record Tallied (rows : List Row) (slotsum layersum first : List ℕ) : Type 
   pub by_layer : (i n : ℕ) → 1 ≤ i → i ≤ 500 → n < 4 → get_or layersum (4 * (i - 1) + n) 0 ≡ min cap (bytes_of_layer rows i n)
   pub firsts : (i : ℕ) → 1 ≤ i → i ≤ 500 → get_or first i 0 ≡ first_of i rows
   pub some_slot : (i : ℕ) → 1 ≤ i → i ≤ 500 → 1 ≤ get_or first i 0
-  pub slot_long : length slotsum ≡ 3601
-  pub layer_long : length layersum ≡ 2000
-  pub first_long : length first ≡ 501
 
 -- What the pass over the rows finds: rule 1, and where it holds rule 5 and the tables.
 pub record TallyPost (p : Programme) (last depth : ℕ) (rows : List Row) (r : Pass) (slotsum layersum first : List ℕ) : Type 0 where
@@ -92,8 +89,6 @@ ends_at p first t i = ltb (get_or first i 0) (due_slot p i) && eqb (due_slot p i
 pub record MarkTimesPost (p : Programme) (first : List ℕ) (n : ℕ) (begins ends : List ℕ) : Type 0 where
   pub begin_at : (t : ℕ) → t ≤ 3600 → get_or begins t 0 ≡ count (starts_at p first t) n
   pub end_at : (t : ℕ) → t ≤ 3600 → get_or ends t 0 ≡ count (ends_at p first t) n
-  pub begin_long : length begins ≡ 3601
-  pub end_long : length ends ≡ 3601
 
 -- ---- the job
 

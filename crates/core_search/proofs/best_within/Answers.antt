@@ -6,14 +6,8 @@ use native.Mathlib.Omega.{arith}
 use borrow.Author.Tests.{le-ltb, lt-ltb}
 use lib.ListN.{length-replicate}
 use Rattle.core_sizes.specs.Table.{table_at}
-use Rattle.core_search.proofs.Found.{best_asc, found_by_lem, search_from}
+use Rattle.core_search.proofs.Found.{best_asc, found_by_lem}
 use Rattle.core_search.proofs.best_within.Goals as goal
-
-pub search-left-requires : goal.search-left-requires
-search-left-requires c =
-    let a = c.args in
-    let o = c.requires in
-    search_from a.p (table_at a.table.now) a.after.now a.ids.now a.dues.now a.bytes.now o _ c.set_dues.ensures c.held_most-held.ensures (omega arith) _ _ _ (length-replicate {A = ℕ} 500 0) (length-replicate {A = ℕ} 500 0) o.long.0
 
 pub set_bases-requires : goal.set_bases-requires
 set_bases-requires c =
@@ -35,8 +29,8 @@ returns-then-left-eq0 c =
     let left = c.search-left.result in
     found_by_lem a.p (table_at a.table.now) a.after.now a.ids.now a.dues.now a.bytes.now o _ c.set_dues.ensures a.budget c.held_most-held.ensures (length-replicate {A = ℕ} 500 0) (length-replicate {A = ℕ} 500 0) o.long.0 c.search-left.ensures c.set_bases.ensures refl (omega (arith, c.if-left-eq0.true)) (sym (le-ltb 0 left (omega (arith, c.if-left-eq0.true))))
 
-pub returns : goal.returns
-returns c =
+pub returns-else-left-eq0 : goal.returns-else-left-eq0
+returns-else-left-eq0 c =
     let a = c.args in
     let o = c.requires in
     let left = c.search-left.result in

@@ -35,11 +35,6 @@ best_at count best = drop (500 - count) best
 abbrev pub walked : ℕ → ℕ → List ℕ → Walked
 walked left count best = record { left = left - 1; best = best_at count best; ended = ltb 0 left }
 
--- The end of a table is copied.
-pub record CopyEndPost (k : ℕ) (from to : List ℕ) : Type 0 where
-  pub long : length to ≡ 500
-  pub same : drop k to ≡ drop k from
-
 -- ---- a set is met
 
 pub record KeepBestPost (k : ℕ) (ids best : List ℕ) (count : ℕ) (best' : List ℕ) (count' : ℕ) : Type 0 where

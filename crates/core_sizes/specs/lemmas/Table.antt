@@ -1,6 +1,6 @@
 -- Lemmas. The table of all sizes at each place, what an accepted job's table says, and the table
 -- filled place by place. Assumes nothing.
-use Rattle.std.specs.Prelude.{ℕ, zero, suc, ◌+◌, ◌*◌, ◌-◌, ◌/◌, ◌%◌, ◌≤◌, ◌<◌, ◌≡◌, refl, Bool, ◌&&◌, List, [], ◌∷◌, ◌⊎◌, length, get_or, set, eqb, ltb}
+use Rattle.std.specs.Prelude.{ℕ, ◌+◌, ◌*◌, ◌-◌, ◌/◌, ◌%◌, ◌≤◌, ◌<◌, ◌≡◌, refl, Bool, ◌&&◌, List, [], ◌∷◌, ◌⊎◌, length, get_or, set, eqb, ltb}
 use Rattle.std.proofs.Common.{sym, ap, ◌∙◌, inl, inr, ⊎_elim, arith, length-set, get_or-set_same, get_or-set_other, ext_get_or, eqb→eq, ltb→lt, nltb→le, T_not}
 use Rattle.std.proofs.Math.ListN.{get_or-eq_default}
 use Rattle.theory_basics.specs.Tests.{All}
@@ -110,46 +110,27 @@ table_says j a i n =
 -- ---- own sizes, copied chunk after chunk
 
 -- The first n places are written.
-pub record Filling (sizes old table : List ℕ) (n : ℕ) : Type 0 where
-  pub long : length table ≡ length old
-  pub says : length old ≡ 2000 → (k : ℕ) → k < n → get_or table k 0 ≡ get_or sizes (k % 4) 0
+abbrev pub Filling : List ℕ → List ℕ → ℕ → Type 0
+Filling sizes table n = (k : ℕ) → k < n → get_or table k 0 ≡ get_or sizes (k % 4) 0
 
-abbrev pub FillFirstPost : List ℕ → List ℕ → List ℕ → Type 0
-FillFirstPost sizes old table = Filling sizes old table 4
+pub filling_next :
+    (sizes table : List ℕ) (n v : ℕ) → n < length table → v ≡ get_or sizes (n % 4) 0 → Filling sizes table n →
+    Filling sizes (set table n v) (n + 1)
+filling_next sizes table n v h e s =
+    λ k b. at_set (λ x. x ≡ get_or sizes (k % 4) 0) table n v k h (λ i. rw i e) (λ o. s k (below_next k n b o))
 
-pub filling_first : (sizes old : List ℕ) → Filling sizes old (set (set (set (set old 0 (get_or sizes 0 0)) 1 (get_or sizes 1 0)) 2 (get_or sizes 2 0)) 3 (get_or sizes 3 0)) 4
-filling_first sizes [] = record { long = refl; says = λ l. absurd (omega arith) }
-filling_first sizes (a ∷ []) = record { long = refl; says = λ l. absurd (omega arith) }
-filling_first sizes (a ∷ b ∷ []) = record { long = refl; says = λ l. absurd (omega arith) }
-filling_first sizes (a ∷ b ∷ c ∷ []) = record { long = refl; says = λ l. absurd (omega arith) }
-filling_first sizes (a ∷ b ∷ c ∷ d ∷ t) = record { long = refl; says = λ l. by_four }
-  where
-    by_four : (k : ℕ) → k < 4 → get_or (get_or sizes 0 0 ∷ get_or sizes 1 0 ∷ get_or sizes 2 0 ∷ get_or sizes 3 0 ∷ t) k 0 ≡ get_or sizes (k % 4) 0
-    by_four zero h = refl
-    by_four (suc zero) h = refl
-    by_four (suc (suc zero)) h = refl
-    by_four (suc (suc (suc zero))) h = refl
-    by_four (suc (suc (suc (suc k)))) h = absurd (omega arith)
-
--- Over what is filled in part already.
-pub filling_from : (sizes old table : List ℕ) (n : ℕ) → Filling sizes old table n → Filling sizes table table n
-filling_from sizes old table n s = record { long = refl; says = λ l. s.says (sym s.long ∙ l) }
-
-pub filling_more : (sizes old table : List ℕ) (n : ℕ) → Filling sizes old table n → 4 ≤ n → n < 2000 → Filling sizes old (set table n (get_or table (n - 4) 0)) (n + 1)
-filling_more sizes old table n s h u =
-    record {
-      long = length-set table n (get_or table (n - 4) 0) ∙ s.long;
-      says = λ l k v.
-          at_set (λ x. x ≡ get_or sizes (k % 4) 0) table n (get_or table (n - 4) 0) k (omega (arith, s.long))
-          (λ e. let m : (n - 4) % 4 ≡ k % 4 = omega arith in s.says l (n - 4) (omega arith) ∙ ap (λ (i : ℕ). get_or sizes i 0) m)
-          (λ o. s.says l k (below_next k n v o));
-    }
+pub filling_more :
+    (sizes table : List ℕ) (n : ℕ) → n < length table → 4 ≤ n → Filling sizes table n →
+    Filling sizes (set table n (get_or table (n - 4) 0)) (n + 1)
+filling_more sizes table n h u s =
+    let m : (n - 4) % 4 ≡ n % 4 = omega arith in
+    filling_next sizes table n (get_or table (n - 4) 0) h (s (n - 4) (omega arith) ∙ ap (λ (i : ℕ). get_or sizes i 0) m) s
 
 -- For any number of chunks: at 500 itself the table would be written out.
 all_filled : (c : ℕ) (sizes table : List ℕ) → length table ≡ c * 4 → ((k : ℕ) → k < c * 4 → get_or table k 0 ≡ get_or sizes (k % 4) 0) → table ≡ own_table sizes c
 all_filled c sizes table l f =
     ext_get_or 0 table (own_table sizes c) (l ∙ sym (long_own c sizes)) (λ k h. let u : k < c * 4 = omega (arith, l) in f k u ∙ sym (get_d_up_to (λ i. get_or sizes (i % 4) 0) (c * 4) k 0 u))
 
-pub filling_end : (sizes old table : List ℕ) (n : ℕ) → Filling sizes old table n → n ≡ 2000 → length old ≡ 2000 → table ≡ own_sizes sizes
+pub filling_end : (sizes table : List ℕ) (n : ℕ) → length table ≡ 2000 → 2000 ≤ n → Filling sizes table n → table ≡ own_sizes sizes
 unfolding own_sizes
-filling_end sizes old table n s e l = all_filled 500 sizes table (s.long ∙ l) (λ k h. s.says l k (omega (arith, e, h)))
+filling_end sizes table n l h s = all_filled 500 sizes table l (λ k b. s k (omega (arith, h, b)))

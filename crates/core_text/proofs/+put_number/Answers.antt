@@ -22,12 +22,12 @@ pub bounds-out-next : goal.bounds-out-next
 bounds-out-next t c =
     omega (arith, c.requires, c.put_number-next.ensures.place, c.put_number-next.auto.out, digits_length c.args.n (omega arith))
 
-pub overflow_add-result-2 : goal.overflow_add-result-2
-overflow_add-result-2 t c =
+pub overflow_add-result-else-n-lt10 : goal.overflow_add-result-else-n-lt10
+overflow_add-result-else-n-lt10 t c =
     omega (arith, c.requires, c.put_number-next.ensures.place, c.well_formed, digits_length c.args.n (omega arith))
 
-pub returns : goal.returns
-returns t c =
+pub returns-else-n-lt10 : goal.returns-else-n-lt10
+returns-else-n-lt10 t c =
     let a = c.args in
     let o = c.put_number-next in
     let v = 48 + a.n % 10 in

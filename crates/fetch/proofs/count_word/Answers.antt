@@ -14,4 +14,4 @@ returns-then-n-gt7 c = rw (le-ltb c.args.n 8 (omega arith))
 pub returns : goal.returns
 returns c =
     let a = c.args in
-    c.set_bits.ensures ∙ word_ones a.word a.n (omega arith) ∙ sym (word_count_lem a.word a.n)
+    word_ones a.word a.n (omega arith) ∙ sym (word_count_lem a.word a.n)

@@ -3,5 +3,5 @@ use native.Mathlib.Omega.{arith}
 use Rattle.meter.proofs.Laws.{last_slot_at}
 use Rattle.meter.proofs.last_slot.Goals as goal
 
-pub returns : goal.returns
-returns c = last_slot_at c.args.m c.args.m.kept (omega arith)
+pub returns-else-m-eq0 : goal.returns-else-m-eq0
+returns-else-m-eq0 c = last_slot_at c.args.m c.args.m.kept (omega arith)

@@ -1,6 +1,6 @@
-use mathlib.Core.Path.{refl}
-use native.Mathlib.Omega.{arith}
+use Rattle.std.proofs.Common.{rules, ◌∙◌}
+use Rattle.planner.proofs.Compared.{compared_is}
 use Rattle.planner.proofs.compare.Goals as goal
 
-pub loop-n-init : goal.loop-n-init
-loop-n-init c = (refl, omega arith)
+pub returns : goal.returns
+returns c = c.cmp.ensures ∙ compared_is c.args.a c.args.b (search rules)

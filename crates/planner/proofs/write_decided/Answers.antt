@@ -11,18 +11,18 @@ use Rattle.planner.proofs.write_decided.Goals as goal
 pub decide-first-requires : goal.decide-first-requires
 decide-first-requires c =
     let o = c.requires in
-    let says = filled _ ((input_iff _).0 o.0).1 _ (c.fill_sizes.ensures (length-replicate {A = ℕ} 2000 c.args.p.chunks)) in
+    let says = filled _ ((input_iff _).0 o.0).1 _ c.fill_sizes.ensures in
     decide_from _ ((input_iff _).0 o.0).1 _ says _ _ (length-replicate {A = ℕ} 500 0) (length-replicate {A = ℕ} 500 0) c.with-base.ensures
 
 pub write_plan-made-requires : goal.write_plan-made-requires
 write_plan-made-requires c =
     let o = c.requires in
-    let says = filled _ ((input_iff _).0 o.0).1 _ (c.fill_sizes.ensures (length-replicate {A = ℕ} 2000 c.args.p.chunks)) in
+    let says = filled _ ((input_iff _).0 o.0).1 _ c.fill_sizes.ensures in
     writes_choice _ _ _ _ _ _ _ _ _ (decided _ o.0 _ says (c.decide-first.ensures _ _ refl says)) _ (length-replicate {A = ℕ} 500 0) o.1
 
-pub returns : goal.returns
-returns c =
+pub returns-clause-output : goal.returns-clause-output
+returns-clause-output c =
     let o = c.requires in
-    let says = filled _ ((input_iff _).0 o.0).1 _ (c.fill_sizes.ensures (length-replicate {A = ℕ} 2000 c.args.p.chunks)) in
+    let says = filled _ ((input_iff _).0 o.0).1 _ c.fill_sizes.ensures in
     output_laid _ _ _ _ _ _ o.0 o.1
     (written_choice _ _ _ _ _ _ _ _ _ (decided _ o.0 _ says (c.decide-first.ensures _ _ refl says)) (replicate 500 0) (λ i l. get_or-replicate 500 i 0 0 l) c.write_plan-made.ensures) _ c.answered.ensures

@@ -1,17 +1,13 @@
-use native.Mathlib.Omega.{arith}
-use Rattle.trace.proofs.Counts.{testing_start, testing_more, testing_end}
+-- `trace::few_lines` meets its contract. Assumes nothing.
+use Rattle.std.proofs.Common.{◌∙◌, rules, tests, take, leb, ℕ, Bool}
+use Rattle.std.proofs.lemmas.Iterator.{YieldsList-from_slice}
+use Rattle.std.proofs.lemmas.Iterator.Search.{all_from_yields_List}
+use Rattle.trace.specs.lemmas.Lists.{all_same}
 use Rattle.trace.proofs.few_lines.Goals as goal
-
-pub loop-k-init : goal.loop-k-init
-loop-k-init c = testing_start c.args.counts.now c.args.slots
-
-pub loop-k-preserved : goal.loop-k-preserved
-loop-k-preserved c =
-    let a = c.args in
-    let l = c.loop-k in
-    testing_more a.counts.now a.slots l.k l.invariant c.loop-k-test.true (omega (arith, c.requires.0, c.requires.1)) (omega arith)
 
 pub returns : goal.returns
 returns c =
-    let a = c.args in
-    testing_end a.counts.now a.slots c.loop-k.k c.loop-k.invariant c.loop-k-test.false
+    let first = take c.args.slots c.args.counts.now in
+    let most : ℕ → Bool = λ n. leb n 11184 in
+    all_from_yields_List most _ _ c.all.result c.all.ensures.ran (YieldsList-from_slice first cc) (λ x b q k. search (rules, tests))
+    ∙ all_same most first

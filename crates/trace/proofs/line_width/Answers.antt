@@ -3,17 +3,17 @@ use native.Mathlib.Omega.{arith}
 use Rattle.trace.proofs.Widths.{width_none, width_one, width_two, width_three, width_four}
 use Rattle.trace.proofs.line_width.Goals as goal
 
-pub returns-then-t-lt1 : goal.returns-then-t-lt1
-returns-then-t-lt1 c = (width_none c.args.t c.if-t-lt1.true, omega arith)
+pub returns-in-0 : goal.returns-in-0
+returns-in-0 c = (width_none c.args.t (omega arith), omega arith)
 
-pub returns-then-t-lt10 : goal.returns-then-t-lt10
-returns-then-t-lt10 c = (width_one c.args.t c.if-t-lt1.false c.if-t-lt10.true, omega arith)
+pub returns-in-1-to-9 : goal.returns-in-1-to-9
+returns-in-1-to-9 c = (width_one c.args.t (omega arith) (omega arith), omega arith)
 
-pub returns-then-t-lt100 : goal.returns-then-t-lt100
-returns-then-t-lt100 c = (width_two c.args.t c.if-t-lt10.false c.if-t-lt100.true, omega arith)
+pub returns-in-10-to-99 : goal.returns-in-10-to-99
+returns-in-10-to-99 c = (width_two c.args.t (omega arith) (omega arith), omega arith)
 
-pub returns-then-t-lt1000 : goal.returns-then-t-lt1000
-returns-then-t-lt1000 c = (width_three c.args.t c.if-t-lt100.false c.if-t-lt1000.true, omega arith)
+pub returns-in-100-to-999 : goal.returns-in-100-to-999
+returns-in-100-to-999 c = (width_three c.args.t (omega arith) (omega arith), omega arith)
 
-pub returns : goal.returns
-returns c = (width_four c.args.t c.if-t-lt1000.false c.requires, omega arith)
+pub returns-in_default : goal.returns-in_default
+returns-in_default c = (width_four c.args.t (omega arith) c.requires, omega arith)

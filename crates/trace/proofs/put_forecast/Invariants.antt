@@ -1,10 +1,6 @@
 -- `trace::put_forecast` meets its contract. Assumes nothing.
-use Prim.Native.Nat.{◌-◌}
 use Rattle.trace.proofs.Counts.{Putting}
 use Rattle.trace.proofs.put_forecast.Given as goal
 
 abbrev pub invariant-loop-k : goal.invariant-loop-k
 invariant-loop-k l = Putting l.counts l.slots l.initial.out l.out l.k
-
-abbrev pub decreases-loop-k : goal.decreases-loop-k
-decreases-loop-k l = l.slots - l.k

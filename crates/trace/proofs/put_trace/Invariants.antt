@@ -1,11 +1,6 @@
 -- `trace::put_trace` meets its contract. Assumes nothing.
-use Prim.Native.Nat.{◌-◌}
-use lib.ListN.{length}
 use Rattle.trace.proofs.Writes.{Writing}
 use Rattle.trace.proofs.put_trace.Given as goal
 
 abbrev pub invariant-loop-t : goal.invariant-loop-t
 invariant-loop-t l = Writing l.forecast l.initial.out l.out l.next l.t
-
-abbrev pub decreases-loop-t : goal.decreases-loop-t
-decreases-loop-t l = length l.forecast - l.t

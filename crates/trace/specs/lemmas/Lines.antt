@@ -41,11 +41,11 @@ bytes_found [] = refl
 bytes_found (b ∷ bs) =
     by_cond (λ (f : Found). lines_bytes f.lines ++ f.rest ≡ b ∷ bs) (eqb b 10)
     (λ t. rw (eqb→eq b 10 t) (ap (λ (l : List ℕ). 10 ∷ l) (bytes_found bs)))
-    (λ t. in_front_lem (found bs).lines (found bs).rest (bytes_found bs))
+    (λ t. in_front_same (found bs).lines (found bs).rest (bytes_found bs))
   where
-    in_front_lem : (ls : List (List ℕ)) (rest : List ℕ) → lines_bytes ls ++ rest ≡ bs → lines_bytes (front b ls rest).lines ++ (front b ls rest).rest ≡ b ∷ bs
-    in_front_lem [] rest e = ap (λ (l : List ℕ). b ∷ l) e
-    in_front_lem (l ∷ ls) rest e = ap (λ (l : List ℕ). b ∷ l) e
+    in_front_same : (ls : List (List ℕ)) (rest : List ℕ) → lines_bytes ls ++ rest ≡ bs → lines_bytes (front b ls rest).lines ++ (front b ls rest).rest ≡ b ∷ bs
+    in_front_same [] rest e = ap (λ (l : List ℕ). b ∷ l) e
+    in_front_same (l ∷ ls) rest e = ap (λ (l : List ℕ). b ∷ l) e
 
 -- ---- tests
 

@@ -2,6 +2,7 @@
 use Rattle.std.specs.Prelude.{ℕ, zero, suc, ◌≤◌, ◌≡◌, refl, Bool, List, [], ◌∷◌, ◌++◌, map, replicate, take}
 use Rattle.std.proofs.Common.{sym, ap, ◌∙◌, ⊎_elim, arith, take_all}
 use Rattle.std.proofs.lemmas.List.{take-append-le}
+use Rattle.std.specs.List.{list_all}
 use Rattle.theory_basics.specs.Lists.{up_to}
 use Rattle.theory_basics.proofs.Lent.{map_snoc}
 use Rattle.theory_basics.specs.lemmas.Lists.{length_up_to}
@@ -28,3 +29,8 @@ module _ {A : Type 0} where
 pub all_up_to : {A B : Type 0} (p : A → Bool) (q : B → Bool) (f : ℕ → A) (g : ℕ → B) (n : ℕ) → ((k : ℕ) → p (f k) ≡ q (g k)) → all p (up_to f n) ≡ all q (up_to g n)
 all_up_to p q f g zero h = refl
 all_up_to p q f g (suc n) h = all_snoc p (up_to f n) (f n) ∙ rw (all_up_to p q f g n h, h n) (sym (all_snoc q (up_to g n) (g n)))
+
+-- std's test of each element is the one of the meaning.
+pub all_same : {A : Type 0} (p : A → Bool) (xs : List A) → list_all p xs ≡ all p xs
+all_same p [] = refl
+all_same p (x ∷ xs) = rw (all_same p xs)

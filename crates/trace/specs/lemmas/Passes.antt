@@ -1,5 +1,5 @@
 -- Lemmas. What each pass of the code over trace or table hands on.
-use Rattle.std.specs.Prelude.{ℕ, ◌*◌, ◌-◌, ◌^◌, ◌≤◌, ◌<◌, ◌≡◌, Bool, List, map, T, leb, length, drop, get_or}
+use Rattle.std.specs.Prelude.{ℕ, ◌*◌, ◌-◌, ◌^◌, ◌≤◌, ◌<◌, ◌≡◌, Bool, List, map, T, leb, drop, get_or}
 use Rattle.theory_basics.specs.Tests.{all}
 use Rattle.trace.specs.lemmas.Scan.{scan}
 use Rattle.trace.specs.lemmas.Tally.{tally}
@@ -16,7 +16,6 @@ pub record DigitsRead (trace : List ℕ) (from end value next : ℕ) : Type 0 wh
 
 -- Whether refusal 14 leaves the trace alone; and then the counts of its times.
 pub record Counted (trace old new : List ℕ) (r : Bool) : Type 0 where
-  pub long : length new ≡ 3600
   pub fine : r ≡ (scan 0 0 Bool.true 0 trace).fine
   pub counts : T r → new ≡ tally 11185 old (scan 0 0 Bool.true 0 trace).times
 

@@ -1,11 +1,6 @@
 -- `wait::add_up` meets its contract. Assumes nothing.
-use Prim.Native.Nat.{◌-◌}
-use lib.ListN.{length}
 use Rattle.wait.proofs.Sums.{Summing}
 use Rattle.wait.proofs.add_up.Given as goal
 
 abbrev pub invariant-loop-t : goal.invariant-loop-t
 invariant-loop-t l = Summing l.forecast l.sums l.sum l.t
-
-abbrev pub decreases-loop-t : goal.decreases-loop-t
-decreases-loop-t l = length l.forecast - l.t

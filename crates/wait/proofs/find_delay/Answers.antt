@@ -5,7 +5,7 @@ pub loop-s-init : goal.loop-s-init
 loop-s-init c = let a = c.args in searching_start a.chunks a.span a.held a.tries a.bases.now a.sums.now a.begins.now c.requires
 
 pub keeps_all-requires : goal.keeps_all-requires
-keeps_all-requires c = let l = c.loop-s in c.requires.each l.s l.invariant.low c.loop-s-test.true l.begins l.invariant.free l.invariant.long
+keeps_all-requires c = let l = c.loop-s in c.requires.each l.s l.invariant.low c.loop-s-test.true l.begins l.invariant.free
 
 pub returns : goal.returns
 returns c =

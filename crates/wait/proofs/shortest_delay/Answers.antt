@@ -1,6 +1,5 @@
 -- `wait::shortest_delay` meets its contract. Assumes nothing.
 use native.Mathlib.Omega.{arith}
-use lib.ListN.{length-replicate}
 use Rattle.job.specs.Input.{overrides_of}
 use Rattle.wait.proofs.Searches.{bytes_small, search_from, shortest_is}
 use Rattle.wait.proofs.shortest_delay.Goals as goal
@@ -9,7 +8,7 @@ pub add_up-requires : goal.add_up-requires
 add_up-requires c =
     let a = c.args in
     let r = c.requires.1 in
-    (r.slots_in.high, bytes_small a.p.chunks a.p.span a.p.limit a.sizes.now (overrides_of a.size_chunks.now a.size_layers.now a.size_bytes.now) a.forecast.now r, length-replicate 3601 c.wide-sums.result)
+    (r.slots_in.high, bytes_small a.p.chunks a.p.span a.p.limit a.sizes.now (overrides_of a.size_chunks.now a.size_layers.now a.size_bytes.now) a.forecast.now r)
 
 pub find_delay-requires : goal.find_delay-requires
 find_delay-requires c =

@@ -6,7 +6,6 @@ use Rattle.wait.specs.lemmas.Scan.{brought, keeps_all}
 
 -- What the forecast brings up to each of its slots.
 pub record SumTable (f sums : List ℕ) : Type 0 where
-  pub long : length sums ≡ 3601
   pub is : (t : ℕ) → t ≤ length f → get_or sums t 0 ≡ brought f t
 
 -- The base's bytes of each chunk, by the table of all sizes.
@@ -46,18 +45,15 @@ pub record KeepsAllPre (chunks span held s : ℕ) (bases sums begins : List ℕ)
   pub rise : (a b : ℕ) → a ≤ b → b ≤ due_at span s chunks → get_or sums a 0 ≤ get_or sums b 0
   pub most : get_or sums (due_at span s chunks) 0 ≤ never
   pub free : Free chunks begins
-  pub long : length begins ≡ 1000
 
 pub record KeepsAllPost (chunks span held s : ℕ) (bases sums begins : List ℕ) (r : Bool) : Type 0 where
   pub answer : r ≡ kept_by chunks span held bases sums s
   pub free : Free chunks begins
-  pub long : length begins ≡ 1000
 
 -- What the search asks, for so many tries.
 pub record FindDelayPre (chunks span held tries : ℕ) (bases sums begins : List ℕ) : Type 0 where
   pub each :
-      (s : ℕ) → 1 ≤ s → s ≤ tries → (begins' : List ℕ) → Free chunks begins' → length begins' ≡ 1000 →
+      (s : ℕ) → 1 ≤ s → s ≤ tries → (begins' : List ℕ) → Free chunks begins' →
       KeepsAllPre chunks span held s bases sums begins'
   pub few : tries ≤ 3600
   pub free : Free chunks begins
-  pub long : length begins ≡ 1000

@@ -3,8 +3,5 @@
 use Rattle.core_reasons.proofs.PassBack.{Backing}
 use Rattle.core_reasons.proofs.passes.find_begin.Given as goal
 
-abbrev pub invariant-loop-k : goal.invariant-loop-k
-invariant-loop-k l = Backing l.after l.ready l.bytes l.first l.most l.m l.sum l.k
-
-abbrev pub decreases-loop-k : goal.decreases-loop-k
-decreases-loop-k l = l.k
+abbrev pub invariant-loop-h : goal.invariant-loop-h
+invariant-loop-h l = Backing l.after l.ready l.bytes l.first l.most l.m l.sum l.h

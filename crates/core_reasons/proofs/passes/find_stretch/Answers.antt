@@ -4,23 +4,17 @@ use native.Mathlib.Omega.{arith}
 use Rattle.core_reasons.proofs.Both.{named_found, named_none}
 use Rattle.core_reasons.proofs.passes.find_stretch.Goals as goal
 
-pub overflow_cast-d : goal.overflow_cast-d
-overflow_cast-d c = omega (arith, (c.requires.due_slots c.find_late-m.result (omega (arith, c.find_late-m.ensures)) c.if-m-lt-CHUNKS.true).high)
-
-pub offset_bounds-after-d : goal.offset_bounds-after-d
-offset_bounds-after-d c = omega (arith, (c.requires.due_slots c.find_late-m.result (omega (arith, c.find_late-m.ensures)) c.if-m-lt-CHUNKS.true).high)
-
 pub find_begin-begin-requires : goal.find_begin-begin-requires
 find_begin-begin-requires c =
     let o = c.requires in
-    record { low = omega (arith, c.find_late-m.ensures); high = c.if-m-lt-CHUNKS.true; sums = o.sums; begins = o.begins; long = (o.long.0, o.long.2, o.long.3) }
+    record { low = omega (arith, c.find_late-m.ensures); high = c.if-m-lt-CHUNKS.true; sums = o.sums; begins = o.begins }
 
 pub returns-then-m-lt-CHUNKS : goal.returns-then-m-lt-CHUNKS
 returns-then-m-lt-CHUNKS c =
     let a = c.args in
-    named_found a.after.now a.dues.now a.ready.now a.bytes.now a.first c.requires c.find_late-m.result c.find_late-m.ensures c.find_begin-begin.result c.less-most.result c.less-most.ensures c.find_begin-begin.ensures
+    named_found a.after.now a.dues.now a.ready.now a.bytes.now a.first c.requires c.told-dues c.find_late-m.result c.find_late-m.ensures c.find_begin-begin.result c.saturating_sub-most.result c.saturating_sub-most.ensures c.find_begin-begin.ensures
 
-pub returns : goal.returns
-returns c =
+pub returns-else-m-lt-CHUNKS : goal.returns-else-m-lt-CHUNKS
+returns-else-m-lt-CHUNKS c =
     let a = c.args in
-    named_none a.after.now a.dues.now a.ready.now a.bytes.now a.first c.requires c.find_late-m.result c.find_late-m.ensures _ c.if-m-lt-CHUNKS.false
+    named_none a.after.now a.dues.now a.ready.now a.bytes.now a.first c.requires c.told-dues c.find_late-m.result c.find_late-m.ensures _ c.if-m-lt-CHUNKS.false

@@ -6,12 +6,9 @@ use Rattle.core_reasons.proofs.stretch.find_short.Goals as goal
 pub find_stretch-requires : goal.find_stretch-requires
 find_stretch-requires c =
     let a = c.args in
-    pass_from a.p a.held a.sums.now a.after.now a.levels.now a.i a.n a.cap c.set_tables-first.result _ _ _ c.set_tables-first.ensures c.set_releases.ensures.1 a.dues.now a.ready.now a.bytes.now c.requires c.set_releases.ensures.0
+    pass_from a.p a.held a.sums.now a.after.now a.levels.now a.i a.n a.cap c.set_tables-first.result _ _ _ c.set_tables-first.ensures c.set_releases.ensures.1 c.requires c.set_tables-first.array_long c.set_releases.ensures.0
 
 pub returns : goal.returns
 returns c =
     let a = c.args in
-    record {
-      stretch = short_found a.p a.held a.sums.now a.after.now a.levels.now a.i a.n a.cap c.set_tables-first.result _ _ _ c.set_tables-first.ensures c.set_releases.ensures.1 c.find_stretch.result c.requires.held_is c.find_stretch.ensures;
-      room = (c.set_tables-first.ensures.long.0, c.set_releases.ensures.0, c.set_tables-first.ensures.long.1);
-    }
+    short_found a.p a.held a.sums.now a.after.now a.levels.now a.i a.n a.cap c.set_tables-first.result _ _ _ c.set_tables-first.ensures c.set_releases.ensures.1 c.find_stretch.result c.requires.held_is c.find_stretch.ensures

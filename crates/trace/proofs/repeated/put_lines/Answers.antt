@@ -20,22 +20,22 @@ overflow_mul-more c =
     let a = c.args in
     let o = c.put_line-next in
     let l = c.loop-made in
-    rw c.smaller-more.ensures (omega (arith, copy_fits a.out.now a.at (digits a.time) a.count c.requires o.new.out o.result c.if-count-lt1.false o.ensures l.out l.next l.made l.invariant c.loop-made-test.true, out_long a.out.now a.at (digits a.time) a.count c.requires o.new.out o.result c.if-count-lt1.false o.ensures l.out l.next l.made l.invariant, c.well_formed))
+    rw c.min-more.ensures (omega (arith, copy_fits a.out.now a.at (digits a.time) a.count c.requires o.new.out o.result c.if-count-lt1.false o.ensures l.out l.next l.made l.invariant c.loop-made-test.true, out_long a.out.now a.at (digits a.time) a.count c.requires o.new.out o.result c.if-count-lt1.false o.ensures l.out l.next l.made l.invariant, c.well_formed))
 
 pub copy_on-next-requires : goal.copy_on-next-requires
 copy_on-next-requires c =
     let a = c.args in
     let o = c.put_line-next in
     let l = c.loop-made in
-    rw c.smaller-more.ensures (apart a.out.now a.at (digits a.time) a.count c.requires o.new.out o.result c.if-count-lt1.false o.ensures l.out l.next l.made l.invariant c.loop-made-test.true, copy_fits a.out.now a.at (digits a.time) a.count c.requires o.new.out o.result c.if-count-lt1.false o.ensures l.out l.next l.made l.invariant c.loop-made-test.true)
+    rw c.min-more.ensures (apart a.out.now a.at (digits a.time) a.count c.requires o.new.out o.result c.if-count-lt1.false o.ensures l.out l.next l.made l.invariant c.loop-made-test.true, copy_fits a.out.now a.at (digits a.time) a.count c.requires o.new.out o.result c.if-count-lt1.false o.ensures l.out l.next l.made l.invariant c.loop-made-test.true)
 
 pub loop-made-preserved : goal.loop-made-preserved
 loop-made-preserved c =
     let a = c.args in
     let o = c.put_line-next in
     let l = c.loop-made in
-    rw c.smaller-more.ensures
-    (doubling_more a.out.now a.at (digits a.time) a.count c.requires o.new.out o.result c.if-count-lt1.false o.ensures l.out l.next l.made l.invariant c.loop-made-test.true c.copy_on-next.new.out c.copy_on-next.result (rw c.smaller-more.ensures at c.copy_on-next.ensures))
+    rw c.min-more.ensures
+    (doubling_more a.out.now a.at (digits a.time) a.count c.requires o.new.out o.result c.if-count-lt1.false o.ensures l.out l.next l.made l.invariant c.loop-made-test.true c.copy_on-next.new.out c.copy_on-next.result (rw c.min-more.ensures at c.copy_on-next.ensures))
 
 pub returns : goal.returns
 returns c =

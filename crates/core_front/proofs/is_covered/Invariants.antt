@@ -1,9 +1,0 @@
--- `is_covered` meets its contract.
-use Prim.Native.Nat.{◌≤◌, ◌-◌}
-use Rattle.core_front.proofs.is_covered.Given as goal
-
-abbrev pub invariant-loop-a : goal.invariant-loop-a
-invariant-loop-a l = l.a ≤ l.n
-
-abbrev pub decreases-loop-a : goal.decreases-loop-a
-decreases-loop-a l = l.n - l.a
