@@ -21,6 +21,7 @@ ghost use Rattle.theory_plan.specs.lemmas.Queue.{ones};
 
 use job::{CHUNKS, Programme, SUMS, SizeTable, SlotSums};
 
+// Kept: crates above still call this function and the three after it.
 pub fn larger(a: u64, b: u64) -> u64
     ensures { result ≡ max a b }
 {

@@ -58,8 +58,8 @@ module _ (start : ℕ) (part : List ℕ) where
       rw e (omega (arith, s))
 
   -- The slot's bytes in the part.
-  pub bytes_in : (t : ℕ) → 1 ≤ start → start ≤ t → bytes_at start part t ≡ get_or part (t - start) 0
-  bytes_in t s h = let e : t - 1 ≡ start - 1 + (t - start) = omega arith in ap (λ (n : ℕ). get_or (padded start part) n 0) e ∙ padded_at start part (t - start)
+  pub bytes_in_lem : (t : ℕ) → 1 ≤ start → start ≤ t → bytes_at start part t ≡ get_or part (t - start) 0
+  bytes_in_lem t s h = let e : t - 1 ≡ start - 1 + (t - start) = omega arith in ap (λ (n : ℕ). get_or (padded start part) n 0) e ∙ padded_at start part (t - start)
 
   -- Past the last slot nothing is left.
   pub some_left : (t : ℕ) → 0 < left_at start part t → t < last_of start part

@@ -86,6 +86,8 @@ fn keep_or_drop(p: Programme, table: &SizeTable, after: &SlotSums, tree: &mut [u
 {
     let all = after[0];
     let mut sum: u64 = 0;
+    // Kept: the counter is the chunk less one. Over 1..=C the last turn returns by a way of its own,
+    // so that the proof has each turn twice.
     for k in 0..p.chunks {
         let i = k + 1;
         let d = job::due_slot(p, i);

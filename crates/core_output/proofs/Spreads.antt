@@ -17,6 +17,12 @@ use Rattle.theory_basics.specs.lemmas.Tables.{at_set, drop_next}
 use Rattle.theory_plan.specs.Bases.{Asc}
 use Rattle.core_decide.specs.lemmas.Marks.{asc_none, mark_or}
 
+-- The first n of one slice over those of another.
+pub over_front : (whole before : List ℕ) (n : ℕ) (ys : List ℕ) → n ≤ length whole → ys ≡ take n whole → ys ++ drop n before ≡ over (take n whole) before
+over_front whole before n ys h e =
+    let m : length (take n whole) ≡ n = length-take-le n whole h in
+    rw (e, m)
+
 module _ (ids mark : List ℕ) (first : ℕ) (whole : List ℕ) (count : ℕ) (old : List ℕ) where
   abbrev mark_of : ℕ → ℕ
   mark_of i = mark_or (get_or whole i 0) (i + 1) (drop first ids) (drop first mark)

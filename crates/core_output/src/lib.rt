@@ -29,12 +29,6 @@ pub struct Output {
     pub counts: [u16; 4],
 }
 
-fn wide(x: u16) -> usize
-    ensures { result ≡ x }
-{
-    x as usize
-}
-
 // A mark for each chunk: what is whole, and over it the one at its place in the tables.
 fn spread(
     ids: &[u16; CHUNKS],
@@ -47,19 +41,13 @@ fn spread(
     requires { (first ≤ 500)
         × (count ≤ 500)
         × (count ≤ length marks.old)
-        × Asc 1 count (drop first ids.now)
-        × (length ids.now ≡ 500)
-        × (length mark.now ≡ 500)
-        × (length whole.now ≡ 500) }
+        × Asc 1 count (drop first ids.now) }
     ensures { marks.new ≡ over
         (marks_in count first ids.now mark.now whole.now) marks.old }
 {
-    core_slices::copy_over(whole, count, marks);
-    let mut q = first;
-    while q < CHUNKS {
-        let at = wide(ids[q]) - 1;
-        marks[at] = mark[q];
-        q = q + 1;
+    marks[..count].copy_from_slice(&whole[..count]);
+    for q in first..CHUNKS {
+        marks[ids[q] as usize - 1] = mark[q];
     }
 }
 
@@ -89,10 +77,9 @@ fn fill(
         marks.old slots.old chunks.old layers.old bytes.old
         result marks.new slots.new chunks.new layers.new bytes.new }
 {
-    let c = part[0];
     let from = core_fill::Position {
         slot: start,
-        left: c,
+        left: part[0],
         rows: 0,
     };
     let end = core_fill::put_all(
@@ -155,24 +142,26 @@ fn write_aside(
         &mut own_bytes,
     );
     let rows = made.rows;
+    // Kept: the proof wants a variable for a field that is an array.
     let counts = made.counts;
-    if core_slices::all_at_least(rows, slots.len(), chunks.len(), layers.len(), bytes.len()) {
+    let fits = core_slices::all_at_least(
+        rows,
+        slots.len(),
+        chunks.len(),
+        layers.len(),
+        bytes.len(),
+    );
+    if fits {
         core_slices::copy_over(&own_marks, count, marks);
         core_slices::copy_over(&own_slots, rows, slots);
         core_slices::copy_over(&own_chunks, rows, chunks);
         core_slices::copy_over(&own_layers, rows, layers);
         core_slices::copy_over(&own_bytes, rows, bytes);
-        Output {
-            whole: true,
-            rows,
-            counts,
-        }
-    } else {
-        Output {
-            whole: false,
-            rows,
-            counts,
-        }
+    }
+    Output {
+        whole: fits,
+        rows,
+        counts,
     }
 }
 
@@ -208,11 +197,11 @@ pub fn write_plan(
             count, part, start, afresh, table, first, ids, ready, mark, whole, marks, slots,
             chunks, layers, bytes,
         );
-        let rows = made.rows;
+        // Kept: as in write_aside.
         let counts = made.counts;
         Output {
             whole: true,
-            rows,
+            rows: made.rows,
             counts,
         }
     } else {

@@ -8,8 +8,9 @@ use native.Mathlib.Omega.{arith}
 use native.Mathlib.Numerals.{add-one}
 use lib.ListN.{length, get_or, take, drop, length-append, length-drop, drop_of_length-le}
 use lib.Seq.{drop-cons, take-suc, set_split}
-use lib.Dec.{T_not, ltb, ltb→lt, nltb→le}
+use lib.Dec.{T_not, eqb, ltb, ltb→lt, nltb→le}
 use borrow.Author.Tests.{lt-ltb, le-ltb}
+use mathlib.Core.Logic.{⊎_elim}
 use Rattle.theory_basics.specs.lemmas.Tests.{by_cond, true_T}
 use Rattle.std.specs.Int.{div_ceil}
 use Rattle.std.proofs.lemmas.Grind.{div_ceil_times}
@@ -19,8 +20,11 @@ use Rattle.theory_basics.specs.Division.{divided_up}
 use Rattle.theory_basics.specs.Lists.{up_to}
 use Rattle.theory_basics.specs.lemmas.Lists.{length_up_to}
 use Rattle.meter.specs.declared.Meter.{Meter}
-use Rattle.meter.specs.declared.Taken.{Taken}
-use Rattle.meter.specs.Meter.{Sample, sample, samples_of, storing, SampleInRange, in_range, last_sample_slot, InOrder, in_order, with_sample, taken}
+use Rattle.std.specs.Prelude.{Result, Ok, Err}
+use Rattle.refusals.specs.declared.Refusal.{Refusal}
+use Rattle.refusals.specs.Numbers.{answered, number_of}
+use Rattle.theory_basics.specs.lemmas.Tests.{test, T_true, not_T_false}
+use Rattle.meter.specs.Meter.{Sample, sample, samples_of, storing, SampleInRange, in_range, last_sample_slot, InOrder, in_order, with_sample, taken, take_answer, take_refusal, UpdatePromise}
 use Rattle.meter.specs.lemmas.Cells.{next_cells}
 use Rattle.meter.proofs.Promises.{few_kept}
 use Rattle.meter.specs.lemmas.Order.{in_order_iff, in_range_iff, test_false, test_true, Fine, fine_snoc, fine_before, last_slot_snoc}
@@ -144,24 +148,47 @@ module _ (m : Meter) (slot bytes : ℕ) where
   abbrev x : Sample
   x = sample slot bytes
 
-  pub answers_out : in_range x ≡ false → ◌≡◌ {A = Taken} (record { code = 10; meter = m }) (taken m slot bytes)
+  pub answers_out : in_range x ≡ false → Err 10 ≡ take_answer m slot bytes
   unfolding taken
   answers_out e = rw e
 
   module _ (ranged : in_range x ≡ true) where
-    pub answers_disorder : in_order (samples_of m) ≡ false → ◌≡◌ {A = Taken} (record { code = 10; meter = m }) (taken m slot bytes)
+    pub answers_disorder : in_order (samples_of m) ≡ false → Err 10 ≡ take_answer m slot bytes
     unfolding taken
     answers_disorder e = rw (ranged, e)
 
     module _ (ordered : in_order (samples_of m) ≡ true) where
-      pub answers_late : slot ≤ last_sample_slot 0 (samples_of m) → ◌≡◌ {A = Taken} (record { code = 13; meter = m }) (taken m slot bytes)
+      pub answers_late : slot ≤ last_sample_slot 0 (samples_of m) → Err 13 ≡ take_answer m slot bytes
       unfolding taken
       answers_late h = rw (ranged, ordered, le-ltb (last_sample_slot 0 (samples_of m)) slot h)
 
       pub answers_taken : last_sample_slot 0 (samples_of m) < slot
-          → ◌≡◌ {A = Taken} (record { code = 0; meter = storing (with_sample (samples_of m) x) m }) (taken m slot bytes)
+          → Ok (storing (with_sample (samples_of m) x) m) ≡ take_answer m slot bytes
       unfolding taken
       answers_taken h = rw (ranged, ordered, lt-ltb (last_sample_slot 0 (samples_of m)) slot h)
+
+-- ---- a refusal leaves the meter as it was
+
+module _ (m : Meter) (slot bytes : ℕ) (e : Refusal) where
+  told : (n k : ℕ) (y : Meter) → answered n y ≡ Err k → (k ≡ n) × (eqb n 0 ≡ false)
+  told n k y h =
+      ⊎_elim
+      (λ t. absurd (not_both y k (rw (T_true (eqb n 0) t) at h)))
+      (λ t. let f = not_T_false (eqb n 0) t in (sym (same_number_in n k (rw f at h)), f))
+      (test (eqb n 0))
+    where
+      not_both : (y : Meter) (k : ℕ) → ◌≡◌ {A = Result Meter ℕ} (Ok y) (Err k) → ⊥
+      not_both y k h = cc
+
+      same_number_in : (n k : ℕ) → ◌≡◌ {A = Result Meter ℕ} (Err n) (Err k) → n ≡ k
+      same_number_in n k h = cc
+
+  pub stays : Err (number_of e) ≡ take_answer m slot bytes → UpdatePromise m slot bytes (Err e) m
+  unfolding taken
+  stays h =
+      let n = take_refusal (samples_of m) (sample slot bytes) in
+      let t = told n (number_of e) _ (sym h) in
+      record { code = t.0; meter = sym (rw t.1) }
 
 -- ---- quotients rounded up
 

@@ -11,8 +11,9 @@ use Rattle.theory_basics.specs.Tests.{In, any}
 use Rattle.theory_basics.specs.Refusals.{unless, ◌or_else◌}
 use Rattle.theory_basics.specs.lemmas.Refusals.{unless_as, or_else_as}
 use Rattle.meter.specs.declared.Meter.{Meter}
-use Rattle.meter.specs.declared.Answer.{Answer}
-use Rattle.meter.specs.declared.Answer.TheVariants.{Bytes, Refused}
+use Rattle.std.specs.Prelude.{Result, Ok, Err}
+use Rattle.refusals.specs.declared.Refusal.{Refusal}
+use Rattle.refusals.specs.Numbers.{by_number}
 use Rattle.meter.specs.Meter.{Sample, sample, samples_of, empty, SampleInRange, in_range, last_sample_slot, InOrder, in_order, last_ten, sample_refusal, meter_refusal, late_refusal, take_refusal, with_sample, taken}
 use Rattle.meter.specs.Forecast.{bytes_of, is_zero, mean_of, forecast_of, meter_forecast_refusal, answer_of}
 use Rattle.meter.specs.Harmonic.{product, WholePart}
@@ -106,7 +107,7 @@ module _ (m : Meter) (slot bytes : ℕ) where
 
   -- .. so that a meter that took a sample has a forecast.
   pub taken_forecast : take_refusal (samples_of m) (sample slot bytes) ≡ 0
-      → answer_of (taken m slot bytes).meter ≡ Bytes (forecast_of (bytes_of (last_ten (samples_of m ++ (sample slot bytes ∷ [])))))
+      → answer_of (taken m slot bytes).meter ≡ Ok (forecast_of (bytes_of (last_ten (samples_of m ++ (sample slot bytes ∷ [])))))
   unfolding answer_of
   taken_forecast e =
       let l = samples_of m ++ (sample slot bytes ∷ []) in
@@ -115,7 +116,7 @@ module _ (m : Meter) (slot bytes : ℕ) where
       subst (λ (k : List Sample). 0 < length k) (sym (taken_samples e))
       (omega (arith, length-drop (length l - 10) l, length-append (samples_of m) (sample slot bytes ∷ []))) in
       rw (eq-eqb (meter_forecast_refusal after) 0 ((forecast_iff after).1 (taken_in_order e, some)))
-      (ap (λ (k : List Sample). Bytes (forecast_of (bytes_of k))) (taken_samples e))
+      (ap (λ (k : List Sample). Ok (forecast_of (bytes_of k))) (taken_samples e))
 
 -- ---- "the meter's forecast" is that of document 01, rounded as request 3 of document 02 says
 
@@ -146,7 +147,7 @@ forecast_says l o some =
     })
 
 -- Every forecast that the call answers keeps the promise.
-pub answer_says : (m : Meter) (f : ℕ) → answer_of m ≡ Bytes f → Forecasts (bytes_of (samples_of m)) f
+pub answer_says : (m : Meter) (f : ℕ) → answer_of m ≡ Ok f → Forecasts (bytes_of (samples_of m)) f
 unfolding answer_of
 answer_says m f e =
     let l = samples_of m in
@@ -159,15 +160,15 @@ answer_says m f e =
     (λ t. absurd (not_both n f (rw (not_T_false (eqb n 0) t) at e)))
     (test (eqb n 0))
   where
-    same_bytes : (a b : ℕ) → Bytes a ≡ Bytes b → a ≡ b
+    same_bytes : (a b : ℕ) → ◌≡◌ {A = Result ℕ ℕ} (Ok a) (Ok b) → a ≡ b
     same_bytes a b e = cc
 
-    not_both : (a b : ℕ) → Refused a ≡ Bytes b → ⊥
+    not_both : (a b : ℕ) → ◌≡◌ {A = Result ℕ ℕ} (Err a) (Ok b) → ⊥
     not_both a b e = let z : ◌≡◌ {A = ℕ} 0 1 = cc in omega arith
 
 -- So does the call, with the rest of its promise.
-pub forecast_promise : (m : Meter) (r : Answer) → r ≡ answer_of m → ForecastPromise m r
-forecast_promise m r e = record { answer = e; says = λ f b. answer_says m f (sym e ∙ b) }
+pub forecast_promise : (m : Meter) (r : Result ℕ Refusal) → by_number r ≡ answer_of m → ForecastPromise m r
+forecast_promise m r e = record { answer = e; says = λ f b. answer_says m f (sym e ∙ ap by_number b) }
 
 -- The exact mean has a whole part.
 pub has_whole_part : (l : List Sample) → InOrder l → 0 < length l → (In 0 (bytes_of l) → ⊥) → (h : ℕ) × WholePart (bytes_of l) h

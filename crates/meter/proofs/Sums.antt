@@ -15,7 +15,7 @@ use Rattle.theory_basics.specs.lemmas.Tests.{last, T_true, T_or_iff, any_append}
 use Rattle.theory_basics.specs.Lists.{up_to}
 use Rattle.theory_basics.specs.lemmas.Lists.{length_up_to}
 use Rattle.meter.specs.declared.Meter.{Meter}
-use Rattle.meter.specs.declared.Answer.TheVariants.{Bytes, Refused}
+use Rattle.std.specs.Prelude.{Ok, Err}
 use Rattle.meter.specs.Meter.{Sample, samples_of, InOrder, in_order}
 use Rattle.meter.specs.Forecast.{bytes_of, is_zero, total, share, mean_of, forecast_of, answer_of}
 use Rattle.meter.proofs.Means.{Counts, counts, share_narrow, total_pos, mean_high}
@@ -91,15 +91,15 @@ module _ (m : Meter) (sum : ℕ) (o : InOrder (samples_of m)) (some : 0 < m.kept
 -- ---- the three answers to a forecast
 
 module _ (m : Meter) where
-  pub forecasts_disorder : in_order (samples_of m) ≡ false → Refused 10 ≡ answer_of m
+  pub forecasts_disorder : in_order (samples_of m) ≡ false → Err 10 ≡ answer_of m
   unfolding answer_of
   forecasts_disorder e = rw e
 
   module _ (ordered : in_order (samples_of m) ≡ true) where
-    pub forecasts_none : m.kept ≡ 0 → Refused 12 ≡ answer_of m
+    pub forecasts_none : m.kept ≡ 0 → Err 12 ≡ answer_of m
     unfolding answer_of
     forecasts_none e = rw (ordered, le-ltb 0 (length (samples_of m)) (omega (arith, length_up_to (cell m) m.kept)))
 
-    pub forecasts_bytes : 0 < m.kept → Bytes (forecast_of (bytes_of (samples_of m))) ≡ answer_of m
+    pub forecasts_bytes : 0 < m.kept → Ok (forecast_of (bytes_of (samples_of m))) ≡ answer_of m
     unfolding answer_of
     forecasts_bytes h = rw (ordered, lt-ltb 0 (length (samples_of m)) (omega (arith, length_up_to (cell m) m.kept)))

@@ -3,8 +3,9 @@
 use Rattle.std.specs.Prelude.{ℕ, ◌+◌, ◌≤◌, ◌≡◌, List, ◌⊎◌}
 use Rattle.theory_basics.specs.Tests.{In}
 use Rattle.meter.specs.declared.Meter.{Meter}
-use Rattle.meter.specs.declared.Answer.{Answer}
-use Rattle.meter.specs.declared.Answer.TheVariants.{Bytes}
+use Rattle.std.specs.Prelude.{Result, Ok}
+use Rattle.refusals.specs.declared.Refusal.{Refusal}
+use Rattle.refusals.specs.Numbers.{by_number}
 use Rattle.meter.specs.Meter.{samples_of}
 use Rattle.meter.specs.Forecast.{answer_of, bytes_of}
 use Rattle.meter.specs.Harmonic.{NotAbove, WholePart}
@@ -19,8 +20,8 @@ pub record Forecasts (bs : List ℕ) (f : ℕ) : Type 0 where
   pub high : f ≤ 16777216
 
 -- The promise of `forecast`.
-pub record ForecastPromise (m : Meter) (r : Answer) : Type 0 where
+pub record ForecastPromise (m : Meter) (r : Result ℕ Refusal) : Type 0 where
   -- "Its forecast is ..", or 10, or 12.
-  pub answer : r ≡ answer_of m
+  pub answer : by_number r ≡ answer_of m
   -- What a forecast says of the samples kept.
-  pub says : (f : ℕ) → r ≡ Bytes f → Forecasts (bytes_of (samples_of m)) f
+  pub says : (f : ℕ) → r ≡ Ok f → Forecasts (bytes_of (samples_of m)) f

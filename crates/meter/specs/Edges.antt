@@ -3,7 +3,7 @@
 use Rattle.std.specs.Prelude.{ℕ, ◌*◌, ◌≡◌, refl, [], ◌∷◌, ◌++◌, replicate}
 use Rattle.std.proofs.Common.{arith}
 use Rattle.meter.specs.declared.Meter.{Meter}
-use Rattle.meter.specs.declared.Answer.TheVariants.{Bytes, Refused}
+use Rattle.std.specs.Prelude.{Ok, Err}
 use Rattle.meter.specs.Meter.{empty, taken}
 use Rattle.meter.specs.Forecast.{forecast_of, answer_of}
 use Rattle.meter.specs.Harmonic.{NotAbove, product, quotients}
@@ -41,7 +41,7 @@ pub kept_refused : ((taken level 9 9).code ≡ 10) × (((taken eleven 99 9).code
 unfolding taken
 kept_refused = (refl, (refl, refl))
 
-pub forecast_refused : (answer_of level ≡ Refused 10) × ((answer_of eleven ≡ Refused 10) × (answer_of wide ≡ Refused 10))
+pub forecast_refused : (answer_of level ≡ Err 10) × ((answer_of eleven ≡ Err 10) × (answer_of wide ≡ Err 10))
 unfolding answer_of
 forecast_refused = (refl, (refl, refl))
 
@@ -51,7 +51,7 @@ unfolding taken
 ten_before_thirteen = (refl, refl)
 
 -- Without samples 12. One sample of 9 bytes forecasts 8: 9 does not divide 2^56.
-pub forecast_edge : (answer_of empty ≡ Refused 12) × (answer_of one ≡ Bytes 8)
+pub forecast_edge : (answer_of empty ≡ Err 12) × (answer_of one ≡ Ok 8)
 unfolding answer_of forecast_of
 forecast_edge = (refl, refl)
 
@@ -61,19 +61,19 @@ forecast_edge = (refl, refl)
 abbrev pub equal : ℕ → ℕ → Meter
 equal k b = record { slots = 1 ∷ 2 ∷ 3 ∷ 4 ∷ 5 ∷ 6 ∷ 7 ∷ 8 ∷ 9 ∷ 10 ∷ []; bytes = replicate 10 b; kept = k }
 
-pub largest : (answer_of (equal 1 16777216) ≡ Bytes 16777216) × (answer_of (equal 10 16777216) ≡ Bytes 16777216)
+pub largest : (answer_of (equal 1 16777216) ≡ Ok 16777216) × (answer_of (equal 10 16777216) ≡ Ok 16777216)
 unfolding answer_of forecast_of
 largest = (refl, refl)
 
-pub next_largest : (answer_of (equal 1 16777215) ≡ Bytes 16777214) × (answer_of (equal 10 16777215) ≡ Bytes 16777214)
+pub next_largest : (answer_of (equal 1 16777215) ≡ Ok 16777214) × (answer_of (equal 10 16777215) ≡ Ok 16777214)
 unfolding answer_of forecast_of
 next_largest = (refl, refl)
 
-pub smallest : (answer_of (equal 1 1) ≡ Bytes 1) × (answer_of (equal 10 1) ≡ Bytes 1)
+pub smallest : (answer_of (equal 1 1) ≡ Ok 1) × (answer_of (equal 10 1) ≡ Ok 1)
 unfolding answer_of forecast_of
 smallest = (refl, refl)
 
-pub none_at_all : (answer_of (equal 1 0) ≡ Bytes 0) × (answer_of (equal 10 0) ≡ Bytes 0)
+pub none_at_all : (answer_of (equal 1 0) ≡ Ok 0) × (answer_of (equal 10 0) ≡ Ok 0)
 unfolding answer_of forecast_of
 none_at_all = (refl, refl)
 
@@ -81,7 +81,7 @@ none_at_all = (refl, refl)
 abbrev pub far_apart : Meter
 far_apart = record { slots = 1 ∷ 2 ∷ 3 ∷ 4 ∷ 5 ∷ 6 ∷ 7 ∷ 8 ∷ 9 ∷ 10 ∷ []; bytes = replicate 9 16777216 ++ (1 ∷ []); kept = 10 }
 
-pub far_apart_forecast : answer_of far_apart ≡ Bytes 9
+pub far_apart_forecast : answer_of far_apart ≡ Ok 9
 unfolding answer_of forecast_of
 far_apart_forecast = refl
 

@@ -1,12 +1,11 @@
 -- Meaning. The forecast of a meter: document 01, "Link meter", as request 3 of document 02 rounds
 -- it; refusals 10 and 12.
-use Rattle.std.specs.Prelude.{ℕ, ◌+◌, ◌*◌, ◌/◌, ◌^◌, Bool, cond, List, [], ◌∷◌, map, length, ltb, eqb}
+use Rattle.std.specs.Prelude.{ℕ, ◌+◌, ◌*◌, ◌/◌, ◌^◌, Bool, cond, List, [], ◌∷◌, map, length, ltb, eqb, Result}
 use Rattle.theory_basics.specs.Division.{divided_up}
 use Rattle.theory_basics.specs.Tests.{any}
 use Rattle.theory_basics.specs.Refusals.{unless, ◌or_else◌}
 use Rattle.meter.specs.declared.Meter.{Meter}
-use Rattle.meter.specs.declared.Answer.{Answer}
-use Rattle.meter.specs.declared.Answer.TheVariants.{Bytes, Refused}
+use Rattle.refusals.specs.Numbers.{answered}
 use Rattle.meter.specs.Meter.{Sample, samples_of, meter_refusal}
 
 abbrev pub bytes_of : List Sample → List ℕ
@@ -36,8 +35,8 @@ abbrev pub meter_forecast_refusal : List Sample → ℕ
 meter_forecast_refusal l = meter_refusal l or_else unless 12 (ltb 0 (length l))
 
 -- The forecast that a call answers.
-unfoldable pub answer_of : Meter → Answer
+unfoldable pub answer_of : Meter → Result ℕ ℕ
 answer_of m =
     let l = samples_of m in
     let n = meter_forecast_refusal l in
-    cond (eqb n 0) (Bytes (forecast_of (bytes_of l))) (Refused n)
+    answered n (forecast_of (bytes_of l))

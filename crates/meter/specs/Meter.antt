@@ -1,12 +1,13 @@
 -- Meaning. What a meter is and what a sample does to it: document 01, "Link meter", refusals 10 and
 -- 13. A meter means a list of samples, the newest last. The struct stores that list in its first
 -- cells.
-use Rattle.std.specs.Prelude.{ℕ, ◌-◌, ◌≤◌, ◌<◌, ◌≡◌, Bool, true, ◌&&◌, cond, List, [], ◌∷◌, ◌++◌, map, length, get_or, drop, replicate, leb, ltb, eqb}
+use Rattle.std.specs.Prelude.{ℕ, ◌-◌, ◌≤◌, ◌<◌, ◌≡◌, Bool, true, ◌&&◌, cond, List, [], ◌∷◌, ◌++◌, map, length, get_or, drop, replicate, leb, ltb, eqb, Result}
 use Rattle.theory_basics.specs.Tests.{All, all}
 use Rattle.theory_basics.specs.Lists.{up_to}
 use Rattle.theory_basics.specs.Refusals.{unless, ◌or_else◌}
 use Rattle.meter.specs.declared.Meter.{Meter}
-use Rattle.meter.specs.declared.Taken.{Taken}
+use Rattle.refusals.specs.declared.Refusal.{Refusal}
+use Rattle.refusals.specs.Numbers.{answered, refusal_number}
 
 -- A slot and its bytes.
 pub record Sample : Type 0 where
@@ -97,6 +98,10 @@ with_sample l x = last_ten (l ++ (x ∷ []))
 
 -- A sample handed to m: 0 and m with the samples after it; or the refusal, and m as it was handed,
 -- every cell.
+pub record Taken : Type 0 where
+  pub code : ℕ
+  pub meter : Meter
+
 unfoldable pub taken : Meter → ℕ → ℕ → Taken
 taken m slot bytes =
     let l = samples_of m in
@@ -104,9 +109,13 @@ taken m slot bytes =
     let n = take_refusal l x in
     record { code = n; meter = cond (eqb n 0) (storing (with_sample l x) m) m }
 
+-- What `take` answers: the meter afterwards, or the refusal.
+abbrev pub take_answer : Meter → ℕ → ℕ → Result Meter ℕ
+take_answer m slot bytes = answered (taken m slot bytes).code (taken m slot bytes).meter
+
 -- What `update` promises of a lent meter and a sample, with its answer and the meter afterwards.
-pub record UpdatePromise (m : Meter) (slot bytes r : ℕ) (m' : Meter) : Type 0 where
+pub record UpdatePromise (m : Meter) (slot bytes : ℕ) (r : Result Unit Refusal) (m' : Meter) : Type 0 where
   -- 0, or the refusal's number.
-  pub code : r ≡ (taken m slot bytes).code
+  pub code : refusal_number r ≡ (taken m slot bytes).code
   -- "The meter lent by the link reader is brought up to date in its own storage."
   pub meter : m' ≡ (taken m slot bytes).meter

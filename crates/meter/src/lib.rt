@@ -8,7 +8,10 @@ ghost use Rattle.meter.specs.lemmas.Cells.{next_cells};
 ghost use Rattle.meter.specs.Forecast.{share, bytes_of, forecast_of};
 ghost use Rattle.meter.specs.Calls.{ForecastPromise};
 ghost use Rattle.meter.specs.Meter.{sample, samples_of, storing, empty, in_range, in_order, last_sample_slot};
-ghost use Rattle.meter.specs.Meter.{with_sample, taken, InOrder, UpdatePromise};
+ghost use Rattle.meter.specs.Meter.{with_sample, take_answer, InOrder, UpdatePromise};
+ghost use Rattle.refusals.specs.Numbers.{by_number};
+
+use refusals::Refusal;
 
 // Ten cells, the first `kept` of which hold a sample each, a slot and its bytes, the newest last.
 // Kept: the C interface hands a meter over in this layout, two arrays and a count.
@@ -17,20 +20,6 @@ pub struct Meter {
     pub slots: [u16; 10],
     pub bytes: [u32; 10],
     pub kept: u8,
-}
-
-// What a sample handed to a meter gives: 0 or the refusal, and the meter afterwards.
-#[derive(Clone, Copy)]
-pub struct Taken {
-    pub code: u8,
-    pub meter: Meter,
-}
-
-// What a forecast gives: the bytes of a slot, or the refusal.
-#[derive(Clone, Copy)]
-pub enum Answer {
-    Bytes(u32),
-    Refused(u8),
 }
 
 // A sample in range: slot 1 to 65,535, bytes 0 to 16,777,216.
@@ -136,41 +125,37 @@ pub fn new() -> Meter
     }
 }
 
-// A sample by value: the meter after it, or the refusal, 10 or 13, and the meter as it was handed.
-pub fn take(m: Meter, slot: u16, bytes: u32) -> Taken
-    ensures { result ≡ taken m slot bytes }
+// A sample by value: the meter after it, or the refusal, 10 or 13.
+pub fn take(m: Meter, slot: u16, bytes: u32) -> Result<Meter, Refusal>
+    ensures { by_number result ≡ take_answer m slot bytes }
 {
     if !in_range(slot, bytes) || !in_order(m) {
-        Taken { code: 10, meter: m }
+        Err(Refusal::Sample)
     } else if slot <= last_slot(m) {
-        Taken { code: 13, meter: m }
+        Err(Refusal::LateSample)
     } else {
-        Taken {
-            code: 0,
-            meter: keep(m, slot, bytes),
-        }
+        Ok(keep(m, slot, bytes))
     }
 }
 
 // The forecast by value: the bytes of a slot, or the refusal, 10 or 12.
-pub fn forecast(m: Meter) -> Answer
+pub fn forecast(m: Meter) -> Result<u32, Refusal>
     ensures { ForecastPromise m result }
 {
     if !in_order(m) {
-        Answer::Refused(10)
+        Err(Refusal::Sample)
     } else if m.kept == 0 {
-        Answer::Refused(12)
+        Err(Refusal::NoSamples)
     } else {
-        Answer::Bytes(mean(m))
+        Ok(mean(m))
     }
 }
 
 // "The meter lent by the link reader is brought up to date in its own storage." The lent meter is
-// then the one that `take` answers: on a refusal the meter as it was.
-pub fn update(m: &mut Meter, slot: u16, bytes: u32) -> u8
+// then the one that `take` answers; on a refusal it stays as it was.
+pub fn update(m: &mut Meter, slot: u16, bytes: u32) -> Result<(), Refusal>
     ensures { UpdatePromise m.old slot bytes result m.new }
 {
-    let a = take(*m, slot, bytes);
-    *m = a.meter;
-    a.code
+    *m = take(*m, slot, bytes)?;
+    Ok(())
 }

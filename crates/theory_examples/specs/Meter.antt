@@ -3,7 +3,7 @@
 -- 1, 2 and 3.
 use Rattle.std.specs.Prelude.{◌≡◌, refl}
 use Rattle.meter.specs.declared.Meter.{Meter}
-use Rattle.meter.specs.declared.Answer.TheVariants.{Bytes}
+use Rattle.std.specs.Prelude.{Ok}
 use Rattle.meter.specs.Meter.{empty, taken}
 use Rattle.meter.specs.Forecast.{forecast_of, answer_of}
 
@@ -12,11 +12,11 @@ unfolding taken
 six_three = (taken (taken empty 1 6).meter 2 3).meter
 
 -- Samples 6 then 3: forecast 3, as request 3 of document 02 amends the row.
-pub six_three_forecast : answer_of six_three ≡ Bytes 3
+pub six_three_forecast : answer_of six_three ≡ Ok 3
 unfolding taken answer_of forecast_of
 six_three_forecast = refl
 
 -- With a third sample 0: 0.
-pub third_zero_forecast : answer_of (taken six_three 3 0).meter ≡ Bytes 0
+pub third_zero_forecast : answer_of (taken six_three 3 0).meter ≡ Ok 0
 unfolding taken answer_of forecast_of
 third_zero_forecast = refl

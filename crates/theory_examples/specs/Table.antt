@@ -9,7 +9,7 @@ use Rattle.fetch.specs.Verdict.{verdict}
 use Rattle.jobrecords.specs.Refusal.{mixed, one_sequence, refusal_of}
 use Rattle.jobfile.specs.Writer.{job_file}
 use Rattle.planfile.specs.PlanFile.{format}
-use Rattle.meter.specs.declared.Answer.TheVariants.{Bytes}
+use Rattle.std.specs.Prelude.{Ok}
 use Rattle.meter.specs.Meter.{empty, taken}
 use Rattle.meter.specs.Forecast.{answer_of}
 use Rattle.theory_plan.specs.Statement.{IsPlan, count_of}
@@ -54,8 +54,8 @@ pub record Table : Type 0 where
   pub one_held : PlanIs (one_chunk 2 1 (5 ∷ 0 ∷ [])) (1 ∷ []) (1 ∷ 0 ∷ 0 ∷ 0 ∷ []) (row 1 1 0 5 ∷ [])
   -- "Samples 6 then 3: forecast 4", and 3 since request 3; "with a third sample 0: 0." They are
   -- handed to the new meter in slots 1, 2 and 3.
-  pub six_three : answer_of (taken (taken empty 1 6).meter 2 3).meter ≡ Bytes 3
-  pub third_zero : answer_of (taken (taken (taken empty 1 6).meter 2 3).meter 3 0).meter ≡ Bytes 0
+  pub six_three : answer_of (taken (taken empty 1 6).meter 2 3).meter ≡ Ok 3
+  pub third_zero : answer_of (taken (taken (taken empty 1 6).meter 2 3).meter 3 0).meter ≡ Ok 0
   -- "The empty file: refusal 1", of a job file in one sequence, of a mixed one, and of a plan file
   -- for a job of any number of chunks.
   pub no_job_file : refusal_of one_sequence [] ≡ 1

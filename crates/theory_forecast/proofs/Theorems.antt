@@ -11,7 +11,7 @@ use Rattle.theory_plan.proofs.Theorems.{plan_carried, plan_exists}
 use Rattle.theory_plan.specs.lemmas.Words.{accepted_sized}
 use Rattle.planner.specs.Answer.{plan_rows}
 use Rattle.meter.specs.declared.Meter.{Meter}
-use Rattle.meter.specs.declared.Answer.TheVariants.{Bytes}
+use Rattle.std.specs.Prelude.{Ok}
 use Rattle.meter.specs.Meter.{samples_of}
 use Rattle.meter.specs.Forecast.{answer_of, bytes_of}
 use Rattle.meter.proofs.Means.{not_above_less}
@@ -19,7 +19,7 @@ use Rattle.meter.proofs.Promises.{answer_says}
 use Rattle.theory_forecast.specs.Statement.{EverySlot, NoSlotAbove}
 
 -- A meter that answers the forecast f, samples of 0 included, and a job whose every slot has it.
-module _ (m : Meter) (f : ℕ) (answers : answer_of m ≡ Bytes f) (j : Job) (every : EverySlot j f) where
+module _ (m : Meter) (f : ℕ) (answers : answer_of m ≡ Ok f) (j : Job) (every : EverySlot j f) where
   -- Whatever list keeps the rules, no slot's rows sum to more than the exact mean.
   pub list_not_above : (marks : List ℕ) (rows : List Row) → Keeps j marks rows → NoSlotAbove j (bytes_of (samples_of m)) rows
   list_not_above marks rows keeps =

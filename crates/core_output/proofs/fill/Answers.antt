@@ -17,7 +17,7 @@ put_all-end-requires c =
 pub spread-requires : goal.spread-requires
 spread-requires c =
     let o = c.requires.from in
-    (o.within, o.few, o.marks_fit, o.ascending, o.long.0, o.long.1, o.long.2)
+    (o.within, o.few, o.marks_fit, o.ascending)
 
 pub slice_bounds-count_layers-end : goal.slice_bounds-count_layers-end
 slice_bounds-count_layers-end c =

@@ -1,10 +1,6 @@
 -- `spread` meets its contract: what stands from place q on, over what is stored, gives every mark.
-use Prim.Native.Nat.{◌-◌}
 use Rattle.core_output.proofs.Spreads.{Spreading}
 use Rattle.core_output.proofs.spread.Given as goal
 
 abbrev pub invariant-loop-q : goal.invariant-loop-q
 invariant-loop-q l = Spreading l.ids l.mark l.first l.whole l.count l.initial.marks l.marks l.q
-
-abbrev pub decreases-loop-q : goal.decreases-loop-q
-decreases-loop-q l = 500 - l.q
