@@ -14,7 +14,7 @@ ghost use Rattle.wait.specs.Wait.{FilmInRange};
 ghost use Rattle.wait.specs.Answer.{WaitPromise, film_in, first_from};
 ghost use Rattle.wait.specs.Answer.{input_refusal, shortest, slots_refusal};
 ghost use Rattle.wait.specs.Handed.{handed_film, film_of_job};
-ghost use Rattle.wait.specs.lemmas.Table.{BaseTable, KeepsAllPost, KeepsAllPre, FindDelayPre, SumTable, kept_by};
+ghost use Rattle.wait.specs.lemmas.Table.{BaseTable, FindDelayIn, KeepsAllIn, KeepsAllOut, SumTable, kept_in};
 
 use job::{CHUNKS, JobInput, Overrides, Programme, SIZES, SLOTS, SUMS, SizeTable, SlotSums};
 use refusals::{Refusal, refuse_unless};
@@ -67,22 +67,31 @@ fn set_bases(job: &JobInput, bases: &mut [u32; CHUNKS])
     read_bases(chunks, &table, bases);
 }
 
+// What a pass reads: C, L, H, each chunk's base, and what the forecast brings up to each slot.
+#[derive(Clone, Copy)]
+struct Pass<'a> {
+    chunks: usize,
+    span: usize,
+    held: usize,
+    bases: &'a [u32; CHUNKS],
+    sums: &'a SlotSums,
+}
+
 // Whether the job with s keeps every base. From the last chunk down, begins holds what the forecast
 // may have brought at most when the chunk begins: no more than at its due slot or when the next one
 // begins, less its own bytes. It fails if that is below nothing, or if the chunk that the buffer
 // holds back until this one is due would have to begin before.
-fn keeps_all(
-    chunks: usize,
-    span: usize,
-    held: usize,
-    s: usize,
-    bases: &[u32; CHUNKS],
-    sums: &SlotSums,
-    begins: &mut [u64; 1000],
-) -> bool
-    requires { KeepsAllPre chunks span held s bases.now sums.now begins.old }
-    ensures { KeepsAllPost chunks span held s bases.now sums.now begins.new result }
+fn keeps_all(pass: &Pass, s: usize, begins: &mut [u64; 1000]) -> bool
+    requires { KeepsAllIn pass.now s begins.old }
+    ensures { KeepsAllOut pass.now s begins.new result }
 {
+    let Pass {
+        chunks,
+        span,
+        held,
+        bases,
+        sums,
+    } = *pass;
     let last = (chunks - 1) * span + s;
     let mut begin = sums[last];
     for q in (0..chunks).rev() {
@@ -106,20 +115,12 @@ fn keeps_all(
 // The first s that keeps every base, or 0. A pass writes only places below C, so one table serves
 // every s.
 // Kept: 0 for none, as in the meaning, since every s is at least 1.
-fn find_delay(
-    chunks: usize,
-    span: usize,
-    held: usize,
-    tries: usize,
-    bases: &[u32; CHUNKS],
-    sums: &SlotSums,
-    begins: &mut [u64; 1000],
-) -> usize
-    requires { FindDelayPre chunks span held tries bases.now sums.now begins.old }
-    ensures { result ≡ first_from (kept_by chunks span held bases.now sums.now) 1 tries }
+fn find_delay(pass: &Pass, tries: usize, begins: &mut [u64; 1000]) -> usize
+    requires { FindDelayIn pass.now tries begins.old }
+    ensures { result ≡ first_from (kept_in pass.now) 1 tries }
 {
     for s in 1..=tries {
-        if keeps_all(chunks, span, held, s, bases, sums, begins) {
+        if keeps_all(pass, s, begins) {
             return s;
         }
     }
@@ -154,17 +155,14 @@ fn shortest_delay(job: &JobInput) -> usize
     let mut begins = [60397977600u64; 1000];
     add_up(job.forecast, &mut sums);
     set_bases(job, &mut bases);
-    let held = held_behind(p);
-    let tries = count_tries(p, job.forecast.len());
-    find_delay(
-        p.chunks as usize,
-        p.span as usize,
-        held,
-        tries,
-        &bases,
-        &sums,
-        &mut begins,
-    )
+    let pass = Pass {
+        chunks: p.chunks as usize,
+        span: p.span as usize,
+        held: held_behind(p),
+        bases: &bases,
+        sums: &sums,
+    };
+    find_delay(&pass, count_tries(p, job.forecast.len()), &mut begins)
 }
 
 // 7: no slot, or above 3,600 slots.
