@@ -73,8 +73,8 @@ module _ (h : JobInput) (o : ReplanInput) (z : asked_refusal h o ≡ 0) where
   accepted_on : Accepted (job_on h o)
   accepted_on = joined_in (job_in h) accepted o.from asked.slot_in.low asked.slot_in.high o.onward asked.onward_in asked.slots_in
 
-  pub gather_from : {left begun whole : List ℕ} → length left ≡ 2000 → length begun ≡ 500 → length whole ≡ 500 → GatherPre h.programme (length h.sizes) earlier o.slots o.chunks o.layers o.bytes left begun whole
-  gather_from el eb ew =
+  pub gather_from : {left begun whole : List ℕ} → GatherPre h.programme (length h.sizes) earlier o.slots o.chunks o.layers o.bytes left begun whole
+  gather_from =
       record {
         chunks_few = accepted.chunks_in.high;
         slots_few = accepted.last_in;
@@ -83,7 +83,6 @@ module _ (h : JobInput) (o : ReplanInput) (z : asked_refusal h o ≡ 0) where
         chunk_each = asked.whole.chunk_each;
         layer_each = asked.whole.layer_each;
         bytes_each = asked.whole.bytes_each;
-        long = (el, eb, ew);
       }
 
   module _

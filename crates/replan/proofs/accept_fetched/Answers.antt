@@ -1,5 +1,5 @@
 -- What comes before 22 is asked first; then the rows are gathered.
-use Rattle.std.proofs.Common.{sym, arith}
+use Rattle.std.proofs.Common.{sym}
 use Rattle.std.proofs.lemmas.Result.{err_from_is_err_and}
 use Rattle.replan.specs.Handed.{handed_on}
 use Rattle.replan.proofs.Outputs.{earlier_long, gather_from, gathered, refused_asked, refused_kept}
@@ -15,7 +15,7 @@ slice_bounds-gather-length c = earlier_long _ (handed_on c.args.from c.args.fetc
 
 pub gather-kept-requires : goal.gather-kept-requires
 gather-kept-requires c =
-    gather_from _ (handed_on c.args.from c.args.fetched.now c.args.onward.now) (sym c.in_ok-accept_asked.ensures) (omega arith) (omega arith) (omega arith)
+    gather_from _ (handed_on c.args.from c.args.fetched.now c.args.onward.now) (sym c.in_ok-accept_asked.ensures)
 
 pub returns-clause-refused : goal.returns-clause-refused
 returns-clause-refused c =
