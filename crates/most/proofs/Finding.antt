@@ -155,13 +155,12 @@ module _
 
   -- Where at most one chunk may be held,
   module _ (few : held < 2) where
-    pub forward_from : ForwardPre p.chunks held ends opens bases ids₀
+    pub forward_from : ForwardPre p.chunks held ends opens bases
     forward_from =
         let w = o.job in
         record {
           job = job_of p w.sizes w.overrides w.forecast;
           holds = forward_for p z left w.sizes w.overrides w.forecast w.holds (levels w.sizes w.overrides w.forecast w.holds) h few;
-          long = o.long.0;
         }
 
     pub forward_each :
@@ -187,7 +186,7 @@ module _
     pub seek_from : SeekPre (film_in p.chunks held (get_or left 0 0)) most ends opens bases smallest work first ids
     seek_from =
         let w = o.job in
-        record { job = job_of p w.sizes w.overrides w.forecast; holds = each_for w.sizes w.overrides w.forecast w.holds; within = k.within; long = k.long.0 }
+        record { job = job_of p w.sizes w.overrides w.forecast; holds = each_for w.sizes w.overrides w.forecast w.holds; within = k.within }
 
     pub sought_each :
         {r : Sought} {ids' needs : List ℕ} → SeekPost (film_in p.chunks held (get_or left 0 0)) most ends opens bases smallest work first ids r ids' →

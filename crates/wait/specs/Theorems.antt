@@ -2,7 +2,7 @@
 -- that there is none; and "the plan skips no base" is the same as "some passing list carries every
 -- base", for lists in playing order, and for equal chunks in any order.
 use Prim.Native.Nat.{ℕ, ◌+◌, ◌≤◌, ◌<◌}
-use Rattle.std.specs.Prelude.{◌≡◌, refl, Bool, true, false, cond, ◌&&◌, ◌↔◌, length, T}
+use Rattle.std.specs.Prelude.{Ok, Err, ◌≡◌, refl, Bool, true, false, cond, ◌&&◌, ◌↔◌, length, T}
 use Rattle.std.proofs.Math.Path.{sym}
 use Rattle.std.proofs.Common.{◌∙◌, subst, arith, length-take-le}
 use Rattle.std.proofs.Math.Logic.{⊎_elim}
@@ -21,7 +21,6 @@ use Rattle.theory_plan.specs.Plan.{plan}
 use Rattle.theory_plan.specs.Statement.{CanCarry, IsPlan, NoSkip}
 use Rattle.theory_plan.proofs.Theorems.{plan_exists, plan_unique}
 use Rattle.theory_plan.specs.lemmas.Words.{accepted_sized}
-use Rattle.wait.specs.declared.Answer.TheVariants.{Delay, Refused}
 use Rattle.wait.specs.Answer.{DelayMeans, WaitInput, WholeSizesIn, SixteenMeans, answer_of, eighteen_refusal, film_in, five_refusal, input_refusal, numbers_refusal, seven_refusal, shortest, six_refusal, sixteen_refusal, skips_none, slots_refusal, tries, wait_refusal}
 use Rattle.wait.specs.Wait.{Film, FilmInRange, NoneWorks, ShortestWait, SomeList, SomeOrdered, Tried, Works, job_at, programme_at}
 use Rattle.wait.specs.lemmas.Bases.{no_skip_any, no_skip_can_carry, no_skip_ordered}
@@ -40,13 +39,13 @@ job_accepted w s r t =
       limit_in = r.limit_in;
       last_in = omega (arith, t.reaches, r.slots_in.high);
       layers_in = r.layers_in;
-      sizes_in_lem = r.sizes_in_lem;
+      sizes_in_lem = r.sizes_in;
       overrides_named =
           all_map (Named (programme_at w 1) w.sizes) (Named (programme_at w s) w.sizes) w.overrides
           (λ o n. record { chunk_in = n.chunk_in; layer_in = n.layer_in; not_own = n.not_own }) r.overrides_named;
       overrides_rise = r.overrides_rise;
-      overrides_in_lem = r.overrides_in_lem;
-      forecast_in_lem = all_take (Within 0 16777216) (last_due (programme_at w s)) w.forecast r.forecast_in_lem;
+      overrides_in_lem = r.overrides_in;
+      forecast_in_lem = all_take (Within 0 16777216) (last_due (programme_at w s)) w.forecast r.forecast_in;
       slots_in = length-take-le (last_due (programme_at w s)) w.forecast t.reaches;
     }
 
@@ -74,18 +73,18 @@ input_iff h =
               span_in = u.0.1.0;
               limit_in = u.0.1.1;
               layers_in = u.1.0.0;
-              sizes_in_lem = u.1.0.1;
+              sizes_in = u.1.0.1;
               overrides_named = u.1.1.0.1.0;
               overrides_rise = u.1.1.0.1.1.0;
-              overrides_in_lem = u.1.1.0.1.1.1;
+              overrides_in = u.1.1.0.1.1.1;
               slots_in = u.1.1.1.0;
-              forecast_in_lem = u.1.1.1.1;
+              forecast_in = u.1.1.1.1;
             },
           ),
       λ x.
           let i = x.1 in
           r.1
-          ((i.chunks_in, (i.span_in, i.limit_in)), ((i.layers_in, i.sizes_in_lem), ((x.0, (i.overrides_named, (i.overrides_rise, i.overrides_in_lem))), (i.slots_in, i.forecast_in_lem)))),
+          ((i.chunks_in, (i.span_in, i.limit_in)), ((i.layers_in, i.sizes_in), ((x.0, (i.overrides_named, (i.overrides_rise, i.overrides_in))), (i.slots_in, i.forecast_in)))),
     )
 
 -- ---- one s
@@ -222,11 +221,11 @@ module _ (h : WaitInput) where
   abbrev film : Film
   film = film_in h
 
-  delay_test : (s : ℕ) (b : Bool) → cond b (Delay (shortest film)) (Refused (wait_refusal h)) ≡ Delay s → (b ≡ true) × (shortest film ≡ s)
+  delay_test : (s : ℕ) (b : Bool) → cond b (Ok (shortest film)) (Err (wait_refusal h)) ≡ Ok s → (b ≡ true) × (shortest film ≡ s)
   delay_test s true e = (cc, cc)
   delay_test s false e = let z : ◌≡◌ {A = ℕ} 0 1 = cc in absurd (omega arith)
 
-  refused_test : (n : ℕ) (b : Bool) → cond b (Delay (shortest film)) (Refused (wait_refusal h)) ≡ Refused n → wait_refusal h ≡ n
+  refused_test : (n : ℕ) (b : Bool) → cond b (Ok (shortest film)) (Err (wait_refusal h)) ≡ Err n → wait_refusal h ≡ n
   refused_test n true e = let z : ◌≡◌ {A = ℕ} 0 1 = cc in absurd (omega arith)
   refused_test n false e = cc
 
@@ -238,15 +237,15 @@ module _ (h : WaitInput) where
         let z : wait_refusal h ≡ 0 = eqb→eq (wait_refusal h) 0 (subst T (sym u.0) tt) in
         let r = (wait_iff h).0 z in
         let x = (shortest_iff film r.0.1 s).0 (u.1, omega (arith, r.1, u.1)) in
-        record { whole = r.0.0; in_range_lem = r.0.1; accepted = job_accepted film s r.0.1 x.works.tried; shortest = x },
+        record { whole = r.0.0; in_range = r.0.1; accepted = job_accepted film s r.0.1 x.works.tried; shortest = x },
     λ x.
-        let v = (shortest_iff film x.in_range_lem s).1 x.shortest in
-        let z : wait_refusal h ≡ 0 = (wait_iff h).1 ((x.whole, x.in_range_lem), omega (arith, v.0, v.1)) in
+        let v = (shortest_iff film x.in_range s).1 x.shortest in
+        let z : wait_refusal h ≡ 0 = (wait_iff h).1 ((x.whole, x.in_range), omega (arith, v.0, v.1)) in
         rw (z, v.0),
   )
 
   -- 5, 6, 18 and 7 come first,
-  pub input_first : 0 < input_refusal h → answer_of h ≡ Refused (input_refusal h)
+  pub input_first : 0 < input_refusal h → answer_of h ≡ Err (input_refusal h)
   unfolding wait_refusal
   input_first p =
       let z : input_refusal h ≡ 0 → ⊥ = λ e. omega (arith, p, e) in
@@ -304,5 +303,5 @@ module _ (h : WaitInput) where
   )
 
   -- a forecast too short for s = 1 included."
-  pub too_short : WholeSizesIn h → FilmInRange film → length film.forecast < last_due (programme_at film 1) → answer_of h ≡ Refused 16
+  pub too_short : WholeSizesIn h → FilmInRange film → length film.forecast < last_due (programme_at film 1) → answer_of h ≡ Err 16
   too_short whole r l = sixteen_iff.1 ((whole, r), λ s k. omega (arith, l, k.tried.low, k.tried.reaches))

@@ -29,7 +29,7 @@ pub record FoundIn (j : Job) (r : Sought) (ids : List ℕ) : Type 0 where
   pub no_higher : r.bound ≤ bound j
 
 abbrev pub FindForwardPre : ℕ → ℕ → List ℕ → List ℕ → List ℕ → List ℕ → Type 0
-FindForwardPre count held ends opens bases ids = ForwardPre count held ends opens bases ids
+FindForwardPre count held ends opens bases ids = ForwardPre count held ends opens bases
 
 pub record FindForwardPost (count held : ℕ) (ends opens bases : List ℕ) (r : Sought) (ids' : List ℕ) : Type 0 where
   pub each : (j : Job) → ForwardFor j count held ends opens bases → FoundIn j r ids'
