@@ -3,14 +3,14 @@
 // function answers one of its words, and the pieces go into tables that have room for any.
 #![tactic(auto)]
 
-ghost use Rattle.std.specs.Prelude.{◌≡◌, ◌&&◌, ◌||◌, not, cond, ℕ, ◌+◌, ◌*◌, ◌-◌, ◌<◌, ◌≤◌, length, leb, ltb, eqb};
+ghost use Rattle.std.specs.Prelude.{◌≡◌, ◌&&◌, not, ◌+◌, ◌<◌, ◌≤◌, leb, ltb, eqb};
 ghost use Rattle.job.specs.Job.{due_slot, Within};
 ghost use Rattle.core_sizes.specs.Table.{table_at};
 ghost use Rattle.core_replan_decide.specs.lemmas.Tables.{Fine, of};
 ghost use Rattle.theory_live.specs.Statement.{first_that};
 ghost use Rattle.core_live.specs.lemmas.ByTables.{open_at, brings_at, in_time_at, lacks_at, could_come_at};
 ghost use Rattle.core_live.specs.lemmas.ByTables.{PassedUntilPost};
-ghost use Rattle.core_live.specs.lemmas.ByTables.{passed_at, line_at, fresh_at, held_at, AskedFlags};
+ghost use Rattle.core_live.specs.lemmas.ByTables.{passed_at, line_at, held_at, AskedFlags};
 ghost use Rattle.core_live.specs.lemmas.ByTables.{PutLayerPost, PiecesStand, pieces_at, AskPre, AskPost};
 
 use job::{CHUNKS, Programme, SIZES, SizeTable};
