@@ -1,5 +1,5 @@
 -- Laws on what the call hands over: its refusals in their order, then the pieces. Assumes nothing.
-use Prim.Native.Nat.{ℕ, ◌-◌, ◌≤◌, ◌<◌}
+use Prim.Native.Nat.{ℕ, ◌-◌, ◌≤◌}
 use mathlib.Core.Path.{◌≡◌, refl, sym, ◌∙◌, ap, subst}
 use mathlib.Core.Bool.{Bool, true, false, ◌&&◌}
 use mathlib.Core.List.{List, ◌++◌}
@@ -13,12 +13,11 @@ use Rattle.theory_basics.specs.Refusals.{unless}
 use Rattle.theory_basics.specs.lemmas.Refusals.{or_else_none, or_else_some}
 use Rattle.refusals.specs.declared.Refusal.{Refusal}
 use Rattle.refusals.specs.declared.Refusal.TheVariants.{ShortBuffer}
-use Rattle.refusals.specs.Numbers.{by_number, number_of}
+use Rattle.refusals.specs.Numbers.{number_of}
 use Rattle.refusals.specs.Laws.{number_above_0}
 use Rattle.job.specs.Input.{job_in}
 use Rattle.job.specs.Job.{job_of}
 use Rattle.core_sizes.specs.Table.{table_at}
-use Rattle.theory_plan.specs.Own.{Piece}
 use Rattle.core_replan_decide.specs.lemmas.Decision.{Tabled}
 use Rattle.core_live.specs.lemmas.ByTables.{AskPost, AskPre, PiecesStand}
 use Rattle.replan.specs.Answer as replan

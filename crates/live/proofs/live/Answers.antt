@@ -51,8 +51,8 @@ returns-else-n-out-clause-promise c =
     let f = c.in_ok-accept_fetched.ensures in
     let short : leb n (length a.out.now.chunks.now) && (leb n (length a.out.now.layers.now) && leb n (length a.out.now.bytes.now)) ≡ false =
     elim c.else-n-out.branch [
-      else-n-out-via-then-n-out+then-n-out-2+else-n-out-3 w ↦ rw (le-leb _ _ w.if-n-out.true, le-leb _ _ w.if-n-out-2.true, lt-leb _ _ w.if-n-out-3.false) refl
-    | else-n-out-via-then-n-out+else-n-out-2 w ↦ rw (le-leb _ _ w.if-n-out.true, lt-leb _ _ w.if-n-out-2.false) refl
-    | else-n-out-via-else-n-out w ↦ rw (lt-leb _ _ w.if-n-out.false) refl
+      | else-n-out-via-then-n-out+then-n-out-2+else-n-out-3 w ↦ rw (le-leb _ _ w.if-n-out.true, le-leb _ _ w.if-n-out-2.true, lt-leb _ _ w.if-n-out-3.false) refl
+      | else-n-out-via-then-n-out+else-n-out-2 w ↦ rw (le-leb _ _ w.if-n-out.true, lt-leb _ _ w.if-n-out-2.false) refl
+      | else-n-out-via-else-n-out w ↦ rw (lt-leb _ _ w.if-n-out.false) refl
     ] in
     output_short i (lent_pieces a.out.now) _ c.onward-rest.ensures (sym f.refused) (f.gathered refl) c.ask-n.ensures short
