@@ -1,5 +1,4 @@
--- Laws on a plan file that is read for a job and then judged: its refusal, or the verdict on its
--- marks and rows. Assumes nothing.
+-- Laws on a plan file that is read for a job and then judged. Assumes nothing.
 use Prim.Native.Nat.{ℕ, ◌≤◌}
 use mathlib.Core.Path.{◌≡◌, refl, sym, ap, ◌∙◌}
 use mathlib.Core.List.{List, map}
@@ -9,7 +8,7 @@ use lib.ListN.{length}
 use lib.Dec.{T_not, eqb, eqb→eq, eqb_refl}
 use borrow.Author.Tests.{eq-eqb, le-leb, ne_eqb}
 use Rattle.theory_basics.specs.Refusals.{unless, ◌or_else◌}
-use Rattle.theory_basics.specs.lemmas.Refusals.{or_else_iff}
+use Rattle.theory_basics.specs.lemmas.Refusals.{or_else_iff, or_else_some}
 use Rattle.theory_basics.specs.lemmas.Tests.{test}
 use Rattle.records.specs.File.{file_refusal}
 use Rattle.job.specs.Input.{JobInput, job_in, job_refusal}
@@ -29,11 +28,11 @@ use Rattle.refusals.specs.Laws.{number_above_0}
 use Rattle.refusals.specs.Numbers.{answered, by_number, number_of}
 use Rattle.report.specs.lemmas.Again.{rows_again}
 use Rattle.whole_files.specs.Calls.{verdict_answer, verdict_on_file}
-use Rattle.whole_files.specs.Files.{job_file_refusal, job_said, verdict_of_plan}
+use Rattle.whole_files.specs.Files.{files_refusal, job_file_refusal, job_said, verdict_of_plan}
 use Rattle.whole_files.specs.declared.rooms.ListRoom.{ListRoom}
 use Rattle.whole_files.specs.lemmas.Rooms.{HoldsList, Taken, list_of}
 use Rattle.whole_files.specs.lemmas.Marks.{marks_complete}
-use Rattle.whole_files.proofs.Fronts.{Roomy, holds_list, whole_plan}
+use Rattle.whole_files.proofs.Fronts.{PutInto, Roomy, holds_list, whole_plan}
 use Rattle.whole_files.proofs.Writing.{never_second}
 
 holds_any : (lent : ListSlices) (count n : ℕ) → Roomy lent → count ≤ 500 → n ≤ 5957 → unless 11 (room lent count n) ≡ 0
@@ -76,7 +75,7 @@ module _ (h : JobInput) (file : List ℕ) where
     file_read r room p =
         let count : ℕ = chunks (job_in h) in
         let l = p.after in
-        let put = record {
+        let put : PutInto (plan_read_refusal h file lent) (plan_in count file) lent room = record {
           marks_are = ap (λ (x : ListSlices). x.marks) l;
           slots_are = ap (λ (x : ListSlices). x.slots) l;
           chunks_are = ap (λ (x : ListSlices). x.chunks) l;
@@ -85,9 +84,6 @@ module _ (h : JobInput) (file : List ℕ) where
         } in
         holds_list own (plan_read_refusal h file lent) (plan_in count file) count lent r room file_alone
         (λ z. marks_complete count file ((or_else_iff (job_refusal h) (file_refusal (format count) file)).0 z).1) p.answer put
-
-  pub file_refused : (e : Refusal) → own ≡ number_of e → Err (number_of e) ≡ verdict_on_file h file
-  file_refused e is = sym (rw (is, ne_eqb (number_of e) 0 (λ z. omega (arith, number_above_0 e))) refl)
 
   -- The marks and rows of a plan file are judged.
   pub file_judged :
@@ -99,13 +95,3 @@ module _ (h : JobInput) (file : List ℕ) where
       let fine = (or_else_iff (job_refusal h) (file_refusal (format count) file)).0 held.0 in
       let whole = (lists.whole_iff count p.marks (map row_slot p.rows) (map row_chunk p.rows) (map row_layer p.rows) (map row_bytes p.rows)).1 (whole_plan count p (marks_complete count file fine.1)) in
       v ∙ ap (checked h) (e ∙ held.1) ∙ rw (fine.0, fine.1, whole, rows_again p.rows) refl
-
--- ---- a job that was read from a file
-
-pub files_refused : (job plan : List ℕ) (e : Refusal) → job_file_refusal job ≡ number_of e → Err (number_of e) ≡ verdict_answer job plan
-files_refused job plan e is = sym (rw (is, ne_eqb (number_of e) 0 (λ z. omega (arith, number_above_0 e))) refl)
-
-pub files_judged : (job plan : List ℕ) (h : JobInput) (r : Result ℕ ℕ) → Taken one_sequence job h → r ≡ verdict_on_file h plan → r ≡ verdict_answer job plan
-files_judged job plan h r t e =
-    let by : ℕ → Job → Result ℕ ℕ = λ n j. answered (n or_else file_refusal (format (chunks j)) plan) (verdict_of_plan j (plan_in (chunks j) plan)) in
-    e ∙ ap (λ (j : Job). by (job_refusal h) j) t.same ∙ ap (λ (n : ℕ). by n (job_said job)) (t.accepted ∙ sym t.none)

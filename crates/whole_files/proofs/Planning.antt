@@ -30,7 +30,7 @@ use Rattle.whole_files.specs.lemmas.Plans.{plan_file_fits, plan_marks_long}
 use Rattle.whole_files.specs.declared.rooms.ListRoom.{ListRoom}
 use Rattle.whole_files.specs.lemmas.Answers.{err_answered, ok_answered}
 use Rattle.whole_files.specs.lemmas.Rooms.{HoldsList, list_of, slices_of_plan}
-use Rattle.whole_files.proofs.Fronts.{Roomy, fronts, whole_plan}
+use Rattle.whole_files.proofs.Fronts.{PutInto, Roomy, fronts, whole_plan}
 use Rattle.whole_files.proofs.Writing.{never_second}
 
 holds_any : (j : Job) → Accepted j → (l : ListSlices) → Roomy l → unless 11 (holds j l) ≡ 0
@@ -62,7 +62,7 @@ module _ (h : JobInput) where
         let j = job_in h in
         let known = ok_answered (plan_refusal h lent) made (plan_numbers j) p.answer in
         let z : job_refusal h ≡ 0 = sym job_alone ∙ known.0 in
-        let put = record { marks_are = p.marks_are; slots_are = p.slots_are; chunks_are = p.chunks_are; layers_are = p.layers_are; bytes_are = p.bytes_are } in
+        let put : PutInto (plan_refusal h lent) (plan_of_job j) lent room = record { marks_are = p.marks_are; slots_are = p.slots_are; chunks_are = p.chunks_are; layers_are = p.layers_are; bytes_are = p.bytes_are } in
         (z, fronts (plan_refusal h lent) (plan_of_job j) (chunks j) made.rows lent room known.0 (plan_marks_long j (accepted z)) (ap (λ (x : Planned). x.rows) known.1) put)
 
   -- The plan's slices are those of its file,

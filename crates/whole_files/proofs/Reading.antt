@@ -50,12 +50,12 @@ handed_accepted j a = (input_iff (as_handed j)).1 (whole_sizes j.overrides, subs
 
 -- ---- room that holds any job
 
-record Roomy (lent : Buffers) : Type 0 where
-  sizes : 4 ≤ length lent.sizes
-  chunks : 1996 ≤ length lent.size_chunks
-  layers : 1996 ≤ length lent.size_layers
-  bytes : 1996 ≤ length lent.size_bytes
-  slots : 3600 ≤ length lent.forecast
+pub record Roomy (lent : Buffers) : Type 0 where
+  pub sizes : 4 ≤ length lent.sizes
+  pub chunks : 1996 ≤ length lent.size_chunks
+  pub layers : 1996 ≤ length lent.size_layers
+  pub bytes : 1996 ≤ length lent.size_bytes
+  pub slots : 3600 ≤ length lent.forecast
 
 holds_any : (j : Job) → Accepted j → (lent : Buffers) → Roomy lent → room_refusal j lent ≡ 0
 holds_any j a lent h =

@@ -1,5 +1,4 @@
--- Laws on refusals: one that never applies, and one that leaves the buffer as it is. Assumes
--- nothing.
+-- A law on refusals. Assumes nothing.
 use Prim.Native.Nat.{ℕ}
 use mathlib.Core.Path.{◌≡◌, refl, sym, ◌∙◌}
 use mathlib.Core.List.{List}
@@ -19,11 +18,3 @@ use Rattle.whole_files.specs.Calls.{TextPromise, with_room}
 -- A second refusal that never applies where the first doesn't.
 pub never_second : (a b : ℕ) → (a ≡ 0 → b ≡ 0) → (a or_else b) ≡ a
 never_second a b h = by_cond (λ (r : ℕ). r ≡ a) (eqb a 0) (λ t. let e = eqb→eq a 0 t in h e ∙ sym e) (λ t. refl)
-
--- A refusal that comes from the input leaves the buffer as it is.
-pub wrote_refused : (refused : ℕ) (e : Refusal) (text old : List ℕ) → refused ≡ number_of e → TextPromise refused text old (Err e) old
-wrote_refused refused e text old is =
-    let some : refused ≡ 0 → ⊥ = λ z. omega (arith, number_above_0 e) in
-    let r : with_room refused text old ≡ number_of e = or_else_some refused (unless 11 (leb (length text) (length old))) some ∙ is in
-    let g = ne_eqb (number_of e) 0 (λ z. omega (arith, number_above_0 e)) in
-    record { answer = rw (r, g); buffer = rw (r, g) }

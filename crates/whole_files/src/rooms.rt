@@ -19,6 +19,7 @@ use refusals::Refusal;
 const FILE_ROWS: usize = 5957;
 
 // Room for a job: for its sizes, for the chunks, layers and sizes of its SZs, and for its forecast.
+#[derive(Drop)]
 pub struct JobRoom {
     pub sizes: [u32; LAYERS],
     pub chunks: [u16; OVERRIDES],
@@ -73,6 +74,7 @@ impl JobRoom {
 }
 
 // Room for a list with its marks.
+#[derive(Drop)]
 pub struct ListRoom {
     pub marks: [u8; CHUNKS],
     pub slots: [u16; FILE_ROWS],
