@@ -3,14 +3,13 @@
 use Prim.Native.Nat.{ℕ, ◌≤◌}
 use mathlib.Core.Path.{◌≡◌, sym, ◌∙◌}
 use mathlib.Core.List.{List, map}
-use native.Mathlib.Omega.{arith}
 use lib.ListN.{drop, length, length-map, take}
 use lib.Seq.{take_at}
 use borrow.Author.Tests.{eq-eqb}
 use Rattle.theory_basics.specs.Lent.{lent_after}
 use Rattle.fetch.specs.Input.{Whole}
 use Rattle.fetch.specs.Rows.{row_bytes, row_chunk, row_layer, row_slot}
-use Rattle.fetch.specs.Slices.{ListSlices, slices_of}
+use Rattle.fetch.specs.Slices.{ListSlices}
 use Rattle.std.specs.Prelude.{Result, Ok, Err}
 use Rattle.planfile.specs.PlanFile.{Plan}
 use Rattle.refusals.specs.declared.Refusal.{Refusal}

@@ -1,6 +1,6 @@
 -- Laws on a plan file that is read for a job and then judged. Assumes nothing.
 use Prim.Native.Nat.{ℕ, ◌≤◌}
-use mathlib.Core.Path.{◌≡◌, refl, sym, ap, ◌∙◌}
+use mathlib.Core.Path.{◌≡◌, refl, ap, ◌∙◌}
 use mathlib.Core.List.{List, map}
 use mathlib.Core.Logic.{⊎_elim}
 use native.Mathlib.Omega.{arith}
@@ -8,29 +8,26 @@ use lib.ListN.{length}
 use lib.Dec.{T_not, eqb, eqb→eq, eqb_refl}
 use borrow.Author.Tests.{eq-eqb, le-leb, ne_eqb}
 use Rattle.theory_basics.specs.Refusals.{unless, ◌or_else◌}
-use Rattle.theory_basics.specs.lemmas.Refusals.{or_else_iff, or_else_some}
+use Rattle.theory_basics.specs.lemmas.Refusals.{or_else_iff}
 use Rattle.theory_basics.specs.lemmas.Tests.{test}
 use Rattle.records.specs.File.{file_refusal}
 use Rattle.job.specs.Input.{JobInput, job_in, job_refusal}
 use Rattle.job.specs.Theorems.{input_iff}
-use Rattle.job.specs.Job.{Job, chunks}
+use Rattle.job.specs.Job.{chunks}
 use Rattle.fetch.specs.Input as lists
 use Rattle.fetch.specs.Slices.{ListSlices, slices_of, room}
 use Rattle.fetch.specs.Rows.{row_bytes, row_chunk, row_layer, row_slot}
-use Rattle.jobrecords.specs.Refusal.{one_sequence}
 use Rattle.planfile.specs.Calls.{PlanReadPromise, plan_read_refusal}
 use Rattle.planfile.specs.PlanFile.{format, plan_in}
 use Rattle.planfile.specs.lemmas.Few.{rows_inside}
 use Rattle.checker.specs.Checked.{checked}
-use Rattle.std.specs.Prelude.{Result, Ok, Err}
+use Rattle.std.specs.Prelude.{Result, Ok}
 use Rattle.refusals.specs.declared.Refusal.{Refusal}
-use Rattle.refusals.specs.Laws.{number_above_0}
-use Rattle.refusals.specs.Numbers.{answered, by_number, number_of}
+use Rattle.refusals.specs.Numbers.{by_number}
 use Rattle.report.specs.lemmas.Again.{rows_again}
-use Rattle.whole_files.specs.Calls.{verdict_answer, verdict_on_file}
-use Rattle.whole_files.specs.Files.{files_refusal, job_file_refusal, job_said, verdict_of_plan}
+use Rattle.whole_files.specs.Calls.{verdict_on_file}
 use Rattle.whole_files.specs.declared.rooms.ListRoom.{ListRoom}
-use Rattle.whole_files.specs.lemmas.Rooms.{HoldsList, Taken, list_of}
+use Rattle.whole_files.specs.lemmas.Rooms.{HoldsList, list_of}
 use Rattle.whole_files.specs.lemmas.Marks.{marks_complete}
 use Rattle.whole_files.proofs.Fronts.{PutInto, Roomy, holds_list, whole_plan}
 use Rattle.whole_files.proofs.Writing.{never_second}

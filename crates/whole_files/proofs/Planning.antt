@@ -1,6 +1,6 @@
 -- Laws on a job's plan that is made and then written: its refusal, or the plan's file. Assumes
 -- nothing.
-use Prim.Native.Nat.{ℕ, ◌≤◌}
+use Prim.Native.Nat.{ℕ}
 use mathlib.Core.Path.{◌≡◌, sym, ap, subst, ◌∙◌}
 use mathlib.Core.List.{List, map}
 use native.Mathlib.Omega.{arith}

@@ -1,23 +1,19 @@
 -- Laws on a job file that was read into buffers which hold any job: its refusal, or the job as
 -- slices. Assumes nothing.
-use Prim.Native.Nat.{ℕ, zero, suc, ◌≤◌}
-use mathlib.Core.Path.{◌≡◌, refl, sym, ap, subst, ◌∙◌}
+use Prim.Native.Nat.{ℕ, ◌≤◌}
+use mathlib.Core.Path.{◌≡◌, sym, ap, subst, ◌∙◌}
 use mathlib.Core.Bool.{Bool}
-use mathlib.Core.List.{List, []}
+use mathlib.Core.List.{List}
 use native.Mathlib.Omega.{arith}
-use lib.ListN.{length, length-map, replicate, take}
-use lib.Dec.{T_not, eqb, eqb→eq, eqb_refl}
-use borrow.Author.Tests.{eq-eqb, le-leb}
-use Rattle.theory_basics.specs.lemmas.Refusals.{or_else_iff}
-use Rattle.theory_basics.specs.lemmas.Tests.{by_cond}
-use Rattle.job.specs.declared.Programme.{Programme}
+use lib.ListN.{length, length-map}
+use borrow.Author.Tests.{le-leb}
 use Rattle.job.specs.Job.{Accepted, Job, Override, layers}
 use Rattle.job.specs.Input.{JobInput, WholeSizes, override_bytes, override_chunks, job_input, job_in, job_refusal, override_layers}
 use Rattle.job.specs.Theorems.{input_iff, slices_back_lem}
 use Rattle.job.specs.Uneven.{overrides_few}
-use Rattle.jobrecords.specs.Refusal.{one_sequence, mixed, refusal_of, job_of_file}
+use Rattle.jobrecords.specs.Refusal.{refusal_of, job_of_file}
 use Rattle.jobrecords.specs.Reader.{Buffers, JobReadPromise, buffers, job_answer, lent_read, read_answer, job_read_refusal, room_refusal}
-use Rattle.jobrecords.specs.Theorems.{file_accepted, no_overrides}
+use Rattle.jobrecords.specs.Theorems.{file_accepted}
 use Rattle.jobfile.specs.Theorems.{never_long}
 use Rattle.jobfile.specs.Writer.{JobWritePromise, file_written, job_file, long_refusal, write_answer}
 use Rattle.jobrecords.specs.declared.ReadJob.{ReadJob}
