@@ -1,18 +1,14 @@
 -- Laws on what is printed of an answer: the text, or the line of a refusal. Assumes nothing.
 use Prim.Native.Nat.{ℕ, ◌+◌, ◌≤◌, ◌<◌}
 use mathlib.Core.Path.{◌≡◌, sym, subst, ◌∙◌}
-use mathlib.Core.Bool.{cond}
 use mathlib.Core.List.{List, [], ◌∷◌, ◌++◌, append_assoc}
-use mathlib.Core.Logic.{⊎_elim}
 use native.Mathlib.Omega.{arith}
 use lib.ListN.{length, length-append}
-use lib.Dec.{T_not, leb, eqb, eqb→eq, eqb_refl}
+use lib.Dec.{leb}
 use borrow.Author.Tests.{eq-eqb, ne_eqb, le-leb}
-use Rattle.theory_basics.specs.Lent.{lent_after}
 use Rattle.theory_basics.specs.Refusals.{unless}
 use Rattle.theory_basics.specs.Text.{digits}
 use Rattle.theory_basics.specs.lemmas.Digits.{digits_few}
-use Rattle.theory_basics.specs.lemmas.Tests.{test}
 use Rattle.core_text.specs.lemmas.Places.{Put, put_then, put_whole}
 use Rattle.std.specs.Prelude.{Result, Ok, Err}
 use Rattle.refusals.specs.declared.Refusal.{Refusal}
