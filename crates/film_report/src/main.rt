@@ -9,6 +9,6 @@ fn main(rt: HostRuntime) -> io::Result<()> {
     let mut job = [0u8; programs::READ_BYTES];
     let n = core_input::read_full(&mut rt.stdin(), &mut job)?;
     let mut out = [0u8; programs::REPORT_BYTES];
-    let count = programs::print_report(core_prefix::bytes(&job, n), &mut out);
-    rt.write_all(core_prefix::bytes(&out, count))
+    let count = programs::print_report(core_prefix::prefix(&job, n), &mut out);
+    rt.write_all(core_prefix::prefix(&out, count))
 }

@@ -13,9 +13,9 @@ fn main(rt: HostRuntime) -> io::Result<()> {
     let n = core_input::read_file(&rt, b"plan", &mut plan)?;
     let mut out = [0u8; programs::VERDICT_BYTES];
     let count = programs::print_verdict(
-        core_prefix::bytes(&job, m),
-        core_prefix::bytes(&plan, n),
+        core_prefix::prefix(&job, m),
+        core_prefix::prefix(&plan, n),
         &mut out,
     );
-    rt.write_all(core_prefix::bytes(&out, count))
+    rt.write_all(core_prefix::prefix(&out, count))
 }
