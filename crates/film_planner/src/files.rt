@@ -6,9 +6,7 @@ ghost use Rattle.jobrecords.specs.Refusal.{mixed, one_sequence};
 ghost use Rattle.core_ffi.specs.Convention.{film};
 ghost use Rattle.core_ffi.specs.Files.{JobReadReturned, JobWriteReturned, PlanReadReturned, PlanWriteReturned, job_room};
 
-use crate::job_of;
-use fetch::{FetchList, LentList, Rows};
-use jobrecords::LentJob;
+use job::Programme;
 
 // `jobfile::read_job` for C.
 #[unsafe(no_mangle)]
@@ -33,16 +31,12 @@ pub extern "C" fn film_read_job(
         size_bytes.new forecast.new)
         programme.new lengths.new) }
 {
-    let mut lent = LentJob {
-        sizes,
-        chunks: size_chunks,
-        layers: size_layers,
-        bytes: size_bytes,
-        forecast,
-    };
-    core_ffi::number(core_ffi::read_with_lengths(
-        true, file, programme, lengths, &mut lent,
-    ))
+    if !core_ffi::holds_job(programme.len(), lengths.len()) {
+        return core_ffi::job_refused(file);
+    }
+    let read = jobfile::read_job(file, sizes, size_chunks, size_layers, size_bytes, forecast);
+    core_ffi::store_job(read, programme, lengths);
+    core_ffi::job_number(read)
 }
 
 // `jobfile::read_mixed_job` for C.
@@ -63,16 +57,12 @@ pub extern "C" fn film_read_mixed_job(
         (buffers sizes.new [] [] [] forecast.new)
         programme.new lengths.new) }
 {
-    let mut out = LentJob {
-        sizes,
-        chunks: &mut [],
-        layers: &mut [],
-        bytes: &mut [],
-        forecast,
-    };
-    core_ffi::number(core_ffi::read_with_lengths(
-        false, file, programme, lengths, &mut out,
-    ))
+    if !core_ffi::holds_job(programme.len(), lengths.len()) {
+        return core_ffi::mixed_refused(file);
+    }
+    let read = jobfile::read_mixed_job(file, sizes, forecast);
+    core_ffi::store_job(read, programme, lengths);
+    core_ffi::job_number(read)
 }
 
 // `jobfile::write_job` for C.
@@ -94,10 +84,21 @@ pub extern "C" fn film_write_job(
         size_bytes.now forecast.now)
         out.old result out.new }
 {
-    let job = job_of(
-        chunks, span, delay, limit, sizes, size_chunks, size_layers, size_bytes, forecast,
-    );
-    core_ffi::number(jobfile::write_job(&job, out))
+    let p = Programme {
+        chunks,
+        span,
+        delay,
+        limit,
+    };
+    core_ffi::written_number(jobfile::write_job(
+        p,
+        sizes,
+        size_chunks,
+        size_layers,
+        size_bytes,
+        forecast,
+        out,
+    ))
 }
 
 // `planfile::read_plan` for C.
@@ -129,17 +130,26 @@ pub extern "C" fn film_read_plan(
         (slices_of marks.new row_slots.new row_chunks.new
         row_layers.new row_bytes.new) }
 {
-    let job = job_of(
-        chunks, span, delay, limit, sizes, size_chunks, size_layers, size_bytes, forecast,
-    );
-    let mut out = LentList {
-        marks,
-        slots: row_slots,
-        chunks: row_chunks,
-        layers: row_layers,
-        bytes: row_bytes,
+    let p = Programme {
+        chunks,
+        span,
+        delay,
+        limit,
     };
-    core_ffi::number(planfile::read_plan(&job, file, &mut out))
+    core_ffi::plan_read_number(planfile::read_plan(
+        p,
+        sizes,
+        size_chunks,
+        size_layers,
+        size_bytes,
+        forecast,
+        file,
+        marks,
+        row_slots,
+        row_chunks,
+        row_layers,
+        row_bytes,
+    ))
 }
 
 // `planfile::write_plan` for C.
@@ -168,17 +178,24 @@ pub extern "C" fn film_write_plan(
         row_layers.now row_bytes.now)
         out.old result out.new }
 {
-    let job = job_of(
-        chunks, span, delay, limit, sizes, size_chunks, size_layers, size_bytes, forecast,
-    );
-    let list = FetchList {
-        marks,
-        rows: Rows {
-            slots: row_slots,
-            chunks: row_chunks,
-            layers: row_layers,
-            bytes: row_bytes,
-        },
+    let p = Programme {
+        chunks,
+        span,
+        delay,
+        limit,
     };
-    core_ffi::number(planfile::write_plan(&job, &list, out))
+    core_ffi::written_number(planfile::write_plan(
+        p,
+        sizes,
+        size_chunks,
+        size_layers,
+        size_bytes,
+        forecast,
+        marks,
+        row_slots,
+        row_chunks,
+        row_layers,
+        row_bytes,
+        out,
+    ))
 }

@@ -7,11 +7,7 @@ ghost use Rattle.core_ffi.specs.Convention.{film};
 ghost use Rattle.core_ffi.specs.Lists.{BookReturned, CountMarksReturned, ReleaseReturned, check_answer, check_from_answer};
 ghost use Rattle.core_ffi.specs.Plans.{four_counts, order_number};
 
-use crate::job_of;
-use fetch::{FetchList, Rows};
-use job::{Overrides, Programme};
-use refusals::Refusal;
-use std::cmp::Ordering;
+use job::Programme;
 
 // `checker::check` for C.
 #[unsafe(no_mangle)]
@@ -37,19 +33,25 @@ pub extern "C" fn film_check(
         (slices_of marks.now row_slots.now row_chunks.now
         row_layers.now row_bytes.now) }
 {
-    let job = job_of(
-        chunks, span, delay, limit, sizes, size_chunks, size_layers, size_bytes, forecast,
-    );
-    let list = FetchList {
-        marks,
-        rows: Rows {
-            slots: row_slots,
-            chunks: row_chunks,
-            layers: row_layers,
-            bytes: row_bytes,
-        },
+    let p = Programme {
+        chunks,
+        span,
+        delay,
+        limit,
     };
-    core_ffi::number(checker::check(&job, &list).map(usize::from))
+    core_ffi::verdict_number(checker::check(
+        p,
+        sizes,
+        size_chunks,
+        size_layers,
+        size_bytes,
+        forecast,
+        marks,
+        row_slots,
+        row_chunks,
+        row_layers,
+        row_bytes,
+    ))
 }
 
 // `checker::check_from` for C.
@@ -78,19 +80,26 @@ pub extern "C" fn film_check_from(
         (slices_of marks.now row_slots.now row_chunks.now
         row_layers.now row_bytes.now) }
 {
-    let job = job_of(
-        chunks, span, delay, limit, sizes, size_chunks, size_layers, size_bytes, forecast,
-    );
-    let list = FetchList {
-        marks,
-        rows: Rows {
-            slots: row_slots,
-            chunks: row_chunks,
-            layers: row_layers,
-            bytes: row_bytes,
-        },
+    let p = Programme {
+        chunks,
+        span,
+        delay,
+        limit,
     };
-    core_ffi::number(checker::check_from(&job, from, &list).map(usize::from))
+    core_ffi::verdict_number(checker::check_from(
+        p,
+        sizes,
+        size_chunks,
+        size_layers,
+        size_bytes,
+        forecast,
+        from,
+        marks,
+        row_slots,
+        row_chunks,
+        row_layers,
+        row_bytes,
+    ))
 }
 
 // `booking::book` for C.
@@ -124,21 +133,19 @@ pub extern "C" fn film_book(
         delay,
         limit,
     };
-    let overrides = Overrides {
-        chunks: size_chunks,
-        layers: size_layers,
-        bytes: size_bytes,
-    };
-    let list = FetchList {
+    core_ffi::booking_number(booking::book(
+        p,
+        sizes,
+        size_chunks,
+        size_layers,
+        size_bytes,
+        forecast,
         marks,
-        rows: Rows {
-            slots: row_slots,
-            chunks: row_chunks,
-            layers: row_layers,
-            bytes: row_bytes,
-        },
-    };
-    core_ffi::done(booking::book(p, sizes, &overrides, forecast, &list))
+        row_slots,
+        row_chunks,
+        row_layers,
+        row_bytes,
+    ))
 }
 
 // `booking::release` for C.
@@ -171,18 +178,18 @@ pub extern "C" fn film_release(
         delay,
         limit,
     };
-    let overrides = Overrides {
-        chunks: size_chunks,
-        layers: size_layers,
-        bytes: size_bytes,
-    };
-    let rows = Rows {
-        slots: row_slots,
-        chunks: row_chunks,
-        layers: row_layers,
-        bytes: row_bytes,
-    };
-    core_ffi::done(booking::release(p, sizes, &overrides, forecast, &rows))
+    core_ffi::booking_number(booking::release(
+        p,
+        sizes,
+        size_chunks,
+        size_layers,
+        size_bytes,
+        forecast,
+        row_slots,
+        row_chunks,
+        row_layers,
+        row_bytes,
+    ))
 }
 
 // A count of marks of any length may pass 2^32, so it stands in a lent slice.
@@ -190,10 +197,11 @@ pub extern "C" fn film_release(
 pub extern "C" fn film_count_marks(marks: &[u8], n: u8, count: &mut [u64]) -> u64
     ensures { CountMarksReturned marks.now n count.old result count.new }
 {
-    let Some(place) = count.first_mut() else {
-        return core_ffi::number(Err(Refusal::ShortBuffer));
-    };
-    *place = fetch::count_marks(marks, n) as u64;
+    if count.len() < 1 {
+        return core_ffi::refused(11);
+    }
+    let carried = fetch::count_marks(marks, n);
+    count[0] = carried as u64;
     0
 }
 
@@ -210,10 +218,7 @@ pub extern "C" fn film_count_word(word: u64, n: u8) -> u64
 pub extern "C" fn film_compare(counts: &[u16], others: &[u16]) -> u64
     ensures { result ≡ order_number (compared (four_counts counts.now) (four_counts others.now)) }
 {
-    let own = core_ffi::four_counts(counts);
-    match planner::compare(own, core_ffi::four_counts(others)) {
-        Ordering::Equal => 0,
-        Ordering::Less => 1,
-        Ordering::Greater => 2,
-    }
+    let a = core_ffi::four_counts(counts);
+    let b = core_ffi::four_counts(others);
+    core_ffi::order_number(planner::compare(a, b))
 }

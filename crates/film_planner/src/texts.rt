@@ -5,9 +5,7 @@ ghost use Rattle.core_ffi.specs.Convention.{film};
 ghost use Rattle.core_ffi.specs.Texts.{ReasonsReturned, ReportReturned, TraceReadReturned, TraceWriteReturned};
 ghost use Rattle.core_ffi.specs.Texts.{wait_answer};
 
-use crate::job_of;
-use job::Overrides;
-use wait::Film;
+use job::Programme;
 
 // `report::report` for C.
 #[unsafe(no_mangle)]
@@ -28,10 +26,21 @@ pub extern "C" fn film_report(
         size_bytes.now forecast.now)
         out.old result out.new }
 {
-    let job = job_of(
-        chunks, span, delay, limit, sizes, size_chunks, size_layers, size_bytes, forecast,
-    );
-    core_ffi::number(report::report(&job, out))
+    let p = Programme {
+        chunks,
+        span,
+        delay,
+        limit,
+    };
+    core_ffi::written_number(report::report(
+        p,
+        sizes,
+        size_chunks,
+        size_layers,
+        size_bytes,
+        forecast,
+        out,
+    ))
 }
 
 // `reasons::reasons` for C.
@@ -53,10 +62,21 @@ pub extern "C" fn film_reasons(
         size_bytes.now forecast.now)
         out.old result out.new }
 {
-    let job = job_of(
-        chunks, span, delay, limit, sizes, size_chunks, size_layers, size_bytes, forecast,
-    );
-    core_ffi::number(reasons::reasons(&job, out))
+    let p = Programme {
+        chunks,
+        span,
+        delay,
+        limit,
+    };
+    core_ffi::written_number(reasons::reasons(
+        p,
+        sizes,
+        size_chunks,
+        size_layers,
+        size_bytes,
+        forecast,
+        out,
+    ))
 }
 
 // `trace::read_trace` for C.
@@ -65,7 +85,7 @@ pub extern "C" fn film_read_trace(trace: &[u8], slots: usize, forecast: &mut [u3
     ensures { TraceReadReturned
         trace.now slots forecast.old result forecast.new }
 {
-    core_ffi::number(trace::read_trace(trace, slots, forecast))
+    core_ffi::trace_read_number(trace::read_trace(trace, slots, forecast))
 }
 
 // `trace::write_trace` for C.
@@ -73,7 +93,7 @@ pub extern "C" fn film_read_trace(trace: &[u8], slots: usize, forecast: &mut [u3
 pub extern "C" fn film_write_trace(forecast: &[u32], out: &mut [u8]) -> u64
     ensures { TraceWriteReturned forecast.now out.old result out.new }
 {
-    core_ffi::number(trace::write_trace(forecast, out))
+    core_ffi::written_number(trace::write_trace(forecast, out))
 }
 
 // `wait::wait` for C.
@@ -92,17 +112,14 @@ pub extern "C" fn film_wait(
         (wait_input chunks span limit sizes.now size_chunks.now size_layers.now
         size_bytes.now forecast.now) }
 {
-    let film = Film {
+    core_ffi::wait_number(wait::wait(
         chunks,
         span,
         limit,
         sizes,
-        overrides: Overrides {
-            chunks: size_chunks,
-            layers: size_layers,
-            bytes: size_bytes,
-        },
+        size_chunks,
+        size_layers,
+        size_bytes,
         forecast,
-    };
-    core_ffi::number(wait::wait(&film).map(usize::from))
+    ))
 }
