@@ -193,9 +193,7 @@ fn write_most(job: &JobInput, passes: u32, work: &mut [u64], out: &mut LentList)
     // A chunk that is left out has the mark 0.
     let none = [0u8; CHUNKS];
     let count = job.programme.chunks as usize;
-    let found = decide(
-        job, &table, passes, work, &mut ids, &mut ready, &mut mark,
-    );
+    let found = decide(job, &table, passes, work, &mut ids, &mut ready, &mut mark);
     let made = core_output::write_plan(
         count,
         job.forecast,
