@@ -1,5 +1,5 @@
--- Laws on the set found and the bound, in tables: what the functions of the core crates ask for, and
--- what they find. Assumes nothing.
+-- Laws on the set found and the bound, in tables: what the functions of the core crates ask for,
+-- and what they find. Assumes nothing.
 use mathlib.Core.Path.{◌≡◌, refl, sym, ap, ◌∙◌, subst}
 use mathlib.Core.Bool.{cond}
 use mathlib.Core.List.{List}
