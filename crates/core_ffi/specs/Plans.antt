@@ -11,8 +11,8 @@ use Rattle.fetch.specs.Slices.{ListSlices, slices_of}
 use Rattle.theory_plan.specs.Plan.{plan}
 use Rattle.theory_plan.specs.Statement.{counts_of, marks_of}
 use Rattle.planner.specs.Answer.{plan_refusal, plan_rows}
-use Rattle.planner.specs.declared.Order.{Order}
-use Rattle.planner.specs.declared.Order.TheVariants.{Less, Same, More}
+use Rattle.std.specs.declared.cmp.Ordering.{Ordering}
+use Rattle.std.specs.declared.cmp.Ordering.TheVariants.{Less, Equal, Greater}
 use Rattle.replan.specs.Answer.{ReplanInput, job_on, plan_afresh, refusal_on, rows_on}
 use Rattle.theory_search.specs.Statement.{Found}
 use Rattle.theory_search.specs.Search.{found, plan_over}
@@ -157,7 +157,7 @@ four_counts counts = up_to (λ k. get_or counts k 0) 4
 
 -- 0 if they are the same; at the first entry where they differ 1 if the first has fewer, 2 if it
 -- has more.
-abbrev pub order_number : Order → ℕ
-order_number Same = 0
+abbrev pub order_number : Ordering → ℕ
+order_number Equal = 0
 order_number Less = 1
-order_number More = 2
+order_number Greater = 2

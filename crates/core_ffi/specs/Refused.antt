@@ -15,8 +15,8 @@ use Rattle.planfile.specs.Calls.{plan_of, plan_read_refusal, write_refusal as pl
 use Rattle.planfile.specs.PlanFile.{file_of, plan_in}
 use Rattle.planfile.specs.Theorems.{rows_few}
 use Rattle.planner.specs.Answer.{holds as holdsPlan, plan_refusal, plan_rows}
-use Rattle.planner.specs.declared.Order.{Order}
-use Rattle.planner.specs.declared.Order.TheVariants.{Less, More, Same}
+use Rattle.std.specs.declared.cmp.Ordering.{Ordering}
+use Rattle.std.specs.declared.cmp.Ordering.TheVariants.{Less, Equal, Greater}
 use Rattle.replan.specs.Answer.{ReplanInput, holds_on, input_refusal, refusal_on, rows_on}
 use Rattle.search.specs.Answer.{holds_found, rows_found, search_refusal}
 use Rattle.most.specs.Promise.{lent_room, most_refusal, rows_over}
@@ -133,10 +133,10 @@ count_refused count = never_mistaken (count_refusal count) 0 0 (omega arith) (λ
 pub word_unrefused : (word n : ℕ) → refusal_in (word_count word n) ≡ 0
 word_unrefused word n = omega (arith, word_few word n)
 
-pub compare_unrefused : (o : Order) → refusal_in (order_number o) ≡ 0
-compare_unrefused Same = omega arith
+pub compare_unrefused : (o : Ordering) → refusal_in (order_number o) ≡ 0
+compare_unrefused Equal = omega arith
 compare_unrefused Less = omega arith
-compare_unrefused More = omega arith
+compare_unrefused Greater = omega arith
 
 -- ---- texts: film_report, film_reasons, film_read_trace, film_write_trace, film_wait
 

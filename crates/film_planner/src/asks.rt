@@ -4,7 +4,9 @@ ghost use Rattle.core_ffi.specs.Convention.{film};
 ghost use Rattle.live.specs.Answer.{live_input, piece_slices};
 ghost use Rattle.fetch.specs.Slices.{row_slices};
 
-use job::Programme;
+use fetch::Rows;
+use job::{JobInput, Overrides, Programme};
+use live::LentPieces;
 
 // `live::live` for C.
 #[unsafe(no_mangle)]
@@ -40,27 +42,31 @@ pub extern "C" fn film_live(
         result
         (piece_slices piece_chunks.new piece_layers.new piece_bytes.new) }
 {
-    let p = Programme {
-        chunks,
-        span,
-        delay,
-        limit,
-    };
-    core_ffi::live_number(live::live(
-        p,
+    let job = JobInput {
+        programme: Programme {
+            chunks,
+            span,
+            delay,
+            limit,
+        },
         sizes,
-        size_chunks,
-        size_layers,
-        size_bytes,
+        overrides: Overrides {
+            chunks: size_chunks,
+            layers: size_layers,
+            bytes: size_bytes,
+        },
         forecast,
-        from,
-        fetched_slots,
-        fetched_chunks,
-        fetched_layers,
-        fetched_bytes,
-        rate,
-        piece_chunks,
-        piece_layers,
-        piece_bytes,
-    ))
+    };
+    let fetched = Rows {
+        slots: fetched_slots,
+        chunks: fetched_chunks,
+        layers: fetched_layers,
+        bytes: fetched_bytes,
+    };
+    let mut out = LentPieces {
+        chunks: piece_chunks,
+        layers: piece_layers,
+        bytes: piece_bytes,
+    };
+    core_ffi::number(live::live(&job, from, &fetched, rate, &mut out))
 }

@@ -6,7 +6,9 @@ ghost use Rattle.jobrecords.specs.Refusal.{mixed, one_sequence};
 ghost use Rattle.core_ffi.specs.Convention.{film};
 ghost use Rattle.core_ffi.specs.Files.{JobReadReturned, JobWriteReturned, PlanReadReturned, PlanWriteReturned, job_room};
 
-use job::Programme;
+use fetch::{FetchList, LentList, Rows};
+use job::{JobInput, Overrides, Programme};
+use jobrecords::LentJob;
 
 // `jobfile::read_job` for C.
 #[unsafe(no_mangle)]
@@ -31,12 +33,16 @@ pub extern "C" fn film_read_job(
         size_bytes.new forecast.new)
         programme.new lengths.new) }
 {
-    if !core_ffi::holds_job(programme.len(), lengths.len()) {
-        return core_ffi::job_refused(file);
-    }
-    let read = jobfile::read_job(file, sizes, size_chunks, size_layers, size_bytes, forecast);
-    core_ffi::store_job(read, programme, lengths);
-    core_ffi::job_number(read)
+    let mut room = LentJob {
+        sizes,
+        chunks: size_chunks,
+        layers: size_layers,
+        bytes: size_bytes,
+        forecast,
+    };
+    core_ffi::number(core_ffi::read_with_lengths(
+        true, file, programme, lengths, &mut room,
+    ))
 }
 
 // `jobfile::read_mixed_job` for C.
@@ -57,12 +63,17 @@ pub extern "C" fn film_read_mixed_job(
         (buffers sizes.new [] [] [] forecast.new)
         programme.new lengths.new) }
 {
-    if !core_ffi::holds_job(programme.len(), lengths.len()) {
-        return core_ffi::mixed_refused(file);
-    }
-    let read = jobfile::read_mixed_job(file, sizes, forecast);
-    core_ffi::store_job(read, programme, lengths);
-    core_ffi::job_number(read)
+    // A mixed file has no SZ, so nothing is lent for them.
+    let mut out = LentJob {
+        sizes,
+        chunks: &mut [],
+        layers: &mut [],
+        bytes: &mut [],
+        forecast,
+    };
+    core_ffi::number(core_ffi::read_with_lengths(
+        false, file, programme, lengths, &mut out,
+    ))
 }
 
 // `jobfile::write_job` for C.
@@ -84,21 +95,22 @@ pub extern "C" fn film_write_job(
         size_bytes.now forecast.now)
         out.old result out.new }
 {
-    let p = Programme {
-        chunks,
-        span,
-        delay,
-        limit,
-    };
-    core_ffi::written_number(jobfile::write_job(
-        p,
+    let job = JobInput {
+        programme: Programme {
+            chunks,
+            span,
+            delay,
+            limit,
+        },
         sizes,
-        size_chunks,
-        size_layers,
-        size_bytes,
+        overrides: Overrides {
+            chunks: size_chunks,
+            layers: size_layers,
+            bytes: size_bytes,
+        },
         forecast,
-        out,
-    ))
+    };
+    core_ffi::number(jobfile::write_job(&job, out))
 }
 
 // `planfile::read_plan` for C.
@@ -130,26 +142,29 @@ pub extern "C" fn film_read_plan(
         (slices_of marks.new row_slots.new row_chunks.new
         row_layers.new row_bytes.new) }
 {
-    let p = Programme {
-        chunks,
-        span,
-        delay,
-        limit,
-    };
-    core_ffi::plan_read_number(planfile::read_plan(
-        p,
+    let job = JobInput {
+        programme: Programme {
+            chunks,
+            span,
+            delay,
+            limit,
+        },
         sizes,
-        size_chunks,
-        size_layers,
-        size_bytes,
+        overrides: Overrides {
+            chunks: size_chunks,
+            layers: size_layers,
+            bytes: size_bytes,
+        },
         forecast,
-        file,
+    };
+    let mut out = LentList {
         marks,
-        row_slots,
-        row_chunks,
-        row_layers,
-        row_bytes,
-    ))
+        slots: row_slots,
+        chunks: row_chunks,
+        layers: row_layers,
+        bytes: row_bytes,
+    };
+    core_ffi::number(planfile::read_plan(&job, file, &mut out))
 }
 
 // `planfile::write_plan` for C.
@@ -178,24 +193,29 @@ pub extern "C" fn film_write_plan(
         row_layers.now row_bytes.now)
         out.old result out.new }
 {
-    let p = Programme {
-        chunks,
-        span,
-        delay,
-        limit,
-    };
-    core_ffi::written_number(planfile::write_plan(
-        p,
+    let job = JobInput {
+        programme: Programme {
+            chunks,
+            span,
+            delay,
+            limit,
+        },
         sizes,
-        size_chunks,
-        size_layers,
-        size_bytes,
+        overrides: Overrides {
+            chunks: size_chunks,
+            layers: size_layers,
+            bytes: size_bytes,
+        },
         forecast,
+    };
+    let list = FetchList {
         marks,
-        row_slots,
-        row_chunks,
-        row_layers,
-        row_bytes,
-        out,
-    ))
+        rows: Rows {
+            slots: row_slots,
+            chunks: row_chunks,
+            layers: row_layers,
+            bytes: row_bytes,
+        },
+    };
+    core_ffi::number(planfile::write_plan(&job, &list, out))
 }

@@ -7,7 +7,10 @@ ghost use Rattle.core_ffi.specs.Convention.{film};
 ghost use Rattle.core_ffi.specs.Lists.{BookReturned, CountMarksReturned, ReleaseReturned, check_answer, check_from_answer};
 ghost use Rattle.core_ffi.specs.Plans.{four_counts, order_number};
 
-use job::Programme;
+use fetch::{FetchList, Rows};
+use job::{JobInput, Overrides, Programme};
+use refusals::Refusal;
+use std::cmp::Ordering;
 
 // `checker::check` for C.
 #[unsafe(no_mangle)]
@@ -33,25 +36,31 @@ pub extern "C" fn film_check(
         (slices_of marks.now row_slots.now row_chunks.now
         row_layers.now row_bytes.now) }
 {
-    let p = Programme {
-        chunks,
-        span,
-        delay,
-        limit,
-    };
-    core_ffi::verdict_number(checker::check(
-        p,
+    let job = JobInput {
+        programme: Programme {
+            chunks,
+            span,
+            delay,
+            limit,
+        },
         sizes,
-        size_chunks,
-        size_layers,
-        size_bytes,
+        overrides: Overrides {
+            chunks: size_chunks,
+            layers: size_layers,
+            bytes: size_bytes,
+        },
         forecast,
+    };
+    let list = FetchList {
         marks,
-        row_slots,
-        row_chunks,
-        row_layers,
-        row_bytes,
-    ))
+        rows: Rows {
+            slots: row_slots,
+            chunks: row_chunks,
+            layers: row_layers,
+            bytes: row_bytes,
+        },
+    };
+    core_ffi::number(checker::check(&job, &list).map(usize::from))
 }
 
 // `checker::check_from` for C.
@@ -80,26 +89,31 @@ pub extern "C" fn film_check_from(
         (slices_of marks.now row_slots.now row_chunks.now
         row_layers.now row_bytes.now) }
 {
-    let p = Programme {
-        chunks,
-        span,
-        delay,
-        limit,
-    };
-    core_ffi::verdict_number(checker::check_from(
-        p,
+    let job = JobInput {
+        programme: Programme {
+            chunks,
+            span,
+            delay,
+            limit,
+        },
         sizes,
-        size_chunks,
-        size_layers,
-        size_bytes,
+        overrides: Overrides {
+            chunks: size_chunks,
+            layers: size_layers,
+            bytes: size_bytes,
+        },
         forecast,
-        from,
+    };
+    let list = FetchList {
         marks,
-        row_slots,
-        row_chunks,
-        row_layers,
-        row_bytes,
-    ))
+        rows: Rows {
+            slots: row_slots,
+            chunks: row_chunks,
+            layers: row_layers,
+            bytes: row_bytes,
+        },
+    };
+    core_ffi::number(checker::check_from(&job, from, &list).map(usize::from))
 }
 
 // `booking::book` for C.
@@ -127,24 +141,28 @@ pub extern "C" fn film_book(
         row_layers.now row_bytes.now)
         result forecast.new }
 {
-    let p = Programme {
+    let programme = Programme {
         chunks,
         span,
         delay,
         limit,
     };
-    core_ffi::booking_number(booking::book(
-        p,
-        sizes,
-        size_chunks,
-        size_layers,
-        size_bytes,
-        forecast,
+    let overrides = Overrides {
+        chunks: size_chunks,
+        layers: size_layers,
+        bytes: size_bytes,
+    };
+    let list = FetchList {
         marks,
-        row_slots,
-        row_chunks,
-        row_layers,
-        row_bytes,
+        rows: Rows {
+            slots: row_slots,
+            chunks: row_chunks,
+            layers: row_layers,
+            bytes: row_bytes,
+        },
+    };
+    core_ffi::done(booking::book(
+        programme, sizes, &overrides, forecast, &list,
     ))
 }
 
@@ -172,23 +190,25 @@ pub extern "C" fn film_release(
         row_bytes.now)
         result forecast.new }
 {
-    let p = Programme {
+    let programme = Programme {
         chunks,
         span,
         delay,
         limit,
     };
-    core_ffi::booking_number(booking::release(
-        p,
-        sizes,
-        size_chunks,
-        size_layers,
-        size_bytes,
-        forecast,
-        row_slots,
-        row_chunks,
-        row_layers,
-        row_bytes,
+    let overrides = Overrides {
+        chunks: size_chunks,
+        layers: size_layers,
+        bytes: size_bytes,
+    };
+    let rows = Rows {
+        slots: row_slots,
+        chunks: row_chunks,
+        layers: row_layers,
+        bytes: row_bytes,
+    };
+    core_ffi::done(booking::release(
+        programme, sizes, &overrides, forecast, &rows,
     ))
 }
 
@@ -197,11 +217,10 @@ pub extern "C" fn film_release(
 pub extern "C" fn film_count_marks(marks: &[u8], n: u8, count: &mut [u64]) -> u64
     ensures { CountMarksReturned marks.now n count.old result count.new }
 {
-    if count.len() < 1 {
-        return core_ffi::refused(11);
-    }
-    let carried = fetch::count_marks(marks, n);
-    count[0] = carried as u64;
+    let Some(first) = count.first_mut() else {
+        return core_ffi::number(Err(Refusal::ShortBuffer));
+    };
+    *first = fetch::count_marks(marks, n) as u64;
     0
 }
 
@@ -220,5 +239,9 @@ pub extern "C" fn film_compare(counts: &[u16], others: &[u16]) -> u64
 {
     let a = core_ffi::four_counts(counts);
     let b = core_ffi::four_counts(others);
-    core_ffi::order_number(planner::compare(a, b))
+    match planner::compare(a, b) {
+        Ordering::Equal => 0,
+        Ordering::Less => 1,
+        Ordering::Greater => 2,
+    }
 }

@@ -9,14 +9,7 @@ pub extern "C" fn film_meter_new(slots: &mut [u16], bytes: &mut [u32], kept: &mu
     ensures { MeterNewReturned (storage slots.old bytes.old kept.old)
         result (storage slots.new bytes.new kept.new) }
 {
-    if !core_ffi::holds_meter(slots.len(), bytes.len(), kept.len()) {
-        return core_ffi::refused(11);
-    }
-    let begun = meter::new();
-    let first = begun.slots;
-    let second = begun.bytes;
-    core_ffi::store(first, second, begun.kept, slots, bytes, kept);
-    0
+    core_ffi::done(core_ffi::begin_meter(slots, bytes, kept))
 }
 
 // `meter::take` of the meter in the caller's storage.
@@ -31,19 +24,7 @@ pub extern "C" fn film_meter_take(
     ensures { MeterTakeReturned (storage slots.old bytes.old kept.old)
         slot sample result (storage slots.new bytes.new kept.new) }
 {
-    if !core_ffi::holds_meter(slots.len(), bytes.len(), kept.len()) {
-        return core_ffi::refused_or_11(core_ffi::sample_refusal(slot, sample));
-    }
-    let taken = meter::take(core_ffi::meter_in(slots, bytes, kept), slot, sample);
-    let code = taken.code;
-    if code != 0 {
-        return core_ffi::refused(code);
-    }
-    let after = taken.meter;
-    let first = after.slots;
-    let second = after.bytes;
-    core_ffi::store(first, second, after.kept, slots, bytes, kept);
-    0
+    core_ffi::done(core_ffi::take_sample(slots, bytes, kept, slot, sample))
 }
 
 // `meter::forecast` of the meter in the caller's storage.
@@ -51,8 +32,5 @@ pub extern "C" fn film_meter_take(
 pub extern "C" fn film_meter_forecast(slots: &[u16], bytes: &[u32], kept: &[u8]) -> u64
     ensures { result ≡ meter_forecast_answer (storage slots.now bytes.now kept.now) }
 {
-    if !core_ffi::holds_meter(slots.len(), bytes.len(), kept.len()) {
-        return core_ffi::refused(11);
-    }
-    core_ffi::forecast_number(meter::forecast(core_ffi::meter_in(slots, bytes, kept)))
+    core_ffi::number(core_ffi::forecast(slots, bytes, kept).map(|n| n as usize))
 }

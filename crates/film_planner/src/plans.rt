@@ -3,7 +3,8 @@ ghost use Rattle.replan.specs.Answer.{replan_input};
 ghost use Rattle.core_ffi.specs.Convention.{film};
 ghost use Rattle.core_ffi.specs.Plans.{MostReturned, PlanReturned, ReplanReturned, SearchReturned, plan_slices};
 
-use job::Programme;
+use fetch::{LentList, Rows};
+use job::{JobInput, Overrides, Programme};
 
 // `planner::plan` for C.
 #[unsafe(no_mangle)]
@@ -33,39 +34,29 @@ pub extern "C" fn film_plan(
         (plan_slices marks.new row_slots.new row_chunks.new
         row_layers.new row_bytes.new counts.new) }
 {
-    let p = Programme {
-        chunks,
-        span,
-        delay,
-        limit,
-    };
-    if counts.len() < 4 {
-        return core_ffi::refused_or_11(job::refusal(
-            p,
-            sizes,
-            size_chunks,
-            size_layers,
-            size_bytes,
-            forecast,
-        ));
-    }
-    let plan = planner::plan(
-        p,
+    let job = JobInput {
+        programme: Programme {
+            chunks,
+            span,
+            delay,
+            limit,
+        },
         sizes,
-        size_chunks,
-        size_layers,
-        size_bytes,
+        overrides: Overrides {
+            chunks: size_chunks,
+            layers: size_layers,
+            bytes: size_bytes,
+        },
         forecast,
+    };
+    let mut out = LentList {
         marks,
-        row_slots,
-        row_chunks,
-        row_layers,
-        row_bytes,
-    );
-    let answer = plan.answer;
-    let four = plan.counts;
-    core_ffi::store_counts(answer, four, counts);
-    core_ffi::plan_number(answer)
+        slots: row_slots,
+        chunks: row_chunks,
+        layers: row_layers,
+        bytes: row_bytes,
+    };
+    core_ffi::number(core_ffi::plan_with_counts(&job, &mut out, counts))
 }
 
 // `replan::replan` for C.
@@ -104,51 +95,37 @@ pub extern "C" fn film_replan(
         (plan_slices marks.new row_slots.new row_chunks.new
         row_layers.new row_bytes.new counts.new) }
 {
-    let p = Programme {
-        chunks,
-        span,
-        delay,
-        limit,
-    };
-    if counts.len() < 4 {
-        return core_ffi::replan_refused(
-            p,
-            sizes,
-            size_chunks,
-            size_layers,
-            size_bytes,
-            forecast,
-            from,
-            fetched_slots,
-            fetched_chunks,
-            fetched_layers,
-            fetched_bytes,
-            onward,
-        );
-    }
-    let made = replan::replan(
-        p,
+    let job = JobInput {
+        programme: Programme {
+            chunks,
+            span,
+            delay,
+            limit,
+        },
         sizes,
-        size_chunks,
-        size_layers,
-        size_bytes,
+        overrides: Overrides {
+            chunks: size_chunks,
+            layers: size_layers,
+            bytes: size_bytes,
+        },
         forecast,
-        from,
-        fetched_slots,
-        fetched_chunks,
-        fetched_layers,
-        fetched_bytes,
-        onward,
+    };
+    let fetched = Rows {
+        slots: fetched_slots,
+        chunks: fetched_chunks,
+        layers: fetched_layers,
+        bytes: fetched_bytes,
+    };
+    let mut out = LentList {
         marks,
-        row_slots,
-        row_chunks,
-        row_layers,
-        row_bytes,
-    );
-    let answer = made.answer;
-    let four = made.counts;
-    core_ffi::store_counts(answer, four, counts);
-    core_ffi::plan_number(answer)
+        slots: row_slots,
+        chunks: row_chunks,
+        layers: row_layers,
+        bytes: row_bytes,
+    };
+    core_ffi::number(core_ffi::replan_with_counts(
+        &job, from, &fetched, onward, &mut out, counts,
+    ))
 }
 
 // `search::search` for C.
@@ -184,41 +161,31 @@ pub extern "C" fn film_search(
         row_layers.new row_bytes.new counts.new)
         walk.new }
 {
-    let p = Programme {
-        chunks,
-        span,
-        delay,
-        limit,
-    };
-    if !core_ffi::holds_walk(counts.len(), walk.len()) {
-        return core_ffi::refused_or_11(job::refusal(
-            p,
-            sizes,
-            size_chunks,
-            size_layers,
-            size_bytes,
-            forecast,
-        ));
-    }
-    let found = search::search(
-        p,
+    let job = JobInput {
+        programme: Programme {
+            chunks,
+            span,
+            delay,
+            limit,
+        },
         sizes,
-        size_chunks,
-        size_layers,
-        size_bytes,
+        overrides: Overrides {
+            chunks: size_chunks,
+            layers: size_layers,
+            bytes: size_bytes,
+        },
         forecast,
-        budget,
+    };
+    let mut out = LentList {
         marks,
-        row_slots,
-        row_chunks,
-        row_layers,
-        row_bytes,
-    );
-    let answer = found.answer;
-    let four = found.counts;
-    core_ffi::store_counts(answer, four, counts);
-    core_ffi::store_walk(answer, found.steps, found.ended, found.shortfall, walk);
-    core_ffi::plan_number(answer)
+        slots: row_slots,
+        chunks: row_chunks,
+        layers: row_layers,
+        bytes: row_bytes,
+    };
+    core_ffi::number(core_ffi::search_with_walk(
+        &job, budget, &mut out, counts, walk,
+    ))
 }
 
 // `most::most_pictures` for C.
@@ -256,40 +223,29 @@ pub extern "C" fn film_most(
         bounds.new
         work.new }
 {
-    let p = Programme {
-        chunks,
-        span,
-        delay,
-        limit,
-    };
-    if !core_ffi::holds_walk(counts.len(), bounds.len()) {
-        return core_ffi::refused_or_11(job::refusal(
-            p,
-            sizes,
-            size_chunks,
-            size_layers,
-            size_bytes,
-            forecast,
-        ));
-    }
-    let found = most::most_pictures(
-        p,
+    let job = JobInput {
+        programme: Programme {
+            chunks,
+            span,
+            delay,
+            limit,
+        },
         sizes,
-        size_chunks,
-        size_layers,
-        size_bytes,
+        overrides: Overrides {
+            chunks: size_chunks,
+            layers: size_layers,
+            bytes: size_bytes,
+        },
         forecast,
-        passes,
-        work,
+    };
+    let mut out = LentList {
         marks,
-        row_slots,
-        row_chunks,
-        row_layers,
-        row_bytes,
-    );
-    let answer = found.answer;
-    let four = found.counts;
-    core_ffi::store_counts(answer, four, counts);
-    core_ffi::store_bounds(answer, found.bound, found.bound_any, found.exact, bounds);
-    core_ffi::plan_number(answer)
+        slots: row_slots,
+        chunks: row_chunks,
+        layers: row_layers,
+        bytes: row_bytes,
+    };
+    core_ffi::number(core_ffi::most_with_bounds(
+        &job, passes, work, &mut out, counts, bounds,
+    ))
 }

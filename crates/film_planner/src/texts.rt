@@ -5,7 +5,8 @@ ghost use Rattle.core_ffi.specs.Convention.{film};
 ghost use Rattle.core_ffi.specs.Texts.{ReasonsReturned, ReportReturned, TraceReadReturned, TraceWriteReturned};
 ghost use Rattle.core_ffi.specs.Texts.{wait_answer};
 
-use job::Programme;
+use job::{JobInput, Overrides, Programme};
+use wait::Film;
 
 // `report::report` for C.
 #[unsafe(no_mangle)]
@@ -26,21 +27,22 @@ pub extern "C" fn film_report(
         size_bytes.now forecast.now)
         out.old result out.new }
 {
-    let p = Programme {
-        chunks,
-        span,
-        delay,
-        limit,
-    };
-    core_ffi::written_number(report::report(
-        p,
+    let job = JobInput {
+        programme: Programme {
+            chunks,
+            span,
+            delay,
+            limit,
+        },
         sizes,
-        size_chunks,
-        size_layers,
-        size_bytes,
+        overrides: Overrides {
+            chunks: size_chunks,
+            layers: size_layers,
+            bytes: size_bytes,
+        },
         forecast,
-        out,
-    ))
+    };
+    core_ffi::number(report::report(&job, out))
 }
 
 // `reasons::reasons` for C.
@@ -62,21 +64,22 @@ pub extern "C" fn film_reasons(
         size_bytes.now forecast.now)
         out.old result out.new }
 {
-    let p = Programme {
-        chunks,
-        span,
-        delay,
-        limit,
-    };
-    core_ffi::written_number(reasons::reasons(
-        p,
+    let job = JobInput {
+        programme: Programme {
+            chunks,
+            span,
+            delay,
+            limit,
+        },
         sizes,
-        size_chunks,
-        size_layers,
-        size_bytes,
+        overrides: Overrides {
+            chunks: size_chunks,
+            layers: size_layers,
+            bytes: size_bytes,
+        },
         forecast,
-        out,
-    ))
+    };
+    core_ffi::number(reasons::reasons(&job, out))
 }
 
 // `trace::read_trace` for C.
@@ -85,7 +88,7 @@ pub extern "C" fn film_read_trace(trace: &[u8], slots: usize, forecast: &mut [u3
     ensures { TraceReadReturned
         trace.now slots forecast.old result forecast.new }
 {
-    core_ffi::trace_read_number(trace::read_trace(trace, slots, forecast))
+    core_ffi::number(trace::read_trace(trace, slots, forecast))
 }
 
 // `trace::write_trace` for C.
@@ -93,7 +96,7 @@ pub extern "C" fn film_read_trace(trace: &[u8], slots: usize, forecast: &mut [u3
 pub extern "C" fn film_write_trace(forecast: &[u32], out: &mut [u8]) -> u64
     ensures { TraceWriteReturned forecast.now out.old result out.new }
 {
-    core_ffi::written_number(trace::write_trace(forecast, out))
+    core_ffi::number(trace::write_trace(forecast, out))
 }
 
 // `wait::wait` for C.
@@ -112,14 +115,17 @@ pub extern "C" fn film_wait(
         (wait_input chunks span limit sizes.now size_chunks.now size_layers.now
         size_bytes.now forecast.now) }
 {
-    core_ffi::wait_number(wait::wait(
+    let film = Film {
         chunks,
         span,
         limit,
         sizes,
-        size_chunks,
-        size_layers,
-        size_bytes,
+        overrides: Overrides {
+            chunks: size_chunks,
+            layers: size_layers,
+            bytes: size_bytes,
+        },
         forecast,
-    ))
+    };
+    core_ffi::number(wait::wait(&film).map(usize::from))
 }

@@ -5,13 +5,14 @@
 
 ghost use Rattle.std.specs.Prelude.{[], ◌∷◌, ◌++◌, ◌≤◌, length};
 ghost use Rattle.theory_basics.specs.Text.{digits};
+ghost use Rattle.refusals.specs.Numbers.{by_number, number_of};
 ghost use Rattle.programs.specs.Calls.{Prints, PrintConvertedPromise, PrintPlanPromise};
 ghost use Rattle.programs.specs.Calls.{PrintReasonsPromise, PrintReportPromise};
 ghost use Rattle.programs.specs.Calls.{PrintVerdictPromise, two_files};
+ghost use Rattle.programs.specs.Printed.{refused_text};
 ghost use Rattle.programs.specs.lemmas.Answered.{PrintsAnswer};
 
-use checker::Checked;
-use records::Written;
+use refusals::Refusal;
 
 // What a program reads of a file: one byte more than a file may have, so that a longer one is 9.
 pub const READ_BYTES: usize = 65537;
@@ -40,14 +41,22 @@ fn put_line(out: &mut [u8], word: &[u8; 8], n: u8) -> usize
     core_text::put_word(out, at, b"\n")
 }
 
-// The bytes of a text that stands in the buffer, or the refusal's line.
-fn print_answer(written: Written, out: &mut [u8]) -> usize
+// The line of a refusal.
+fn put_refusal(out: &mut [u8], refusal: Refusal) -> usize
     requires { 12 ≤ length out.old }
-    ensures { PrintsAnswer written out.old result out.new }
+    ensures { Prints (refused_text (number_of refusal)) out.old result out.new }
+{
+    put_line(out, b"refused ", refusal.number())
+}
+
+// The bytes of a text that stands in the buffer, or the refusal's line.
+fn print_answer(written: Result<usize, Refusal>, out: &mut [u8]) -> usize
+    requires { 12 ≤ length out.old }
+    ensures { PrintsAnswer (by_number written) out.old result out.new }
 {
     match written {
-        Written::Bytes(n) => n,
-        Written::Refused(n) => put_line(out, b"refused ", n),
+        Ok(n) => n,
+        Err(refusal) => put_refusal(out, refusal),
     }
 }
 
@@ -68,8 +77,8 @@ pub fn print_verdict(job: &[u8], plan: &[u8], out: &mut [u8; VERDICT_BYTES]) -> 
         out.old result out.new }
 {
     match whole_files::verdict_files(job, plan) {
-        Checked::Verdict(n) => put_line(out, b"verdict ", n),
-        Checked::Refused(n) => put_line(out, b"refused ", n),
+        Ok(n) => put_line(out, b"verdict ", n),
+        Err(refusal) => put_refusal(out, refusal),
     }
 }
 

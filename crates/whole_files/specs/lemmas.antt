@@ -1,2 +1,4 @@
+pub mod Answers
 pub mod Marks
 pub mod Plans
+pub mod Rooms

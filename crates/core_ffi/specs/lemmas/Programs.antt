@@ -1,16 +1,11 @@
--- Lemmas. A text's answer and slice as one number and a slice; how large the largest texts are.
--- Assumes nothing.
-use Rattle.std.specs.Prelude.{ℕ, ◌≡◌, refl, List, length}
-use Rattle.records.specs.declared.Written.{Written}
-use Rattle.records.specs.declared.Written.TheVariants.{Bytes, Refused}
+-- Lemmas. A text's answer and slice as one number and a slice. Assumes nothing.
+use Rattle.std.specs.Prelude.{ℕ, ◌≡◌, List, length, Result}
+use Rattle.std.proofs.Common.{◌∙◌}
+use Rattle.refusals.specs.declared.Refusal.{Refusal}
+use Rattle.refusals.specs.Numbers.{by_number}
 use Rattle.whole_files.specs.Calls.{TextPromise, with_room}
 use Rattle.core_ffi.specs.Programs.{TextReturned}
-use Rattle.core_ffi.specs.lemmas.Numbers.{is_answered, written_number}
+use Rattle.core_ffi.specs.lemmas.Numbers.{answer_number, numbered}
 
-pub text_handed : (refused : ℕ) (text old new : List ℕ) (a : Written) (r : ℕ) → r ≡ written_number a → TextPromise refused text old a new → TextReturned refused text old r new
-text_handed refused text old new a r g w =
-    let n : ℕ = with_room refused text old in
-    record {
-      number = is_answered written_number (Bytes (length text)) (Refused n) a r n (length text) g w.answer refl refl;
-      buffer = w.buffer;
-    }
+pub text_handed : {refused : ℕ} {text old new : List ℕ} {a : Result ℕ Refusal} {r : ℕ} → r ≡ answer_number (by_number a) → TextPromise refused text old a new → TextReturned refused text old r new
+text_handed {refused} {text} {old} {new} {a} g w = record { number = g ∙ numbered (λ (n : ℕ). n) (with_room refused text old) (length text) (by_number a) w.answer; buffer = w.buffer }
