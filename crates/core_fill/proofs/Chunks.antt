@@ -7,13 +7,15 @@ use native.Mathlib.Omega.{arith}
 use native.Mathlib.Numerals.{add-one}
 use lib.ListN.{get_or, drop, drop_of_length-le}
 use lib.Dec.{ltb, ltb→lt, nltb→le}
-use borrow.Author.Tests.{lt-ltb, le-ltb}
+use borrow.Author.Tests.{lt-ltb, le-ltb, ltb-true, ltb-false}
 use Rattle.theory_basics.specs.lemmas.Tests.{test}
 use Rattle.job.specs.Job.{Within}
 use Rattle.theory_plan.specs.lemmas.Fill.{QueuedPiece}
 use Rattle.theory_plan.specs.lemmas.Queue.{pieces}
 use Rattle.theory_plan.specs.lemmas.Trials.{level_mark}
-use Rattle.std.specs.Int.{w8, trailing_ones}
+use Rattle.theory_plan.specs.lemmas.Linear.{level_bit}
+use Rattle.fetch.specs.Marks.{bit}
+use mathlib.Core.Bool.{true, false}
 use Rattle.core_fill.specs.declared.Position.{Position}
 use Rattle.core_fill.specs.lemmas.Filling.{AllBy, begun, bytes_at, PutChunkPre, Fed, last_of, layers_of, left_at, level_of, load, Made, onward, piece, PutPiecesPre, PutPost, PutPiecePost, queue_by, PutPiecePre, Same}
 use Rattle.core_fill.proofs.Pieces.{jump, left_next, made_same, same_refl}
@@ -140,18 +142,17 @@ module _ (start : ℕ) (part : List ℕ) where
 
 -- ---- the layers of a chunk
 
-ones_of : (n : ℕ) → n ≤ 4 → trailing_ones w8 (level_mark n) ≡ n
-unfolding lib.Count.count_trailing_zeros
-ones_of zero h = refl
-ones_of (suc zero) h = refl
-ones_of (suc (suc zero)) h = refl
-ones_of (suc (suc (suc zero))) h = refl
-ones_of (suc (suc (suc (suc zero)))) h = refl
-ones_of (suc (suc (suc (suc (suc n))))) h = absurd (omega arith)
+-- ---- the bits of a mark that has its layers from the base up
 
--- The layers of a mark are the ones at its end.
-pub levels_ones : (m : ℕ) → level_of m ≤ 4 → m ≡ level_mark (level_of m) → trailing_ones w8 m ≡ level_of m
-levels_ones m h e = ap (trailing_ones w8) e ∙ ones_of (level_of m) h
+module _ (m : ℕ) (closed : m ≡ level_mark (level_of m)) (n : ℕ) where
+  level_bits : bit m n ≡ ltb n (level_of m)
+  level_bits = ap (λ (x : ℕ). bit x n) closed ∙ level_bit (level_of m) n
+
+  pub set_below : bit m n ≡ true → n < level_of m
+  set_below e = ltb-true n (level_of m) (sym level_bits ∙ e)
+
+  pub clear_from : bit m n ≡ false → level_of m ≤ n
+  clear_from e = let u = ltb-false n (level_of m) (sym level_bits ∙ e) in omega arith
 
 pieces_next : (size : ℕ → ℕ → ℕ) (k r m n : ℕ) → pieces size k r m n ++ (piece k (n + m) (size k (n + m)) r ∷ []) ≡ pieces size k r m (suc n)
 pieces_next size k r m zero = let e : 0 + m ≡ m = omega arith in rw e

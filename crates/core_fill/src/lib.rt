@@ -138,9 +138,12 @@ fn put_chunk(
         result slots.new chunks.new layers.new bytes.new }
 {
     let mut at = begin(part, start, from, ready);
-    for n in 0..mark.trailing_ones() as u8 {
+    let mut n: u8 = 0;
+    // Kept: a layer is tested by shift and mask over its number; the first that isn't set ends it.
+    while fetch::has(mark, n) {
         let z = core_sizes::size_in(table, chunk, n as usize);
         at = put_piece(part, start, at, chunk, n, z, slots, chunks, layers, bytes);
+        n += 1;
     }
     at
 }
@@ -191,13 +194,16 @@ fn put_left(
         result slots.new chunks.new layers.new bytes.new }
 {
     let mut at = from;
-    for n in 0..mark.trailing_ones() as u8 {
+    let mut n: u8 = 0;
+    // Kept: as in put_chunk.
+    while fetch::has(mark, n) {
         let z = core_sizes::size_in(left, chunk, n as usize);
         if 0 < z {
             at = put_layer(
                 part, start, at, ready, chunk, n, z, slots, chunks, layers, bytes,
             );
         }
+        n += 1;
     }
     at
 }

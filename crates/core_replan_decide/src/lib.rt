@@ -180,6 +180,8 @@ fn try_begun(w: u8, z: u32, want: u64, all: u64) -> Chosen
     ensures { result ≡ choose w z want all }
 {
     let more = z as u64 + want;
+    // The base set on trial, and cleared where the trial fails.
+    let tried = fetch::with(0, 0);
     if fetch::has(w, 0) {
         Chosen {
             need: want,
@@ -190,13 +192,13 @@ fn try_begun(w: u8, z: u32, want: u64, all: u64) -> Chosen
         Chosen {
             need: more,
             bytes: z,
-            mark: 1,
+            mark: tried,
         }
     } else {
         Chosen {
             need: want,
             bytes: 0,
-            mark: 0,
+            mark: fetch::without(tried, 0),
         }
     }
 }

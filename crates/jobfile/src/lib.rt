@@ -72,7 +72,10 @@ fn put_programme(out: &mut [u8], at: usize, p: Programme) -> usize
     let [l, span] = p.span.to_le_bytes();
     let [s, delay] = p.delay.to_le_bytes();
     let [b, limit] = p.limit.to_le_bytes();
-    let record = [b'P', b'G', c, chunks, l, span, s, delay, b, limit];
+    let mark = b"PG";
+    let record = [
+        mark[0], mark[1], c, chunks, l, span, s, delay, b, limit,
+    ];
     put_bytes(out, at, &record)
 }
 
@@ -82,7 +85,8 @@ fn put_layer(out: &mut [u8], at: usize, size: u32) -> usize
     ensures { Puts out.old at (encode (Ly size)) out.new result }
 {
     let [a, b, c, d] = size.to_le_bytes();
-    put_bytes(out, at, &[b'L', b'Y', a, b, c, d])
+    let mark = b"LY";
+    put_bytes(out, at, &[mark[0], mark[1], a, b, c, d])
 }
 
 // An SZ record.
@@ -92,7 +96,8 @@ fn put_override(out: &mut [u8], at: usize, chunk: u16, layer: u8, size: u32) -> 
 {
     let [i, j] = chunk.to_le_bytes();
     let [a, b, c, d] = size.to_le_bytes();
-    put_bytes(out, at, &[b'S', b'Z', i, j, layer, a, b, c, d])
+    let mark = b"SZ";
+    put_bytes(out, at, &[mark[0], mark[1], i, j, layer, a, b, c, d])
 }
 
 // A BW record.
@@ -102,7 +107,8 @@ fn put_run(out: &mut [u8], at: usize, count: u16, bytes: u32) -> usize
 {
     let [i, j] = count.to_le_bytes();
     let [a, b, c, d] = bytes.to_le_bytes();
-    put_bytes(out, at, &[b'B', b'W', i, j, a, b, c, d])
+    let mark = b"BW";
+    put_bytes(out, at, &[mark[0], mark[1], i, j, a, b, c, d])
 }
 
 // The slot after the run that starts at a slot.

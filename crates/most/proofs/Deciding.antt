@@ -4,7 +4,7 @@ use mathlib.Core.List.{List}
 use Prim.Native.Nat.{ℕ, ◌≤◌}
 use native.Mathlib.Omega.{arith}
 use lib.ListN.{length, drop}
-use Rattle.job.specs.Job.{Accepted, Job, layers, size}
+use Rattle.job.specs.Job.{Accepted, Job, layers}
 use Rattle.theory_plan.specs.lemmas.Choice.{Fits, can_carry_fits}
 use Rattle.theory_plan.specs.Plan.{after}
 use Rattle.theory_plan.specs.lemmas.Parts.{at}
@@ -18,10 +18,10 @@ use Rattle.theory_search.proofs.Theorems.{over_exists}
 use Rattle.theory_search.specs.lemmas.Fitting.{bases_choice}
 use Rattle.theory_search.specs.lemmas.Over.{over_decided, over_kept, planned_fits}
 use Rattle.theory_most.specs.Statement.{Most}
-use Rattle.theory_most.specs.lemmas.InTables.{Says, SomeJob}
+use Rattle.theory_most.specs.lemmas.InTables.{Says}
 use Rattle.core_bounds.specs.lemmas.Tables.{AnyOrderPost}
 use Rattle.core_passes.specs.declared.Sought.{Sought}
-use Rattle.most.specs.lemmas.Deciding.{DecideMostPre, DecidePost, FindPost, FindPre, FoundIn}
+use Rattle.most.specs.lemmas.Deciding.{DecideMostPre, DecidePost, FindPost, FoundIn}
 use Rattle.most.specs.lemmas.Finds.{bound_any_small, bound_small}
 use Rattle.most.proofs.Finding.{found_most}
 
@@ -43,12 +43,6 @@ module _
 
   says_job : Says j own left
   says_job = record { accepted = o.accepted; sizes_are = o.sizes_are; left_is = sums; long = s.long }
-
-  pub some_job : SomeJob j.programme (λ k. Says k own left)
-  some_job = record { sizes = j.sizes; overrides = j.overrides; forecast = j.forecast; holds = says_job }
-
-  pub find_from : FindPre j.programme own left work₀
-  find_from = record { job = some_job; room = o.room }
 
   pub any_small : {any : ℕ} → AnyOrderPost j.programme own left any → any ≤ 500
   any_small a = omega (arith, a j.sizes j.overrides j.forecast says_job, bound_any_small j o.accepted)

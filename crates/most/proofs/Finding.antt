@@ -1,5 +1,5 @@
--- Laws on the set found and the bound, in tables: what the functions of the core crates ask for, and
--- what they find. Assumes nothing.
+-- Laws on the set found and the bound, in tables: what the functions of the core crates ask for,
+-- and what they find. Assumes nothing.
 use mathlib.Core.Path.{◌≡◌, refl, sym, ap, ◌∙◌, subst}
 use mathlib.Core.Bool.{cond}
 use mathlib.Core.List.{List}
@@ -21,7 +21,7 @@ use Rattle.theory_most.specs.Statement.{Most, NoneAboveInOrder, Set, bound}
 use Rattle.theory_most.specs.Search.{forward}
 use Rattle.theory_most.proofs.Theorems.{bound_in_order, forward_is_set, forward_most, set_within}
 use Rattle.theory_most.specs.lemmas.InTables.{Says}
-use Rattle.core_covering.specs.lemmas.Tables.{ForwardFor, ForwardOf, ForwardPre, LevelsOf, PlacedPost, SetLevelsPost}
+use Rattle.core_covering.specs.lemmas.Tables.{ForwardFor, ForwardOf, LevelsOf, PlacedPost, SetLevelsPost}
 use Rattle.core_bounds.specs.lemmas.Tables.{InOrderOf, InOrderPost}
 use Rattle.core_passes.specs.declared.Film.{Film}
 use Rattle.core_passes.specs.declared.Sought.{Sought}
@@ -54,14 +54,8 @@ module _ (j : Job) (ok : Accepted j) where
 -- ---- the forward set
 
 module _ {j : Job} (ok : Accepted j) {n : ℕ} {row : List ℕ} (f : ForwardOf j n row) where
-  pub taken_long : n ≡ length (take n row)
+  taken_long : n ≡ length (take n row)
   taken_long = sym (length-take n row ∙ omega (arith, f.few, f.long, ok.chunks_in.high))
-
-  pub taken_few : length (take n row) ≤ 500
-  taken_few = omega (arith, length-take n row, f.few, ok.chunks_in.high)
-
-  pub kept_inside : n ≤ length row
-  kept_inside = omega (arith, f.few, f.long, ok.chunks_in.high)
 
 pub forward_found :
     {j : Job} {count held : ℕ} {ends opens bases : List ℕ} → ForwardFor j count held ends opens bases → {n : ℕ} {row : List ℕ} →
@@ -157,14 +151,6 @@ module _
 
   -- Where at most one chunk may be held,
   module _ (few : held < 2) where
-    pub forward_from : ForwardPre p.chunks held ends opens bases
-    forward_from =
-        let w = o.job in
-        record {
-          job = job_of p w.sizes w.overrides w.forecast;
-          holds = forward_for p z left w.sizes w.overrides w.forecast w.holds (levels w.sizes w.overrides w.forecast w.holds) h few;
-        }
-
     pub forward_each : {r : Sought} {ids : List ℕ} → FindForwardPost p.chunks held ends opens bases r ids → FindPost p z left work₀ r work₀ ids
     forward_each f =
         record {

@@ -2,7 +2,7 @@
 use mathlib.Core.Path.{◌≡◌, refl, sym, ap, ◌∙◌, subst}
 use mathlib.Core.Bool.{Bool, true, false, ◌&&◌}
 use mathlib.Core.List.{List, []}
-use Prim.Native.Nat.{ℕ, ◌+◌, ◌*◌, ◌≤◌, ◌<◌}
+use Prim.Native.Nat.{ℕ, ◌+◌, ◌*◌, ◌≤◌}
 use native.Mathlib.Omega.{arith}
 use borrow.Author.Tests.{eq-eqb, ne_eqb, le-leb}
 use lib.ListN.{drop, length, get_or, replicate}
@@ -12,7 +12,7 @@ use Rattle.theory_basics.specs.lemmas.Lists.{get_d_up_to}
 use Rattle.theory_basics.specs.lemmas.Refusals.{or_else_none, or_else_some}
 use Rattle.job.specs.Input.{JobInput, job_in, job_refusal}
 use Rattle.job.specs.Theorems.{input_accepted}
-use Rattle.job.specs.Job.{Accepted, Job, chunks, layers as layers_of, size}
+use Rattle.job.specs.Job.{Accepted, Job, chunks, size}
 use Rattle.fetch.specs.Slices.{ListSlices, slices_of}
 use Rattle.theory_plan.specs.Plan.{kept, plan}
 use Rattle.theory_plan.specs.Statement.{count_of, counts_of}

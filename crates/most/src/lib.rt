@@ -44,7 +44,7 @@ struct Decision {
     pub bound_any: u16,
 }
 
-// 11, unless the slices hold any plan of so many chunks, and the work slice its rows of needs.
+// 11, unless the slices hold any plan of the job, and the work slice its rows of needs.
 fn accept_room(job: &JobInput, work: &[u64], out: &LentList) -> Result<(), Refusal>
     ensures { refusal_number result ≡
         unless 11 (lent_room (job_in (handed job.now)) (lent_list out.now) work.now) }
@@ -175,8 +175,8 @@ fn decide(
     }
 }
 
-// Finds a set of bases of an accepted job and writes the plan over it into slices that have room for
-// any plan.
+// Finds a set of bases of an accepted job and writes the plan over it into slices that have room
+// for any plan.
 fn write_most(job: &JobInput, passes: u32, work: &mut [u64], out: &mut LentList) -> MostPlan
     requires { WriteMostPre (handed job.now) work.old (lent_list out.old) }
     ensures same { SameSlices out.old out.new }
@@ -193,9 +193,7 @@ fn write_most(job: &JobInput, passes: u32, work: &mut [u64], out: &mut LentList)
     // A chunk that is left out has the mark 0.
     let none = [0u8; CHUNKS];
     let count = job.programme.chunks as usize;
-    let found = decide(
-        job, &table, passes, work, &mut ids, &mut ready, &mut mark,
-    );
+    let found = decide(job, &table, passes, work, &mut ids, &mut ready, &mut mark);
     let made = core_output::write_plan(
         count,
         job.forecast,

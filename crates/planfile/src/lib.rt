@@ -236,7 +236,8 @@ fn put_kp(out: &mut [u8], at: usize, chunk: u16, marks: u8)
     ensures { out.new ≡ written out.old at (encode (Record.Kp chunk marks)) }
 {
     let [i, j] = chunk.to_le_bytes();
-    out[at..at + 5].copy_from_slice(&[b'K', b'P', i, j, marks]);
+    let mark = b"KP";
+    out[at..at + 5].copy_from_slice(&[mark[0], mark[1], i, j, marks]);
 }
 
 // An FT record: slot, chunk, layer and bytes.
@@ -247,7 +248,10 @@ fn put_ft(out: &mut [u8], at: usize, slot: u16, chunk: u16, layer: u8, bytes: u3
     let [s, t] = slot.to_le_bytes();
     let [i, j] = chunk.to_le_bytes();
     let [a, b, c, d] = bytes.to_le_bytes();
-    let row = [b'F', b'T', s, t, i, j, layer, a, b, c, d];
+    let mark = b"FT";
+    let row = [
+        mark[0], mark[1], s, t, i, j, layer, a, b, c, d,
+    ];
     out[at..at + 11].copy_from_slice(&row);
 }
 

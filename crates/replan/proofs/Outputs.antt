@@ -73,7 +73,7 @@ module _ (h : JobInput) (o : ReplanInput) (z : asked_refusal h o ≡ 0) where
   accepted_on : Accepted (job_on h o)
   accepted_on = joined_in (job_in h) accepted o.from asked.slot_in.low asked.slot_in.high o.onward asked.onward_in asked.slots_in
 
-  pub gather_from : {left begun whole : List ℕ} → GatherPre h.programme (length h.sizes) earlier o.slots o.chunks o.layers o.bytes left begun whole
+  pub gather_from : GatherPre h.programme (length h.sizes) earlier o.slots o.chunks o.layers o.bytes
   gather_from =
       record {
         chunks_few = accepted.chunks_in.high;

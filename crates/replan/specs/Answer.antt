@@ -73,8 +73,8 @@ refusal_on h o l = input_refusal h o or_else unless 11 (holds_on h o l)
 abbrev pub numbers_on : JobInput → ReplanInput → Planned
 numbers_on h o = record { rows = length (rows_on h o); counts = counts_of (job_on h o) (plan_afresh h o) }
 
--- What is answered, and what stands in the lent slices: the result, then the old contents; on a refusal the old
--- contents alone.
+-- What is answered, and what stands in the lent slices: the result, then the old contents; on a
+-- refusal the old contents alone.
 pub record ReplanOutput (h : JobInput) (o : ReplanInput) (lent : ListSlices) (r : Result Planned Refusal) (lent' : ListSlices) : Type 0 where
   -- "Only the rows from p on": how many, and "the counts"; or the refusal's number alone.
   pub answer : by_number r ≡ answered (refusal_on h o lent) (numbers_on h o)

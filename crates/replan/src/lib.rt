@@ -10,7 +10,7 @@ ghost use Rattle.refusals.specs.Numbers.{refusal_number};
 ghost use Rattle.job.specs.Handed.{handed};
 ghost use Rattle.fetch.specs.Handed.{SameSlices, lent_list};
 ghost use Rattle.core_sizes.specs.Table.{table_at};
-ghost use Rattle.replan.specs.Answer.{ReplanOutput, ReplanPromise, input_refusal};
+ghost use Rattle.replan.specs.Answer.{ReplanPromise, input_refusal};
 ghost use Rattle.replan.specs.Handed.{handed_on};
 ghost use Rattle.replan.specs.lemmas.Asked.{part_refusal, asked_refusal};
 ghost use Rattle.replan.specs.lemmas.Afresh.{Gathered};

@@ -15,11 +15,11 @@ use Rattle.theory_plan.specs.lemmas.Parts.{at}
 use Rattle.theory_plan.specs.lemmas.Trials.{decided_on}
 use Rattle.theory_plan.specs.lemmas.MooreHodgson.{kept_by_after}
 use Rattle.theory_plan.specs.lemmas.Words.{accepted_sized}
-use Rattle.core_moore_hodgson.specs.lemmas.Tables.{Fit, KeptIn, moore_hodgson_in}
+use Rattle.core_moore_hodgson.specs.lemmas.Tables.{KeptIn, moore_hodgson_in}
 use Rattle.core_decide.specs.lemmas.Decision.{Decides, SettleKeptPost, SumTable, Sums}
 use Rattle.core_decide.proofs.Decided.{sums_are, sums_small}
 use Rattle.theory_search.specs.Search.{Walked, fitting, found, plan_over, search, start}
-use Rattle.theory_search.specs.Statement.{bases_of, most_without_limit, shortfall_of}
+use Rattle.theory_search.specs.Statement.{bases_of, most_without_limit}
 use Rattle.theory_search.proofs.Theorems.{found_carried, found_is_found, over_exists}
 use Rattle.theory_search.specs.lemmas.Fitting.{bases_choice, fitting_good, good_nil}
 use Rattle.theory_search.specs.lemmas.Over.{over_decided, over_kept, planned_fits}

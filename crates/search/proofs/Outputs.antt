@@ -11,12 +11,11 @@ use Rattle.std.specs.Prelude.{Result as Answer, Ok, Err}
 use Rattle.theory_basics.specs.Lists.{has}
 use Rattle.theory_basics.specs.Refusals.{unless}
 use Rattle.theory_basics.specs.lemmas.Lists.{get_d_up_to}
-use Rattle.theory_basics.specs.lemmas.Refusals.{or_else_none, or_else_some}
+use Rattle.theory_basics.specs.lemmas.Refusals.{or_else_none}
 use Rattle.theory_basics.specs.lemmas.Tests.{by_cond_both, same_test}
 use Rattle.refusals.specs.declared.Refusal.{Refusal}
 use Rattle.refusals.specs.declared.Refusal.TheVariants.{ShortBuffer}
-use Rattle.refusals.specs.Numbers.{answered, by_number, number_of}
-use Rattle.refusals.specs.Laws.{number_above_0}
+use Rattle.refusals.specs.Numbers.{answered, by_number}
 use Rattle.fetch.specs.Marks.{bit}
 use Rattle.fetch.specs.Rows.{mark_byte}
 use Rattle.fetch.specs.lemmas.Marks.{mark_bit}
@@ -78,13 +77,6 @@ module _ (h : JobInput) (budget : ℕ) (marks slots cs layers bytes : List ℕ) 
         layers_are = y.layers_are;
         bytes_are = y.bytes_are;
       }
-
-  -- 5, 6, 18 or 7.
-  pub refused_input : (e : Refusal) → number_of e ≡ job_refusal h → SearchOutput h budget lent (Err e) lent
-  refused_input e is =
-      let k = number_of e in
-      let above : k ≡ 0 → ⊥ = λ z. omega (arith, number_above_0 e) in
-      output_by k (or_else_some (job_refusal h) (unless 11 (holds_found j budget lent)) (λ z. above (is ∙ z)) ∙ sym is) (over_refused (own_result j (plan_found j budget)) {r = Err e} k k refl above refl) refl
 
   -- 11.
   pub short_marks : job_refusal h ≡ 0 → length marks < chunks j → SearchOutput h budget lent (Err ShortBuffer) lent

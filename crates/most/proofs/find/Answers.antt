@@ -1,5 +1,5 @@
--- `find` meets its contract: the forward set where at most one chunk may be held, else what the passes find.
-use native.Mathlib.Omega.{arith}
+-- `find` meets its contract: the forward set where at most one chunk may be held, else what the
+-- passes find.
 use Rattle.most.proofs.Finding.{forward_each, seek_from, settle_from, sought_each}
 use Rattle.most.proofs.find.Goals as goal
 
