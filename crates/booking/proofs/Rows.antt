@@ -4,7 +4,7 @@ use Prim.Native.Nat.{ℕ, zero, suc, ◌+◌, ◌-◌, ◌≤◌, ◌<◌}
 use mathlib.Core.Path.{◌≡◌, refl, sym, ap, ◌∙◌}
 use mathlib.Core.Bool.{Bool, true, false, cond}
 use mathlib.Core.List.{List, [], ◌∷◌, ◌++◌}
-use mathlib.Core.Logic.{⊎_elim, ◌↔◌}
+use mathlib.Core.Logic.{⊎_elim, ◌⊎◌, ◌↔◌}
 use native.Mathlib.Omega.{arith}
 use native.Mathlib.Numerals.{add-one}
 use lib.ListN.{length, get_or, set, length-set}
@@ -76,7 +76,7 @@ module _ (f : List ℕ) (rows : List Row) (x : Row) (low : 1 ≤ x.slot) (high :
   unfolding added_back
   added_next = changed_next (λ (a b : ℕ). a + b) (λ a b c. omega arith) f rows x low high
 
-taken_none : (f : List ℕ) → f ≡ taken_off f []
+pub taken_none : (f : List ℕ) → f ≡ taken_off f []
 taken_none f =
     let l = length_taken f [] in
     sym (slots_equal (taken_off f []) f l (λ t g h. omega (arith, taken_at f [] t g (omega arith))))
@@ -161,111 +161,93 @@ module _ (slots chunks layers bytes : List ℕ) where
 
 -- ---- rows taken off
 
-pub record Taking (f slots bytes : List ℕ) (n : ℕ) (out : List ℕ) (i : ℕ) : Type 0 where
-  pub inside : i ≤ n
-  pub long : length out ≡ length f
-  pub says : out ≡ taken_off f (bare slots bytes i)
+-- Row i of n, in slot s, with the rows before it taken off.
+module _ (f slots bytes : List ℕ) (n i : ℕ) where
+  abbrev row : Row
+  row = row_at slots [] [] bytes i
 
-pub taking_start : (f slots bytes : List ℕ) (n : ℕ) → Taking f slots bytes n f 0
-taking_start f slots bytes n = record { inside = omega arith; long = refl; says = taken_none f }
+  abbrev left : List ℕ
+  left = taken_off f (bare slots bytes i)
 
-module _ {f slots bytes : List ℕ} {n : ℕ} {out : List ℕ} {i : ℕ} (t : Taking f slots bytes n out i) where
-  pub taking_end : n ≤ i → out ≡ taken_off f (bare slots bytes n)
-  taking_end h = let e : i ≡ n = omega (arith, t.inside) in rw e at t.says
+  module _ (here : i < n) (c : Covered f (bare slots bytes n)) where
+    pub taking_there : (1 ≤ row.slot) × (row.slot ≤ length left)
+    taking_there =
+        let h = all_at (λ (x : Row). (1 ≤ x.slot) × (x.slot ≤ length f)) (row_at slots [] [] bytes) n i here c.there in
+        (h.0, omega (arith, h.1, length_taken f (bare slots bytes i)))
 
-  -- Row i, in slot s.
-  module _ (here : i < n) (c : Covered f (bare slots bytes n)) (s : ℕ) (is : s ≡ get_or slots i 0) where
-    abbrev row : Row
-    row = row_at slots [] [] bytes i
-
-    pub taking_there : (1 ≤ s) × (s ≤ length f)
-    taking_there = rw is (all_at (λ (x : Row). (1 ≤ x.slot) × (x.slot ≤ length f)) (row_at slots [] [] bytes) n i here c.there)
+    there : row.slot ≤ length f
+    there = omega (arith, taking_there.1, length_taken f (bare slots bytes i))
 
     -- What the slot has still covers the row.
-    pub taking_covers : row.bytes ≤ get_or out (s - 1) 0
+    pub taking_covers : row.bytes ≤ get_or left (row.slot - 1) 0
     taking_covers =
-        let h = taking_there in
-        let e : get_or out (s - 1) 0 ≡ slot_has f s - bytes_in_slot (bare slots bytes i) s = rw t.says (taken_at f (bare slots bytes i) s h.0 h.1) in
-        let with_row = rw (eq-eqb row.slot s (sym is)) at (bytes_with (bare slots bytes i) row s) in
-        omega (arith, with_row, bytes_fewer (row_at slots [] [] bytes) s (suc i) n here, c.covered s h.0 h.1)
+        let with_row = rw (eq-eqb row.slot row.slot refl) at (bytes_with (bare slots bytes i) row row.slot) in
+        omega (arith, taken_at f (bare slots bytes i) row.slot taking_there.0 there, with_row, bytes_fewer (row_at slots [] [] bytes) row.slot (suc i) n here, c.covered row.slot taking_there.0 there)
 
-    pub taking_more : Taking f slots bytes n (set out (s - 1) (get_or out (s - 1) 0 - row.bytes)) (i + 1)
-    taking_more =
-        let h = rw is at taking_there in
-        record {
-          inside = omega arith;
-          long = simp length-set t.long;
-          says = rw (is, add-one, t.says) (taken_next f (bare slots bytes i) row h.0 h.1);
-        }
+    pub taking_more : set left (row.slot - 1) (get_or left (row.slot - 1) 0 - row.bytes) ≡ taken_off f (bare slots bytes (i + 1))
+    taking_more = rw add-one (taken_next f (bare slots bytes i) row taking_there.0 there)
 
 -- ---- rows added back
 
-pub record Adding (f slots bytes : List ℕ) (n : ℕ) (out : List ℕ) (i : ℕ) : Type 0 where
-  pub inside : i ≤ n
-  pub long : length out ≡ length f
+pub record Adding (f slots bytes out : List ℕ) (i : ℕ) : Type 0 where
   pub fits : Releasable f (bare slots bytes i)
   pub says : out ≡ added_back f (bare slots bytes i)
 
-pub adding_start : (f slots bytes : List ℕ) (n : ℕ) → All (Within 0 16777216) f → Adding f slots bytes n f 0
-adding_start f slots bytes n a =
+pub adding_start : (f slots bytes : List ℕ) → All (Within 0 16777216) f → Adding f slots bytes f 0
+adding_start f slots bytes a =
     record {
-      inside = omega arith;
-      long = refl;
       fits = record { there = tt; room = λ t g h. omega (arith, (all_slots (Within 0 16777216) f a t g h).high) };
       says = added_none f;
     }
 
-module _ {f slots bytes : List ℕ} {n : ℕ} {out : List ℕ} {i : ℕ} (a : Adding f slots bytes n out i) where
-  pub adding_end : n ≤ i → Added f slots bytes n i out
-  adding_end h = record { inside = a.inside; fits = a.fits; says = a.says; stops = λ l r. omega arith }
+module _ {f slots bytes out : List ℕ} {i : ℕ} (a : Adding f slots bytes out i) where
+  pub adding_long : length out ≡ length f
+  adding_long = rw a.says (length_added f (bare slots bytes i))
+
+  pub adding_end : (n : ℕ) → n ≡ i → Added f slots bytes n n out
+  adding_end n h = rw h (record { inside = omega arith; fits = a.fits; says = a.says; stops = λ l r. omega arith })
 
   -- Row i, in slot s.
-  module _ (here : i < n) (s : ℕ) (is : s ≡ get_or slots i 0) where
+  module _ {n : ℕ} (here : i < n) where
     abbrev next : Row
     next = row_at slots [] [] bytes i
 
     stopped : (Releasable f (bare slots bytes n) → ⊥) → Added f slots bytes n i out
-    stopped never = record { inside = a.inside; fits = a.fits; says = a.says; stops = λ l. never }
+    stopped never = record { inside = omega arith; fits = a.fits; says = a.says; stops = λ l. never }
 
-    row_there : Releasable f (bare slots bytes n) → (1 ≤ s) × (s ≤ length f)
-    row_there r = rw is (all_at (λ (x : Row). (1 ≤ x.slot) × (x.slot ≤ length f)) (row_at slots [] [] bytes) n i here r.there)
+    row_there : Releasable f (bare slots bytes n) → (1 ≤ next.slot) × (next.slot ≤ length f)
+    row_there r = all_at (λ (x : Row). (1 ≤ x.slot) × (x.slot ≤ length f)) (row_at slots [] [] bytes) n i here r.there
 
-    pub adding_low : s < 1 → Added f slots bytes n i out
-    adding_low h = stopped (λ r. omega (arith, (row_there r).0))
+    pub adding_gone : (next.slot < 1) ⊎ ((1 ≤ next.slot) × (length out < next.slot)) → Added f slots bytes n i out
+    adding_gone h = stopped (λ r. ⊎_elim (λ l. omega (arith, (row_there r).0)) (λ u. omega (arith, (row_there r).1, u.1, adding_long)) h)
 
-    pub adding_high : length out < s → Added f slots bytes n i out
-    adding_high h = stopped (λ r. omega (arith, (row_there r).1, a.long))
+    module _ (low : 1 ≤ next.slot) (high : next.slot ≤ length out) where
+      in_f : next.slot ≤ length f
+      in_f = omega (arith, adding_long)
 
-    module _ (low : 1 ≤ s) (high : s ≤ length out) where
-      in_f : s ≤ length f
-      in_f = omega (arith, a.long)
+      held : get_or out (next.slot - 1) 0 ≡ slot_has f next.slot + bytes_in_slot (bare slots bytes i) next.slot
+      held = rw a.says (added_at f (bare slots bytes i) next.slot low in_f)
 
-      held : get_or out (s - 1) 0 ≡ slot_has f s + bytes_in_slot (bare slots bytes i) s
-      held = rw a.says (added_at f (bare slots bytes i) s low in_f)
+      with_next : bytes_in_slot (bare slots bytes (suc i)) next.slot ≡ bytes_in_slot (bare slots bytes i) next.slot + next.bytes
+      with_next = rw (eq-eqb next.slot next.slot refl) at (bytes_with (bare slots bytes i) next next.slot)
 
-      with_next : bytes_in_slot (bare slots bytes (suc i)) s ≡ bytes_in_slot (bare slots bytes i) s + next.bytes
-      with_next = rw (eq-eqb next.slot s (sym is)) at (bytes_with (bare slots bytes i) next s)
-
-      pub adding_full : leb (get_or out (s - 1) 0 + next.bytes) 16777216 ≡ false → Added f slots bytes n i out
+      pub adding_full : leb (get_or out (next.slot - 1) 0 + next.bytes) 16777216 ≡ false → Added f slots bytes n i out
       adding_full e =
           stopped (λ r.
-          omega (arith, leb-false (get_or out (s - 1) 0 + next.bytes) 16777216 e, held, with_next, bytes_fewer (row_at slots [] [] bytes) s (suc i) n here, r.room s low in_f))
+          omega (arith, leb-false (get_or out (next.slot - 1) 0 + next.bytes) 16777216 e, held, with_next, bytes_fewer (row_at slots [] [] bytes) next.slot (suc i) n here, r.room next.slot low in_f))
 
-      pub adding_more : leb (get_or out (s - 1) 0 + next.bytes) 16777216 ≡ true → Adding f slots bytes n (set out (s - 1) (get_or out (s - 1) 0 + next.bytes)) (i + 1)
+      pub adding_more : leb (get_or out (next.slot - 1) 0 + next.bytes) 16777216 ≡ true → Adding f slots bytes (set out (next.slot - 1) (get_or out (next.slot - 1) 0 + next.bytes)) (i + 1)
       adding_more e =
-          let there : (1 ≤ next.slot) × (next.slot ≤ length f) = (omega arith, omega (arith, in_f)) in
           record {
-            inside = omega arith;
-            long = simp length-set a.long;
             fits = rw add-one (record {
-              there = all_append (λ (x : Row). (1 ≤ x.slot) × (x.slot ≤ length f)) (bare slots bytes i) (next ∷ []) a.fits.there (there, tt);
+              there = all_append (λ (x : Row). (1 ≤ x.slot) × (x.slot ≤ length f)) (bare slots bytes i) (next ∷ []) a.fits.there ((low, in_f), tt);
               room = λ t g h. room t g h (eqb next.slot t) refl;
             });
-            says = rw (is, add-one, a.says) (added_next f (bare slots bytes i) next there.0 there.1);
+            says = rw (add-one, a.says) (added_next f (bare slots bytes i) next low in_f);
           }
         where
           room : (t : ℕ) → 1 ≤ t → t ≤ length f → (q : Bool) → eqb next.slot t ≡ q → slot_has f t + bytes_in_slot (bare slots bytes (suc i)) t ≤ 16777216
           room t g h true q =
-              let z : s ≡ t = is ∙ eqb-true next.slot t q in
-              rw (sym z) (omega (arith, leb-true (get_or out (s - 1) 0 + next.bytes) 16777216 e, held, with_next))
+              let z : next.slot ≡ t = eqb-true next.slot t q in
+              rw (sym z) (omega (arith, leb-true (get_or out (next.slot - 1) 0 + next.bytes) 16777216 e, held, with_next))
           room t g h false q = omega (arith, rw q at (bytes_with (bare slots bytes i) next t), a.fits.room t g h)

@@ -1,10 +1,9 @@
 -- Theorems. "Releasing what was booked restores the forecast exactly" (document 02, request 11), of
 -- the two calls: at once after the booking, and after any run of further bookings and releases with
 -- the list still booked.
-use Rattle.std.specs.Prelude.{ℕ, ◌≡◌, refl, List, [], ◌∷◌, length, eqb}
-use Rattle.std.proofs.Common.{sym, ◌∙◌, ⊎_elim, arith, eqb→eq, eq-eqb}
+use Rattle.std.specs.Prelude.{ℕ, ◌≡◌, refl, List, [], ◌∷◌, length}
+use Rattle.std.proofs.Common.{sym, ◌∙◌, arith, eq-eqb}
 use Rattle.theory_basics.specs.Tests.{All}
-use Rattle.theory_basics.specs.lemmas.Tests.{not_T_false, test}
 use Rattle.theory_basics.specs.Refusals.{◌or_else◌}
 use Rattle.theory_basics.specs.lemmas.Refusals.{or_else_iff}
 use Rattle.job.specs.Job.{Within}
@@ -15,9 +14,7 @@ use Rattle.fetch.specs.Input
 use Rattle.checker.specs.Checked.{check_refusal}
 use Rattle.booking.specs.Booking.{Run, Without, added_back, booking, pass_refusal, releasing, room_refusal, start, taken_off}
 use Rattle.booking.specs.Booking
-use Rattle.booking.specs.Answer.{BookPromise, ReleasePromise, answer, book_refusal, on_forecast, release_refusal, rows_refusal}
-use Rattle.booking.specs.declared.Answer.{Answer}
-use Rattle.booking.specs.declared.Answer.TheVariants.{Done, Refused}
+use Rattle.booking.specs.Answer.{BookPromise, ReleasePromise, book_refusal, on_forecast, release_refusal, rows_refusal}
 use Rattle.booking.specs.Theorems.{balanced, booked_accepted, booked_bookable, booked_whole, remainder_accepted, still_booked_releasable}
 use Rattle.booking.specs.lemmas.Slots.{slots_equal}
 use Rattle.job.specs.Theorems.{input_iff}
@@ -31,19 +28,11 @@ booked_lists_say {f = f} {g = g} a b =
     slots_equal f g (omega (arith, r.slots, q.slots)) (λ t l h.
     omega (arith, r.sums t l (omega (arith, r.slots)), q.sums t l (omega (arith, r.slots))))
 
--- `Done` is answered exactly without a refusal.
-pub done_unrefused : (n : ℕ) → Done ≡ answer n → n ≡ 0
-done_unrefused n e =
-    ⊎_elim (λ t. eqb→eq n 0 t) (λ t. absurd (apart n (rw (not_T_false (eqb n 0) t) at e))) (test (eqb n 0))
-  where
-    apart : (k : ℕ) → Done ≡ Refused k → ⊥
-    apart k d = let z : ◌≡◌ {A = ℕ} 0 1 = cc in omega arith
-
 -- What releasing a list gives that stands among the booked ones: it is done, the others stay
 -- booked, and the forecast is exactly the one that they alone leave: that before the list was
 -- booked, where they are the lists booked then.
-pub record Restored (first : List ℕ) (others : List (List Row)) (r : Answer) (after : List ℕ) : Type 0 where
-  pub done : r ≡ Done
+pub record Restored (first : List ℕ) (others : List (List Row)) (r : ℕ) (after : List ℕ) : Type 0 where
+  pub done : r ≡ 0
   pub still_booked : Run first after others
   pub exactly : (f : List ℕ) → Run first f others → after ≡ f
 
@@ -78,27 +67,27 @@ module _ (h : JobInput) (s : ListSlices) where
           ),
         )
 
-  -- The list is booked, `book` having answered `Done`; then, after any run in which it is still
+  -- The list is booked, `book` having answered no refusal; then, after any run in which it is still
   -- booked, `release` restores.
   pub release_in_run :
-      {first f left after : List ℕ} {booked others : List (List Row)} {r : Answer} → BookPromise h s Done left →
+      {first f left after : List ℕ} {booked others : List (List Row)} {r : ℕ} → BookPromise h s 0 left →
       All (Within 0 16777216) first → length first ≡ length h.forecast → Run first f booked → Without rows booked others →
       ReleasePromise (on_forecast h f) alone r after → Restored first others r after
   release_in_run {first = first} {f = f} {after = after} {others = others} {r = r} b high same run w g =
-      let fine = done_unrefused (book_refusal h s) b.answered in
+      let fine = sym b.answered in
       let n = release_refusal (on_forecast h f) alone in
       let none : n ≡ 0 = never_refused fine high same run w in
       let is : after ≡ added_back f rows = g.left ∙ rw (eq-eqb n 0 none) refl in
       let now : Run first after others = rw is (releasing run rows w) in
-      record { done = g.answered ∙ rw (eq-eqb n 0 none) refl; still_booked = now; exactly = λ k o. booked_lists_say now o }
+      record { done = g.answered ∙ none; still_booked = now; exactly = λ k o. booked_lists_say now o }
 
   -- "Releasing what was booked restores the forecast exactly": at once, the forecast before.
   pub release_after_book :
-      {left after : List ℕ} {r : Answer} → BookPromise h s Done left →
-      ReleasePromise (on_forecast h left) alone r after → (r ≡ Done) × (after ≡ h.forecast)
+      {left after : List ℕ} {r : ℕ} → BookPromise h s 0 left →
+      ReleasePromise (on_forecast h left) alone r after → (r ≡ 0) × (after ≡ h.forecast)
   release_after_book {left = left} b g =
       let n = book_refusal h s in
-      let fine : n ≡ 0 = done_unrefused n b.answered in
+      let fine : n ≡ 0 = sym b.answered in
       let is : left ≡ taken_off h.forecast rows = b.left ∙ rw (eq-eqb n 0 fine) refl in
       let run : Run h.forecast left (rows ∷ []) = rw is (booking start rows (booked_bookable h s fine)) in
       let x = release_in_run b (booked_accepted h s fine).forecast_in_lem refl run Booking.here g in
@@ -107,9 +96,9 @@ module _ (h : JobInput) (s : ListSlices) where
   -- And so after further bookings and releases that leave, beside the list, what was booked before
   -- it: the forecast that it was booked on.
   pub release_later :
-      {first f left after : List ℕ} {before booked : List (List Row)} {r : Answer} → BookPromise h s Done left →
+      {first f left after : List ℕ} {before booked : List (List Row)} {r : ℕ} → BookPromise h s 0 left →
       All (Within 0 16777216) first → Run first h.forecast before → Run first f booked → Without rows booked before →
-      ReleasePromise (on_forecast h f) alone r after → (r ≡ Done) × (after ≡ h.forecast)
+      ReleasePromise (on_forecast h f) alone r after → (r ≡ 0) × (after ≡ h.forecast)
   release_later b high was run w g =
       let x = release_in_run b high (sym (balanced was).slots) run w g in
       (x.done, x.exactly h.forecast was)

@@ -2,46 +2,30 @@
 // forecast, releasing adds them back, both in the forecast's own storage and row by row.
 #![tactic(auto)]
 
-ghost use Rattle.std.specs.Prelude.{◌≡◌, ◌+◌, ◌≤◌, ◌<◌, leb, length};
+ghost use Rattle.std.specs.Prelude.{◌≡◌, ◌+◌, ◌≤◌, leb, length};
 ghost use Rattle.theory_basics.specs.Tests.{All};
+ghost use Rattle.refusals.specs.Numbers.{refusal_number};
 ghost use Rattle.job.specs.Job.{Within};
-ghost use Rattle.job.specs.Input.{job_input};
-ghost use Rattle.fetch.specs.Slices.{row_slices, slices_of};
+ghost use Rattle.fetch.specs.Handed.{handed_list, handed_rows};
 ghost use Rattle.booking.specs.Booking.{taken_off};
-ghost use Rattle.booking.specs.Answer.{BookPromise, ReleasePromise};
-ghost use Rattle.booking.specs.lemmas.Passes.{Added, Covered, bare, refused_by};
+ghost use Rattle.booking.specs.Answer.{BookPromise, ReleasePromise, lent_job};
+ghost use Rattle.booking.specs.lemmas.Passes.{Added, Covered, bare};
 
-use checker::Checked;
-use job::Programme;
-
-// The forecast is changed, or the number of a refusal.
-#[derive(Clone, Copy)]
-pub enum Answer {
-    Done,
-    Refused(u8),
-}
-
-fn wide(x: u16) -> usize
-    ensures { (result ≡ x) × (result < 65536) }
-{
-    x as usize
-}
+use fetch::{FetchList, Rows};
+use job::{JobInput, MOST_BYTES, Overrides, Programme};
+use refusals::{Refusal, refuse_unless};
 
 // So many rows off the forecast. None of its slots falls below 0: of a passing list by rule 4, else
 // because they were just added.
-fn take_off(forecast: &mut [u32], slots: &[u16], bytes: &[u32], count: usize)
-    requires { (count ≤ length slots.now)
-        × (count ≤ length bytes.now)
-        × Covered forecast.old (bare slots.now bytes.now count) }
+fn take_off(forecast: &mut [u32], rows: &Rows, count: usize)
+    requires { (count ≤ length rows.now.slots.now)
+        × (count ≤ length rows.now.bytes.now)
+        × Covered forecast.old (bare rows.now.slots.now rows.now.bytes.now count) }
     ensures { forecast.new ≡ taken_off forecast.old
-        (bare slots.now bytes.now count) }
+        (bare rows.now.slots.now rows.now.bytes.now count) }
 {
-    let mut i: usize = 0;
-    while i < count {
-        let at = wide(slots[i]) - 1;
-        let b = bytes[i];
-        forecast[at] = forecast[at] - b;
-        i = i + 1;
+    for i in 0..count {
+        forecast[rows.slots[i] as usize - 1] -= rows.bytes[i];
     }
 }
 
@@ -49,91 +33,58 @@ fn take_off(forecast: &mut [u32], slots: &[u16], bytes: &[u32], count: usize)
 fn has_room(held: u32, more: u32) -> bool
     ensures { result ≡ leb (held + more) 16777216 }
 {
-    (held as u64) + (more as u64) <= 16777216
+    held as u64 + more as u64 <= MOST_BYTES as u64
 }
 
 // Row by row back to the forecast, up to the first row whose slot isn't there or has no room; how
 // many rows that are.
-fn add_back(forecast: &mut [u32], slots: &[u16], bytes: &[u32]) -> usize
-    requires { (length slots.now ≡ length bytes.now) × All (Within 0 16777216) forecast.old }
-    ensures { Added forecast.old slots.now bytes.now
-        (length slots.now)
+fn add_back(forecast: &mut [u32], rows: &Rows) -> usize
+    requires { (length rows.now.slots.now ≡ length rows.now.bytes.now)
+        × All (Within 0 16777216) forecast.old }
+    ensures { Added forecast.old rows.now.slots.now rows.now.bytes.now
+        (length rows.now.slots.now)
         result forecast.new }
 {
-    let rows = slots.len();
-    let mut i: usize = 0;
-    while i < rows {
-        let next = i + 1;
-        let slot = wide(slots[i]);
-        if slot < 1 {
-            return i;
-        }
-        if forecast.len() < slot {
+    for (i, &slot) in rows.slots.iter().enumerate() {
+        let slot = slot as usize;
+        if slot < 1 || forecast.len() < slot {
             return i;
         }
         let at = slot - 1;
         let held = forecast[at];
-        let b = bytes[i];
+        let b = rows.bytes[i];
         if !has_room(held, b) {
             return i;
         }
         forecast[at] = held + b;
-        i = next;
     }
-    i
-}
-
-// What a check says against booking: its own refusal, or 19 for a verdict other than 0.
-fn refusal_of(checked: Checked) -> u8
-    ensures { result ≡ refused_by checked }
-{
-    match checked {
-        Checked::Refused(n) => n,
-        Checked::Verdict(v) => job::refuse_unless(19, v == 0),
-    }
+    rows.slots.len()
 }
 
 // Takes a list that passes off its job's forecast. Refused: 5, 6, 18, 7, 8, then 19 for a verdict
 // other than 0, by the marks handed.
+// Kept: a forecast lent to be changed stands in no JobInput, which shares it.
+#[tactic(auto, unfolding(crate::specs::Booking::pass_refusal))]
 pub fn book(
     p: Programme,
     sizes: &[u32],
-    size_chunks: &[u16],
-    size_layers: &[u8],
-    size_bytes: &[u32],
+    overrides: &Overrides,
     forecast: &mut [u32],
-    marks: &[u8],
-    slots: &[u16],
-    chunks: &[u16],
-    layers: &[u8],
-    bytes: &[u32],
-) -> Answer
-    ensures { BookPromise
-        (job_input p sizes.now size_chunks.now size_layers.now
-        size_bytes.now forecast.old)
-        (slices_of marks.now slots.now chunks.now layers.now
-        bytes.now)
-        result forecast.new }
+    list: &FetchList,
+) -> Result<(), Refusal>
+    ensures { BookPromise (lent_job p sizes.now overrides.now forecast.old) (handed_list list.now)
+        (refusal_number result) forecast.new }
 {
-    let checked = checker::check(
-        p,
+    let job = JobInput {
+        programme: p,
         sizes,
-        size_chunks,
-        size_layers,
-        size_bytes,
+        overrides: *overrides,
         forecast,
-        marks,
-        slots,
-        chunks,
-        layers,
-        bytes,
-    );
-    let no = refusal_of(checked);
-    if no != 0 {
-        return Answer::Refused(no);
-    }
-    take_off(forecast, slots, bytes, slots.len());
-    Answer::Done
+    };
+    let verdict = checker::check(&job, list)?;
+    refuse_unless(verdict == 0, Refusal::NotPassing)?;
+    take_off(forecast, &list.rows, list.rows.slots.len());
+    Ok(())
 }
 
 // Adds a list's bytes back to its job's forecast. Refused: 5, 6, 18, 7, 8 for a row not handed
@@ -141,33 +92,31 @@ pub fn book(
 pub fn release(
     p: Programme,
     sizes: &[u32],
-    size_chunks: &[u16],
-    size_layers: &[u8],
-    size_bytes: &[u32],
+    overrides: &Overrides,
     forecast: &mut [u32],
-    slots: &[u16],
-    chunks: &[u16],
-    layers: &[u8],
-    bytes: &[u32],
-) -> Answer
-    ensures { ReleasePromise
-        (job_input p sizes.now size_chunks.now size_layers.now
-        size_bytes.now forecast.old)
-        (row_slices slots.now chunks.now layers.now bytes.now)
-        result forecast.new }
+    rows: &Rows,
+) -> Result<(), Refusal>
+    ensures { ReleasePromise (lent_job p sizes.now overrides.now forecast.old)
+        (handed_rows rows.now)
+        (refusal_number result) forecast.new }
 {
-    let job = job::refusal(p, sizes, size_chunks, size_layers, size_bytes, forecast);
-    if job != 0 {
-        return Answer::Refused(job);
+    let job = JobInput {
+        programme: p,
+        sizes,
+        overrides: *overrides,
+        forecast,
+    };
+    let unmarked = FetchList {
+        marks: &[],
+        rows: *rows,
+    };
+    job::accept(&job)?;
+    fetch::accept_list(0, &unmarked)?;
+    let added = add_back(forecast, rows);
+    if added < rows.slots.len() {
+        take_off(forecast, rows, added);
+        Err(Refusal::Release)
+    } else {
+        Ok(())
     }
-    let list = fetch::list_refusal(0, &[], slots, chunks, layers, bytes);
-    if list != 0 {
-        return Answer::Refused(list);
-    }
-    let added = add_back(forecast, slots, bytes);
-    if added < slots.len() {
-        take_off(forecast, slots, bytes, added);
-        return Answer::Refused(20);
-    }
-    Answer::Done
 }

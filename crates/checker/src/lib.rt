@@ -4,21 +4,23 @@
 #![tactic(auto)]
 
 ghost use Rattle.std.specs.Prelude.{◌≡◌, false, [], ◌∷◌, ◌≤◌, replicate, not};
-ghost use Rattle.theory_basics.specs.Tests.{all_below, all_to};
+ghost use Rattle.theory_basics.specs.Tests.{all_to};
 ghost use Rattle.refusals.specs.Numbers.{by_number};
 ghost use Rattle.job.specs.Input.{job_in, job_refusal};
 ghost use Rattle.job.specs.Handed.{handed};
-ghost use Rattle.core_sizes.specs.Table.{table_at};
 ghost use Rattle.fetch.specs.Slices.{list_rows, rows_in, slices_refusal};
 ghost use Rattle.fetch.specs.Handed.{handed_list, handed_rows};
 ghost use Rattle.fetch.specs.Verdict.{lowest};
 ghost use Rattle.fetch.specs.VerdictFrom.{layer_before, verdict_from};
 ghost use Rattle.checker.specs.Checked.{checked, checked_from};
-ghost use Rattle.checker.specs.lemmas.Judged.{allowed_sum, allowed_by, early, InTables, MarkLatePost};
+ghost use Rattle.checker.specs.lemmas.Judged.{allowed_sum, allowed_layers, early, InTables, MarkLatePost};
+
+mod sums;
 
 use fetch::{FetchList, Rows};
 use job::{JobInput, LAYERS, SIZES, SUMS, SizeTable};
 use refusals::Refusal;
+use sums::Sums;
 
 // The lowest broken rule of 2 to 7, or 0.
 fn lowest_broken(whole: bool, lower: bool, within: bool, timely: bool, few: bool, said: bool) -> u8
@@ -64,67 +66,44 @@ fn mark_late(from: u16, rows: &Rows, late: &mut [bool; SIZES])
 }
 
 // Rule 2 of the second call for the layers of a chunk.
-fn allowed_chunk(
-    table: &SizeTable,
-    depth: usize,
-    layersum: &[u64; SIZES],
-    late: &[bool; SIZES],
-    i: u16,
-) -> bool
-    requires { (depth ≤ 4) × (1 ≤ i) × (i ≤ 500) }
-    ensures { result ≡ all_below depth
-        (allowed_by (table_at table.now) layersum.now (early late.now) i) }
+fn allowed_chunk(sums: &Sums, late: &[bool; SIZES], i: u16) -> bool
+    requires { (1 ≤ i) × (i ≤ 500) }
+    ensures { result ≡ allowed_layers sums.now (early late.now) i }
 {
     let from = LAYERS * (i as usize - 1);
     let mut all = true;
-    for n in 0..depth {
+    for n in 0..sums.depth {
         let at = from + n;
-        all &= allowed(layersum[at], core_sizes::size_at(table, i, n), late[at]);
+        all &= allowed(
+            sums.layers[at],
+            core_sizes::size_at(sums.table, i, n),
+            late[at],
+        );
     }
     all
 }
 
 // Rule 2 of the second call for every layer of every chunk.
-fn allowed_all(
-    table: &SizeTable,
-    depth: usize,
-    layersum: &[u64; SIZES],
-    late: &[bool; SIZES],
-    count: u16,
-) -> bool
-    requires { (depth ≤ 4) × (count ≤ 500) }
-    ensures { result ≡ all_to count
-        (λ i.
-        all_below depth
-        (allowed_by (table_at table.now) layersum.now (early late.now) i)) }
+fn allowed_all(sums: &Sums, late: &[bool; SIZES], count: u16) -> bool
+    requires { count ≤ 500 }
+    ensures { result ≡ all_to count (allowed_layers sums.now (early late.now)) }
 {
     let mut all = true;
     for i in 0..count {
-        all &= allowed_chunk(table, depth, layersum, late, i + 1);
+        all &= allowed_chunk(sums, late, i + 1);
     }
     all
 }
 
 // Rule 2 of the second call, looked for where the first call's is broken.
-fn allowed_from(
-    table: &SizeTable,
-    depth: usize,
-    layersum: &[u64; SIZES],
-    count: u16,
-    from: u16,
-    rows: &Rows,
-) -> bool
-    requires { (depth ≤ 4) × (count ≤ 500) × InTables (handed_rows rows.now) }
+fn allowed_from(sums: &Sums, count: u16, from: u16, rows: &Rows) -> bool
+    requires { (count ≤ 500) × InTables (handed_rows rows.now) }
     ensures { result ≡ all_to count
-        (λ i.
-        all_below depth
-        (allowed_by (table_at table.now) layersum.now
-        (layer_before from (rows_in (handed_rows rows.now)))
-        i)) }
+        (allowed_layers sums.now (layer_before from (rows_in (handed_rows rows.now)))) }
 {
     let mut late = [false; SIZES];
     mark_late(from, rows, &mut late);
-    allowed_all(table, depth, layersum, &late, count)
+    allowed_all(sums, &late, count)
 }
 
 // The verdict from a slot on of an accepted job's list, its rows whole and its marks one byte a
@@ -161,7 +140,12 @@ fn verdict_of(job: &JobInput, from: u16, list: &FetchList) -> u8
         let seen = core_rules::see_all(&table, depth, &layersum, list.marks, p.chunks);
         let room = core_rules::within(job.forecast, &slotsum);
         let few = core_rules::sweep(p, last, &first);
-        let whole = seen.whole || allowed_from(&table, depth, &layersum, p.chunks, from, rows);
+        let sums = Sums {
+            table: &table,
+            depth,
+            layers: &layersum,
+        };
+        let whole = seen.whole || allowed_from(&sums, p.chunks, from, rows);
         lowest_broken(whole, seen.lower, room, pass.timely, few, seen.said)
     } else {
         1

@@ -28,13 +28,12 @@ module _
     (a : TallyPost p last depth rows r S L F) where
   -- A row out of range breaks rule 1.
   pub gathered_none :
-      {left begun whole : List ℕ} → r.ranged ≡ false → (length begun ≡ 500) × (length whole ≡ 500) → GatherPost p table depth earlier rows false left begun whole
-  gathered_none g l =
+      {left begun whole : List ℕ} → r.ranged ≡ false → GatherPost p table depth earlier rows false left begun whole
+  gathered_none g =
       record {
         kept = λ sizes os part w before. rw (sym (rule1_is (job_from p sizes os earlier part) a d w.depth_is) ∙ g);
         tabled = λ e. absurd (let y : ◌≡◌ {A = ℕ} 0 1 = cc in omega arith);
         small = λ e. absurd (let y : ◌≡◌ {A = ℕ} 0 1 = cc in omega arith);
-        long = l;
       }
 
   -- Every row in range: the other rules by the tables.
@@ -70,5 +69,4 @@ module _
             let low = (rule3_iff j rows).0 (true_T (rule3 j rows) (sym (three sizes os part w) ∙ T_true k.lower lower)) in
             tabled_of j w.accepted rows range t w.sizes_are rest (rw (w.sizes_are, w.depth_is) at s.flags) low;
         small = λ yes sizes os part w. small_of (job_from p sizes os earlier part) w.accepted w.sizes_are rest;
-        long = s.flags.long;
       }

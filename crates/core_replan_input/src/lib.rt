@@ -19,34 +19,13 @@ pub struct Kept {
     pub few: bool,
 }
 
-// What is left of a size after a sum, or 0.
-fn less(size: u32, sum: u64) -> u32
-    ensures { result ≡ size - sum }
-{
-    let z = size as u64;
-    if z < sum {
-        return 0;
-    }
-    (z - sum) as u32
-}
-
 // What the rows leave of each layer: four places a chunk.
 fn set_left(table: &SizeTable, sums: &[u64; SIZES], left: &mut SizeTable)
-    requires { length left.old ≡ 2000 }
     ensures { SetLeftPost table.now sums.now left.new }
 {
-    let mut k: usize = 0;
-    while k < SIZES {
-        left[k] = less(table[k], sums[k]);
-        k = k + 1;
+    for (k, &sum) in sums.iter().enumerate() {
+        left[k] = (table[k] as u64).saturating_sub(sum) as u32;
     }
-}
-
-// A sum of rows is at most the layer's size.
-fn at_most(sum: u64, size: u32) -> bool
-    ensures { result ≡ leb sum size }
-{
-    sum <= (size as u64)
 }
 
 // No layer of chunk i sums to more than its size.
@@ -54,26 +33,12 @@ fn none_above(table: &SizeTable, depth: usize, sums: &[u64; SIZES], i: u16) -> b
     requires { (depth ≤ 4) × (1 ≤ i) × (i ≤ 500) }
     ensures { result ≡ all_below depth (few_by (table_at table.now) sums.now i) }
 {
-    let from = 4 * (core_rules::wide(i) - 1);
+    let from = 4 * (i as usize - 1);
     let mut all = true;
-    let mut n: usize = 0;
-    while n < depth {
-        let at = from + n;
-        let z = core_sizes::size_in(table, i, n);
-        all = core_rules::both(at_most(sums[at], z), all);
-        n = n + 1;
+    for n in 0..depth {
+        all &= sums[from + n] <= core_sizes::size_in(table, i, n) as u64;
     }
     all
-}
-
-// A flag for a chunk with a row, by its first slot.
-fn flag(first: u16) -> u8
-    ensures { result ≡ cond (ltb first 65535) 1 0 }
-{
-    if first < 65535 {
-        return 1;
-    }
-    0
 }
 
 // The flag and the mark of each chunk; rule 3, and whether no sum exceeds its size.
@@ -86,23 +51,20 @@ fn set_flags(
     begun: &mut [u8; CHUNKS],
     whole: &mut [u8; CHUNKS],
 ) -> Kept
-    requires { (depth ≤ 4) × (count ≤ 500) × (length begun.old ≡ 500) × (length whole.old ≡ 500) }
+    requires { (depth ≤ 4) × (count ≤ 500) }
     ensures { SetFlagsPost (table_at table.now) sums.now first.now depth count
         result begun.new whole.new }
 {
     let mut lower = true;
     let mut few = true;
-    let mut i: u16 = 0;
-    while i < count {
-        let k = core_rules::wide(i);
-        let next = i + 1;
-        let at = k + 1;
-        let seen = core_rules::see_chunk(table, depth, sums, next);
+    for i in 0..count {
+        let k = i as usize;
+        let seen = core_rules::see_chunk(table, depth, sums, i + 1);
         whole[k] = seen.mark;
-        begun[k] = flag(first[at]);
-        lower = core_rules::both(seen.lower, lower);
-        few = core_rules::both(none_above(table, depth, sums, next), few);
-        i = next;
+        // A chunk with a row, by its first slot.
+        begun[k] = (first[k + 1] < 65535) as u8;
+        lower &= seen.lower;
+        few &= none_above(table, depth, sums, i + 1);
     }
     Kept { lower, few }
 }
@@ -113,43 +75,16 @@ fn in_turn(count: u16, first: &[u16; 501]) -> bool
     ensures { InTurnPost first.now count result }
 {
     let mut latest: u16 = 0;
-    let mut i: u16 = 0;
-    while i < count {
-        let next = i + 1;
-        let at = core_rules::wide(next);
-        let slot = first[at];
-        if 65535 <= slot {
-            i = next;
-        } else if slot < latest {
-            return false;
-        } else {
+    for i in 0..count {
+        let slot = first[i as usize + 1];
+        if slot < 65535 {
+            if slot < latest {
+                return false;
+            }
             latest = slot;
-            i = next;
         }
     }
     true
-}
-
-// No sum above its size, rules 3 to 6 and the playing order: all hold.
-fn all_six(a: bool, b: bool, c: bool, d: bool, e: bool, f: bool) -> bool
-    ensures { result ≡ a && (b && (c && (d && (e && f)))) }
-{
-    if !a {
-        return false;
-    }
-    if !b {
-        return false;
-    }
-    if !c {
-        return false;
-    }
-    if !d {
-        return false;
-    }
-    if !e {
-        return false;
-    }
-    f
 }
 
 // The fetched rows, whole and all before the slot after those of `earlier`: their tables, and
@@ -195,7 +130,9 @@ pub fn gather(
         let room = core_rules::within(earlier, &slotsum);
         let held = core_rules::sweep(p, last, &first);
         let turn = in_turn(p.chunks, &first);
-        return all_six(kept.few, kept.lower, room, pass.timely, held, turn);
+        // No sum above its size, rules 3 to 6 and the playing order.
+        kept.few & kept.lower & room & pass.timely & held & turn
+    } else {
+        false
     }
-    false
 }

@@ -26,7 +26,7 @@ use Rattle.jobrecords.specs.Refusal.{mixed, previous, place, follows, sequence_r
 use Rattle.jobrecords.specs.lemmas.Joined.{overrides_append}
 use Rattle.jobrecords.specs.lemmas.Sequence.{previous_snoc, parts}
 use Rattle.jobrecords.specs.lemmas.Mixed.{none_mixed}
-use Rattle.jobrecords.proofs.Fronts.{byte_on, h_on, w_on}
+use Rattle.records.specs.lemmas.Places.{byte_on, h_on, w_on}
 use Rattle.jobrecords.specs.lemmas.Reading.{no_records, override_on, overrides_on, Counts, more_overrides, ends_after}
 
 -- ---- an SZ in front has 9 bytes, which say it
@@ -50,8 +50,8 @@ front_says q s =
     (λ x. by_cond (SaysIt s) (q && marked SZ s) (λ y. by_cond (SaysIt s) (leb 9 (length s)) (λ z. (refl, refl)) (λ z. tt)) (λ y. tt))))))
     (λ t. tt)
 
-override_on_lem : (s : List ℕ) (at : ℕ) → override_on s at ≡ record { chunk = h_at (drop at s) 2; layer = get_or (drop at s) 4 0; bytes = w_at (drop at s) 5 }
-override_on_lem s at = rw (h_on s at 2 (at + 2) refl, byte_on s at 4 (at + 4) refl, w_on s at 5 (at + 5) refl)
+override_on_is : (s : List ℕ) (at : ℕ) → override_on s at ≡ record { chunk = h_at (drop at s) 2; layer = get_or (drop at s) 4 0; bytes = w_at (drop at s) 5 }
+override_on_is s at = rw (h_on s at 2 (at + 2) refl, byte_on s at 4 (at + 4) refl, w_on s at 5 (at + 5) refl)
 
 -- ---- none so far
 
@@ -128,7 +128,7 @@ module _ (s : List ℕ) (at : ℕ) (j : Progress) (rs : List Record) (i : Counts
         let r = Sz chunk layer bytes in
         let size : n ≡ 9 = says.0 in
         let o : Override = record { chunk = chunk; layer = layer; bytes = bytes } in
-        let is : o ≡ override_on s at = ap (λ (l : List Override). get_or l 0 o) (ap (λ (x : Record). overrides_in (x ∷ [])) says.1) ∙ sym (override_on_lem s at) in
+        let is : o ≡ override_on s at = ap (λ (l : List Override). get_or l 0 o) (ap (λ (x : Record). overrides_in (x ∷ [])) says.1) ∙ sym (override_on_is s at) in
         rw size (one_more o j' (rs ++ (r ∷ [])) (overrides_append rs (r ∷ [])) is eo (ee ∙ rw size) (ap place (previous_snoc rs r)) (here q chunk layer bytes refl (parts q rs r clean).turn))
     counts_more (Bw count bytes) n j' f b clean eo ee = kept (Bw count bytes) n j' refl eo ee (λ h. absurd (omega arith)) (λ h. omega arith)
     counts_more En n j' f b clean eo ee = absurd (let z : ◌≡◌ {A = ℕ} 0 1 = cc in omega arith)

@@ -13,14 +13,10 @@ use Rattle.records.specs.Fields.{h_at, w_at, marked}
 use Rattle.jobrecords.specs.declared.Record.{Record}
 use Rattle.jobrecords.specs.declared.Record.TheVariants.{Pg, Ly, Sz, Bw, En}
 use Rattle.jobrecords.specs.declared.Progress.{Progress}
-use Rattle.jobrecords.specs.declared.Step.{Step}
-use Rattle.jobrecords.specs.declared.Step.TheVariants.{On}
-use Rattle.jobrecords.specs.declared.Run.{Run}
-use Rattle.jobrecords.specs.declared.Run.TheVariants.{Sound}
 use Rattle.jobrecords.specs.Records.{SZ, override_at}
 use Rattle.jobrecords.specs.Refusal.{place, previous}
 use Rattle.jobrecords.specs.lemmas.Clean.{run_in}
-use Rattle.jobrecords.specs.lemmas.Reading.{run_bytes, fault_after, OneStepPre, with_overrides, with_runs, SoundAt, SoundRunPost, Reached, GoesOn, TakeRunsPost, TakeOverridesPost}
+use Rattle.jobrecords.specs.lemmas.Reading.{run_bytes, fault_after, OneStepPre, with_overrides, with_runs, SoundAt, Reached, GoesOn, TakeRunsPost, TakeOverridesPost}
 use Rattle.jobrecords.proofs.Fronts.{override_here}
 use Rattle.jobrecords.proofs.Records.{takes_override, takes_run}
 use Rattle.jobrecords.proofs.Steps.{turn_fine, turn_more}
@@ -40,17 +36,13 @@ runs_start s from j f p long run =
     let e : j ≡ with_runs j j.slots j.bytes = ap (λ (n : ℕ). record { place = n; bytes = j.bytes; seen = j.seen; programme = j.programme; layers = j.layers; overrides = j.overrides; ends = j.ends; slots = j.slots }) run in
     record { ahead = omega arith; inside = p.inside; slots_in = p.slots_in; slots_room = long; goes = λ q z g. subst (λ (k : Progress). OneStepPre q s from k z f) e g }
 
--- What `sound_run` answered.
-pub sound_at : (s : List ℕ) (at slots last : ℕ) (r : Run) → SoundRunPost s at slots last r → (count bytes : ℕ) → r ≡ Sound count bytes → SoundAt s at slots last count bytes
-sound_at s at slots last r h count bytes e = rw e at h
-
 -- It lies inside the table.
 pub sound_inside : (s : List ℕ) (at slots last count bytes : ℕ) → SoundAt s at slots last count bytes → slots + count ≤ 3600
-sound_inside s at slots last count bytes h = (run_in slots count bytes h.in_range_lem).0
+sound_inside s at slots last count bytes h = (run_in slots count bytes h.ranges).0
 
 clean : (q : Bool) (s : List ℕ) (at slots last count bytes : ℕ) (j : Progress) → SoundAt s at slots last count bytes → fault_after q (with_runs j slots last) (Bw count bytes) ≡ 0
-clean true s at slots last count bytes j h = rw (h.turn, h.in_range_lem)
-clean false s at slots last count bytes j h = rw h.in_range_lem
+clean true s at slots last count bytes j h = rw (h.turn, h.ranges)
+clean false s at slots last count bytes j h = rw h.ranges
 
 pub runs_more :
     (s : List ℕ) (from : ℕ) (j : Progress) (old : List ℕ) (at slots last : ℕ) (f : List ℕ) → Taking s from j old at slots last f →
@@ -73,9 +65,8 @@ runs_more s from j old at slots last f i count bytes h f' w =
           (takes_run before z f r (at + 8) (turn_fine q s at before z f p r (at + 8) here refl none) count bytes (with_runs j (slots + count) bytes) f' refl refl w)).1;
     }
 
-pub runs_end : (s : List ℕ) (from : ℕ) (j : Progress) (old : List ℕ) (at slots last : ℕ) (f : List ℕ) → Taking s from j old at slots last f → (k : Progress) → k ≡ with_runs j slots last → TakeRunsPost s from j old (On k at) f
-runs_end s from j old at slots last f i k e =
-    record { goes_on = λ q. record { turned = λ z start h g. (omega (arith, i.ahead), subst (λ (x : Progress). OneStepPre q s at x z f) (sym e) (i.goes q z g)) } }
+pub runs_end : (s : List ℕ) (from : ℕ) (j : Progress) (old : List ℕ) (at slots last : ℕ) (f : List ℕ) → Taking s from j old at slots last f → TakeRunsPost s from j old (with_runs j slots last, at) f
+runs_end s from j old at slots last f i = record { goes_on = λ q. record { ahead = i.ahead; reached = i.goes q } }
 
 -- ---- SZs
 
@@ -129,15 +120,14 @@ overrides_more s from j n at i b e t =
           subst (λ (k : ℕ). OneStepPre true s (at + 9) (record { place = 3; bytes = 0; seen = j.seen; programme = j.programme; layers = j.layers; overrides = k; ends = at + 9; slots = j.slots }) z f) more next;
     }
 
-pub overrides_end : (s : List ℕ) (from : ℕ) (j : Progress) (n at : ℕ) → Passing s from j n at → (k : Progress) → k ≡ with_overrides j n at → TakeOverridesPost s from j (On k at)
-overrides_end s from j n at i k e =
-    record { goes_on = λ f. record { turned = λ z start h g. (omega (arith, i.so_far), subst (λ (x : Progress). OneStepPre true s at x z f) (sym e) (i.goes z f g)) } }
+pub overrides_end : (s : List ℕ) (from : ℕ) (j : Progress) (n at : ℕ) → Passing s from j n at → TakeOverridesPost s from j (with_overrides j n at, at)
+overrides_end s from j n at i = record { goes_on = λ f. record { ahead = omega (arith, i.so_far); reached = λ z g. i.goes z f g } }
 
 -- ---- neither
 
 -- In a file of which one sequence is asked.
-pub overrides_go : (q : Bool) → q ≡ true → (s : List ℕ) (from : ℕ) (j : Progress) (f : List ℕ) (r : Step) → TakeOverridesPost s from j r → GoesOn q s from j f r f
+pub overrides_go : (q : Bool) → q ≡ true → (s : List ℕ) (from : ℕ) (j : Progress) (f : List ℕ) (r : Progress × ℕ) → TakeOverridesPost s from j r → GoesOn q s from j f r f
 overrides_go q e s from j f r p = subst (λ (b : Bool). GoesOn b s from j f r f) (sym e) (p.goes_on f)
 
-pub no_more_lem : (q : Bool) (s : List ℕ) (from : ℕ) (j : Progress) (f : List ℕ) → GoesOn q s from j f (On j from) f
-no_more_lem q s from j f = record { turned = λ z at h g. (h, g) }
+pub no_more : (q : Bool) (s : List ℕ) (from : ℕ) (j : Progress) (f : List ℕ) → GoesOn q s from j f (j, from) f
+no_more q s from j f = record { ahead = omega arith; reached = λ z g. g }

@@ -15,7 +15,7 @@ use Rattle.jobrecords.specs.Says.{has_programme, sizes_in, forecast_in}
 use Rattle.jobrecords.specs.Records.{is_end}
 use Rattle.jobrecords.specs.Refusal.{place}
 use Rattle.jobrecords.specs.lemmas.Reading.{run_bytes, with_programme, with_layers, with_overrides, with_runs, Fine, Sized, Room, StandsFor, TakeRecordPost}
-use Rattle.jobrecords.specs.lemmas.Clean.{first_programme, programme_in_lem, layer_in, run_in}
+use Rattle.jobrecords.specs.lemmas.Clean.{first_programme, programme_few, layer_in, run_in}
 use Rattle.jobrecords.specs.lemmas.Sequence.{previous_snoc}
 use Rattle.jobrecords.specs.lemmas.Joined.{has_append, has_same, programme_same, programme_new, sizes_append, forecast_append}
 
@@ -29,7 +29,7 @@ module _ (j : Progress) (z f : List ℕ) (rs : List Record) (i : StandsFor j z f
       let new : has_programme rs ≡ false = sym i.seen_is ∙ first_programme j.seen p e.first in
       let sized = i.room.sized in
       record {
-        room = record { sized = record { chunks_in = programme_in_lem p e.in_range_lem; layers_in = sized.layers_in; sizes_room = sized.sizes_room }; slots_in = i.room.slots_in; slots_room = i.room.slots_room };
+        room = record { sized = record { chunks_in = programme_few p e.ranges; layers_in = sized.layers_in; sizes_room = sized.sizes_room }; slots_in = i.room.slots_in; slots_room = i.room.slots_room };
         place_is = sym (ap place (previous_snoc rs (Pg p)));
         bytes_is = sym (ap run_bytes (previous_snoc rs (Pg p)));
         seen_is = sym (has_append rs (Pg p ∷ []) ∙ rw new);
@@ -40,7 +40,7 @@ module _ (j : Progress) (z f : List ℕ) (rs : List Record) (i : StandsFor j z f
 
   stands_layer : (size : ℕ) → Fine j (Ly size) → StandsFor (with_layers j (j.layers + 1)) (set z j.layers size) f (rs ++ (Ly size ∷ []))
   stands_layer size e =
-      let few = (layer_in j.layers size e.in_range_lem).0 in
+      let few = (layer_in j.layers size e.ranges).0 in
       let sized = i.room.sized in
       let inside : j.layers < length z = omega (arith, sized.sizes_room) in
       record {
@@ -55,7 +55,7 @@ module _ (j : Progress) (z f : List ℕ) (rs : List Record) (i : StandsFor j z f
 
   stands_run : (count bytes : ℕ) → Fine j (Bw count bytes) → StandsFor (with_runs j (j.slots + count) bytes) z (paste f j.slots (replicate count bytes) count) (rs ++ (Bw count bytes ∷ []))
   stands_run count bytes e =
-      let few = (run_in j.slots count bytes e.in_range_lem).0 in
+      let few = (run_in j.slots count bytes e.ranges).0 in
       let long : count ≤ length (replicate count bytes) = rw length-replicate (omega arith) in
       let inside : j.slots + count ≤ length f = omega (arith, i.room.slots_room) in
       let spread : take (j.slots + count) (paste f j.slots (replicate count bytes) count) ≡ take j.slots f ++ replicate count bytes = take-paste f j.slots (replicate count bytes) count (omega arith) long ∙ ap (λ (l : List ℕ). take j.slots f ++ l) (take_all count (replicate count bytes) (rw length-replicate (omega arith))) in
@@ -105,7 +105,7 @@ module _ (j : Progress) (z f : List ℕ) (r : Record) (next : ℕ) (fine : Fine 
 
   -- Where the record's values go lies inside the tables.
   pub layer_inside : (size : ℕ) → Room j z f → r ≡ Ly size → j.layers < length z
-  layer_inside size room e = omega (arith, (layer_in j.layers size (now_fine (Ly size) e).in_range_lem).0, room.sized.sizes_room)
+  layer_inside size room e = omega (arith, (layer_in j.layers size (now_fine (Ly size) e).ranges).0, room.sized.sizes_room)
 
   pub run_inside : (count bytes : ℕ) → Room j z f → r ≡ Bw count bytes → j.slots + count ≤ length f
-  run_inside count bytes room e = omega (arith, (run_in j.slots count bytes (now_fine (Bw count bytes) e).in_range_lem).0, room.slots_room)
+  run_inside count bytes room e = omega (arith, (run_in j.slots count bytes (now_fine (Bw count bytes) e).ranges).0, room.slots_room)

@@ -2,29 +2,28 @@
 -- nothing.
 use Prim.Native.Nat.{ℕ, ◌+◌, ◌-◌, ◌≤◌, ◌<◌}
 use mathlib.Core.Path.{◌≡◌, refl, sym, ap, ◌∙◌}
-use mathlib.Core.Bool.{Bool, true, false, cond}
+use mathlib.Core.Bool.{Bool, true, false}
 use mathlib.Core.List.{List, [], ◌∷◌, ◌++◌}
 use native.Mathlib.Omega.{arith}
 use lib.ListN.{length, take, drop, length-drop}
 use lib.Seq.{length-take-le}
-use lib.Dec.{eqb}
-use borrow.Author.Tests.{eqb-true, eqb-false}
+use Rattle.std.specs.Prelude.{Ok, Err}
 use Rattle.theory_basics.specs.Refusals.{◌or_else◌}
 use Rattle.theory_basics.specs.lemmas.Refusals.{or_else_iff}
-use Rattle.records.specs.File.{Front, got, none, records_refusal, split}
-use Rattle.records.specs.lemmas.Reading.{reads_start, reads_none, reads_end, reads_fault, reads_more}
+use Rattle.refusals.specs.declared.Refusal.{Refusal}
+use Rattle.refusals.specs.Numbers.{number_of}
+use Rattle.refusals.specs.Laws.{number_above_0}
+use Rattle.records.specs.File.{Front, got, none, records_refusal}
+use Rattle.records.specs.lemmas.Reading.{Ends, reads_start, reads_none, reads_end, reads_fault, reads_more}
 use Rattle.job.specs.Refusal.{overrides_refusal}
 use Rattle.jobrecords.specs.declared.Record.{Record}
-use Rattle.jobrecords.specs.declared.Read.TheVariants.{Got, Refused}
 use Rattle.jobrecords.specs.declared.Progress.{Progress}
-use Rattle.jobrecords.specs.declared.Step.{Step}
-use Rattle.jobrecords.specs.declared.Step.TheVariants.{On, Done, Stop}
 use Rattle.jobrecords.specs.Records.{front, is_end}
 use Rattle.jobrecords.specs.lemmas.Sound.{front_sound}
 use Rattle.jobrecords.specs.Says.{programme_in, sizes_in, overrides_in, forecast_in, job_in}
 use Rattle.jobrecords.specs.Refusal.{mixed, second_refusal, previous, range_fault, fault, lacking, format}
 use Rattle.jobrecords.specs.Reader.{read_front, read_at}
-use Rattle.jobrecords.specs.lemmas.Reading.{no_records, sequence_at, sequence_at_lem, fault_after, counted, job_from, end_refusal, end_code, ended_by, Inside, Fine, StandsFor, Counts, ends_after, TakeRecordPost, OneStepPre, Complete, Refuses, OneStepPost, Reached}
+use Rattle.jobrecords.specs.lemmas.Reading.{no_records, sequence_at, sequence_at_is, fault_after, counted, job_from, end_refusal, end_code, Inside, Fine, StandsFor, Counts, ends_after, TakeRecordPost, OneStepPre, Complete, Refuses, Reached}
 use Rattle.jobrecords.proofs.Counting.{counts_start, counts_more, mixed_free}
 
 -- ---- what stands in front
@@ -37,13 +36,14 @@ pub record Stands (q : Bool) (s : List ℕ) (at : ℕ) (r : Record) (next : ℕ)
   pub some : 0 < size
   pub fits : size ≤ length (drop at s)
 
-pub read_stands : (q : Bool) (s : List ℕ) (at : ℕ) (r : Record) (next : ℕ) → read_at q s at ≡ Got r next → Stands q s at r next
+pub read_stands : (q : Bool) (s : List ℕ) (at : ℕ) (r : Record) (next : ℕ) → read_at q s at ≡ Ok (r, next) → Stands q s at r next
 read_stands q s at r next e = by_front (front q (drop at s)) refl e where
-  by_front : (x : Front Record) → front q (drop at s) ≡ x → read_front at x ≡ Got r next → Stands q s at r next
+  by_front : (x : Front Record) → front q (drop at s) ≡ x → read_front at x ≡ Ok (r, next) → Stands q s at r next
   by_front (got p n) i e =
-      let same : p ≡ r = cc in
+      let both : (p, at + n) ≡ (r, next) = cc in
+      let same : p ≡ r = ap (λ (x : Record × ℕ). x.0) both in
       let sound = rw i at (front_sound q (drop at s)) in
-      record { size = n; next_is = cc; front_is = i ∙ ap (λ (k : Record). got k n) same; some = sound.0; fits = sound.1 }
+      record { size = n; next_is = sym (ap (λ (x : Record × ℕ). x.1) both); front_is = i ∙ ap (λ (k : Record). got k n) same; some = sound.0; fits = sound.1 }
   by_front (none n) i e = let z : ◌≡◌ {A = ℕ} 0 1 = cc in absurd (omega arith)
 
 -- ---- the laws of a turn
@@ -57,7 +57,7 @@ module _ (j : Progress) (z f : List ℕ) (rs : List Record) (i : StandsFor j z f
 
   -- By the state a record has the fault that it has after the records that the state stands for.
   fault_is : (q : Bool) (r : Record) → fault_after q j r ≡ fault q rs r
-  fault_is q r = let turn = sequence_at_lem q (previous rs) r in rw (i.seen_is, i.place_is, i.bytes_is, turn, layers_are, slots_are)
+  fault_is q r = let turn = sequence_at_is q (previous rs) r in rw (i.seen_is, i.place_is, i.bytes_is, turn, layers_are, slots_are)
 
   end_is : (s : List ℕ) (at : ℕ) → Counts s at j rs → end_refusal s j z ≡ lacking rs
   end_is s at k =
@@ -86,53 +86,51 @@ going_start q s z f h k =
 
 module _ (q : Bool) (s : List ℕ) (at : ℕ) (j : Progress) (z f : List ℕ) (g : OneStepPre q s at j z f) where
   -- No record stands here.
-  pub turn_none : (n : ℕ) → read_at q s at ≡ Refused n → Refuses q s n
-  turn_none n e = by_front (front q (drop at s)) refl e where
-    by_front : (x : Front Record) → front q (drop at s) ≡ x → read_front at x ≡ Refused n → Refuses q s n
-    by_front (got p k) i e = let z : ◌≡◌ {A = ℕ} 0 1 = cc in absurd (omega arith)
-    by_front (none k) i e =
-        let same : k ≡ n = cc in
-        let sound = rw i at (front_sound q (drop at s)) in
-        record { is = reads_none (format q) s at g.before g.reads k i ∙ same; some = λ y. sound (same ∙ y) }
+  pub turn_none : (e : Refusal) → Err (number_of e) ≡ read_at q s at → Refuses q s e
+  turn_none e told = by_front (front q (drop at s)) refl told where
+    by_front : (x : Front Record) → front q (drop at s) ≡ x → Err (number_of e) ≡ read_front at x → Refuses q s e
+    by_front (got p k) i told = let z : ◌≡◌ {A = ℕ} 0 1 = cc in absurd (omega arith)
+    by_front (none k) i told = let same : number_of e ≡ k = cc in reads_none (format q) s at g.before g.reads k i ∙ sym same
 
   -- The SZs so far stand in the file.
   pub turn_counted : Inside s j
-  turn_counted = record { overrides_in_lem = g.counts.room; ends_in = omega (arith, g.counts.inside, g.reads.inside) }
+  turn_counted = record { overrides_below = g.counts.room; ends_in = omega (arith, g.counts.inside, g.reads.inside) }
 
-  module _ (r : Record) (next : ℕ) (e : read_at q s at ≡ Got r next) where
+  module _ (r : Record) (next : ℕ) (e : Ok (r, next) ≡ read_at q s at) where
     stands_here : Stands q s at r next
-    stands_here = read_stands q s at r next e
+    stands_here = read_stands q s at r next (sym e)
 
     pub turn_inside : next ≤ length s
     turn_inside = omega (arith, stands_here.next_is, stands_here.fits, length-drop at s, g.reads.inside)
 
     -- EN.
-    pub turn_end : (x : Step) → is_end r ≡ true → x ≡ ended_by s j (length s - next) z → OneStepPost q s at z f x
-    turn_end x b y =
-        let h = stands_here in
-        let ends = reads_end (format q) s at g.before g.reads r h.size h.front_is b in
-        let after : length (drop at s) - h.size ≡ length s - next = omega (arith, h.next_is, length-drop at s) in
-        let code : records_refusal (format q) s ≡ end_code s j (length s - next) z = ends.refusal_is ∙ rw (after, end_is j z f g.before g.stands s at g.counts) in
-        rw y (by_code (end_code s j (length s - next) z) code (sym ends.records_are) (eqb (end_code s j (length s - next) z) 0) refl)
-      where
-        by_code : (n : ℕ) → records_refusal (format q) s ≡ n → g.before ≡ (split (format q) s).records → (b : Bool) → eqb n 0 ≡ b → OneStepPost q s at z f (cond (eqb n 0) (Done j) (Stop n))
-        by_code n c rs true t = rw t (record { none = c ∙ eqb-true n 0 t; room = g.stands.room; inside = turn_counted; job_is = job_is j z f g.before g.stands s at g.counts ∙ ap job_in rs })
-        by_code n c rs false t = rw t (record { is = c; some = eqb-false n 0 t })
+    module _ (b : is_end r ≡ true) where
+      ends : Ends (format q) s g.before (length (drop at s) - stands_here.size)
+      ends = reads_end (format q) s at g.before g.reads r stands_here.size stands_here.front_is b
+
+      code : records_refusal (format q) s ≡ end_code s j (length s - next) z
+      code =
+          let after : length (drop at s) - stands_here.size ≡ length s - next = omega (arith, stands_here.next_is, length-drop at s) in
+          ends.refusal_is ∙ rw (after, end_is j z f g.before g.stands s at g.counts)
+
+      pub turn_lacking : (e : Refusal) → number_of e ≡ end_code s j (length s - next) z → Refuses q s e
+      turn_lacking e is = code ∙ sym is
+
+      pub turn_done : 0 ≡ end_code s j (length s - next) z → Complete q s j z f
+      turn_done is = record { none = code ∙ sym is; room = g.stands.room; inside = turn_counted; job_is = job_is j z f g.before g.stands s at g.counts ∙ ap job_in (sym ends.records_are) }
 
     module _ (b : is_end r ≡ false) where
-      pub turn_fault : (n : ℕ) → n ≡ fault_after q j r → (n ≡ 0 → ⊥) → Refuses q s n
-      turn_fault n e some =
+      pub turn_fault : (e : Refusal) → number_of e ≡ fault_after q j r → Refuses q s e
+      turn_fault e is =
           let h = stands_here in
-          let same : n ≡ fault q g.before r = e ∙ fault_is j z f g.before g.stands q r in
-          record {
-            is = reads_fault (format q) s at g.before g.reads r h.size h.front_is b (λ y. some (same ∙ y)) ∙ sym same;
-            some = some;
-          }
+          let same : number_of e ≡ fault q g.before r = is ∙ fault_is j z f g.before g.stands q r in
+          let some : fault q g.before r ≡ 0 → ⊥ = λ y. omega (arith, number_above_0 e) in
+          reads_fault (format q) s at g.before g.reads r h.size h.front_is b some ∙ sym same
 
       pub turn_fine : fault_after q j r ≡ 0 → Fine j r
       turn_fine clean =
           let u = (or_else_iff (second_refusal j.seen r) (sequence_at q j.place j.bytes r or_else range_fault j.layers j.slots r)).0 clean in
-          record { no_end = b; first = u.0; in_range_lem = ((or_else_iff (sequence_at q j.place j.bytes r) (range_fault j.layers j.slots r)).0 u.1).1 }
+          record { no_end = b; first = u.0; ranges = ((or_else_iff (sequence_at q j.place j.bytes r) (range_fault j.layers j.slots r)).0 u.1).1 }
 
       pub turn_more : fault_after q j r ≡ 0 → (j' : Progress) (z' f' : List ℕ) → TakeRecordPost j z f r next j' z' f' → (at < next) × OneStepPre q s next j' z' f'
       turn_more clean j' z' f' t =
@@ -151,16 +149,4 @@ module _ (q : Bool) (s : List ℕ) (at : ℕ) (j : Progress) (z f : List ℕ) (g
 -- What is left of a record that was taken.
 pub reached : (q : Bool) (s : List ℕ) (at : ℕ) (j : Progress) (z f : List ℕ) → OneStepPre q s at j z f → Reached s at j
 reached q s at j z f g =
-    record { inside = g.reads.inside; overrides_in_lem = omega (arith, g.counts.room, g.counts.inside); slots_in = g.stands.room.slots_in }
-
--- ---- what a turn left, by its answer
-
-module _ (q : Bool) (s : List ℕ) (at : ℕ) (z f : List ℕ) (t : Step) (h : OneStepPost q s at z f t) where
-  pub turned_on : (j : Progress) (next : ℕ) → t ≡ On j next → (at < next) × OneStepPre q s next j z f
-  turned_on j next e = rw e at h
-
-  pub turned_done : (j : Progress) → t ≡ Done j → Complete q s j z f
-  turned_done j e = rw e at h
-
-  pub turned_stop : (n : ℕ) → t ≡ Stop n → Refuses q s n
-  turned_stop n e = rw e at h
+    record { inside = g.reads.inside; overrides_below = omega (arith, g.counts.room, g.counts.inside); slots_in = g.stands.room.slots_in }

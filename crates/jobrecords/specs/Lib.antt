@@ -4,5 +4,6 @@ pub mod Refusal
 pub mod Order
 pub mod Split
 pub mod Reader
+pub mod Handed
 pub mod Theorems
 pub mod lemmas

@@ -2,26 +2,24 @@
 -- buffers afterwards: document 01, "reader answers an enum, record with next cursor or refusal" and
 -- "11. A lent buffer is shorter than the whole result, after all input refusals. In a longer one
 -- the bytes past the result stay unchanged".
-use Rattle.std.specs.Prelude.{ℕ, ◌+◌, ◌≡◌, Bool, cond, ◌&&◌, List, length, drop, leb, eqb}
+use Rattle.std.specs.Prelude.{ℕ, ◌+◌, ◌≡◌, Bool, ◌&&◌, List, length, drop, leb, Result, Ok, Err}
 use Rattle.theory_basics.specs.Lent.{lent_after}
 use Rattle.records.specs.File.{Front, got, none}
 use Rattle.theory_basics.specs.Refusals.{unless, ◌or_else◌}
 use Rattle.job.specs.Job.{Job, layers}
 use Rattle.job.specs.Input.{override_chunks, override_layers, override_bytes}
-use Rattle.jobrecords.specs.declared.JobRead.{JobRead}
-use Rattle.jobrecords.specs.declared.JobRead.TheVariants as jobRead
+use Rattle.refusals.specs.Numbers.{answered}
+use Rattle.jobrecords.specs.declared.ReadJob.{ReadJob}
 use Rattle.jobrecords.specs.declared.Record.{Record}
-use Rattle.jobrecords.specs.declared.Read.{Read}
-use Rattle.jobrecords.specs.declared.Read.TheVariants.{Got, Refused}
 use Rattle.jobrecords.specs.Records.{front}
 use Rattle.jobrecords.specs.Refusal.{refusal_of, job_of_file}
 
 -- What stands in front of the bytes from a place on, with the place after it.
-abbrev pub read_front : ℕ → Front Record → Read
-read_front at (got r n) = Got r (at + n)
-read_front at (none n) = Refused n
+abbrev pub read_front : ℕ → Front Record → Result (Record × ℕ) ℕ
+read_front at (got r n) = Ok (r, at + n)
+read_front at (none n) = Err n
 
-abbrev pub read_at : Bool → List ℕ → ℕ → Read
+abbrev pub read_at : Bool → List ℕ → ℕ → Result (Record × ℕ) ℕ
 read_at sequenced s at = read_front at (front sequenced (drop at s))
 
 -- The lent buffers: for the sizes, for the chunks, layers and sizes of the SZs, and for the
@@ -47,8 +45,8 @@ room_refusal j lent =
     && leb (length j.forecast) (length lent.forecast)))))
 
 -- The answer with a job.
-abbrev pub job_answer : Job → JobRead
-job_answer j = jobRead.Job j.programme (layers j) (length j.overrides) (length j.forecast)
+abbrev pub job_answer : Job → ReadJob
+job_answer j = record { programme = j.programme; layers = layers j; overrides = length j.overrides; slots = length j.forecast }
 
 -- The buffers after a job was read into them, or after a refusal.
 abbrev pub lent_by : ℕ → Job → Buffers → Buffers
@@ -67,8 +65,8 @@ module _ (sequenced : Bool) (s : List ℕ) (lent : Buffers) where
   job_read_refusal = refusal_of sequenced s or_else room_refusal (job_of_file sequenced s) lent
 
   -- The answer.
-  unfoldable pub read_answer : JobRead
-  read_answer = cond (eqb job_read_refusal 0) (job_answer (job_of_file sequenced s)) (jobRead.Refused job_read_refusal)
+  unfoldable pub read_answer : Result ReadJob ℕ
+  read_answer = answered job_read_refusal (job_answer (job_of_file sequenced s))
 
   -- The lent buffers afterwards.
   unfoldable pub lent_read : Buffers
@@ -76,7 +74,7 @@ module _ (sequenced : Bool) (s : List ℕ) (lent : Buffers) where
 
 -- What `read_job` promises of a file and the buffers that it is lent, with its answer and the
 -- buffers afterwards.
-pub record JobReadPromise (sequenced : Bool) (file : List ℕ) (lent : Buffers) (r : JobRead) (lent' : Buffers) : Type 0 where
+pub record JobReadPromise (sequenced : Bool) (file : List ℕ) (lent : Buffers) (r : Result ReadJob ℕ) (lent' : Buffers) : Type 0 where
   -- The job, or a refusal's number: those of the file first, and "11. A lent buffer is shorter than
   -- the whole result, after all input refusals".
   pub answer : r ≡ read_answer sequenced file lent

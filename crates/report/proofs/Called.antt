@@ -23,7 +23,7 @@ use Rattle.fetch.specs.Slices.{ListSlices, slices_of}
 use Rattle.planner.specs.Answer.{PlanOutput, answer_of, given, holds, plan_refusal, plan_rows, slice_after}
 use Rattle.planner.specs.declared.Answer.TheVariants.{Rows as made, Refused as refused}
 use Rattle.planner.specs.declared.Planned.{Planned}
-use Rattle.report.specs.declared.table.Spent.TheVariants.{Bytes as sent, Refused as unsent}
+use Rattle.std.specs.Prelude.{Ok, Err}
 use Rattle.report.specs.lemmas.Tables.{Rows, Summed, Tabled}
 use Rattle.report.specs.lemmas.Again.{rows_again}
 use Rattle.report.proofs.Own.{own_rows, spent_again}
@@ -71,7 +71,7 @@ module _ {h : JobInput} {r : Planned} {m s c l b : List ℕ} (p : PlanOutput h (
       let u = rows_case h (eqb (job_refusal h) 0) n (sym (p.answer ∙ answers h) ∙ e) in
       (eqb→eq (job_refusal h) 0 (subst T (sym u.0) tt), u.1)
 
-  pub answered_refused : {n : ℕ} {table : List ℕ} → r.answer ≡ refused n → Tabled h table (unsent n)
+  pub answered_refused : {n : ℕ} {table : List ℕ} → r.answer ≡ refused n → Tabled h table (Err n)
   answered_refused {n} e =
       let u = refused_case h (eqb (job_refusal h) 0) n (sym (p.answer ∙ answers h) ∙ e) in
       record { spent = rw (u.0, u.1); by_rows = λ z. absurd (subst T (sym (eq-eqb (job_refusal h) 0 z) ∙ u.0) tt) }
@@ -125,7 +125,7 @@ module _ {h : JobInput} {n : ℕ} {ss cs ls bs : List ℕ} (c : Made h n ss cs l
 
   pub made_tabled :
       {table : List ℕ} {spent : ℕ} → Summed (rows_of (take n ss) (take n cs) (take n ls) (take n bs)) table →
-      spent ≡ sum (λ k. get_or (take n bs) k 0) (length (take n bs)) → Tabled h table (sent spent)
+      spent ≡ sum (λ k. get_or (take n bs) k 0) (length (take n bs)) → Tabled h table (Ok spent)
   made_tabled {table} s e =
       let rows = plan_rows (job_in h) in
       let spent_is = rw c.bytes_are.is at e ∙ spent_again rows in

@@ -23,9 +23,9 @@ count_piece sizes table count n = 32 ∷ digits (count_by sizes table count n)
 -- The five parts of the text, with the numbers that the calls before hand over, and the room for
 -- each after those before it.
 module _
-    (p : Programme) (sizes table out : List ℕ) (depth spent left : ℕ) {film last held switch : ℕ}
+    (p : Programme) (sizes table out : List ℕ) (depth spent left : ℕ) {last held switch : ℕ}
     (h : length (lines_by p sizes depth table spent left) ≤ length out)
-    (d : film ≡ p.chunks * p.span) (e : last ≡ last_due p) (f : held ≡ p.limit / p.span) (g : switch ≡ switch_by sizes table depth p.chunks) where
+    (e : last ≡ last_due p) (f : held ≡ p.limit / p.span) (g : switch ≡ switch_by sizes table depth p.chunks) where
   abbrev one : List ℕ
   one = line (ascii "slots") (digits last ∷ ascii "chunks" ∷ digits p.chunks ∷ ascii "held" ∷ digits held ∷ [])
 
@@ -39,11 +39,11 @@ module _
   four = line (ascii "bytes") (digits spent ∷ ascii "left" ∷ digits left ∷ [])
 
   abbrev five : List ℕ
-  five = switch_lines switch film
+  five = switch_lines switch (p.chunks * p.span)
 
   room : 0 + length (one ++ (two ++ (three ++ (four ++ five)))) ≤ length out
   unfolding lines_by
-  room = rw (d, e, f, g) (omega arith)
+  room = rw (e, f, g) (omega arith)
 
   pub room_one : 0 + length one ≤ length out
   room_one = room_first 0 one (two ++ (three ++ (four ++ five))) room
@@ -76,5 +76,5 @@ module _
           pub whole : {out₅ : List ℕ} {at₅ : ℕ} → Put out₄ at₄ five out₅ at₅ → Put out 0 (lines_by p sizes depth table spent left) out₅ at₅
           unfolding lines_by
           whole p₅ =
-              rw (← d, ← e, ← f, ← g)
+              rw (← e, ← f, ← g)
               (put_then one (two ++ (three ++ (four ++ five))) room p₁ (put_then two (three ++ (four ++ five)) room₁ p₂ (put_then three (four ++ five) room₂ p₃ (put_then four five room₃ p₄ p₅))))

@@ -20,28 +20,27 @@ use Rattle.report.specs.Answer.{Answered, ReportPromise, plan_report_fits, plan_
 use Rattle.report.specs.Report.{bytes_in_rows}
 use Rattle.records.specs.declared.Written.{Written}
 use Rattle.records.specs.declared.Written.TheVariants.{Refused}
-use Rattle.report.specs.declared.table.Spent.{Spent}
-use Rattle.report.specs.declared.table.Spent.TheVariants.{Bytes as sent, Refused as unsent}
+use Rattle.std.specs.Prelude.{Result, Ok, Err}
 use Rattle.report.specs.lemmas.Tables.{SizesIn, Tabled, lines_by}
 use Rattle.report.proofs.ByTable.{forecast_is, lines_are}
 
-sent_case : (h : JobInput) (b : Bool) (n : ℕ) → cond b (sent (bytes_in_rows (plan_rows (job_in h)))) (unsent (job_refusal h)) ≡ sent n → (b ≡ true) × (n ≡ bytes_in_rows (plan_rows (job_in h)))
+sent_case : (h : JobInput) (b : Bool) (n : ℕ) → cond b (Ok (bytes_in_rows (plan_rows (job_in h)))) (Err (job_refusal h)) ≡ Ok n → (b ≡ true) × (n ≡ bytes_in_rows (plan_rows (job_in h)))
 sent_case h true n e = (cc, cc)
 sent_case h false n e = let z : ◌≡◌ {A = ℕ} 0 1 = cc in absurd (omega arith)
 
-unsent_case : (h : JobInput) (b : Bool) (n : ℕ) → cond b (sent (bytes_in_rows (plan_rows (job_in h)))) (unsent (job_refusal h)) ≡ unsent n → (b ≡ false) × (n ≡ job_refusal h)
+unsent_case : (h : JobInput) (b : Bool) (n : ℕ) → cond b (Ok (bytes_in_rows (plan_rows (job_in h)))) (Err (job_refusal h)) ≡ Err n → (b ≡ false) × (n ≡ job_refusal h)
 unsent_case h true n e = let z : ◌≡◌ {A = ℕ} 0 1 = cc in absurd (omega arith)
 unsent_case h false n e = (cc, cc)
 
-module _ {h : JobInput} {table : List ℕ} {r : Spent} (t : Tabled h table r) where
-  pub refused : {no : ℕ} {out : List ℕ} → r ≡ unsent no → ReportPromise h out (Refused no) out
+module _ {h : JobInput} {table : List ℕ} {r : Result ℕ ℕ} (t : Tabled h table r) where
+  pub refused : {no : ℕ} {out : List ℕ} → r ≡ Err no → ReportPromise h out (Refused no) out
   refused {no} {out} e =
       let u = unsent_case h (eqb (job_refusal h) 0) no (sym t.spent ∙ e) in
       let n : job_refusal h ≡ 0 → ⊥ = λ z. subst T u.0 (subst (λ (k : ℕ). T (eqb k 0)) (sym z) tt) in
       let f : report_refusal h out ≡ job_refusal h = or_else_some (job_refusal h) (room_refusal (plan_report (job_in h)) out) n in
       record { result = rw (f, u.0, u.1); buffer = rw (f, u.0) }
 
-  module _ {n : ℕ} (e : r ≡ sent n) where
+  module _ {n : ℕ} (e : r ≡ Ok n) where
     case : (eqb (job_refusal h) 0 ≡ true) × (n ≡ bytes_in_rows (plan_rows (job_in h)))
     case = sent_case h (eqb (job_refusal h) 0) n (sym t.spent ∙ e)
 

@@ -10,7 +10,7 @@ use records::Written;
 mod lines;
 mod table;
 
-ghost use Rattle.std.specs.Prelude.{◌≡◌, ◌∷◌, ◌+◌, ◌*◌, ◌-◌, ◌≤◌, length, replicate};
+ghost use Rattle.std.specs.Prelude.{◌≡◌, ◌∷◌, ◌+◌, ◌≤◌, length, replicate};
 ghost use Rattle.theory_basics.specs.Lists.{up_to};
 ghost use Rattle.job.specs.Input.{job_input};
 ghost use Rattle.theory_basics.specs.Text.{ascii, digits, line, text};
@@ -36,12 +36,10 @@ fn chunk_lines(
         out.new result }
 {
     let mut next = at;
-    let mut i: u16 = 0;
-    while i < count {
-        let k = i + 1;
-        let chunk = table::chunk_of(sizes, depth, table, k);
-        next = lines::chunk_line(out, next, k as u64, chunk.layers, chunk.bytes);
-        i = k;
+    for k in 0..count {
+        let i = k + 1;
+        let chunk = table::chunk_of(sizes, depth, table, i);
+        next = lines::chunk_line(out, next, i as u64, chunk.layers, chunk.bytes);
     }
     next
 }
@@ -64,11 +62,9 @@ fn layer_counts(
         out.new result }
 {
     let mut next = at;
-    let mut n: usize = 0;
-    while n < depth {
+    for n in 0..depth {
         let carry = table::layer_count(sizes, table, count, n);
         next = lines::put_next(out, next, carry);
-        n = n + 1;
     }
     next
 }
@@ -96,25 +92,6 @@ fn layers_line(
     lines::put_end(out, end)
 }
 
-// Truncated: what is left is never below 0.
-fn less(total: u64, spent: u64) -> u64
-    ensures { result ≡ total - spent }
-{
-    if total < spent {
-        return 0;
-    }
-    total - spent
-}
-
-// C × L, the slots of film in the programme.
-fn film_slots(p: Programme) -> u64
-    ensures { result ≡ p.chunks * p.span }
-{
-    let chunks = p.chunks as u64;
-    let span = p.span as u64;
-    chunks * span
-}
-
 // The lines, by the table and the sums.
 fn put_lines(
     p: Programme,
@@ -135,7 +112,7 @@ fn put_lines(
         out.new result }
 {
     let count = p.chunks;
-    let film = film_slots(p);
+    let film = p.chunks as u64 * p.span as u64;
     let last = job::last_due(p) as u64;
     let held = job::held_most(p) as u64;
     let switch = table::switch_sum(sizes, depth, table, count);
@@ -151,10 +128,11 @@ fn copy_out(text: &[u8], out: &mut [u8]) -> Written
     ensures { Answered text.now out.old result out.new }
 {
     if out.len() < text.len() {
-        return Written::Refused(11);
+        Written::Refused(11)
+    } else {
+        records::put(out, 0, text);
+        Written::Bytes(text.len())
     }
-    records::put(out, 0, text);
-    Written::Bytes(text.len())
 }
 
 // The lines, made in a local buffer that holds any report, over the front of the lent one, if they
@@ -192,7 +170,7 @@ fn plan_table(
     size_bytes: &[u32],
     forecast: &[u32],
     table: &mut [u64; SIZES],
-) -> table::Spent
+) -> Result<u64, u8>
     requires { table.old ≡ replicate 2000 0 }
     ensures { Tabled
         (job_input p sizes.now size_chunks.now size_layers.now
@@ -217,13 +195,12 @@ fn plan_table(
         &mut layers,
         &mut bytes,
     );
-    let answer = made.answer;
-    match answer {
-        Answer::Refused(no) => table::Spent::Refused(no),
+    match made.answer {
+        Answer::Refused(no) => Err(no),
         Answer::Rows(n) => {
             let each = &bytes[..n];
             table::add_rows(&slots[..n], &chunks[..n], &layers[..n], each, table);
-            table::Spent::Bytes(table::sum_of(each))
+            Ok(table::sum_of(each))
         }
     }
 }
@@ -255,9 +232,9 @@ pub fn report(
         &mut table,
     );
     match made {
-        table::Spent::Refused(no) => Written::Refused(no),
-        table::Spent::Bytes(spent) => {
-            let left = less(table::sum_of(forecast), spent);
+        Err(no) => Written::Refused(no),
+        Ok(spent) => {
+            let left = table::sum_of(forecast).saturating_sub(spent);
             let unset = p.chunks as u32;
             let mut stored = [unset; SIZES];
             core_sizes::fill_sizes(sizes, size_chunks, size_layers, size_bytes, &mut stored);

@@ -1,15 +1,14 @@
 -- Meaning. What the call answers: the smallest s by trying one after the other, each with the plan
 -- of its job, or a refusal's number. The call's contract says beside it, in the words of Wait, what
 -- a delay and what 16 mean.
-use Rattle.std.specs.Prelude.{ℕ, zero, suc, ◌*◌, ◌-◌, ◌≡◌, Bool, cond, List, ◌↔◌, length, eqb, ltb}
+use Rattle.std.specs.Prelude.{Result, Ok, Err, ℕ, zero, suc, ◌*◌, ◌-◌, ◌≡◌, Bool, cond, List, ◌↔◌, length, ltb}
 use Rattle.theory_basics.specs.Tests.{all_to}
 use Rattle.theory_basics.specs.Refusals.{unless, ◌or_else◌}
+use Rattle.refusals.specs.Numbers.{answered}
 use Rattle.job.specs.Input.{WholeSizes, overrides_of, whole_refusal}
 use Rattle.job.specs.Job.{Accepted, Job, chunks}
 use Rattle.job.specs.Refusal.{bytes_refusal, film_refusal, overrides_refusal, sizes_refusal, within}
 use Rattle.theory_plan.specs.Plan.{plan}
-use Rattle.wait.specs.declared.Answer.{Answer}
-use Rattle.wait.specs.declared.Answer.TheVariants.{Delay, Refused}
 use Rattle.wait.specs.Wait.{Film, FilmInRange, NoneWorks, ShortestWait, film_of, job_at, programme_at}
 
 -- ---- the smallest s
@@ -96,8 +95,8 @@ wait_refusal h = input_refusal h or_else sixteen_refusal (film_in h)
 -- ---- the call
 
 -- The smallest s, or the refusal's number.
-abbrev pub answer_of : WaitInput → Answer
-answer_of h = cond (eqb (wait_refusal h) 0) (Delay (shortest (film_in h))) (Refused (wait_refusal h))
+abbrev pub answer_of : WaitInput → Result ℕ ℕ
+answer_of h = answered (wait_refusal h) (shortest (film_in h))
 
 -- ---- what the answer means
 
@@ -114,16 +113,16 @@ pub record Answered (h : WaitInput) (s : ℕ) : Type 0 where
   pub shortest : ShortestWait (film_in h) s
 
 -- The call answers s exactly then,
-abbrev pub DelayMeans : WaitInput → Answer → Type 0
-DelayMeans h r = (s : ℕ) → (r ≡ Delay s) ↔ Answered h s
+abbrev pub DelayMeans : WaitInput → Result ℕ ℕ → Type 0
+DelayMeans h r = (s : ℕ) → (r ≡ Ok s) ↔ Answered h s
 
 -- and 16 exactly if every SZ is handed whole, the input is in range and no s within the forecast
 -- works.
-abbrev pub SixteenMeans : WaitInput → Answer → Type 0
-SixteenMeans h r = (r ≡ Refused 16) ↔ ((WholeSizesIn h × FilmInRange (film_in h)) × NoneWorks (film_in h))
+abbrev pub SixteenMeans : WaitInput → Result ℕ ℕ → Type 0
+SixteenMeans h r = (r ≡ Err 16) ↔ ((WholeSizesIn h × FilmInRange (film_in h)) × NoneWorks (film_in h))
 
 -- What `wait` promises of a film as handed, with its answer.
-pub record WaitPromise (h : WaitInput) (r : Answer) : Type 0 where
+pub record WaitPromise (h : WaitInput) (r : Result ℕ ℕ) : Type 0 where
   -- The smallest s, or a refusal's number: "5 without s and d(C), 6, and 7", with 18 before 7, then
   -- 16.
   pub answer : r ≡ answer_of h

@@ -2,7 +2,7 @@
 -- that there is none; and "the plan skips no base" is the same as "some passing list carries every
 -- base", for lists in playing order, and for equal chunks in any order.
 use Prim.Native.Nat.{ℕ, ◌+◌, ◌≤◌, ◌<◌}
-use Rattle.std.specs.Prelude.{◌≡◌, refl, Bool, true, false, cond, ◌&&◌, ◌↔◌, length, T}
+use Rattle.std.specs.Prelude.{Ok, Err, ◌≡◌, refl, Bool, true, false, cond, ◌&&◌, ◌↔◌, length, T}
 use Rattle.std.proofs.Math.Path.{sym}
 use Rattle.std.proofs.Common.{◌∙◌, subst, arith, length-take-le}
 use Rattle.std.proofs.Math.Logic.{⊎_elim}
@@ -21,7 +21,6 @@ use Rattle.theory_plan.specs.Plan.{plan}
 use Rattle.theory_plan.specs.Statement.{CanCarry, IsPlan, NoSkip}
 use Rattle.theory_plan.proofs.Theorems.{plan_exists, plan_unique}
 use Rattle.theory_plan.specs.lemmas.Words.{accepted_sized}
-use Rattle.wait.specs.declared.Answer.TheVariants.{Delay, Refused}
 use Rattle.wait.specs.Answer.{DelayMeans, WaitInput, WholeSizesIn, SixteenMeans, answer_of, eighteen_refusal, film_in, five_refusal, input_refusal, numbers_refusal, seven_refusal, shortest, six_refusal, sixteen_refusal, skips_none, slots_refusal, tries, wait_refusal}
 use Rattle.wait.specs.Wait.{Film, FilmInRange, NoneWorks, ShortestWait, SomeList, SomeOrdered, Tried, Works, job_at, programme_at}
 use Rattle.wait.specs.lemmas.Bases.{no_skip_any, no_skip_can_carry, no_skip_ordered}
@@ -222,11 +221,11 @@ module _ (h : WaitInput) where
   abbrev film : Film
   film = film_in h
 
-  delay_test : (s : ℕ) (b : Bool) → cond b (Delay (shortest film)) (Refused (wait_refusal h)) ≡ Delay s → (b ≡ true) × (shortest film ≡ s)
+  delay_test : (s : ℕ) (b : Bool) → cond b (Ok (shortest film)) (Err (wait_refusal h)) ≡ Ok s → (b ≡ true) × (shortest film ≡ s)
   delay_test s true e = (cc, cc)
   delay_test s false e = let z : ◌≡◌ {A = ℕ} 0 1 = cc in absurd (omega arith)
 
-  refused_test : (n : ℕ) (b : Bool) → cond b (Delay (shortest film)) (Refused (wait_refusal h)) ≡ Refused n → wait_refusal h ≡ n
+  refused_test : (n : ℕ) (b : Bool) → cond b (Ok (shortest film)) (Err (wait_refusal h)) ≡ Err n → wait_refusal h ≡ n
   refused_test n true e = let z : ◌≡◌ {A = ℕ} 0 1 = cc in absurd (omega arith)
   refused_test n false e = cc
 
@@ -246,7 +245,7 @@ module _ (h : WaitInput) where
   )
 
   -- 5, 6, 18 and 7 come first,
-  pub input_first : 0 < input_refusal h → answer_of h ≡ Refused (input_refusal h)
+  pub input_first : 0 < input_refusal h → answer_of h ≡ Err (input_refusal h)
   unfolding wait_refusal
   input_first p =
       let z : input_refusal h ≡ 0 → ⊥ = λ e. omega (arith, p, e) in
@@ -304,5 +303,5 @@ module _ (h : WaitInput) where
   )
 
   -- a forecast too short for s = 1 included."
-  pub too_short : WholeSizesIn h → FilmInRange film → length film.forecast < last_due (programme_at film 1) → answer_of h ≡ Refused 16
+  pub too_short : WholeSizesIn h → FilmInRange film → length film.forecast < last_due (programme_at film 1) → answer_of h ≡ Err 16
   too_short whole r l = sixteen_iff.1 ((whole, r), λ s k. omega (arith, l, k.tried.low, k.tried.reaches))

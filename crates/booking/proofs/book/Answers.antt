@@ -1,23 +1,18 @@
--- `booking::book` meets its contract. Assumes nothing.
-use Rattle.job.specs.Input.{job_input}
-use Rattle.fetch.specs.Slices.{slices_of}
-use Rattle.booking.proofs.Answers.{book_refused, book_asks, book_done}
+use Rattle.fetch.specs.Handed.{handed_list}
+use Rattle.booking.specs.Answer.{lent_job}
+use Rattle.booking.proofs.Answers.{book_none, book_asks, book_done}
 use Rattle.booking.proofs.book.Goals as goal
-
-pub returns-then-no-ne0 : goal.returns-then-no-ne0
-returns-then-no-ne0 c =
-    let a = c.args in
-    let h = job_input a.p a.sizes.now a.size_chunks.now a.size_layers.now a.size_bytes.now a.forecast.now in
-    book_refused h (slices_of a.marks.now a.slots.now a.chunks.now a.layers.now a.bytes.now) c.check-checked.result c.refusal_of-no.result c.check-checked.ensures c.refusal_of-no.ensures c.if-no-ne0.true
 
 pub take_off-requires : goal.take_off-requires
 take_off-requires c =
     let a = c.args in
-    let h = job_input a.p a.sizes.now a.size_chunks.now a.size_layers.now a.size_bytes.now a.forecast.now in
-    book_asks h (slices_of a.marks.now a.slots.now a.chunks.now a.layers.now a.bytes.now) c.check-checked.result c.refusal_of-no.result c.check-checked.ensures c.refusal_of-no.ensures c.if-no-ne0.false
+    let h = lent_job a.p a.sizes.now a.overrides.now a.forecast.now in
+    let s = handed_list a.list.now in
+    book_asks h s (book_none h s c.in_ok-verdict.verdict c.in_ok-verdict.ensures c.in_ok-refuse_unless.ensures)
 
 pub returns : goal.returns
 returns c =
     let a = c.args in
-    let h = job_input a.p a.sizes.now a.size_chunks.now a.size_layers.now a.size_bytes.now a.forecast.now in
-    book_done h (slices_of a.marks.now a.slots.now a.chunks.now a.layers.now a.bytes.now) c.check-checked.result c.refusal_of-no.result c.check-checked.ensures c.refusal_of-no.ensures c.if-no-ne0.false c.take_off.new.forecast c.take_off.ensures
+    let h = lent_job a.p a.sizes.now a.overrides.now a.forecast.now in
+    let s = handed_list a.list.now in
+    book_done h s (book_none h s c.in_ok-verdict.verdict c.in_ok-verdict.ensures c.in_ok-refuse_unless.ensures) c.take_off.new.forecast c.take_off.ensures

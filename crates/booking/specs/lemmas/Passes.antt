@@ -1,11 +1,8 @@
 -- Lemmas. What the code's parts hand on. Its passes over the rows see of a row only its slot and
 -- its bytes.
-use Rattle.std.specs.Prelude.{ℕ, ◌≤◌, ◌<◌, ◌≡◌, List, [], length, eqb}
-use Rattle.theory_basics.specs.Refusals.{unless}
+use Rattle.std.specs.Prelude.{ℕ, ◌≤◌, ◌<◌, ◌≡◌, List, [], length}
 use Rattle.theory_basics.specs.Lists.{up_to}
 use Rattle.fetch.specs.Rows.{Row, bytes_in_slot, row_at}
-use Rattle.checker.specs.declared.Checked.{Checked}
-use Rattle.checker.specs.declared.Checked.TheVariants as check
 use Rattle.booking.specs.Booking.{slot_has, added_back, SlotsThere, Releasable}
 
 -- The first n rows, by their slots and bytes alone.
@@ -23,8 +20,3 @@ pub record Added (f slots bytes : List ℕ) (n r : ℕ) (after : List ℕ) : Typ
   pub fits : Releasable f (bare slots bytes r)
   pub says : after ≡ added_back f (bare slots bytes r)
   pub stops : r < n → Releasable f (bare slots bytes n) → ⊥
-
--- What a check says against booking.
-abbrev pub refused_by : Checked → ℕ
-refused_by (check.Verdict v) = unless 19 (eqb v 0)
-refused_by (check.Refused n) = n

@@ -6,4 +6,4 @@ use Rattle.checker.specs.lemmas.Judged.{allowed_by, early}
 use Rattle.checker.proofs.allowed_chunk.Given as goal
 
 abbrev pub invariant-loop-n : goal.invariant-loop-n
-invariant-loop-n l = l.all ≡ all_below l.n (allowed_by (table_at l.table) l.layersum (early l.late) l.i)
+invariant-loop-n l = l.all ≡ all_below l.n (allowed_by (table_at l.sums.table.now) l.sums.layers.now (early l.late) l.i)

@@ -37,12 +37,15 @@ sweep-few-requires c =
     let ok = input_accepted (handed c.args.job.now) c.requires.0 in
     (ok.chunks_in.high, omega (arith, c.last_due-last.ensures, ok.last_in), λ i h. due_most c.args.job.now.programme i 3600 ok.last_in h, (c.tally-pass.ensures.tables c.if-pass.true).some_slot)
 
+pub invariant_of-sums : goal.invariant_of-sums
+invariant_of-sums c = record { few_layers = (input_accepted (handed c.args.job.now) c.requires.0).layers_in.high }
+
 pub allowed_from-whole-requires : goal.allowed_from-whole-requires
 allowed_from-whole-requires c =
     let ok = input_accepted (handed c.args.job.now) c.requires.0 in
     let l = handed_list c.args.list.now in
     let w = whole_list c.args.job.now.programme.chunks l c.requires.1 in
-    (ok.layers_in.high, ok.chunks_in.high, in_tables c.last_due-last.result c.args.job.now.programme.chunks _ (handed_rows c.args.list.now.rows) (sym c.tally-pass.ensures.ranged ∙ c.if-pass.true) (omega (arith, c.last_due-last.ensures, ok.last_in)) ok.chunks_in.high ok.layers_in.high w.chunk_each w.layer_each)
+    (ok.chunks_in.high, in_tables c.last_due-last.result c.args.job.now.programme.chunks _ (handed_rows c.args.list.now.rows) (sym c.tally-pass.ensures.ranged ∙ c.if-pass.true) (omega (arith, c.last_due-last.ensures, ok.last_in)) ok.chunks_in.high ok.layers_in.high w.chunk_each w.layer_each)
 
 pub returns-after-seen : goal.returns-after-seen
 returns-after-seen c =

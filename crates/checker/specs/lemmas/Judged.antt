@@ -1,8 +1,11 @@
 -- Lemmas. What the checker's private functions say: rule 2 of the second call by tables.
 use Rattle.std.specs.Prelude.{ℕ, ◌+◌, ◌*◌, ◌-◌, ◌≤◌, ◌<◌, ◌≡◌, Bool, false, not, ◌&&◌, ◌||◌, List, length, get_or, ltb, eqb}
+use Rattle.theory_basics.specs.Tests.{all_below}
+use Rattle.core_sizes.specs.Table.{table_at}
 use Rattle.fetch.specs.Rows.{Row, row_at}
 use Rattle.fetch.specs.Slices.{RowSlices}
 use Rattle.fetch.specs.VerdictFrom.{layer_before}
+use Rattle.checker.specs.declared.sums.Sums.{Sums}
 
 -- ---- rule 2 of the second call
 
@@ -13,6 +16,10 @@ allowed_sum s z before = eqb s 0 || (eqb s z || (ltb s z && before))
 -- So of layer n of chunk i, by the table of sums and a test of its rows.
 abbrev pub allowed_by : (ℕ → ℕ → ℕ) → List ℕ → (ℕ → ℕ → Bool) → ℕ → ℕ → Bool
 allowed_by size layersum before i n = allowed_sum (get_or layersum (4 * (i - 1) + n) 0) (size i n) (before i n)
+
+-- So of every layer of chunk i.
+abbrev pub allowed_layers : Sums → (ℕ → ℕ → Bool) → ℕ → Bool
+allowed_layers s before i = all_below s.depth (allowed_by (table_at s.table.now) s.layers.now before i)
 
 -- A table has no flag for a layer whose rows are all before.
 abbrev pub early : List Bool → ℕ → ℕ → Bool

@@ -1,10 +1,8 @@
 -- The places before k have what is left.
-use Prim.Native.Nat.{◌-◌}
-use Rattle.core_replan_input.proofs.Flags.{Leaving}
+use Prim.Native.Nat.{ℕ, ◌-◌, ◌<◌}
+use mathlib.Core.Path.{◌≡◌}
+use lib.ListN.{get_or}
 use Rattle.core_replan_input.proofs.set_left.Given as goal
 
 abbrev pub invariant-loop-k : goal.invariant-loop-k
-invariant-loop-k l = Leaving l.table l.sums l.left l.k
-
-abbrev pub decreases-loop-k : goal.decreases-loop-k
-decreases-loop-k l = 2000 - l.k
+invariant-loop-k l = (m : ℕ) → m < l.k → get_or l.left m 0 ≡ get_or l.table m 0 - get_or l.sums m 0

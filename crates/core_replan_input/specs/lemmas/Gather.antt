@@ -22,7 +22,6 @@ few_by size sums i n = leb (get_or sums (4 * (i - 1) + n) 0) (size i n)
 pub record Flags (size : ℕ → ℕ → ℕ) (sums first : List ℕ) (depth count : ℕ) (begun whole : List ℕ) : Type 0 where
   pub begun_is : (i : ℕ) → 1 ≤ i → i ≤ count → eqb (of begun i) 1 ≡ ltb (get_or first i 0) 65535
   pub whole_is : (i : ℕ) → 1 ≤ i → i ≤ count → of whole i ≡ mark_byte (carried_by size sums i) depth
-  pub long : (length begun ≡ 500) × (length whole ≡ 500)
 
 -- And whether they keep rule 3, and no sum exceeds its size.
 pub record SetFlagsPost (size : ℕ → ℕ → ℕ) (sums first : List ℕ) (depth count : ℕ) (r : Kept) (begun whole : List ℕ) : Type 0 where
@@ -43,7 +42,6 @@ pub record InTurnPost (first : List ℕ) (count : ℕ) (r : Bool) : Type 0 where
 
 pub record SetLeftPost (table sums left : List ℕ) : Type 0 where
   pub is : (k : ℕ) → k < 2000 → get_or left k 0 ≡ get_or table k 0 - get_or sums k 0
-  pub long : length left ≡ 2000
 
 -- ---- the whole
 
@@ -55,7 +53,6 @@ pub record GatherPre (p : Programme) (depth : ℕ) (earlier ss cs ls bs left beg
   pub chunk_each : length ss ≡ length cs
   pub layer_each : length ss ≡ length ls
   pub bytes_each : length ss ≡ length bs
-  pub long : (length left ≡ 2000) × (length begun ≡ 500) × (length whole ≡ 500)
 
 -- For every accepted job whose sizes the table has and whose forecast begins with earlier: the
 -- rows, all in its slots, keep what 22 asks exactly if the answer is yes, and then the tables are
@@ -69,4 +66,3 @@ pub record GatherPost (p : Programme) (table : List ℕ) (depth : ℕ) (earlier 
       Tabled (job_from p sizes os earlier part) rows (table_at left) begun whole
   pub small :
       r ≡ true → (sizes : List ℕ) (os : List Override) (part : List ℕ) → Shown table depth (job_from p sizes os earlier part) → Small (table_at left)
-  pub long : (length begun ≡ 500) × (length whole ≡ 500)

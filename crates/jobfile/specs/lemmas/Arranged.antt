@@ -130,14 +130,14 @@ faults_from : (before rs : List Record) → All Good rs → Room before rs → f
 faults_from before [] g m = refl
 faults_from before (Pg p ∷ rs) g m =
     let new = unseen (has_programme before) (programmes rs) m.one in
-    next before (Pg p) rs (record { first = rw new refl; turn = refl; in_range_lem = g.0 })
+    next before (Pg p) rs (record { first = rw new refl; turn = refl; ranges = g.0 })
     (faults_from (before ++ (Pg p ∷ [])) rs g.1 (record {
       one = rw (has_append before (Pg p ∷ []), new) (omega (arith, m.one));
       layers = omega (arith, sizes_more before (Pg p), m.layers);
       slots = omega (arith, slots_more before (Pg p), m.slots);
     }))
 faults_from before (Ly size ∷ rs) g m =
-    next before (Ly size) rs (record { first = refl; turn = refl; in_range_lem = layer_clean (length (sizes_in before)) size (omega (arith, m.layers)) g.0 })
+    next before (Ly size) rs (record { first = refl; turn = refl; ranges = layer_clean (length (sizes_in before)) size (omega (arith, m.layers)) g.0 })
     (faults_from (before ++ (Ly size ∷ [])) rs g.1 (record {
       one = rw (has_same before (Ly size ∷ []) refl) m.one;
       layers = omega (arith, sizes_more before (Ly size), m.layers);
@@ -148,7 +148,7 @@ faults_from before (Bw count bytes ∷ rs) g m =
     let here = run_slots count bytes (forecast_in rs) in
     let alone = run_slots count bytes [] in
     next before (Bw count bytes) rs
-    (record { first = refl; turn = refl; in_range_lem = run_clean (length (forecast_in before)) count bytes (omega (arith, m.slots)) g.0.0 g.0.2 })
+    (record { first = refl; turn = refl; ranges = run_clean (length (forecast_in before)) count bytes (omega (arith, m.slots)) g.0.0 g.0.2 })
     (faults_from (before ++ (Bw count bytes ∷ [])) rs g.1 (record {
       one = rw (has_same before (Bw count bytes ∷ []) refl) m.one;
       layers = omega (arith, sizes_more before (Bw count bytes), m.layers);
@@ -219,7 +219,7 @@ stand before (Pg p ∷ rs) e n o = (tt, stand (before ++ (Pg p ∷ [])) rs (both
 stand before (Ly size ∷ rs) e n o = (tt, stand (before ++ (Ly size ∷ [])) rs (both before (Ly size) rs e).1 n.1 o)
 stand before (Sz chunk layer bytes ∷ rs) e n o = absurd (let z : ◌≡◌ {A = ℕ} 0 1 = cc in omega arith)
 stand before (Bw count bytes ∷ rs) e n o = (
-  no_empty_run (length (forecast_in before)) count bytes (clean before (Bw count bytes) rs e).in_range_lem,
+  no_empty_run (length (forecast_in before)) count bytes (clean before (Bw count bytes) rs e).ranges,
   stand (before ++ (Bw count bytes ∷ [])) rs (both before (Bw count bytes) rs e).1 n.1 o,
 )
 stand before (En ∷ rs) e n o = absurd (let z : ◌≡◌ {A = ℕ} 0 1 = cc in omega arith)

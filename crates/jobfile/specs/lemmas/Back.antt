@@ -170,7 +170,7 @@ module _ (j : Job) (a : Accepted j) where
 good_next : (before : List Record) (r : Record) → second_refusal (has_programme before) r ≡ 0 → T (follows (previous before) r) → range_fault (length (sizes_in before)) (length (forecast_in before)) r ≡ 0 → fault one_sequence before r ≡ 0
 good_next before r first turn range =
     no_fault one_sequence (has_programme before) (previous before) (length (sizes_in before)) (length (forecast_in before)) r
-    (record { first = first; turn = (unless_iff 17 (follows (previous before) r) (omega arith)).1 turn; in_range_lem = range })
+    (record { first = first; turn = (unless_iff 17 (follows (previous before) r) (omega arith)).1 turn; ranges = range })
 
 pub layer_clean : (n size : ℕ) → n < 4 → Within 1 16777216 size → layer_fault n size ≡ 0
 layer_clean n size few i = rw (le-leb 1 size i.low, le-leb size 16777216 i.high, le-leb (n + 1) 4 (omega arith))

@@ -1,6 +1,4 @@
--- `jobrecords::read_all` meets its contract. Assumes nothing.
-use Prim.Native.Nat.{◌-◌}
-use lib.ListN.{length}
+use Rattle.std.specs.Prelude.{◌-◌, length}
 use Rattle.jobrecords.specs.lemmas.Reading.{OneStepPre}
 use Rattle.jobrecords.proofs.read_all.Given as goal
 

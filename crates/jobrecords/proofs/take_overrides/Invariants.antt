@@ -1,6 +1,4 @@
--- `jobrecords::take_overrides` meets its contract. Assumes nothing.
-use Prim.Native.Nat.{◌-◌}
-use lib.ListN.{length}
+use Rattle.std.specs.Prelude.{◌-◌, length}
 use Rattle.jobrecords.proofs.Likes.{Passing}
 use Rattle.jobrecords.proofs.take_overrides.Given as goal
 

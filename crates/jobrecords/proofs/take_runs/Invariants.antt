@@ -1,6 +1,4 @@
--- `jobrecords::take_runs` meets its contract. Assumes nothing.
-use Prim.Native.Nat.{◌-◌}
-use lib.ListN.{length}
+use Rattle.std.specs.Prelude.{◌-◌, length}
 use Rattle.jobrecords.proofs.Likes.{Taking}
 use Rattle.jobrecords.proofs.take_runs.Given as goal
 

@@ -26,19 +26,19 @@ use Rattle.jobrecords.specs.lemmas.Sound.{broken_some}
 pub record Faultless (q has : Bool) (last : Record) (layers slots : ℕ) (r : Record) : Type 0 where
   pub first : second_refusal has r ≡ 0
   pub turn : sequence_refusal q last r ≡ 0
-  pub in_range_lem : range_fault layers slots r ≡ 0
+  pub ranges : range_fault layers slots r ≡ 0
 
 module _ (q has : Bool) (last : Record) (layers slots : ℕ) (r : Record) where
   pub faultless : (second_refusal has r or_else sequence_refusal q last r or_else range_fault layers slots r) ≡ 0 → Faultless q has last layers slots r
   faultless e =
       let u = (or_else_iff (second_refusal has r) (sequence_refusal q last r or_else range_fault layers slots r)).0 e in
       let v = (or_else_iff (sequence_refusal q last r) (range_fault layers slots r)).0 u.1 in
-      record { first = u.0; turn = v.0; in_range_lem = v.1 }
+      record { first = u.0; turn = v.0; ranges = v.1 }
 
   pub no_fault : Faultless q has last layers slots r → (second_refusal has r or_else sequence_refusal q last r or_else range_fault layers slots r) ≡ 0
   no_fault f =
       (or_else_iff (second_refusal has r) (sequence_refusal q last r or_else range_fault layers slots r)).1
-      (f.first, (or_else_iff (sequence_refusal q last r) (range_fault layers slots r)).1 (f.turn, f.in_range_lem))
+      (f.first, (or_else_iff (sequence_refusal q last r) (range_fault layers slots r)).1 (f.turn, f.ranges))
 
 pub first_programme : (seen : Bool) (p : Programme) → second_refusal seen (Pg p) ≡ 0 → seen ≡ false
 first_programme seen p e = not_T_false seen ((unless_iff 4 (not seen) (omega arith)).0 e)
@@ -47,8 +47,8 @@ record GoodProgramme (p : Programme) : Type 0 where
   fields : fields_refusal p ≡ 0
   due : last_due_refusal p ≡ 0
 
-pub programme_in_lem : (p : Programme) → (fields_refusal p or_else last_due_refusal p) ≡ 0 → p.chunks ≤ 500
-programme_in_lem p e = ((film_iff p).0 ((or_else_iff (film_refusal p) (delay_refusal p)).0 ((or_else_iff (fields_refusal p) (last_due_refusal p)).0 e).0).0).0.high
+pub programme_few : (p : Programme) → (fields_refusal p or_else last_due_refusal p) ≡ 0 → p.chunks ≤ 500
+programme_few p e = ((film_iff p).0 ((or_else_iff (film_refusal p) (delay_refusal p)).0 ((or_else_iff (fields_refusal p) (last_due_refusal p)).0 e).0).0).0.high
 
 pub layer_in : (layers size : ℕ) → layer_fault layers size ≡ 0 → (layers < 4) × Within 1 16777216 size
 layer_in layers size e =
@@ -123,7 +123,7 @@ module _ (q : Bool) where
   clean_all before (r ∷ rs) k e =
       let u = (or_else_iff (fault q before r) (first_fault (format q) (before ++ (r ∷ [])) rs)).0 e in
       let f = faultless q (has_programme before) (previous before) (length (sizes_in before)) (length (forecast_in before)) r u.0 in
-      rw append_assoc at (clean_all (before ++ (r ∷ [])) rs (clean_more before k r f.first f.in_range_lem) u.1)
+      rw append_assoc at (clean_all (before ++ (r ∷ [])) rs (clean_more before k r f.first f.ranges) u.1)
 
 none_clean : Clean []
 none_clean = record { programme = λ e. absurd (let z : ◌≡◌ {A = ℕ} 0 1 = cc in omega arith); few = omega arith; sizes = tt; forecast = tt }

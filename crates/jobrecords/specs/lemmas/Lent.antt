@@ -1,10 +1,10 @@
 -- Lemmas. The lent buffers of a job reader, field by field; nothing is lent for the SZs of a mixed
 -- file, which has none. Assumes nothing.
-use Rattle.std.specs.Prelude.{ℕ, ◌≡◌, refl, Bool, true, false, cond, List, [], map, eqb}
+use Rattle.std.specs.Prelude.{ℕ, ◌≡◌, refl, Bool, true, false, cond, List, [], map, eqb, Result}
 use Rattle.std.proofs.Common.{sym, ap, ◌∙◌}
 use Rattle.theory_basics.specs.Lent.{lent_after}
 use Rattle.job.specs.Job.{Override}
-use Rattle.jobrecords.specs.declared.JobRead.{JobRead}
+use Rattle.jobrecords.specs.declared.ReadJob.{ReadJob}
 use Rattle.jobrecords.specs.Reader.{Buffers, JobReadPromise, buffers, job_read_refusal, lent_read}
 use Rattle.jobrecords.specs.Refusal.{job_of_file, mixed}
 use Rattle.jobrecords.specs.Theorems.{no_overrides}
@@ -20,7 +20,7 @@ nothing f refused os e = sym (ap (λ (l : List Override). lent_after refused (ma
     either true = refl
     either false = refl
 
-pub nothing_lent : (file sizes forecast : List ℕ) (r : JobRead) (after : Buffers) →
+pub nothing_lent : (file sizes forecast : List ℕ) (r : Result ReadJob ℕ) (after : Buffers) →
     JobReadPromise mixed file (buffers sizes [] [] [] forecast) r after →
     JobReadPromise mixed file (buffers sizes [] [] [] forecast) r (buffers after.sizes [] [] [] after.forecast)
 unfolding lent_read

@@ -110,7 +110,7 @@ mixed_faults before [] e = refl
 mixed_faults before (r ∷ rs) e =
     let u = (or_else_iff (fault one_sequence before r) (first_fault (format one_sequence) (before ++ (r ∷ [])) rs)).0 e in
     let f = parts one_sequence before r u.0 in
-    let none : fault mixed before r ≡ 0 = no_fault mixed (has_programme before) (previous before) (length (sizes_in before)) (length (forecast_in before)) r (record { first = f.first; turn = refl; in_range_lem = f.in_range_lem }) in
+    let none : fault mixed before r ≡ 0 = no_fault mixed (has_programme before) (previous before) (length (sizes_in before)) (length (forecast_in before)) r (record { first = f.first; turn = refl; ranges = f.ranges }) in
     (or_else_iff (fault mixed before r) (first_fault (format mixed) (before ++ (r ∷ [])) rs)).1 (none, mixed_faults (before ++ (r ∷ [])) rs u.1)
 
 cut_faults : (before rs : List Record) → first_fault (format mixed) before rs ≡ 0 → first_fault (format mixed) before (cut_records rs) ≡ 0

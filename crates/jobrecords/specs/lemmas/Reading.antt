@@ -1,55 +1,33 @@
 -- Lemmas. The state of the loop that reads a job file, which the contracts of its private functions
 -- cite: it stands for the records read so far. Assumes nothing.
-use Rattle.std.specs.Prelude.{ℕ, ◌+◌, ◌*◌, ◌-◌, ◌≤◌, ◌<◌, ◌≡◌, refl, Bool, true, false, not, ◌&&◌, ◌||◌, cond, List, [], ◌∷◌, ◌++◌, length, get_or, take, leb, eqb}
-use Rattle.std.proofs.Common.{sym, ap, eqb→eq}
+use Rattle.std.specs.Prelude.{ℕ, ◌+◌, ◌*◌, ◌-◌, ◌≤◌, ◌<◌, ◌≡◌, refl, Bool, true, false, not, ◌&&◌, ◌||◌, List, [], ◌∷◌, ◌++◌, length, get_or, take, leb, eqb, Result, Ok, Err, Option, Some, None}
+use Rattle.std.proofs.Common.{ap}
 use Rattle.theory_basics.specs.Lists.{up_to}
 use Rattle.theory_basics.specs.Refusals.{unless, ◌or_else◌}
-use Rattle.theory_basics.specs.lemmas.Tests.{by_cond}
-use Rattle.records.specs.Fields.{h_at, w_at, marked}
-use Rattle.records.specs.File.{Front, none, records_refusal}
+use Rattle.refusals.specs.declared.Refusal.{Refusal}
+use Rattle.refusals.specs.Numbers.{number_of}
+use Rattle.records.specs.Fields.{h_at, w_at}
+use Rattle.records.specs.File.{records_refusal}
 use Rattle.records.specs.lemmas.Reading.{Reads}
 use Rattle.job.specs.declared.Programme.{Programme}
 use Rattle.job.specs.Job.{Job, Override, job_of, last_due}
 use Rattle.job.specs.Refusal.{within, overrides_refusal}
 use Rattle.jobrecords.specs.declared.Record.{Record}
 use Rattle.jobrecords.specs.declared.Record.TheVariants.{Pg, Ly, Sz, Bw, En}
-use Rattle.jobrecords.specs.declared.Read.{Read}
-use Rattle.jobrecords.specs.declared.Read.TheVariants.{Got, Refused}
 use Rattle.jobrecords.specs.declared.Progress.{Progress}
-use Rattle.jobrecords.specs.declared.Ending.{Ending}
-use Rattle.jobrecords.specs.declared.Ending.TheVariants.{Whole, Broken}
 use Rattle.jobrecords.specs.declared.Step.{Step}
-use Rattle.jobrecords.specs.declared.Step.TheVariants.{On, Done, Stop}
-use Rattle.jobrecords.specs.declared.Run.{Run}
-use Rattle.jobrecords.specs.declared.Run.TheVariants.{Sound, Other}
-use Rattle.jobrecords.specs.Records.{SZ, whole, override_at, is_end}
-use Rattle.jobrecords.specs.Reader.{read_at}
+use Rattle.jobrecords.specs.declared.Step.TheVariants.{On, Done}
+use Rattle.jobrecords.specs.Records.{is_end}
+use Rattle.jobrecords.specs.Reader.{Buffers, read_at}
 use Rattle.jobrecords.specs.Says.{has_programme, no_programme, programme_in, sizes_in, overrides_in, forecast_in}
 use Rattle.jobrecords.specs.Refusal.{second_refusal, previous, place, is_run_of, follows, sequence_refusal, range_fault, run_fault, format, job_of_file}
 
 abbrev pub no_records : Progress
 no_records = record { place = 0; bytes = 0; seen = false; programme = no_programme; layers = 0; overrides = 0; ends = 0; slots = 0 }
 
--- A record of n bytes, where so many are left.
-abbrev pub read_whole : ℕ → ℕ → Record → ℕ → Read
-read_whole left n r at = cond (leb n left) (Got r (at + n)) (Refused 1)
-
 -- The programme of a PG in front.
 abbrev pub programme_on : List ℕ → Programme
 programme_on s = record { chunks = h_at s 2; span = h_at s 4; delay = h_at s 6; limit = h_at s 8 }
-
--- What stands in front of bytes that begin with no mark but perhaps SZ.
-abbrev pub last_mark : List ℕ → Front Record
-last_mark s = cond (marked SZ s) (whole s 9 (override_at s)) (none 2)
-
--- The refusal in an answer, 0 for none.
-abbrev pub read_refusal_of : Read → ℕ
-read_refusal_of (Got r next) = 0
-read_refusal_of (Refused n) = n
-
-abbrev pub end_refusal_of : Ending → ℕ
-end_refusal_of (Whole j) = 0
-end_refusal_of (Broken n) = n
 
 -- 17 by the place of the record before and, if it is a run, its bytes.
 abbrev pub run_bytes : Record → ℕ
@@ -79,35 +57,25 @@ run_follows_at (Sz chunk layer size) bytes = refl
 run_follows_at (Bw count same) bytes = refl
 run_follows_at En bytes = refl
 
-follows_at_lem : (q r : Record) → follows_at (place q) (run_bytes q) r ≡ follows q r
-follows_at_lem q (Pg p) = refl
-follows_at_lem q (Ly size) = refl
-follows_at_lem q (Sz chunk layer bytes) = refl
-follows_at_lem q (Bw count bytes) = run_follows_at q bytes
-follows_at_lem q En = refl
+follows_at_is : (q r : Record) → follows_at (place q) (run_bytes q) r ≡ follows q r
+follows_at_is q (Pg p) = refl
+follows_at_is q (Ly size) = refl
+follows_at_is q (Sz chunk layer bytes) = refl
+follows_at_is q (Bw count bytes) = run_follows_at q bytes
+follows_at_is q En = refl
 
-pub sequence_at_lem : (sequenced : Bool) (q r : Record) → sequence_at sequenced (place q) (run_bytes q) r ≡ sequence_refusal sequenced q r
-sequence_at_lem sequenced q r = ap (λ (b : Bool). unless 17 (not sequenced || b)) (follows_at_lem q r)
+pub sequence_at_is : (sequenced : Bool) (q r : Record) → sequence_at sequenced (place q) (run_bytes q) r ≡ sequence_refusal sequenced q r
+sequence_at_is sequenced q r = ap (λ (b : Bool). unless 17 (not sequenced || b)) (follows_at_is q r)
 
 -- The fault of a record, by the state.
 abbrev pub fault_after : Bool → Progress → Record → ℕ
 fault_after sequenced j r = second_refusal j.seen r or_else sequence_at sequenced j.place j.bytes r or_else range_fault j.layers j.slots r
 
--- An SZ has no other fault than 17, and EN none.
-pub override_after : (sequenced : Bool) (j : Progress) (chunk layer bytes : ℕ) → fault_after sequenced j (Sz chunk layer bytes) ≡ unless 17 (not sequenced || within 1 3 j.place)
-override_after sequenced j chunk layer bytes = or_else_zero (unless 17 (not sequenced || within 1 3 j.place)) where
-  or_else_zero : (n : ℕ) → (n or_else 0) ≡ n
-  or_else_zero n = by_cond (λ (m : ℕ). m ≡ n) (eqb n 0) (λ t. sym (eqb→eq n 0 t)) (λ t. refl)
-
-pub end_after : (sequenced : Bool) (j : Progress) → fault_after sequenced j En ≡ 0
-end_after true j = refl
-end_after false j = refl
-
 -- A record that is not EN, no second PG and in range can be taken.
 pub record Fine (j : Progress) (r : Record) : Type 0 where
   pub no_end : is_end r ≡ false
   pub first : second_refusal j.seen r ≡ 0
-  pub in_range_lem : range_fault j.layers j.slots r ≡ 0
+  pub ranges : range_fault j.layers j.slots r ≡ 0
 
 -- ---- the SZs, which stand in the file one after the other
 
@@ -140,14 +108,11 @@ end_refusal s j z =
 abbrev pub end_code : List ℕ → Progress → ℕ → List ℕ → ℕ
 end_code s j after z = unless 3 (eqb after 0) or_else end_refusal s j z
 
-abbrev pub ended_by : List ℕ → Progress → ℕ → List ℕ → Step
-ended_by s j after z = cond (eqb (end_code s j after z) 0) (Done j) (Stop (end_code s j after z))
-
 -- ---- what the state stands for
 
 -- The SZs that the state counts stand in the file.
 pub record Inside (s : List ℕ) (j : Progress) : Type 0 where
-  pub overrides_in_lem : 9 * j.overrides ≤ j.ends
+  pub overrides_below : 9 * j.overrides ≤ j.ends
   pub ends_in : j.ends ≤ length s
 
 -- A table with room for every layer,
@@ -196,19 +161,19 @@ module _ (sequenced : Bool) where
     pub inside : Inside s j
     pub job_is : job_from s j z f ≡ job_of_file sequenced s
 
-  pub record Refuses (s : List ℕ) (n : ℕ) : Type 0 where
-    pub is : records_refusal (format sequenced) s ≡ n
-    pub some : n ≡ 0 → ⊥
+  -- The file s is refused.
+  abbrev pub Refuses : List ℕ → Refusal → Type 0
+  Refuses s e = records_refusal (format sequenced) s ≡ number_of e
 
-  abbrev pub ReadAllPost : List ℕ → List ℕ → List ℕ → Ending → Type 0
-  ReadAllPost s z f (Whole j) = Complete s j z f
-  ReadAllPost s z f (Broken n) = Refuses s n
+  abbrev pub ReadAllPost : List ℕ → List ℕ → List ℕ → Result Progress Refusal → Type 0
+  ReadAllPost s z f (Ok j) = Complete s j z f
+  ReadAllPost s z f (Err e) = Refuses s e
 
   -- What a turn leaves.
-  abbrev pub OneStepPost : List ℕ → ℕ → List ℕ → List ℕ → Step → Type 0
-  OneStepPost s at z f (On j next) = (at < next) × OneStepPre s next j z f
-  OneStepPost s at z f (Done j) = Complete s j z f
-  OneStepPost s at z f (Stop n) = Refuses s n
+  abbrev pub OneStepPost : List ℕ → ℕ → List ℕ → List ℕ → Result Step Refusal → Type 0
+  OneStepPost s at z f (Ok (On j next)) = (at < next) × OneStepPre s next j z f
+  OneStepPost s at z f (Ok (Done j)) = Complete s j z f
+  OneStepPost s at z f (Err e) = Refuses s e
 
 -- ---- the state with a record more
 
@@ -231,29 +196,30 @@ with_runs j slots bytes = record { place = 4; bytes = bytes; seen = j.seen; prog
 -- A run stands at a place and has no fault after another of the bytes `last` and so many slots.
 pub record SoundAt (s : List ℕ) (at slots last count bytes : ℕ) : Type 0 where
   pub inside : at + 8 ≤ length s
-  pub reads : (sequenced : Bool) → read_at sequenced s at ≡ Got (Bw count bytes) (at + 8)
+  pub reads : (sequenced : Bool) → Ok (Bw count bytes, at + 8) ≡ read_at sequenced s at
   pub turn : run_follows 4 last bytes ≡ true
-  pub in_range_lem : run_fault slots count bytes ≡ 0
+  pub ranges : run_fault slots count bytes ≡ 0
 
-abbrev pub SoundRunPost : List ℕ → ℕ → ℕ → ℕ → Run → Type 0
-SoundRunPost s at slots last (Sound count bytes) = SoundAt s at slots last count bytes
-SoundRunPost s at slots last Other = Unit {0}
+abbrev pub SoundRunPost : List ℕ → ℕ → ℕ → ℕ → Option (ℕ × ℕ) → Type 0
+SoundRunPost s at slots last (Some run) = SoundAt s at slots last run.0 run.1
+SoundRunPost s at slots last None = Unit {0}
 
 -- A record was taken that ends at a place.
 pub record Reached (s : List ℕ) (from : ℕ) (j : Progress) : Type 0 where
   pub inside : from ≤ length s
-  pub overrides_in_lem : 9 * j.overrides ≤ from
+  pub overrides_below : 9 * j.overrides ≤ from
   pub slots_in : j.slots ≤ 3600
 
 -- On from that place: what was left of a turn is left of one with some records more.
-pub record GoesOn (q : Bool) (s : List ℕ) (from : ℕ) (j : Progress) (f : List ℕ) (r : Step) (f' : List ℕ) : Type 0 where
-  pub turned : (z : List ℕ) (at : ℕ) → at < from → OneStepPre q s from j z f → OneStepPost q s at z f' r
+pub record GoesOn (q : Bool) (s : List ℕ) (from : ℕ) (j : Progress) (f : List ℕ) (r : Progress × ℕ) (f' : List ℕ) : Type 0 where
+  pub ahead : from ≤ r.1
+  pub reached : (z : List ℕ) → OneStepPre q s from j z f → OneStepPre q s r.1 r.0 z f'
 
 -- Runs are the same to both readers, and SZs change no slot.
-pub record TakeRunsPost (s : List ℕ) (from : ℕ) (j : Progress) (f : List ℕ) (r : Step) (f' : List ℕ) : Type 0 where
+pub record TakeRunsPost (s : List ℕ) (from : ℕ) (j : Progress) (f : List ℕ) (r : Progress × ℕ) (f' : List ℕ) : Type 0 where
   pub goes_on : (q : Bool) → GoesOn q s from j f r f'
 
-pub record TakeOverridesPost (s : List ℕ) (from : ℕ) (j : Progress) (r : Step) : Type 0 where
+pub record TakeOverridesPost (s : List ℕ) (from : ℕ) (j : Progress) (r : Progress × ℕ) : Type 0 where
   pub goes_on : (f : List ℕ) → GoesOn true s from j f r f
 
 -- How many SZs there are, and the place after the last, with a record more that ends at a place.
@@ -278,7 +244,12 @@ pub record TakeRecordPost (j : Progress) (z f : List ℕ) (r : Record) (next : �
   pub overrides_are : j'.overrides ≡ more_overrides j.overrides r
   pub ends_are : j'.ends ≡ ends_after j.ends next r
 
--- 11 unless five buffers of these lengths hold so many layers, SZs and slots.
-abbrev pub room_by : (layers overrides slots sizes cs ls bs forecast : ℕ) → ℕ
-room_by layers overrides slots sizes cs ls bs forecast =
-    unless 11 (leb layers sizes && (leb overrides cs && (leb overrides ls && (leb overrides bs && leb slots forecast))))
+-- 11 unless the buffers hold so many layers, SZs and slots.
+abbrev pub room_by : (layers overrides slots : ℕ) → Buffers → ℕ
+room_by layers overrides slots lent =
+    unless 11
+    (leb layers (length lent.sizes)
+    && (leb overrides (length lent.size_chunks)
+    && (leb overrides (length lent.size_layers)
+    && (leb overrides (length lent.size_bytes)
+    && leb slots (length lent.forecast)))))

@@ -54,5 +54,5 @@ in_sequence before (r ∷ rs) e =
     let f = parts one_sequence before r u.0 in
     let more = in_sequence (before ++ (r ∷ [])) rs u.1 in (
       ((unless_iff 17 (follows (previous before) r) (omega arith)).0 f.turn, subst (λ (q : Record). Sequence q rs) (previous_snoc before r) more.0),
-      (filled (length (sizes_in before)) (length (forecast_in before)) r f.in_range_lem, more.1),
+      (filled (length (sizes_in before)) (length (forecast_in before)) r f.ranges, more.1),
     )

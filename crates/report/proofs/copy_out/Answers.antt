@@ -12,8 +12,8 @@ returns-then-out-text c =
     let e = lt-leb (length a.text.now) (length a.out.now) c.if-out-text.true in
     record { result = rw e; buffer = rw e }
 
-pub returns : goal.returns
-returns c =
+pub returns-else-out-text : goal.returns-else-out-text
+returns-else-out-text c =
     let a = c.args in
     let n = length a.text.now in
     let z : 0 + n ≡ n = omega arith in

@@ -1,7 +1,8 @@
 -- Lemmas. The differences between neighbours in a list of pictures, as a pass over the chunks meets
 -- them: one picture more, how large they can be, and where there are few pictures or no skipped
 -- chunk. Assumes nothing.
-use Rattle.std.specs.Prelude.{ℕ, zero, suc, ◌+◌, ◌*◌, ◌-◌, ◌≤◌, ◌≡◌, refl, Bool, true, false, cond, List, [], ◌∷◌, ◌++◌, length}
+use Rattle.std.specs.Prelude.{ℕ, zero, suc, ◌+◌, ◌*◌, ◌-◌, ◌≤◌, ◌≡◌, refl, Bool, true, false, cond, List, [], ◌∷◌, ◌++◌, length, Option, Some, None}
+use Rattle.std.specs.Option.{option_or}
 use Rattle.std.proofs.Common.{ap, ◌∙◌, append-nil, arith, mul-le-mul_right, length-append}
 use Rattle.theory_basics.specs.Tests.{All}
 use Rattle.theory_basics.specs.lemmas.Tests.{all_append}
@@ -9,44 +10,42 @@ use Rattle.theory_basics.specs.Sums.{pre, count}
 use Rattle.theory_basics.specs.lemmas.Ranges.{count_small}
 use Rattle.report.specs.Report.{apart, differences, those}
 use Rattle.report.specs.lemmas.Bounds.{apart_most}
-use Rattle.report.specs.lemmas.Tables.{change_of, held_of, last_of}
-use Rattle.report.specs.declared.table.Picture.{Picture}
-use Rattle.report.specs.declared.table.Picture.TheVariants.{Nothing, Bytes}
+use Rattle.report.specs.lemmas.Tables.{change_of, last_of}
 
 -- ---- one picture more
 
-differences_snoc : (l : List ℕ) (x : ℕ) → differences (l ++ (x ∷ [])) ≡ differences l + change_of (last_of l) (Bytes x)
+differences_snoc : (l : List ℕ) (x : ℕ) → differences (l ++ (x ∷ [])) ≡ differences l + change_of (last_of l) (Some x)
 differences_snoc [] x = refl
 differences_snoc (y ∷ []) x = omega arith
 differences_snoc (y ∷ (z ∷ zs)) x = omega (arith, differences_snoc (z ∷ zs) x)
 
-last_snoc : (l : List ℕ) (x : ℕ) → last_of (l ++ (x ∷ [])) ≡ Bytes x
+last_snoc : (l : List ℕ) (x : ℕ) → last_of (l ++ (x ∷ [])) ≡ Some x
 last_snoc [] x = refl
 last_snoc (y ∷ []) x = refl
 last_snoc (y ∷ (z ∷ zs)) x = last_snoc (z ∷ zs) x
 
-change_nothing : (last : Picture) → change_of last Nothing ≡ 0
-change_nothing Nothing = refl
-change_nothing (Bytes a) = refl
+change_nothing : (last : Option ℕ) → change_of last None ≡ 0
+change_nothing None = refl
+change_nothing (Some a) = refl
 
 module _ (l : List ℕ) (x : ℕ) where
-  differences_one : (b : Bool) → differences (l ++ cond b (x ∷ []) []) ≡ differences l + change_of (last_of l) (cond b (Bytes x) Nothing)
+  differences_one : (b : Bool) → differences (l ++ cond b (x ∷ []) []) ≡ differences l + change_of (last_of l) (cond b (Some x) None)
   differences_one true = differences_snoc l x
   differences_one false = omega (arith, ap differences (append-nil l), change_nothing (last_of l))
 
-  last_one : (b : Bool) → last_of (l ++ cond b (x ∷ []) []) ≡ held_of (last_of l) (cond b (Bytes x) Nothing)
+  last_one : (b : Bool) → last_of (l ++ cond b (x ∷ []) []) ≡ option_or (cond b (Some x) None) (last_of l)
   last_one true = last_snoc l x
   last_one false = ap last_of (append-nil l)
 
 module _ (p : ℕ → Bool) (f : ℕ → ℕ) where
   -- What a chunk shows.
-  abbrev pub picture_at : ℕ → Picture
-  picture_at i = cond (p i) (Bytes (f i)) Nothing
+  abbrev pub picture_at : ℕ → Option ℕ
+  picture_at i = cond (p i) (Some (f i)) None
 
   pub differences_more : (n : ℕ) → differences (those p f (suc n)) ≡ differences (those p f n) + change_of (last_of (those p f n)) (picture_at (suc n))
   differences_more n = differences_one (those p f n) (f (suc n)) (p (suc n))
 
-  pub last_more : (n : ℕ) → last_of (those p f (suc n)) ≡ held_of (last_of (those p f n)) (picture_at (suc n))
+  pub last_more : (n : ℕ) → last_of (those p f (suc n)) ≡ option_or (picture_at (suc n)) (last_of (those p f n))
   last_more n = last_one (those p f n) (f (suc n)) (p (suc n))
 
 -- ---- how many there are, and how large their differences
@@ -107,7 +106,7 @@ differences_all p f (suc zero) h = rw (h 1 (omega arith) (omega arith))
 differences_all p f (suc (suc n)) h =
     let a : p (suc n) ≡ true = h (suc n) (omega arith) (omega arith) in
     let b : p (suc (suc n)) ≡ true = h (suc (suc n)) (omega arith) (omega arith) in
-    let last : last_of (those p f (suc n)) ≡ Bytes (f (suc n)) = last_more p f n ∙ rw a in
+    let last : last_of (those p f (suc n)) ≡ Some (f (suc n)) = last_more p f n ∙ rw a in
     let more : differences (those p f (suc (suc n))) ≡ differences (those p f (suc n)) + apart (f (suc n)) (f (suc (suc n))) = differences_more p f (suc n) ∙ rw (b, last) in
     let g : ℕ → ℕ = λ i. apart (f i) (f (i + 1)) in
     let e : suc n + 1 ≡ suc (suc n) = omega arith in

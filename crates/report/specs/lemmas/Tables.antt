@@ -1,6 +1,6 @@
 -- Lemmas. What the report's table holds of a list of rows, and the numbers that are read from it:
 -- the contracts of private functions speak of these, no public one does.
-use Rattle.std.specs.Prelude.{ℕ, ◌+◌, ◌*◌, ◌-◌, ◌/◌, ◌%◌, ◌≤◌, ◌<◌, ◌≡◌, Bool, cond, List, [], ◌∷◌, ◌++◌, length, get_or, eqb}
+use Rattle.std.specs.Prelude.{ℕ, ◌+◌, ◌*◌, ◌-◌, ◌/◌, ◌%◌, ◌≤◌, ◌<◌, ◌≡◌, Bool, cond, List, [], ◌∷◌, ◌++◌, length, get_or, eqb, Option, Some, None, Result, Ok, Err}
 use Rattle.theory_basics.specs.Sums.{sum, count}
 use Rattle.theory_basics.specs.Lists.{up_to}
 use Rattle.job.specs.declared.Programme.{Programme}
@@ -11,11 +11,7 @@ use Rattle.fetch.specs.Rows.{Row, bytes_of_layer}
 use Rattle.planner.specs.Answer.{plan_rows}
 use Rattle.theory_basics.specs.Text.{ascii, digits, line, text}
 use Rattle.report.specs.Report.{apart, bytes_in_rows, differences, those}
-use Rattle.report.specs.declared.table.Spent.{Spent}
-use Rattle.report.specs.declared.table.Spent.TheVariants.{Bytes as sent, Refused as refused}
 use Rattle.report.specs.declared.table.Chunk.{Chunk}
-use Rattle.report.specs.declared.table.Picture.{Picture}
-use Rattle.report.specs.declared.table.Picture.TheVariants.{Nothing, Bytes}
 
 -- Rows handed as four slices of one length, each with a place in the table.
 pub record Rows (slots chunks layers' bytes : List ℕ) : Type 0 where
@@ -34,13 +30,12 @@ bytes_at table i n = get_or table (4 * (i - 1) + n) 0
 -- The table of a list's rows.
 pub record Summed (rows : List Row) (table : List ℕ) : Type 0 where
   pub by_layer : (i n : ℕ) → 1 ≤ i → i ≤ 500 → n < 4 → bytes_at table i n ≡ bytes_of_layer rows i n
-  pub long : length table ≡ 2000
 
 -- The bytes of the plan's rows and their table, or the job's refusal.
-abbrev pub spent_of : JobInput → Spent
-spent_of h = cond (eqb (job_refusal h) 0) (sent (bytes_in_rows (plan_rows (job_in h)))) (refused (job_refusal h))
+abbrev pub spent_of : JobInput → Result ℕ ℕ
+spent_of h = cond (eqb (job_refusal h) 0) (Ok (bytes_in_rows (plan_rows (job_in h)))) (Err (job_refusal h))
 
-pub record Tabled (h : JobInput) (table : List ℕ) (r : Spent) : Type 0 where
+pub record Tabled (h : JobInput) (table : List ℕ) (r : Result ℕ ℕ) : Type 0 where
   pub spent : r ≡ spent_of h
   pub by_rows : job_refusal h ≡ 0 → Summed (plan_rows (job_in h)) table
 
@@ -77,24 +72,19 @@ abbrev pub switch_by : List ℕ → List ℕ → ℕ → ℕ → ℕ
 switch_by sizes table depth n = differences (bytes_to sizes table depth n)
 
 -- Chunk i on the screen.
-abbrev pub picture_by : List ℕ → List ℕ → ℕ → ℕ → Picture
-picture_by sizes table depth i = cond (carried_by sizes table i 0) (Bytes (bytes_by sizes table depth i)) Nothing
+abbrev pub picture_by : List ℕ → List ℕ → ℕ → ℕ → Option ℕ
+picture_by sizes table depth i = cond (carried_by sizes table i 0) (Some (bytes_by sizes table depth i)) None
 
 -- How far a picture differs from the last one.
-abbrev pub change_of : Picture → Picture → ℕ
-change_of Nothing here = 0
-change_of (Bytes a) Nothing = 0
-change_of (Bytes a) (Bytes b) = apart a b
-
--- What is on the screen after a chunk.
-abbrev pub held_of : Picture → Picture → Picture
-held_of last Nothing = last
-held_of last (Bytes b) = Bytes b
+abbrev pub change_of : Option ℕ → Option ℕ → ℕ
+change_of None here = 0
+change_of (Some a) None = 0
+change_of (Some a) (Some b) = apart a b
 
 -- The last of so many pictures.
-abbrev pub last_of : List ℕ → Picture
-last_of [] = Nothing
-last_of (x ∷ []) = Bytes x
+abbrev pub last_of : List ℕ → Option ℕ
+last_of [] = None
+last_of (x ∷ []) = Some x
 last_of (x ∷ (y ∷ ys)) = last_of (y ∷ ys)
 
 -- The lines of a switch sum over so many slots of film.

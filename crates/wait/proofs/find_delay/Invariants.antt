@@ -3,4 +3,4 @@ use Rattle.wait.proofs.Searches.{Searching}
 use Rattle.wait.proofs.find_delay.Given as goal
 
 abbrev pub invariant-loop-s : goal.invariant-loop-s
-invariant-loop-s l = Searching l.chunks l.span l.held l.tries l.bases l.sums l.begins l.s
+invariant-loop-s l = Searching l.pass.chunks l.pass.span l.pass.held l.tries l.pass.bases.now l.pass.sums.now l.begins l.s

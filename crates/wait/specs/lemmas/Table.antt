@@ -2,6 +2,7 @@
 -- pass over the chunks for one s.
 use Rattle.std.specs.Prelude.{ℕ, ◌+◌, ◌*◌, ◌-◌, ◌≤◌, ◌<◌, ◌≡◌, Bool, List, length, get_or}
 use Rattle.core_sizes.specs.Table.{table_at}
+use Rattle.wait.specs.declared.Pass.{Pass}
 use Rattle.wait.specs.lemmas.Scan.{brought, keeps_all}
 
 -- What the forecast brings up to each of its slots.
@@ -57,3 +58,17 @@ pub record FindDelayPre (chunks span held tries : ℕ) (bases sums begins : List
       KeepsAllPre chunks span held s bases sums begins'
   pub few : tries ≤ 3600
   pub free : Free chunks begins
+
+-- ---- the same of a pass as the functions hand it on
+
+abbrev pub KeepsAllIn : Pass → ℕ → List ℕ → Type 0
+KeepsAllIn w s begins = KeepsAllPre w.chunks w.span w.held s w.bases.now w.sums.now begins
+
+abbrev pub KeepsAllOut : Pass → ℕ → List ℕ → Bool → Type 0
+KeepsAllOut w s begins r = KeepsAllPost w.chunks w.span w.held s w.bases.now w.sums.now begins r
+
+abbrev pub FindDelayIn : Pass → ℕ → List ℕ → Type 0
+FindDelayIn w tries begins = FindDelayPre w.chunks w.span w.held tries w.bases.now w.sums.now begins
+
+abbrev pub kept_in : Pass → ℕ → Bool
+kept_in w = kept_by w.chunks w.span w.held w.bases.now w.sums.now

@@ -21,7 +21,7 @@ add_row-requires c =
       high,
       layer,
       summing_small a.slots.now a.chunks.now a.layers.now a.bytes.now l.table l.i l.invariant
-          (get_or a.chunks.now l.i 0) (get_or a.layers.now l.i 0) low high layer (λ k. omega (arith, c.shared_slice_known-in-loop-i-3-1.given k)) o.few,
+          (get_or a.chunks.now l.i 0) (get_or a.layers.now l.i 0) low high layer (λ k. omega (arith, c.type_inv.bytes k)) o.few,
     )
 
 pub loop-i-preserved : goal.loop-i-preserved

@@ -1,12 +1,12 @@
-use Prim.Native.Nat.{ℕ, ◌≤◌}
-use mathlib.Core.Path.{◌≡◌, refl}
+use Prim.Native.Nat.{ℕ}
+use mathlib.Core.Path.{◌≡◌, refl, sym, ◌∙◌}
 use mathlib.Core.Bool.{Bool, cond}
 use native.Mathlib.Omega.{arith}
-use native.Mathlib.Numerals.{add-one}
 use Rattle.report.specs.lemmas.Tables.{carried_by}
 use Rattle.theory_basics.specs.lemmas.Ranges.{sum_most, cond_most}
-use Rattle.report.proofs.Laws.{bytes_most, carried_most}
+use Rattle.report.proofs.Laws.{bytes_more, bytes_most, carried_most, layers_more}
 use Rattle.report.proofs.table.chunk_of.Goals as goal
+use Rattle.report.proofs.table.chunk_of.Goals.{then-is_carried, else-is_carried}
 
 pub loop-n-init : goal.loop-n-init
 loop-n-init c = (omega arith, refl, refl)
@@ -16,30 +16,39 @@ overflow_add-layers c =
     let a = c.args in
     let l = c.loop-n in
     let b : ℕ → Bool = λ n. carried_by a.sizes.now a.table.now a.i n in
-    omega (
-      arith,
-      c.only_if-layers.ensures,
-      l.invariant.1,
-      sum_most (λ n. cond (b n) 1 0) 1 l.n (λ n. cond_most (b n) 1 1 (omega arith)),
-      cond_most c.is_carried-carried.result 1 1 (omega arith),
-    )
+    omega (arith, l.invariant.1, sum_most (λ n. cond (b n) 1 0) 1 l.n (λ n. cond_most (b n) 1 1 (omega arith)))
 
 pub overflow_add-bytes : goal.overflow_add-bytes
 overflow_add-bytes c =
     let a = c.args in
     let l = c.loop-n in
     let h = c.requires.3 in
-    let e : c.only_if-bytes.result ≤ 16777216 =
-    rw (c.only_if-bytes.ensures, c.bytes_at.ensures, c.is_carried-carried.ensures) (carried_most a.sizes.now a.table.now h a.i l.n) in
-    omega (arith, l.invariant.2, bytes_most a.sizes.now a.table.now h l.n a.i)
+    let e = sym c.is_carried.ensures ∙ c.if-is_carried.true in
+    let m = rw e at (carried_most a.sizes.now a.table.now h a.i l.n) in
+    omega (arith, c.bytes_at-bytes.ensures, m, l.invariant.2, bytes_most a.sizes.now a.table.now h l.n a.i)
 
 pub loop-n-preserved : goal.loop-n-preserved
 loop-n-preserved c =
-    let l = c.loop-n in (
-      omega arith,
-      rw (add-one, c.only_if-layers.ensures, c.is_carried-carried.ensures, l.invariant.1),
-      rw (add-one, c.only_if-bytes.ensures, c.bytes_at.ensures, c.is_carried-carried.ensures, l.invariant.2),
-    )
+    let s = c.args.sizes.now in
+    let t = c.args.table.now in
+    let i = c.args.i in
+    let l = c.loop-n in
+    let layers = layers_more s t l.n i in
+    let bytes = bytes_more s t l.n i in
+    elim c.if-is_carried.branch [
+      | then-is_carried w ↦
+          let e = sym c.is_carried.ensures ∙ w.if-is_carried.true in (
+            omega arith,
+            omega (arith, w.layers-is, l.invariant.1, rw e at layers),
+            omega (arith, w.bytes-is, w.bytes_at-bytes.ensures, l.invariant.2, rw e at bytes),
+          )
+      | else-is_carried w ↦
+          let e = sym c.is_carried.ensures ∙ w.if-is_carried.false in (
+            omega arith,
+            omega (arith, w.layers-is, l.invariant.1, rw e at layers),
+            omega (arith, w.bytes-is, l.invariant.2, rw e at bytes),
+          )
+    ]
 
 pub returns : goal.returns
 returns c =

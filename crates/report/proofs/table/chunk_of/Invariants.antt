@@ -1,5 +1,5 @@
 -- `report::chunk_of` meets its contract. Assumes nothing.
-use Prim.Native.Nat.{◌-◌, ◌≤◌}
+use Prim.Native.Nat.{◌≤◌}
 use mathlib.Core.Path.{◌≡◌}
 use Rattle.report.specs.lemmas.Tables.{layers_by, bytes_by}
 use Rattle.report.proofs.table.chunk_of.Given as goal
@@ -7,6 +7,3 @@ use Rattle.report.proofs.table.chunk_of.Given as goal
 abbrev pub invariant-loop-n : goal.invariant-loop-n
 invariant-loop-n l =
     (l.n ≤ l.depth) × (l.layers ≡ layers_by l.sizes l.table l.n l.i) × (l.bytes ≡ bytes_by l.sizes l.table l.n l.i)
-
-abbrev pub decreases-loop-n : goal.decreases-loop-n
-decreases-loop-n l = l.depth - l.n

@@ -30,7 +30,7 @@ loop-i-preserved c =
     let t = a.table.now in
     let p = c.picture_of-here.ensures in (
       omega arith,
-      last_next s t a.depth l.i l.invariant.1 p c.held-last.ensures,
+      last_next s t a.depth l.i l.invariant.1 p (c.or-last.ensures),
       switch_next s t a.depth l.i l.invariant.1 p l.invariant.2 c.change-sum.ensures,
     )
 
