@@ -1,7 +1,7 @@
 -- What a call of the planner with room for any plan leaves in the slices: the plan's own list, in
 -- front. Assumes nothing.
 use Prim.Native.Nat.{ℕ, ◌≤◌}
-use mathlib.Core.Path.{◌≡◌, sym, ap, subst, ◌∙◌}
+use mathlib.Core.Path.{◌≡◌, refl, sym, ap, subst, ◌∙◌}
 use mathlib.Core.Bool.{Bool, true, false, cond}
 use mathlib.Core.List.{List, map}
 use mathlib.Core.Logic.{⊎_elim}
@@ -20,10 +20,11 @@ use Rattle.job.specs.Theorems.{input_accepted}
 use Rattle.job.specs.Job.{Accepted, chunks}
 use Rattle.fetch.specs.Rows.{Row, rows_of, row_slot, row_chunk, row_layer, row_bytes}
 use Rattle.fetch.specs.Slices.{ListSlices, slices_of}
-use Rattle.planner.specs.Answer.{PlanOutput, answer_of, given, holds, plan_refusal, plan_rows, slice_after}
-use Rattle.planner.specs.declared.Answer.TheVariants.{Rows as made, Refused as refused}
+use Rattle.planner.specs.Answer.{PlanOutput, holds, plan_numbers, plan_refusal, plan_rows, slice_after}
+use Rattle.refusals.specs.declared.Refusal.{Refusal}
+use Rattle.refusals.specs.Numbers.{answered, by_number, number_of}
 use Rattle.planner.specs.declared.Planned.{Planned}
-use Rattle.std.specs.Prelude.{Ok, Err}
+use Rattle.std.specs.Prelude.{Result, Ok, Err}
 use Rattle.report.specs.lemmas.Tables.{Rows, Summed, Tabled}
 use Rattle.report.specs.lemmas.Again.{rows_again}
 use Rattle.report.proofs.Own.{own_rows, spent_again}
@@ -40,40 +41,40 @@ room = slices_of (zeros 500) (zeros 5599) (zeros 5599) (zeros 5599) (zeros 5599)
 
 module _ (h : JobInput) where
   -- They have room for any plan.
-  is_given : job_refusal h ≡ 0 → given h room ≡ true
+  is_given : job_refusal h ≡ 0 → plan_refusal h room ≡ 0
   is_given ok =
       let a : Accepted (job_in h) = input_accepted h ok in
       let n = length (plan_rows (job_in h)) in
       let rows = le-leb n (length (zeros 5599)) (omega (arith, plan_rows_few (job_in h) a, length-replicate {A = ℕ} 5599 0)) in
       rw (ok, le-leb (chunks (job_in h)) (length (zeros 500)) (omega (arith, a.chunks_in.high, length-replicate {A = ℕ} 500 0)), rows)
 
-  answers : answer_of h room ≡ cond (eqb (job_refusal h) 0) (made (length (plan_rows (job_in h)))) (refused (job_refusal h))
-  answers =
+  refusal_is : plan_refusal h room ≡ job_refusal h
+  refusal_is =
       ⊎_elim
-      (λ t. let z : job_refusal h ≡ 0 = eqb→eq (job_refusal h) 0 t in rw (is_given z, z))
-      (λ t.
-      let n : job_refusal h ≡ 0 → ⊥ = neqb_ne (job_refusal h) 0 t in
-      let e : plan_refusal h room ≡ job_refusal h = or_else_some (job_refusal h) (unless 11 (holds (job_in h) room)) n in
-      rw (e, ne_eqb (job_refusal h) 0 n))
+      (λ t. let z : job_refusal h ≡ 0 = eqb→eq (job_refusal h) 0 t in is_given z ∙ sym z)
+      (λ t. or_else_some (job_refusal h) (unless 11 (holds (job_in h) room)) (neqb_ne (job_refusal h) 0 t))
       (test (eqb (job_refusal h) 0))
 
-  rows_case : (b : Bool) (n : ℕ) → cond b (made (length (plan_rows (job_in h)))) (refused (job_refusal h)) ≡ made n → (b ≡ true) × (n ≡ length (plan_rows (job_in h)))
-  rows_case true n e = (cc, cc)
-  rows_case false n e = let z : ◌≡◌ {A = ℕ} 0 1 = cc in absurd (omega arith)
+  rows_case : (b : Bool) (made : Planned) → cond b (Ok (plan_numbers (job_in h))) (Err (job_refusal h)) ≡ Ok made → (b ≡ true) × (made.rows ≡ length (plan_rows (job_in h)))
+  rows_case true made e = let z : plan_numbers (job_in h) ≡ made = cc in (refl, sym (ap (λ (m : Planned). m.rows) z))
+  rows_case false made e = let z : ◌≡◌ {A = ℕ} 0 1 = cc in absurd (omega arith)
 
-  refused_case : (b : Bool) (n : ℕ) → cond b (made (length (plan_rows (job_in h)))) (refused (job_refusal h)) ≡ refused n → (b ≡ false) × (n ≡ job_refusal h)
+  refused_case : (b : Bool) (n : ℕ) → cond b (Ok (plan_numbers (job_in h))) (Err (job_refusal h)) ≡ Err n → (b ≡ false) × (n ≡ job_refusal h)
   refused_case true n e = let z : ◌≡◌ {A = ℕ} 0 1 = cc in absurd (omega arith)
   refused_case false n e = (cc, cc)
 
-module _ {h : JobInput} {r : Planned} {m s c l b : List ℕ} (p : PlanOutput h (slices_of (zeros 500) (zeros 5599) (zeros 5599) (zeros 5599) (zeros 5599)) r (slices_of m s c l b)) where
-  pub answered_rows : {n : ℕ} → r.answer ≡ made n → (job_refusal h ≡ 0) × (n ≡ length (plan_rows (job_in h)))
-  answered_rows {n} e =
-      let u = rows_case h (eqb (job_refusal h) 0) n (sym (p.answer ∙ answers h) ∙ e) in
+module _ {h : JobInput} {r : Result Planned Refusal} {m s c l b : List ℕ} (p : PlanOutput h (slices_of (zeros 500) (zeros 5599) (zeros 5599) (zeros 5599) (zeros 5599)) r (slices_of m s c l b)) where
+  is_answered : by_number r ≡ answered (job_refusal h) (plan_numbers (job_in h))
+  is_answered = p.answer ∙ ap (λ (n : ℕ). answered n (plan_numbers (job_in h))) (refusal_is h)
+
+  pub answered_rows : {made : Planned} → r ≡ Ok made → (job_refusal h ≡ 0) × (made.rows ≡ length (plan_rows (job_in h)))
+  answered_rows {made} e =
+      let u = rows_case h (eqb (job_refusal h) 0) made (sym is_answered ∙ ap by_number e) in
       (eqb→eq (job_refusal h) 0 (subst T (sym u.0) tt), u.1)
 
-  pub answered_refused : {n : ℕ} {table : List ℕ} → r.answer ≡ refused n → Tabled h table (Err n)
-  answered_refused {n} e =
-      let u = refused_case h (eqb (job_refusal h) 0) n (sym (p.answer ∙ answers h) ∙ e) in
+  pub answered_refused : {e : Refusal} {table : List ℕ} → r ≡ Err e → Tabled h table (Err e)
+  answered_refused {e} is =
+      let u = refused_case h (eqb (job_refusal h) 0) (number_of e) (sym is_answered ∙ ap by_number is) in
       record { spent = rw (u.0, u.1); by_rows = λ z. absurd (subst T (sym (eq-eqb (job_refusal h) 0 z) ∙ u.0) tt) }
 
 -- ---- what it leaves in the slices
@@ -102,9 +103,10 @@ pub record Made (h : JobInput) (n : ℕ) (slots cs layers bytes : List ℕ) : Ty
   pub bytes_are : Column (map row_bytes (plan_rows (job_in h))) n bytes
 
 pub made_columns :
-    {h : JobInput} {r : Planned} {m s c l b : List ℕ} → PlanOutput h (slices_of (zeros 500) (zeros 5599) (zeros 5599) (zeros 5599) (zeros 5599)) r (slices_of m s c l b) →
-    {n : ℕ} → r.answer ≡ made n → Made h n s c l b
-made_columns {h} p {n} e =
+    {h : JobInput} {r : Result Planned Refusal} {m s c l b : List ℕ} → PlanOutput h (slices_of (zeros 500) (zeros 5599) (zeros 5599) (zeros 5599) (zeros 5599)) r (slices_of m s c l b) →
+    {made : Planned} → r ≡ Ok made → Made h made.rows s c l b
+made_columns {h} p {made} e =
+    let n = made.rows in
     let rows = plan_rows (job_in h) in
     let u = answered_rows p e in
     let over-it : (result old : List ℕ) → slice_after h room result old ≡ over result old = λ result old. rw (is_given h u.0) in

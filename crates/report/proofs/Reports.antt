@@ -1,7 +1,7 @@
 -- From the plan's table and the bytes spent to the report that is handed over, or the job's
 -- refusal. Assumes nothing.
 use Prim.Native.Nat.{ℕ, ◌-◌, ◌≤◌}
-use mathlib.Core.Path.{◌≡◌, sym, subst, ◌∙◌}
+use mathlib.Core.Path.{◌≡◌, sym, ap, subst, ◌∙◌}
 use mathlib.Core.Bool.{Bool, true, false, cond}
 use mathlib.Core.List.{List}
 use native.Mathlib.Omega.{arith}
@@ -18,9 +18,9 @@ use Rattle.job.specs.lemmas.Within.{size_most}
 use Rattle.planner.specs.Answer.{plan_rows}
 use Rattle.report.specs.Answer.{Answered, ReportPromise, plan_report_fits, plan_report, report_refusal, room_refusal}
 use Rattle.report.specs.Report.{bytes_in_rows}
-use Rattle.records.specs.declared.Written.{Written}
-use Rattle.records.specs.declared.Written.TheVariants.{Refused}
 use Rattle.std.specs.Prelude.{Result, Ok, Err}
+use Rattle.refusals.specs.declared.Refusal.{Refusal}
+use Rattle.refusals.specs.Numbers.{by_number, number_of}
 use Rattle.report.specs.lemmas.Tables.{SizesIn, Tabled, lines_by}
 use Rattle.report.proofs.ByTable.{forecast_is, lines_are}
 
@@ -32,17 +32,17 @@ unsent_case : (h : JobInput) (b : Bool) (n : ℕ) → cond b (Ok (bytes_in_rows 
 unsent_case h true n e = let z : ◌≡◌ {A = ℕ} 0 1 = cc in absurd (omega arith)
 unsent_case h false n e = (cc, cc)
 
-module _ {h : JobInput} {table : List ℕ} {r : Result ℕ ℕ} (t : Tabled h table r) where
-  pub refused : {no : ℕ} {out : List ℕ} → r ≡ Err no → ReportPromise h out (Refused no) out
-  refused {no} {out} e =
-      let u = unsent_case h (eqb (job_refusal h) 0) no (sym t.spent ∙ e) in
+module _ {h : JobInput} {table : List ℕ} {r : Result ℕ Refusal} (t : Tabled h table r) where
+  pub refused : {e : Refusal} {out : List ℕ} → r ≡ Err e → ReportPromise h out (Err e) out
+  refused {e} {out} is =
+      let u = unsent_case h (eqb (job_refusal h) 0) (number_of e) (sym t.spent ∙ ap by_number is) in
       let n : job_refusal h ≡ 0 → ⊥ = λ z. subst T u.0 (subst (λ (k : ℕ). T (eqb k 0)) (sym z) tt) in
       let f : report_refusal h out ≡ job_refusal h = or_else_some (job_refusal h) (room_refusal (plan_report (job_in h)) out) n in
       record { result = rw (f, u.0, u.1); buffer = rw (f, u.0) }
 
   module _ {n : ℕ} (e : r ≡ Ok n) where
     case : (eqb (job_refusal h) 0 ≡ true) × (n ≡ bytes_in_rows (plan_rows (job_in h)))
-    case = sent_case h (eqb (job_refusal h) 0) n (sym t.spent ∙ e)
+    case = sent_case h (eqb (job_refusal h) 0) n (sym t.spent ∙ ap by_number e)
 
     none : job_refusal h ≡ 0
     none = eqb→eq (job_refusal h) 0 (subst T (sym case.0) tt)
@@ -70,7 +70,7 @@ module _ {h : JobInput} {table : List ℕ} {r : Result ℕ ℕ} (t : Tabled h ta
         λ i k. rw (s, table_says (job_in h) accepted i k) (size_most (job_in h) accepted i k),
       )
 
-      pub reported : {old out : List ℕ} {w : Written} → Answered (lines_by h.programme stored (length h.sizes) table n left) old w out → ReportPromise h old w out
+      pub reported : {old out : List ℕ} {w : Result ℕ Refusal} → Answered (lines_by h.programme stored (length h.sizes) table n left) old w out → ReportPromise h old w out
       reported {old} a =
           let b = rw lines_report at a in
           let g : report_refusal h old ≡ room_refusal (plan_report (job_in h)) old = or_else_none (job_refusal h) (room_refusal (plan_report (job_in h)) old) none in

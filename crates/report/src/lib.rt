@@ -3,16 +3,16 @@
 // read from it or is a sum over rows.
 #![tactic(auto)]
 
-use job::{CHUNKS, Programme, ROWS, SIZES, SizeTable};
-use planner::Answer;
-use records::Written;
+use fetch::LentList;
+use job::{CHUNKS, JobInput, Programme, ROWS, SIZES, SizeTable};
+use refusals::Refusal;
 
 mod lines;
 mod table;
 
 ghost use Rattle.std.specs.Prelude.{◌≡◌, ◌∷◌, ◌+◌, ◌≤◌, length, replicate};
 ghost use Rattle.theory_basics.specs.Lists.{up_to};
-ghost use Rattle.job.specs.Input.{job_input};
+ghost use Rattle.job.specs.Handed.{handed};
 ghost use Rattle.theory_basics.specs.Text.{ascii, digits, line, text};
 ghost use Rattle.report.specs.Answer.{Answered, ReportPromise};
 ghost use Rattle.core_text.specs.lemmas.Places.{Put};
@@ -124,14 +124,14 @@ fn put_lines(
 }
 
 // The text over the front of the buffer, if it fits.
-fn copy_out(text: &[u8], out: &mut [u8]) -> Written
+fn copy_out(text: &[u8], out: &mut [u8]) -> Result<usize, Refusal>
     ensures { Answered text.now out.old result out.new }
 {
     if out.len() < text.len() {
-        Written::Refused(11)
+        Err(Refusal::ShortBuffer)
     } else {
         records::put(out, 0, text);
-        Written::Bytes(text.len())
+        Ok(text.len())
     }
 }
 
@@ -145,7 +145,7 @@ fn write_lines(
     spent: u64,
     left: u64,
     out: &mut [u8],
-) -> Written
+) -> Result<usize, Refusal>
     requires { (depth ≤ 4)
         × (1 ≤ p.chunks)
         × (p.chunks ≤ 500)
@@ -162,83 +162,46 @@ fn write_lines(
 
 // The plan's rows, made into local slices with room for any plan, so that the planner refuses by
 // the job alone. Their bytes go into the table; the answer is the sum of them, or that refusal.
-fn plan_table(
-    p: Programme,
-    sizes: &[u32],
-    size_chunks: &[u16],
-    size_layers: &[u8],
-    size_bytes: &[u32],
-    forecast: &[u32],
-    table: &mut [u64; SIZES],
-) -> Result<u64, u8>
+fn plan_table(job: &JobInput, table: &mut [u64; SIZES]) -> Result<u64, Refusal>
     requires { table.old ≡ replicate 2000 0 }
-    ensures { Tabled
-        (job_input p sizes.now size_chunks.now size_layers.now
-        size_bytes.now forecast.now)
-        table.new result }
+    ensures { Tabled (handed job.now) table.new result }
 {
     let mut marks = [0u8; CHUNKS];
     let mut slots = [0u16; ROWS];
     let mut chunks = [0u16; ROWS];
     let mut layers = [0u8; ROWS];
     let mut bytes = [0u32; ROWS];
-    let made = planner::plan(
-        p,
-        sizes,
-        size_chunks,
-        size_layers,
-        size_bytes,
-        forecast,
-        &mut marks,
-        &mut slots,
-        &mut chunks,
-        &mut layers,
-        &mut bytes,
-    );
-    match made.answer {
-        Answer::Refused(no) => Err(no),
-        Answer::Rows(n) => {
-            let each = &bytes[..n];
-            table::add_rows(&slots[..n], &chunks[..n], &layers[..n], each, table);
-            Ok(table::sum_of(each))
-        }
-    }
+    let mut out = LentList {
+        marks: &mut marks,
+        slots: &mut slots,
+        chunks: &mut chunks,
+        layers: &mut layers,
+        bytes: &mut bytes,
+    };
+    let n = planner::plan(job, &mut out)?.rows;
+    let LentList {
+        marks: _,
+        slots,
+        chunks,
+        layers,
+        bytes,
+    } = out;
+    let each = &bytes[..n];
+    table::add_rows(&slots[..n], &chunks[..n], &layers[..n], each, table);
+    Ok(table::sum_of(each))
 }
 
 // The report of a job's plan. Refused: 5, 6, 18, 7 by the job, then 11 exactly if out is shorter
 // than the text.
-pub fn report(
-    p: Programme,
-    sizes: &[u32],
-    size_chunks: &[u16],
-    size_layers: &[u8],
-    size_bytes: &[u32],
-    forecast: &[u32],
-    out: &mut [u8],
-) -> Written
-    ensures { ReportPromise
-        (job_input p sizes.now size_chunks.now size_layers.now
-        size_bytes.now forecast.now)
-        out.old result out.new }
+pub fn report(job: &JobInput, out: &mut [u8]) -> Result<usize, Refusal>
+    ensures { ReportPromise (handed job.now) out.old result out.new }
 {
+    let p = job.programme;
     let mut table = [0u64; SIZES];
-    let made = plan_table(
-        p,
-        sizes,
-        size_chunks,
-        size_layers,
-        size_bytes,
-        forecast,
-        &mut table,
-    );
-    match made {
-        Err(no) => Written::Refused(no),
-        Ok(spent) => {
-            let left = table::sum_of(forecast).saturating_sub(spent);
-            let unset = p.chunks as u32;
-            let mut stored = [unset; SIZES];
-            core_sizes::fill_sizes(sizes, size_chunks, size_layers, size_bytes, &mut stored);
-            write_lines(p, &stored, sizes.len(), &table, spent, left, out)
-        }
-    }
+    let spent = plan_table(job, &mut table)?;
+    let left = table::sum_of(job.forecast).saturating_sub(spent);
+    let unset = p.chunks as u32;
+    let mut stored = [unset; SIZES];
+    core_sizes::fill_sizes(job, &mut stored);
+    write_lines(p, &stored, job.sizes.len(), &table, spent, left, out)
 }

@@ -17,7 +17,11 @@ use Rattle.theory_basics.specs.lemmas.Refusals.{unless_iff, or_else_iff, or_else
 use Rattle.theory_basics.specs.Tests.{all}
 use Rattle.theory_basics.specs.lemmas.Tests.{T_true, test}
 use Rattle.job.specs.Refusal.{within}
-use Rattle.trace.specs.declared.TraceRead.TheVariants.{Slots, Refused}
+use Rattle.std.specs.Prelude.{Ok, Err}
+use Rattle.refusals.specs.declared.Refusal.{Refusal}
+use Rattle.refusals.specs.declared.Refusal.TheVariants.{Forecast, ShortBuffer}
+use Rattle.refusals.specs.Numbers.{number_of}
+use Rattle.refusals.specs.Laws.{number_above_0}
 use Rattle.trace.specs.Answer.{TraceReadPromise, trace_read_refusal}
 use Rattle.trace.specs.Trace.{forecast_of, how_many, in_slot, times, trace_refusal}
 use Rattle.trace.specs.lemmas.Lists.{all_up_to, map_up_to, take_up_to}
@@ -37,20 +41,20 @@ few_same h =
 -- ---- what is handed
 
 module _ (trace : List ℕ) (slots : ℕ) (old : List ℕ) where
-  refused : (n : ℕ) → trace_read_refusal trace slots (length old) ≡ n → (n ≡ 0 → ⊥) → TraceReadPromise trace slots old (Refused n) old
-  refused n e o = record { answer = rw (e, ne_eqb n 0 o); buffer = rw (e, ne_eqb n 0 o) }
+  refused : (e : Refusal) → trace_read_refusal trace slots (length old) ≡ number_of e → TraceReadPromise trace slots old (Err e) old
+  refused e h = let o : number_of e ≡ 0 → ⊥ = λ z. omega (arith, number_above_0 e) in record { answer = rw (h, ne_eqb (number_of e) 0 o); buffer = rw (h, ne_eqb (number_of e) 0 o) }
 
-  by_input : (n : ℕ) → trace_refusal slots trace ≡ n → (n ≡ 0 → ⊥) → TraceReadPromise trace slots old (Refused n) old
-  by_input n e o = refused n (or_else_some (trace_refusal slots trace) (unless 11 (leb slots (length old))) (λ z. o (sym e ∙ z)) ∙ e) o
+  by_input : (e : Refusal) → trace_refusal slots trace ≡ number_of e → TraceReadPromise trace slots old (Err e) old
+  by_input e h = refused e (or_else_some (trace_refusal slots trace) (unless 11 (leb slots (length old))) (λ z. omega (arith, number_above_0 e, h, z)) ∙ h)
 
-  by_slots : within 1 3600 slots ≡ false → TraceReadPromise trace slots old (Refused 7) old
+  by_slots : within 1 3600 slots ≡ false → TraceReadPromise trace slots old (Err Forecast) old
   unfolding trace_refusal
-  by_slots e = by_input 7 (rw e) (λ z. omega arith)
+  by_slots e = by_input Forecast (rw e)
 
-  pub read_none : slots < 1 → TraceReadPromise trace slots old (Refused 7) old
+  pub read_none : slots < 1 → TraceReadPromise trace slots old (Err Forecast) old
   read_none h = by_slots (rw (lt-leb 1 slots h))
 
-  pub read_many : 3600 < slots → TraceReadPromise trace slots old (Refused 7) old
+  pub read_many : 3600 < slots → TraceReadPromise trace slots old (Err Forecast) old
   read_many h = by_slots (rw (lt-leb slots 3600 h) (and-false (leb 1 slots)))
 
   module _ (low : 1 ≤ slots) (high : slots ≤ 3600) (counts : List ℕ) (long : length counts ≡ 3600) (r : Bool) (c : Counted trace (replicate 3600 0) counts r) where
@@ -81,8 +85,8 @@ module _ (trace : List ℕ) (slots : ℕ) (old : List ℕ) where
         past true e = rw (e tt)
         past false e = refl
 
-    pub read_refused : (n : ℕ) → n ≡ unless 14 r or_else unless 15 (few_lines (take slots counts)) → (n ≡ 0 → ⊥) → TraceReadPromise trace slots old (Refused n) old
-    read_refused n e o = by_input n (input ∙ sym e) o
+    pub read_refused : (e : Refusal) → number_of e ≡ unless 14 r or_else unless 15 (few_lines (take slots counts)) → TraceReadPromise trace slots old (Err e) old
+    read_refused e h = by_input e (input ∙ sym h)
 
     module _ (none : unless 14 r or_else unless 15 (few_lines (take slots counts)) ≡ 0) where
       both : T r × T (few_lines (take slots counts))
@@ -96,8 +100,8 @@ module _ (trace : List ℕ) (slots : ℕ) (old : List ℕ) where
       room_only : trace_read_refusal trace slots (length old) ≡ unless 11 (leb slots (length old))
       room_only = or_else_none (trace_refusal slots trace) (unless 11 (leb slots (length old))) (input ∙ none)
 
-      pub read_short : length old < slots → TraceReadPromise trace slots old (Refused 11) old
-      read_short h = refused 11 (room_only ∙ rw (lt-leb slots (length old) h)) (λ z. omega arith)
+      pub read_short : length old < slots → TraceReadPromise trace slots old (Err ShortBuffer) old
+      read_short h = refused ShortBuffer (room_only ∙ rw (lt-leb slots (length old) h))
 
       forecast_is : lines_forecast (take slots counts) ≡ forecast_of slots trace
       unfolding forecast_of
@@ -109,7 +113,7 @@ module _ (trace : List ℕ) (slots : ℕ) (old : List ℕ) where
           let t : get_or counts k 0 ≡ count k = rw (table both.0) (get_d_up_to count 3600 k 0 (omega arith)) in
           omega (arith, t, few_at counts slots k long high read_few h))
 
-      pub read_done : (new : List ℕ) → slots ≤ length old → new ≡ over (lines_forecast (take slots counts)) old → TraceReadPromise trace slots old (Slots slots) new
+      pub read_done : (new : List ℕ) → slots ≤ length old → new ≡ over (lines_forecast (take slots counts)) old → TraceReadPromise trace slots old (Ok slots) new
       read_done new h x =
           let z : trace_read_refusal trace slots (length old) ≡ 0 = room_only ∙ rw (le-leb slots (length old) h) in
           record { answer = rw z; buffer = rw z (x ∙ ap (λ (l : List ℕ). over l old) forecast_is) }

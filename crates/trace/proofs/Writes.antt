@@ -16,7 +16,11 @@ use Rattle.trace.specs.lemmas.Tally.{width_from, written_length}
 use Rattle.theory_basics.specs.Text.{digits}
 use Rattle.trace.specs.Trace.{lines_from, writable, lines_bytes, unwritable_refusal, trace_of}
 use Rattle.job.specs.Refusal.{within}
-use Rattle.records.specs.declared.Written.TheVariants.{Bytes, Refused}
+use Rattle.std.specs.Prelude.{Ok, Err}
+use Rattle.refusals.specs.declared.Refusal.{Refusal}
+use Rattle.refusals.specs.declared.Refusal.TheVariants.{Forecast, ShortBuffer, TraceSlot}
+use Rattle.refusals.specs.Numbers.{number_of}
+use Rattle.refusals.specs.Laws.{number_above_0}
 use Rattle.trace.specs.Answer.{TraceWritePromise, write_refusal}
 use Rattle.core_text.specs.lemmas.Places.{Put, put_length, put_none, put_room, put_then, put_whole}
 use Rattle.trace.proofs.Repeats.{bytes_append}
@@ -67,29 +71,29 @@ module _ (f old : List ℕ) (room : length (trace_of f) ≤ length old) (out : L
 -- ---- what is handed
 
 module _ (f old : List ℕ) where
-  refused : (n : ℕ) → write_refusal f (length old) ≡ n → (n ≡ 0 → ⊥) → TraceWritePromise f old (Refused n) old
-  refused n e o = record { answer = rw (e, ne_eqb n 0 o); buffer = rw (e, ne_eqb n 0 o) }
+  refused : (e : Refusal) → write_refusal f (length old) ≡ number_of e → TraceWritePromise f old (Err e) old
+  refused e h = let o : number_of e ≡ 0 → ⊥ = λ z. omega (arith, number_above_0 e) in record { answer = rw (h, ne_eqb (number_of e) 0 o); buffer = rw (h, ne_eqb (number_of e) 0 o) }
 
-  by_forecast : (n : ℕ) → unwritable_refusal f ≡ n → (n ≡ 0 → ⊥) → TraceWritePromise f old (Refused n) old
-  by_forecast n e o = refused n (or_else_some (unwritable_refusal f) (unless 11 (leb (length (trace_of f)) (length old))) (λ z. o (sym e ∙ z)) ∙ e) o
+  by_forecast : (e : Refusal) → unwritable_refusal f ≡ number_of e → TraceWritePromise f old (Err e) old
+  by_forecast e h = refused e (or_else_some (unwritable_refusal f) (unless 11 (leb (length (trace_of f)) (length old))) (λ z. omega (arith, number_above_0 e, h, z)) ∙ h)
 
   by_seven : within 1 3600 (length f) ≡ false → unwritable_refusal f ≡ 7
   unfolding unwritable_refusal
   by_seven e = rw e
 
-  pub wrote_none : length f < 1 → TraceWritePromise f old (Refused 7) old
-  wrote_none h = by_forecast 7 (by_seven (rw (lt-leb 1 (length f) h))) (λ e. omega arith)
+  pub wrote_none : length f < 1 → TraceWritePromise f old (Err Forecast) old
+  wrote_none h = by_forecast Forecast (by_seven (rw (lt-leb 1 (length f) h)))
 
-  pub wrote_many : 3600 < length f → TraceWritePromise f old (Refused 7) old
-  wrote_many h = by_forecast 7 (by_seven (rw (lt-leb (length f) 3600 h) (and-false (leb 1 (length f))))) (λ e. omega arith)
+  pub wrote_many : 3600 < length f → TraceWritePromise f old (Err Forecast) old
+  wrote_many h = by_forecast Forecast (by_seven (rw (lt-leb (length f) 3600 h) (and-false (leb 1 (length f)))))
 
   module _ (low : 1 ≤ length f) (high : length f ≤ 3600) (r : Bool) (is : r ≡ all writable f) where
     past_seven : unwritable_refusal f ≡ unless 15 r
     unfolding unwritable_refusal
     past_seven = rw (le-leb 1 (length f) low, le-leb (length f) 3600 high, is)
 
-    pub wrote_odd : r ≡ false → TraceWritePromise f old (Refused 15) old
-    wrote_odd e = by_forecast 15 (past_seven ∙ rw e) (λ z. omega arith)
+    pub wrote_odd : r ≡ false → TraceWritePromise f old (Err TraceSlot) old
+    wrote_odd e = by_forecast TraceSlot (past_seven ∙ rw e)
 
     module _ (fine : r ≡ true) (n : ℕ) (wide : n ≡ width_from 0 f) where
       pub width_all : n ≡ length (trace_of f)
@@ -98,10 +102,10 @@ module _ (f old : List ℕ) where
       no : write_refusal f (length old) ≡ unless 11 (leb (length (trace_of f)) (length old))
       no = or_else_none (unwritable_refusal f) (unless 11 (leb (length (trace_of f)) (length old))) (past_seven ∙ rw fine)
 
-      pub wrote_short : length old < n → TraceWritePromise f old (Refused 11) old
-      wrote_short h = refused 11 (no ∙ rw (lt-leb (length (trace_of f)) (length old) (omega (arith, width_all)))) (λ z. omega arith)
+      pub wrote_short : length old < n → TraceWritePromise f old (Err ShortBuffer) old
+      wrote_short h = refused ShortBuffer (no ∙ rw (lt-leb (length (trace_of f)) (length old) (omega (arith, width_all))))
 
-      pub wrote_done : n ≤ length old → (new : List ℕ) (end : ℕ) → Put old 0 (trace_of f) new end → TraceWritePromise f old (Bytes end) new
+      pub wrote_done : n ≤ length old → (new : List ℕ) (end : ℕ) → Put old 0 (trace_of f) new end → TraceWritePromise f old (Ok end) new
       wrote_done h new end p =
           let z : write_refusal f (length old) ≡ 0 = no ∙ rw (le-leb (length (trace_of f)) (length old) (omega (arith, width_all))) in
           let e : 0 + length (trace_of f) ≡ length (trace_of f) = omega arith in

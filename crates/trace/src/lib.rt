@@ -4,7 +4,7 @@
 #![tactic(auto)]
 
 use job::{MOST_BYTES, SLOTS};
-use records::Written;
+use refusals::Refusal;
 
 mod repeated;
 
@@ -17,13 +17,6 @@ ghost use Rattle.trace.specs.Answer.{TraceReadPromise, TraceWritePromise};
 ghost use Rattle.trace.specs.Trace.{trace_of, writable};
 ghost use Rattle.trace.specs.lemmas.Passes.{Counted, DigitsRead, few_lines, lines_forecast};
 ghost use Rattle.trace.specs.lemmas.Tally.{bump, width_from};
-
-// What reading a trace gives: the number of slots in the lent forecast, or a refusal.
-#[derive(Clone, Copy)]
-pub enum TraceRead {
-    Slots(usize),
-    Refused(u8),
-}
 
 // The number that digits say, and the place after them.
 #[derive(Clone, Copy)]
@@ -100,24 +93,24 @@ fn put_forecast(counts: &[u32; SLOTS], slots: usize, out: &mut [u32])
 
 // The forecast of so many slots that a trace gives. Refused: 7, 14, 15, then 11 exactly if out has
 // fewer places than slots.
-pub fn read_trace(trace: &[u8], slots: usize, out: &mut [u32]) -> TraceRead
+pub fn read_trace(trace: &[u8], slots: usize, out: &mut [u32]) -> Result<usize, Refusal>
     ensures { TraceReadPromise trace.now slots out.old result out.new }
 {
     if slots < 1 || SLOTS < slots {
-        return TraceRead::Refused(7);
+        return Err(Refusal::Forecast);
     }
     let mut counts = [0u32; SLOTS];
-    let fine = job::refuse_unless(14, count_lines(trace, &mut counts));
-    let few = job::refuse_unless(15, few_lines(&counts, slots));
-    let no = job::or_else(fine, few);
-    if no != 0 {
-        return TraceRead::Refused(no);
+    if !count_lines(trace, &mut counts) {
+        return Err(Refusal::TraceLine);
+    }
+    if !few_lines(&counts, slots) {
+        return Err(Refusal::TraceSlot);
     }
     if out.len() < slots {
-        return TraceRead::Refused(11);
+        return Err(Refusal::ShortBuffer);
     }
     put_forecast(&counts, slots, out);
-    TraceRead::Slots(slots)
+    Ok(slots)
 }
 
 // At most 16,777,216 bytes, and whole lines.
@@ -175,17 +168,17 @@ fn put_trace(forecast: &[u32], out: &mut [u8]) -> usize
 
 // The trace of a forecast, each slot's lines at its first millisecond. Refused: 7, 15, then 11
 // exactly if out is shorter than the trace.
-pub fn write_trace(forecast: &[u32], out: &mut [u8]) -> Written
+pub fn write_trace(forecast: &[u32], out: &mut [u8]) -> Result<usize, Refusal>
     ensures { TraceWritePromise forecast.now out.old result out.new }
 {
     if forecast.is_empty() || SLOTS < forecast.len() {
-        return Written::Refused(7);
+        return Err(Refusal::Forecast);
     }
     if !all_writable(forecast) {
-        return Written::Refused(15);
+        return Err(Refusal::TraceSlot);
     }
     if out.len() < width(forecast) {
-        return Written::Refused(11);
+        return Err(Refusal::ShortBuffer);
     }
-    Written::Bytes(put_trace(forecast, out))
+    Ok(put_trace(forecast, out))
 }

@@ -1,8 +1,10 @@
 -- Lemmas. What the report's table holds of a list of rows, and the numbers that are read from it:
 -- the contracts of private functions speak of these, no public one does.
-use Rattle.std.specs.Prelude.{ℕ, ◌+◌, ◌*◌, ◌-◌, ◌/◌, ◌%◌, ◌≤◌, ◌<◌, ◌≡◌, Bool, cond, List, [], ◌∷◌, ◌++◌, length, get_or, eqb, Option, Some, None, Result, Ok, Err}
+use Rattle.std.specs.Prelude.{ℕ, ◌+◌, ◌*◌, ◌-◌, ◌/◌, ◌%◌, ◌≤◌, ◌<◌, ◌≡◌, Bool, cond, List, [], ◌∷◌, ◌++◌, length, get_or, eqb, Option, Some, None, Result}
 use Rattle.theory_basics.specs.Sums.{sum, count}
 use Rattle.theory_basics.specs.Lists.{up_to}
+use Rattle.refusals.specs.declared.Refusal.{Refusal}
+use Rattle.refusals.specs.Numbers.{answered, by_number}
 use Rattle.job.specs.declared.Programme.{Programme}
 use Rattle.job.specs.Input.{JobInput, job_in, job_refusal}
 use Rattle.job.specs.Job.{last_due}
@@ -33,10 +35,10 @@ pub record Summed (rows : List Row) (table : List ℕ) : Type 0 where
 
 -- The bytes of the plan's rows and their table, or the job's refusal.
 abbrev pub spent_of : JobInput → Result ℕ ℕ
-spent_of h = cond (eqb (job_refusal h) 0) (Ok (bytes_in_rows (plan_rows (job_in h)))) (Err (job_refusal h))
+spent_of h = answered (job_refusal h) (bytes_in_rows (plan_rows (job_in h)))
 
-pub record Tabled (h : JobInput) (table : List ℕ) (r : Result ℕ ℕ) : Type 0 where
-  pub spent : r ≡ spent_of h
+pub record Tabled (h : JobInput) (table : List ℕ) (r : Result ℕ Refusal) : Type 0 where
+  pub spent : by_number r ≡ spent_of h
   pub by_rows : job_refusal h ≡ 0 → Summed (plan_rows (job_in h)) table
 
 -- A table of all sizes, each in range.
