@@ -1,17 +1,22 @@
 -- Lemmas. The answer of the writer and the lent buffer afterwards. Assumes nothing.
-use Prim.Native.Nat.{ℕ, ◌+◌, ◌*◌, ◌≤◌, ◌<◌}
+use Prim.Native.Nat.{ℕ, ◌+◌, ◌*◌, ◌≤◌}
 use mathlib.Core.Path.{◌≡◌, sym, ap, ◌∙◌}
 use mathlib.Core.List.{List, ◌++◌, map, append_assoc}
 use native.Mathlib.Omega.{arith}
 use lib.ListN.{length, length-append}
-use borrow.Author.Tests.{ne_eqb, le-leb, lt-leb}
-use Rattle.theory_basics.specs.Refusals.{◌or_else◌}
-use Rattle.theory_basics.specs.lemmas.Refusals.{or_else_none, or_else_some}
+use borrow.Author.Tests.{ne_eqb, le-leb}
+use Rattle.std.specs.Prelude.{leb}
+use Rattle.theory_basics.specs.Refusals.{unless, ◌or_else◌}
+use Rattle.theory_basics.specs.lemmas.Refusals.{unless_iff, or_else_none, or_else_some}
+use Rattle.theory_basics.specs.lemmas.Tests.{leb_iff}
 use Rattle.job.specs.Job.{Job, Accepted}
 use Rattle.job.specs.Input.{JobInput, WholeSizes, job_in, job_refusal}
 use Rattle.job.specs.Theorems.{input_iff}
 use Rattle.jobrecords.specs.declared.Record.TheVariants.{Pg}
-use Rattle.records.specs.declared.Written.TheVariants.{Bytes, Refused}
+use Rattle.std.specs.Prelude.{Ok, Err}
+use Rattle.refusals.specs.declared.Refusal.{Refusal}
+use Rattle.refusals.specs.Numbers.{number_of}
+use Rattle.refusals.specs.Laws.{number_above_0}
 use Rattle.jobrecords.specs.Records.{EN, encode}
 use Rattle.jobfile.specs.Writer.{runs, layer_record, override_record, run_record, job_file, long_refusal, short_refusal, write_refusal, write_answer, file_written, JobWritePromise}
 use Rattle.jobfile.specs.lemmas.Puts.{Puts, records_bytes, bytes_append, puts_then, length_puts}
@@ -23,15 +28,22 @@ module _ (h : JobInput) (out : List ℕ) where
   abbrev j : Job
   j = job_in h
 
-  refused : (n : ℕ) → write_refusal h (length out) ≡ n → (n ≡ 0 → ⊥) → JobWritePromise h out (Refused n) out
+  refused : (e : Refusal) → write_refusal h (length out) ≡ number_of e → JobWritePromise h out (Err (number_of e)) out
   unfolding write_answer file_written
-  refused n e some = record { answer = rw (e, ne_eqb n 0 some); after = rw (e, ne_eqb n 0 some) }
+  refused e is =
+      let some = ne_eqb (number_of e) 0 (λ y. omega (arith, number_above_0 e)) in
+      record { answer = rw (is, some); after = rw (is, some) }
 
   -- 5, 6, 18 or 7.
-  pub output_refused : (n : ℕ) → n ≡ job_refusal h → (n ≡ 0 → ⊥) → JobWritePromise h out (Refused n) out
-  output_refused n e some = refused n (or_else_some (job_refusal h) (long_refusal j or_else short_refusal j (length out)) (λ y. some (e ∙ y)) ∙ sym e) some
+  pub output_refused : (e : Refusal) → number_of e ≡ job_refusal h → JobWritePromise h out (Err (number_of e)) out
+  output_refused e is =
+      let some : job_refusal h ≡ 0 → ⊥ = λ y. omega (arith, number_above_0 e) in
+      refused e (or_else_some (job_refusal h) (long_refusal j or_else short_refusal j (length out)) some ∙ sym is)
 
-  module _ (none : job_refusal h ≡ 0) where
+  module _ (accepted : 0 ≡ job_refusal h) where
+    none : job_refusal h ≡ 0
+    none = sym accepted
+
     pub whole : WholeSizes h.size_chunks h.size_layers h.size_bytes
     whole = ((input_iff h).0 none).0
 
@@ -51,10 +63,23 @@ module _ (h : JobInput) (out : List ℕ) where
         or_else_none (job_refusal h) (long_refusal j or_else short_refusal j (length out)) none
         ∙ or_else_none (long_refusal j) (short_refusal j (length out)) (rw (le-leb (length (job_file j)) 65536 (omega (arith, short_file j good))))
 
-    pub output_short : length out < length (job_file j) → JobWritePromise h out (Refused 11) out
-    output_short l = refused 11 (by_room ∙ rw (lt-leb (length (job_file j)) (length out) l)) (λ y. omega arith)
+    -- 11 by the number of bytes that the lengths and the number of runs say.
+    module _ (n : ℕ) (counted : n ≡ length (runs h.forecast)) where
+      abbrev pub room : ℕ
+      room = unless 11 (leb (12 + (6 * length h.sizes + 9 * length h.size_chunks) + 8 * n) (length out))
 
-    pub output_file : length (job_file j) ≤ length out → (out' : List ℕ) (next : ℕ) → Puts out 0 (job_file j) out' next → JobWritePromise h out (Bytes next) out'
+      room_is : room ≡ short_refusal j (length out)
+      room_is =
+          let same : 12 + (6 * length h.sizes + 9 * length h.size_chunks) + 8 * n ≡ length (job_file j) = omega (arith, bytes_count) in
+          ap (λ (k : ℕ). unless 11 (leb k (length out))) same
+
+      pub output_short : (e : Refusal) → number_of e ≡ room → JobWritePromise h out (Err (number_of e)) out
+      output_short e is = refused e (by_room ∙ sym room_is ∙ sym is)
+
+      pub output_fits : 0 ≡ room → length (job_file j) ≤ length out
+      output_fits none = (leb_iff (length (job_file j)) (length out)).0 ((unless_iff 11 (leb (length (job_file j)) (length out)) (omega arith)).0 (sym room_is ∙ sym none))
+
+    pub output_file : length (job_file j) ≤ length out → (out' : List ℕ) (next : ℕ) → Puts out 0 (job_file j) out' next → JobWritePromise h out (Ok next) out'
     unfolding write_answer file_written
     output_file l out' next p =
         let e : write_refusal h (length out) ≡ 0 = by_room ∙ rw (le-leb (length (job_file j)) (length out) l) in

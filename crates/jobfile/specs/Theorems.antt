@@ -1,7 +1,7 @@
 -- Theorems. Job files in one sequence: demand 2, "Job and plan files read back as the job and plan
 -- written", and document 02, request 6, "Each job then has a single file". `file_refusal` and
 -- `job_of_file` are what the reader's contract cites, `job_file` what the writer's does.
-use Rattle.std.specs.Prelude.{ℕ, ◌≤◌, ◌≡◌, refl, List, ◌++◌, ◌↔◌, length, take, drop}
+use Rattle.std.specs.Prelude.{ℕ, ◌≤◌, ◌≡◌, refl, List, ◌++◌, ◌↔◌, length, take, drop, Ok}
 use Rattle.std.proofs.Common.{sym, ap, subst, ◌∙◌, arith, le-leb}
 use Rattle.std.proofs.Math.Seq.{take-append_seam}
 use Rattle.theory_basics.specs.Lent.{over}
@@ -13,7 +13,6 @@ use Rattle.records.specs.lemmas.Written.{split_written, refusal_written}
 use Rattle.records.specs.lemmas.Exact.{split_exact, none_end}
 use Rattle.job.specs.Job.{Job, Accepted}
 use Rattle.job.specs.Input.{JobInput, job_in, job_refusal}
-use Rattle.jobrecords.specs.declared.JobRead.TheVariants as jobRead
 use Rattle.jobrecords.specs.declared.Record.{Record}
 use Rattle.jobrecords.specs.declared.Record.TheVariants.{En}
 use Rattle.jobrecords.specs.Records.{encode}
@@ -47,7 +46,7 @@ reads_back j a = rw (split_written (format one_sequence) encode En (end_back one
 -- So the reader, lent enough room, answers with the job that was written, and its sizes, SZs and
 -- forecast stand in the buffers.
 pub record ReadAgain (j : Job) (lent : Buffers) : Type 0 where
-  pub answer : read_answer one_sequence (job_file j) lent ≡ job_answer j
+  pub answer : read_answer one_sequence (job_file j) lent ≡ Ok (job_answer j)
   pub buffers_are : lent_read one_sequence (job_file j) lent ≡ lent_by 0 j lent
 
 pub read_again : (j : Job) (lent : Buffers) → Accepted j → room_refusal j lent ≡ 0 → ReadAgain j lent
@@ -58,7 +57,7 @@ read_again j lent a room =
     or_else_none (refusal_of one_sequence (job_file j)) (room_refusal (job_of_file one_sequence (job_file j)) lent) (never_refused j a)
     ∙ ap (λ (i : Job). room_refusal i lent) back
     ∙ room in
-    record { answer = rw none (ap job_answer back); buffers_are = rw none (ap (λ (i : Job). lent_by 0 i lent) back) }
+    record { answer = rw none (ap (λ (i : Job). Ok (job_answer i)) back); buffers_are = rw none (ap (λ (i : Job). lent_by 0 i lent) back) }
 
 -- The same of the calls: what `write_job` doesn't refuse, `read_job`, lent enough room, hands back
 -- slice by slice, and what stood past it in each buffer stays.
@@ -82,7 +81,7 @@ pub record HoldsSlices (h : JobInput) (lent : Buffers) : Type 0 where
 pub record SlicesBack (h : JobInput) (lent : Buffers) : Type 0 where
   pub answer :
       read_answer one_sequence (job_file (job_in h)) lent
-      ≡ jobRead.Job h.programme (length h.sizes) (length h.size_chunks) (length h.forecast)
+      ≡ Ok (record { programme = h.programme; layers = length h.sizes; overrides = length h.size_chunks; slots = length h.forecast })
   pub lent_after : lent_read one_sequence (job_file (job_in h)) lent ≡ slices_back h lent
 
 pub reads_what_was_written : (h : JobInput) (out : List ℕ) (lent : Buffers) → write_refusal h (length out) ≡ 0 → HoldsSlices h lent → SlicesBack h lent

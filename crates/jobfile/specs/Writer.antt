@@ -2,7 +2,7 @@
 -- 01, "The job writer puts PG, the LYs, then one BW per longest run", document 02, "`SZ` records
 -- stand between the `LY` and the `BW` ones", and the refusals of direct calls, "5, 6, 7, .. and a
 -- writer then 9", with 18 after 6, then 11.
-use Rattle.std.specs.Prelude.{ℕ, suc, ◌≤◌, ◌≡◌, cond, List, [], ◌∷◌, ◌++◌, map, length, leb, eqb}
+use Rattle.std.specs.Prelude.{ℕ, suc, ◌≤◌, ◌≡◌, cond, List, [], ◌∷◌, ◌++◌, map, length, leb, eqb, Result}
 use Rattle.theory_basics.specs.Lent.{lent_after}
 use Rattle.theory_basics.specs.Tests.{All}
 use Rattle.theory_basics.specs.Refusals.{unless, ◌or_else◌}
@@ -11,8 +11,7 @@ use Rattle.job.specs.Job.{Job, Override}
 use Rattle.job.specs.Input.{JobInput, job_in, job_refusal}
 use Rattle.jobrecords.specs.declared.Record.{Record}
 use Rattle.jobrecords.specs.declared.Record.TheVariants.{Pg, Ly, Sz, Bw, En}
-use Rattle.records.specs.declared.Written.{Written}
-use Rattle.records.specs.declared.Written.TheVariants.{Bytes, Refused}
+use Rattle.refusals.specs.Numbers.{answered}
 use Rattle.jobrecords.specs.Records.{encode}
 
 -- A run of equal slots.
@@ -75,15 +74,15 @@ abbrev pub write_refusal : JobInput → ℕ → ℕ
 write_refusal h room = job_refusal h or_else long_refusal (job_in h) or_else short_refusal (job_in h) room
 
 -- The answer, and the buffer afterwards.
-unfoldable pub write_answer : JobInput → ℕ → Written
-write_answer h room = cond (eqb (write_refusal h room) 0) (Bytes (length (job_file (job_in h)))) (Refused (write_refusal h room))
+unfoldable pub write_answer : JobInput → ℕ → Result ℕ ℕ
+write_answer h room = answered (write_refusal h room) (length (job_file (job_in h)))
 
 unfoldable pub file_written : JobInput → List ℕ → List ℕ
 file_written h out = lent_after (write_refusal h (length out)) (job_file (job_in h)) out
 
 -- What `write_job` promises of a job as handed and the buffer that it is lent, with its answer and
 -- the buffer afterwards.
-pub record JobWritePromise (h : JobInput) (out : List ℕ) (r : Written) (out' : List ℕ) : Type 0 where
+pub record JobWritePromise (h : JobInput) (out : List ℕ) (r : Result ℕ ℕ) (out' : List ℕ) : Type 0 where
   -- The number of bytes, or a refusal's number: "Direct calls without files check 5, 6, 7, .. and a
   -- writer then 9", with 18 before 7, then 11.
   pub answer : r ≡ write_answer h (length out)

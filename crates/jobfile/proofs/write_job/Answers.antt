@@ -1,58 +1,45 @@
--- `jobfile::write_job` meets its contract. Assumes nothing.
-use native.Mathlib.Omega.{arith}
-use mathlib.Core.Path.{sym, ◌∙◌}
-use Rattle.job.specs.Input.{job_input}
-use Rattle.jobfile.proofs.Writes.{output_refused, whole, good, bytes_count, few_bytes, output_short, output_file}
+use Rattle.std.proofs.Common.{arith}
+use Rattle.std.proofs.lemmas.Result.{err_from_is_err_and}
+use Rattle.job.specs.Handed.{handed}
+use Rattle.jobfile.proofs.Writes.{output_refused, whole, good, few_bytes, output_short, output_fits, output_file}
 use Rattle.jobfile.proofs.write_job.Goals as goal
 
-pub returns-then-n-ne0 : goal.returns-then-n-ne0
-returns-then-n-ne0 c =
-    let a = c.args in
-    let j = job_input a.p a.sizes.now a.size_chunks.now a.size_layers.now a.size_bytes.now a.forecast.now in
-    output_refused j a.out.now c.refusal-n.result c.refusal-n.ensures c.if-n-ne0.true
+pub returns-in_err-accept : goal.returns-in_err-accept
+returns-in_err-accept c =
+    let p = err_from_is_err_and c.from_residual.result c.from_residual.ensures.1 in
+    rw (p.1, p.2) (output_refused (handed c.args.job.now) c.args.out.now _ c.in_err-accept.ensures)
 
-pub overflow_mul-override_bytes : goal.overflow_mul-override_bytes
-overflow_mul-override_bytes c =
-    let a = c.args in
-    let j = job_input a.p a.sizes.now a.size_chunks.now a.size_layers.now a.size_bytes.now a.forecast.now in
-    omega (arith, few_bytes j a.out.now (sym c.refusal-n.ensures ∙ c.if-n-ne0.false))
+pub overflow_mul-sizes-2 : goal.overflow_mul-sizes-2
+overflow_mul-sizes-2 c = omega (arith, few_bytes (handed c.args.job.now) c.args.out.now c.in_ok-accept.ensures)
 
-pub overflow_mul-run_bytes : goal.overflow_mul-run_bytes
-overflow_mul-run_bytes c =
-    let a = c.args in
-    let j = job_input a.p a.sizes.now a.size_chunks.now a.size_layers.now a.size_bytes.now a.forecast.now in
-    omega (arith, few_bytes j a.out.now (sym c.refusal-n.ensures ∙ c.if-n-ne0.false), c.count_runs-run_bytes.ensures)
+pub overflow_add-sizes : goal.overflow_add-sizes
+overflow_add-sizes c = omega (arith, few_bytes (handed c.args.job.now) c.args.out.now c.in_ok-accept.ensures)
 
-pub overflow_add-layer_bytes-2 : goal.overflow_add-layer_bytes-2
-overflow_add-layer_bytes-2 c =
-    let a = c.args in
-    let j = job_input a.p a.sizes.now a.size_chunks.now a.size_layers.now a.size_bytes.now a.forecast.now in
-    omega (arith, few_bytes j a.out.now (sym c.refusal-n.ensures ∙ c.if-n-ne0.false))
+pub overflow_add-bytes : goal.overflow_add-bytes
+overflow_add-bytes c = omega (arith, few_bytes (handed c.args.job.now) c.args.out.now c.in_ok-accept.ensures)
 
-pub overflow_add-layer_bytes-3 : goal.overflow_add-layer_bytes-3
-overflow_add-layer_bytes-3 c =
-    let a = c.args in
-    let j = job_input a.p a.sizes.now a.size_chunks.now a.size_layers.now a.size_bytes.now a.forecast.now in
-    omega (arith, few_bytes j a.out.now (sym c.refusal-n.ensures ∙ c.if-n-ne0.false), c.count_runs-run_bytes.ensures)
+pub overflow_mul-bytes : goal.overflow_mul-bytes
+overflow_mul-bytes c = omega (arith, few_bytes (handed c.args.job.now) c.args.out.now c.in_ok-accept.ensures, c.count_runs.ensures)
 
-pub returns-then-out-layer_bytes : goal.returns-then-out-layer_bytes
-returns-then-out-layer_bytes c =
-    let a = c.args in
-    let j = job_input a.p a.sizes.now a.size_chunks.now a.size_layers.now a.size_bytes.now a.forecast.now in
-    let z = (sym c.refusal-n.ensures ∙ c.if-n-ne0.false) in
-    output_short j a.out.now z (omega (arith, bytes_count j a.out.now z, c.count_runs-run_bytes.ensures, c.if-out-layer_bytes.true))
+pub overflow_add-bytes-2 : goal.overflow_add-bytes-2
+overflow_add-bytes-2 c = omega (arith, few_bytes (handed c.args.job.now) c.args.out.now c.in_ok-accept.ensures, c.count_runs.ensures)
 
-pub put_job-requires : goal.put_job-requires
-put_job-requires c =
-    let a = c.args in
-    let j = job_input a.p a.sizes.now a.size_chunks.now a.size_layers.now a.size_bytes.now a.forecast.now in
-    let z = (sym c.refusal-n.ensures ∙ c.if-n-ne0.false) in
-    let g = good j a.out.now z in
-    record { whole_sizes = whole j a.out.now z; room = omega (arith, bytes_count j a.out.now z, c.count_runs-run_bytes.ensures, c.if-out-layer_bytes.false); few_slots = omega (arith, g.slots_in, g.last_in) }
+pub returns-in_err-refuse_unless : goal.returns-in_err-refuse_unless
+returns-in_err-refuse_unless c =
+    let p = err_from_is_err_and c.from_residual-in_err-refuse_unless.result c.from_residual-in_err-refuse_unless.ensures.1 in
+    rw (p.1, p.2) (output_short (handed c.args.job.now) c.args.out.now c.in_ok-accept.ensures c.count_runs.result c.count_runs.ensures _ c.in_err-refuse_unless.ensures)
+
+pub put_job-requires-clause-whole_sizes : goal.put_job-requires-clause-whole_sizes
+put_job-requires-clause-whole_sizes c = whole (handed c.args.job.now) c.args.out.now c.in_ok-accept.ensures
+
+pub put_job-requires-clause-room : goal.put_job-requires-clause-room
+put_job-requires-clause-room c = output_fits (handed c.args.job.now) c.args.out.now c.in_ok-accept.ensures c.count_runs.result c.count_runs.ensures c.in_ok-refuse_unless.ensures
+
+pub put_job-requires-clause-few_slots : goal.put_job-requires-clause-few_slots
+put_job-requires-clause-few_slots c = let g = good (handed c.args.job.now) c.args.out.now c.in_ok-accept.ensures in omega (arith, g.slots_in, g.last_in)
 
 pub returns : goal.returns
 returns c =
-    let a = c.args in
-    let j = job_input a.p a.sizes.now a.size_chunks.now a.size_layers.now a.size_bytes.now a.forecast.now in
-    let z = (sym c.refusal-n.ensures ∙ c.if-n-ne0.false) in
-    output_file j a.out.now z (omega (arith, bytes_count j a.out.now z, c.count_runs-run_bytes.ensures, c.if-out-layer_bytes.false)) _ _ c.put_job.ensures
+    let h = handed c.args.job.now in
+    let none = c.in_ok-accept.ensures in
+    output_file h c.args.out.now none (output_fits h c.args.out.now none c.count_runs.result c.count_runs.ensures c.in_ok-refuse_unless.ensures) _ _ c.put_job.ensures
