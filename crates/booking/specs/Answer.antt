@@ -29,8 +29,8 @@ lent_job p sizes o forecast = job_input p sizes o.chunks.now o.layers.now o.byte
 abbrev pub book_refusal : JobInput → ListSlices → ℕ
 book_refusal h s = check_refusal h s or_else pass_refusal (job_in h) s.marks (list_rows s)
 
--- What `book` promises of a job and a list as handed, with its refusal's number, 0 for none, and the
--- forecast afterwards.
+-- What `book` promises of a job and a list as handed, with its refusal's number, 0 for none, and
+-- the forecast afterwards.
 pub record BookPromise (h : JobInput) (s : ListSlices) (r : ℕ) (after : List ℕ) : Type 0 where
   -- "19, booking a list whose verdict isn't 0", after 8.
   pub answered : r ≡ book_refusal h s
@@ -48,8 +48,8 @@ rows_refusal s = list_refusal 0 [] s.slots s.chunks s.layers s.bytes
 abbrev pub release_refusal : JobInput → RowSlices → ℕ
 release_refusal h s = job_refusal h or_else rows_refusal s or_else room_refusal h.forecast (rows_in s)
 
--- What `release` promises of a job and rows as handed, with its refusal's number, 0 for none, and the
--- forecast afterwards.
+-- What `release` promises of a job and rows as handed, with its refusal's number, 0 for none, and
+-- the forecast afterwards.
 pub record ReleasePromise (h : JobInput) (s : RowSlices) (r : ℕ) (after : List ℕ) : Type 0 where
   -- "20, releasing a row for a slot that isn't there or beyond 16,777,216 bytes in a slot", after
   -- 8.

@@ -98,7 +98,7 @@ module _ (chunks span limit : ℕ) (sizes : List ℕ) (os : List Override) (f : 
   film = film_of chunks span limit sizes os f
 
   pub bytes_small : Small f
-  bytes_small = all_most 0 16777216 f r.forecast_in_lem
+  bytes_small = all_most 0 16777216 f r.forecast_in
 
   -- The plan skips no base exactly if the pass keeps every base.
   pass_is : (s : ℕ) → Tried film s → skips_none (job_at film s) ≡ kept_with film s

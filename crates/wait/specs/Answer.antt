@@ -105,7 +105,7 @@ pub record Answered (h : WaitInput) (s : ℕ) : Type 0 where
   -- Every SZ is handed whole: no 18 for that.
   pub whole : WholeSizesIn h
   -- Nothing is out of range: none of "5 without s and d(C), 6, and 7", nor 18.
-  pub in_range_lem : FilmInRange (film_in h)
+  pub in_range : FilmInRange (film_in h)
   -- "The job for a tried s uses the first d(C) slots", and it is accepted.
   pub accepted : Accepted (job_at (film_in h) s)
   -- "The smallest s for which the plan skips no base layer": "no smaller s works, whatever larger

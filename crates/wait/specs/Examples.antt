@@ -21,14 +21,14 @@ pub longer_skips : (skips_none (job_at falling 1) ≡ true) × (skips_none (job_
 unfolding skips_none plan size_in
 longer_skips = (refl, refl)
 
-in_range_lem : FilmInRange falling
+falling_in_range : FilmInRange falling
 unfolding input_refusal
-in_range_lem = ((input_iff (one (1 ∷ 0 ∷ []))).0 refl).1
+falling_in_range = ((input_iff (one (1 ∷ 0 ∷ []))).0 refl).1
 
 pub longer_worse : Works falling 1 × (Works falling 2 → ⊥)
 longer_worse = (
-  (skips_none_iff falling 1 in_range_lem (record { low = omega arith; reaches = omega arith })).0 (subst T (sym longer_skips.0) tt),
-  λ k. subst T longer_skips.1 ((skips_none_iff falling 2 in_range_lem k.tried).1 k),
+  (skips_none_iff falling 1 falling_in_range (record { low = omega arith; reaches = omega arith })).0 (subst T (sym longer_skips.0) tt),
+  λ k. subst T longer_skips.1 ((skips_none_iff falling 2 falling_in_range k.tried).1 k),
 )
 
 -- The first s, a later one, the last within the forecast, and none.

@@ -39,13 +39,13 @@ job_accepted w s r t =
       limit_in = r.limit_in;
       last_in = omega (arith, t.reaches, r.slots_in.high);
       layers_in = r.layers_in;
-      sizes_in_lem = r.sizes_in_lem;
+      sizes_in_lem = r.sizes_in;
       overrides_named =
           all_map (Named (programme_at w 1) w.sizes) (Named (programme_at w s) w.sizes) w.overrides
           (λ o n. record { chunk_in = n.chunk_in; layer_in = n.layer_in; not_own = n.not_own }) r.overrides_named;
       overrides_rise = r.overrides_rise;
-      overrides_in_lem = r.overrides_in_lem;
-      forecast_in_lem = all_take (Within 0 16777216) (last_due (programme_at w s)) w.forecast r.forecast_in_lem;
+      overrides_in_lem = r.overrides_in;
+      forecast_in_lem = all_take (Within 0 16777216) (last_due (programme_at w s)) w.forecast r.forecast_in;
       slots_in = length-take-le (last_due (programme_at w s)) w.forecast t.reaches;
     }
 
@@ -73,18 +73,18 @@ input_iff h =
               span_in = u.0.1.0;
               limit_in = u.0.1.1;
               layers_in = u.1.0.0;
-              sizes_in_lem = u.1.0.1;
+              sizes_in = u.1.0.1;
               overrides_named = u.1.1.0.1.0;
               overrides_rise = u.1.1.0.1.1.0;
-              overrides_in_lem = u.1.1.0.1.1.1;
+              overrides_in = u.1.1.0.1.1.1;
               slots_in = u.1.1.1.0;
-              forecast_in_lem = u.1.1.1.1;
+              forecast_in = u.1.1.1.1;
             },
           ),
       λ x.
           let i = x.1 in
           r.1
-          ((i.chunks_in, (i.span_in, i.limit_in)), ((i.layers_in, i.sizes_in_lem), ((x.0, (i.overrides_named, (i.overrides_rise, i.overrides_in_lem))), (i.slots_in, i.forecast_in_lem)))),
+          ((i.chunks_in, (i.span_in, i.limit_in)), ((i.layers_in, i.sizes_in), ((x.0, (i.overrides_named, (i.overrides_rise, i.overrides_in))), (i.slots_in, i.forecast_in)))),
     )
 
 -- ---- one s
@@ -237,10 +237,10 @@ module _ (h : WaitInput) where
         let z : wait_refusal h ≡ 0 = eqb→eq (wait_refusal h) 0 (subst T (sym u.0) tt) in
         let r = (wait_iff h).0 z in
         let x = (shortest_iff film r.0.1 s).0 (u.1, omega (arith, r.1, u.1)) in
-        record { whole = r.0.0; in_range_lem = r.0.1; accepted = job_accepted film s r.0.1 x.works.tried; shortest = x },
+        record { whole = r.0.0; in_range = r.0.1; accepted = job_accepted film s r.0.1 x.works.tried; shortest = x },
     λ x.
-        let v = (shortest_iff film x.in_range_lem s).1 x.shortest in
-        let z : wait_refusal h ≡ 0 = (wait_iff h).1 ((x.whole, x.in_range_lem), omega (arith, v.0, v.1)) in
+        let v = (shortest_iff film x.in_range s).1 x.shortest in
+        let z : wait_refusal h ≡ 0 = (wait_iff h).1 ((x.whole, x.in_range), omega (arith, v.0, v.1)) in
         rw (z, v.0),
   )
 

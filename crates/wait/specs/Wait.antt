@@ -64,12 +64,12 @@ pub record FilmInRange (w : Film) : Type 0 where
   pub span_in : Within 1 60 w.span
   pub limit_in : Within 0 65535 w.limit
   pub layers_in : Within 1 4 (length w.sizes)
-  pub sizes_in_lem : All (Within 1 16777216) w.sizes
+  pub sizes_in : All (Within 1 16777216) w.sizes
   pub overrides_named : All (Named (programme_at w 1) w.sizes) w.overrides
   pub overrides_rise : Rising w.overrides
-  pub overrides_in_lem : All (λ (o : Override). Within 1 16777216 o.bytes) w.overrides
+  pub overrides_in : All (λ (o : Override). Within 1 16777216 o.bytes) w.overrides
   pub slots_in : Within 1 3600 (length w.forecast)
-  pub forecast_in_lem : All (Within 0 16777216) w.forecast
+  pub forecast_in : All (Within 0 16777216) w.forecast
 
 -- ---- the same said of lists, for the theorems
 
