@@ -1,4 +1,3 @@
 pub mod Asked
 pub mod Outputs
 pub mod Rest
-pub mod Laid

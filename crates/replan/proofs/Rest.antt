@@ -41,7 +41,7 @@ use Rattle.theory_replan.specs.lemmas.Fits.{FitsFrom}
 use Rattle.theory_replan.specs.lemmas.Plan.{is_replan_fits}
 use Rattle.theory_replan.specs.lemmas.Shape.{own_rest_rows}
 use Rattle.core_fill.proofs.Chunks.{load_append}
-use Rattle.core_fill.proofs.Pieces.{bytes_in_lem, left_next, onward_next}
+use Rattle.core_fill.proofs.Pieces.{bytes_in, left_next, onward_next}
 use Rattle.core_fill.specs.lemmas.Filling.{bytes_at, Fed, last_of, left_at, load, onward, piece}
 use Rattle.core_fill.proofs.Left.{layer_at, pieces_next}
 use Rattle.core_fill.specs.lemmas.Left.{PutAllPre, AnyLevels, pieces_left, left_queue}
@@ -264,7 +264,7 @@ module _
   last_is = omega (arith, slots, some_slot)
 
   first_bytes : bytes_at start part start ≡ get_or part 0 0
-  first_bytes = let z : start - start ≡ 0 = omega arith in bytes_in_lem start part start (omega arith) (omega arith) ∙ rw z
+  first_bytes = let z : start - start ≡ 0 = omega arith in bytes_in start part start (omega arith) (omega arith) ∙ rw z
 
   -- ---- what the fill asks for
 
@@ -386,7 +386,7 @@ module _
       let next = rw e at (onward_next start part (start - 1) q (omega (arith, some_slot))) in
       let same : (u : ℕ) → start - 1 < u → B u ≡ bytes_at start part u = λ u v.
       let k : length earlier + (u - start) ≡ u - 1 = omega arith in
-      rw k at (get_or-append-add earlier part (u - start) 0) ∙ sym (bytes_in_lem start part u (omega arith) (omega arith)) in
+      rw k at (get_or-append-add earlier part (u - start) 0) ∙ sym (bytes_in start part u (omega arith) (omega arith)) in
       rest_is_fill j (accepted_sized j a) start fetched ok plan d.choice fits
       ∙ ap (fill B (suc (last_slot j) - start) (start - 1)) rest_queue
       ∙ fill_cong B (bytes_at start part) (suc (last_slot j) - start) (start - 1) q same

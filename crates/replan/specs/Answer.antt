@@ -1,7 +1,7 @@
 -- Meaning. What planning afresh hands over: document 02, request 12, "The result is the marks, the
 -- counts and only the rows from p on", or a refusal's number. The plan made afresh, its rows and
 -- its refusals are stated in theory_replan: Statement, Own, Refusal.
-use Rattle.std.specs.Prelude.{ℕ, ◌-◌, ◌≤◌, ◌≡◌, Bool, cond, List, [], ◌∷◌, ◌++◌, map, length, drop, eqb}
+use Rattle.std.specs.Prelude.{ℕ, ◌-◌, ◌≤◌, ◌≡◌, Bool, List, [], ◌++◌, map, length, drop, Result}
 use Rattle.theory_basics.specs.Lent.{lent_after}
 use Rattle.theory_basics.specs.Refusals.{◌or_else◌, unless}
 use Rattle.job.specs.Input.{JobInput, job_in, job_refusal}
@@ -12,8 +12,8 @@ use Rattle.fetch.specs.VerdictFrom.{verdict_from}
 use Rattle.fetch.specs.Slices.{ListSlices, room}
 use Rattle.theory_plan.specs.Own.{own_list}
 use Rattle.theory_plan.specs.Statement.{Same, SettledByTrials, counts_of, marks_of}
-use Rattle.planner.specs.declared.Answer.TheVariants.{Refused, Rows}
-use Rattle.planner.specs.declared.Answer.{Answer}
+use Rattle.refusals.specs.declared.Refusal.{Refusal}
+use Rattle.refusals.specs.Numbers.{answered, by_number}
 use Rattle.planner.specs.declared.Planned.{Planned}
 use Rattle.theory_replan.specs.Promised.{Replans}
 use Rattle.theory_replan.specs.Own.{own_rest}
@@ -69,21 +69,15 @@ refusal_on h o l = input_refusal h o or_else unless 11 (holds_on h o l)
 
 -- ---- what is handed over
 
--- How many rows, or the refusal's number.
-abbrev pub answer_on : JobInput → ReplanInput → ListSlices → Answer
-answer_on h o l = cond (eqb (refusal_on h o l) 0) (Rows (length (rows_on h o))) (Refused (refusal_on h o l))
+-- How many rows, and the four counts.
+abbrev pub numbers_on : JobInput → ReplanInput → Planned
+numbers_on h o = record { rows = length (rows_on h o); counts = counts_of (job_on h o) (plan_afresh h o) }
 
--- The four counts; zeros beside a refusal.
-abbrev pub counts_on : JobInput → ReplanInput → ListSlices → List ℕ
-counts_on h o l = cond (eqb (refusal_on h o l) 0) (counts_of (job_on h o) (plan_afresh h o)) (0 ∷ 0 ∷ 0 ∷ 0 ∷ [])
-
--- And what stands in the lent slices: the result, then the old contents; on a refusal the old
+-- What is answered, and what stands in the lent slices: the result, then the old contents; on a refusal the old
 -- contents alone.
-pub record ReplanOutput (h : JobInput) (o : ReplanInput) (lent : ListSlices) (r : Planned) (lent' : ListSlices) : Type 0 where
-  -- "Only the rows from p on": how many, or the refusal's number.
-  pub answer : r.answer ≡ answer_on h o lent
-  -- "The counts"; zeros beside a refusal.
-  pub counts : r.counts ≡ counts_on h o lent
+pub record ReplanOutput (h : JobInput) (o : ReplanInput) (lent : ListSlices) (r : Result Planned Refusal) (lent' : ListSlices) : Type 0 where
+  -- "Only the rows from p on": how many, and "the counts"; or the refusal's number alone.
+  pub answer : by_number r ≡ answered (refusal_on h o lent) (numbers_on h o)
   -- "The marks".
   pub marks_are : lent'.marks ≡ lent_after (refusal_on h o lent) (marks_of (job_on h o) (plan_afresh h o)) lent.marks
   -- The rows from p on, "listed in document 01's way": a slice for each of their four numbers.
@@ -123,7 +117,7 @@ StandingGoesOn h o =
     Permuted (fetched o) (rows_before o.from (own_list (job_in h) q)) → o.onward ≡ drop (o.from - 1) h.forecast → GoesOn h o q
 
 -- The promise of `replan`.
-pub record ReplanPromise (h : JobInput) (o : ReplanInput) (lent : ListSlices) (r : Planned) (lent' : ListSlices) : Type 0 where
+pub record ReplanPromise (h : JobInput) (o : ReplanInput) (lent : ListSlices) (r : Result Planned Refusal) (lent' : ListSlices) : Type 0 where
   -- "The result is the marks, the counts and only the rows from p on", or the refusal's number;
   -- every lent byte, on a refusal too.
   pub output : ReplanOutput h o lent r lent'

@@ -1,7 +1,7 @@
 -- Theorems. What holds of planning afresh as the desk calls it: the clauses `settled` and
 -- `standing` of the call, and that the handed rows may come in any order.
-use Rattle.std.specs.Prelude.{ℕ, ◌≡◌, cond, List, [], ◌∷◌, map, eqb, length}
-use Rattle.std.proofs.Common.{sym, ◌∙◌, ap, subst, ⊎_elim, eqb→eq}
+use Rattle.std.specs.Prelude.{ℕ, ◌≡◌, cond, List, [], map, eqb, length, Result, Ok, Err}
+use Rattle.std.proofs.Common.{sym, ◌∙◌, ap, ap₂, subst, ⊎_elim, eqb→eq}
 use Rattle.theory_basics.specs.Lent.{lent_after, over}
 use Rattle.theory_basics.specs.Refusals.{◌or_else◌, unless}
 use Rattle.theory_basics.specs.lemmas.Refusals.{or_else_iff}
@@ -15,14 +15,15 @@ use Rattle.fetch.proofs.Theorems.{verdict_from_iff}
 use Rattle.fetch.specs.Slices.{ListSlices, room, slices_of}
 use Rattle.theory_plan.specs.Statement.{Same, counts_of, marks_of}
 use Rattle.theory_plan.proofs.Theorems.{same_counts, same_marks}
-use Rattle.planner.specs.declared.Answer.TheVariants.{Refused, Rows}
+use Rattle.refusals.specs.declared.Refusal.{Refusal}
+use Rattle.refusals.specs.Numbers.{answered}
 use Rattle.planner.specs.declared.Planned.{Planned}
 use Rattle.theory_replan.proofs.Desk.{replans, standing_continues}
 use Rattle.theory_replan.specs.Promised.{Continues}
 use Rattle.theory_replan.specs.Refusal.{replan_refusal}
 use Rattle.theory_replan.specs.Theorems.{order_free}
 use Rattle.theory_replan.specs.lemmas.Standing.{own_rest_cong}
-use Rattle.replan.specs.Answer.{ReplanOutput, ReplanInput, SettledAfresh, StandingGoesOn, fetched, replan_input, input_refusal, job_on, plan_afresh, refusal_on, rows_on}
+use Rattle.replan.specs.Answer.{ReplanOutput, ReplanInput, SettledAfresh, StandingGoesOn, fetched, replan_input, input_refusal, job_on, numbers_on, plan_afresh, refusal_on, rows_on}
 
 -- ---- the clauses
 
@@ -58,7 +59,7 @@ pub record SameAnswer (h : JobInput) (a b : ReplanInput) : Type 0 where
   pub plan : input_refusal h a ≡ 0 → Same (job_on h b) (plan_afresh h a) (plan_afresh h b)
   pub rows : input_refusal h a ≡ 0 → rows_on h a ≡ rows_on h b
   pub output :
-      {marks slots chunks layers bytes : List ℕ} {r : Planned} {marks' slots' chunks' layers' bytes' : List ℕ} →
+      {marks slots chunks layers bytes : List ℕ} {r : Result Planned Refusal} {marks' slots' chunks' layers' bytes' : List ℕ} →
       ReplanOutput h a (slices_of marks slots chunks layers bytes) r (slices_of marks' slots' chunks' layers' bytes') →
       ReplanOutput h b (slices_of marks slots chunks layers bytes) r (slices_of marks' slots' chunks' layers' bytes')
 
@@ -98,6 +99,11 @@ module _
       (order_free k from (fetched a) (fetched b) same).rows (plan_afresh h a)
       ∙ own_rest_cong k from (fetched b) (plan_afresh h a) (plan_afresh h b) (plans z)
 
+  numbers_alike : input_refusal h a ≡ 0 → numbers_on h a ≡ numbers_on h b
+  numbers_alike z =
+      ap₂ (λ (rows : List Row) (counts : List ℕ). record { rows = length rows; counts = counts }) (rows_alike z)
+      (same_counts k (plan_afresh h a) (plan_afresh h b) (plans z))
+
   abbrev short : List Row → ListSlices → ℕ
   short rows l =
       unless 11 (room l (chunks (job_in h)) (length rows))
@@ -131,12 +137,8 @@ module _
             record {
               answer =
                   x.answer
-                  ∙ given_alike n (Rows (length (rows_on h a))) (Rows (length (rows_on h b))) (Refused n) (λ z. ap (λ (m : List Row). Rows (length m)) (rows_alike (none l z)))
-                  ∙ ap (λ (m : ℕ). cond (eqb m 0) (Rows (length (rows_on h b))) (Refused m)) (refusals l);
-              counts =
-                  x.counts
-                  ∙ given_alike n (counts_of k (plan_afresh h a)) (counts_of k (plan_afresh h b)) (0 ∷ 0 ∷ 0 ∷ 0 ∷ []) (λ z. same_counts k (plan_afresh h a) (plan_afresh h b) (plans (none l z)))
-                  ∙ ap (λ (m : ℕ). cond (eqb m 0) (counts_of k (plan_afresh h b)) (0 ∷ 0 ∷ 0 ∷ 0 ∷ [])) (refusals l);
+                  ∙ given_alike n (Ok (numbers_on h a)) (Ok (numbers_on h b)) (Err n) (λ z. ap Ok (numbers_alike (none l z)))
+                  ∙ ap (λ (m : ℕ). answered m (numbers_on h b)) (refusals l);
               marks_are = x.marks_are ∙ slice l (marks_of k (plan_afresh h a)) (marks_of k (plan_afresh h b)) marks (λ z. same_marks k (plan_afresh h a) (plan_afresh h b) (plans z));
               slots_are = x.slots_are ∙ column l row_slot slots;
               chunks_are = x.chunks_are ∙ column l row_chunk chs;
