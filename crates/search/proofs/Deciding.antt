@@ -48,8 +48,8 @@ kept_many {first = first} {ids = ids} k = sym (ap length k.kept) ∙ length-drop
 
 -- ---- what the functions ask for
 
-module _ (p : Programme) (layers : ℕ) (size : ℕ → ℕ → ℕ) (f ids₀ ready₀ mark₀ : List ℕ) (o : DecidePre p layers size 1 f ids₀ ready₀ mark₀) where
-  module _ (left : List ℕ) (s : SumTable 1 f left) where
+module _ {p : Programme} {layers : ℕ} {size : ℕ → ℕ → ℕ} {f ids₀ ready₀ mark₀ : List ℕ} (o : DecidePre p layers size 1 f ids₀ ready₀ mark₀) where
+  module _ {left : List ℕ} (s : SumTable 1 f left) where
     pub find_from : (dues bytes : List ℕ) → length dues ≡ 500 → length bytes ≡ 500 → FindBestPre p size left ids₀ dues bytes
     find_from dues bytes d b =
         record { few = o.few; late = o.late; ends = o.ends; small = o.small; sums = sums_small p layers size 1 f ids₀ ready₀ mark₀ o left s; slots = s.long; long = (o.long.0, d, b) }
@@ -63,7 +63,7 @@ module _ (p : Programme) (layers : ℕ) (size : ℕ → ℕ → ℕ) (f ids₀ r
 
     -- ---- what is found
 
-    module _ (budget : ℕ) (out : Outcome) (ids dues bytes : List ℕ) (w : FindBestPost p size left budget out ids dues bytes) where
+    module _ {budget : ℕ} {out : Outcome} {ids dues bytes : List ℕ} (w : FindBestPost p size left budget out ids dues bytes) where
       -- A job that the handed numbers say.
       module _ (sizes : List ℕ) (overrides : List Override) (count : layers ≡ length sizes) (says : size ≡ size_in sizes overrides) (ok : Accepted (job_from p sizes overrides 1 f)) where
         abbrev j : Job

@@ -1,41 +1,59 @@
 -- Laws on what the public call hands over. Assumes nothing.
-use mathlib.Core.Path.{◌≡◌, refl, sym, ap, ◌∙◌}
-use mathlib.Core.Bool.{Bool, true, false, ◌&&◌}
-use mathlib.Core.List.{List, [], ◌∷◌, map}
-use mathlib.Core.Logic.{⊎_elim}
+use mathlib.Core.Path.{◌≡◌, refl, sym, ap, subst, ◌∙◌}
+use mathlib.Core.Bool.{cond}
+use mathlib.Core.List.{List}
 use Prim.Native.Nat.{ℕ, ◌+◌, ◌-◌, ◌≤◌, ◌<◌}
 use native.Mathlib.Omega.{arith}
-use borrow.Author.Tests.{eq-eqb, ne_eqb, le-leb, lt-leb}
+use borrow.Author.Tests.{le-leb, lt-leb}
 use lib.ListN.{length, get_or}
-use lib.Dec.{eqb, leb, ltb, ltb→lt, lt→ltb}
-use Rattle.theory_basics.specs.Lent.{over}
+use lib.Dec.{eqb, ltb, ltb→lt, lt→ltb}
+use Rattle.std.specs.Prelude.{Result as Answer, Ok, Err}
 use Rattle.theory_basics.specs.Lists.{has}
 use Rattle.theory_basics.specs.Refusals.{unless}
 use Rattle.theory_basics.specs.lemmas.Lists.{get_d_up_to}
 use Rattle.theory_basics.specs.lemmas.Refusals.{or_else_none, or_else_some}
-use Rattle.theory_basics.specs.lemmas.Tests.{T_true, not_T_false, same_test, test}
+use Rattle.theory_basics.specs.lemmas.Tests.{by_cond_both, same_test}
+use Rattle.refusals.specs.declared.Refusal.{Refusal}
+use Rattle.refusals.specs.declared.Refusal.TheVariants.{ShortBuffer}
+use Rattle.refusals.specs.Numbers.{answered, by_number, number_of}
+use Rattle.refusals.specs.Laws.{number_above_0}
 use Rattle.fetch.specs.Marks.{bit}
-use Rattle.fetch.specs.Rows.{mark_byte, row_slot, row_chunk, row_layer, row_bytes}
+use Rattle.fetch.specs.Rows.{mark_byte}
 use Rattle.fetch.specs.lemmas.Marks.{mark_bit}
 use Rattle.job.specs.Input.{JobInput, job_in, job_refusal}
 use Rattle.job.specs.Theorems.{input_accepted}
 use Rattle.job.specs.Job.{Job, chunks, layers, size}
 use Rattle.fetch.specs.Slices.{ListSlices, slices_of}
-use Rattle.theory_plan.specs.Statement.{counts_of, marks_of}
+use Rattle.theory_plan.specs.Statement.{marks_of}
 use Rattle.core_decide.specs.lemmas.Decision.{Decides}
 use Rattle.core_output.specs.declared.Output.{Output}
 use Rattle.core_output.specs.lemmas.Writing.{Decided, own_result, WritePost}
-use Rattle.core_output.proofs.Writing.{unlaid}
-use Rattle.planner.specs.declared.Answer.TheVariants.{Rows}
-use Rattle.theory_search.specs.Search.{found, plan_over}
+use Rattle.planner.specs.declared.Planned.{Planned}
+use Rattle.planner.specs.lemmas.Outputs.{Outputs, laid, short_refusal}
+use Rattle.planner.proofs.Outputs.{over_laid, over_refused}
+use Rattle.theory_search.specs.Search.{found}
 use Rattle.theory_search.specs.Statement.{IsPlanOver}
 use Rattle.theory_search.proofs.Theorems.{as_document_01, equal_plan, found_is_found, found_unique, good_enough, larger_budget, over_exists, over_unique}
 use Rattle.search.specs.declared.Searched.{Searched}
-use Rattle.search.specs.Answer.{FoundByWalk, GoodEnoughFound, MoreSteps, SearchOutput, SearchPromise, given, holds_found, plan_found, rows_found, search_refusal}
-use Rattle.search.specs.lemmas.Deciding.{AllOf, AnsweredPost, OnlyNumber}
+use Rattle.search.specs.Answer.{FoundByWalk, GoodEnoughFound, MoreSteps, SearchOutput, SearchPromise, holds_found, plan_found, rows_found, search_refusal}
 use Rattle.search.proofs.Deciding.{plan_found_fits}
 
 -- ---- what is handed
+
+-- What is answered where the plan is: what is said of the set found stands beside it.
+abbrev found_beside : Job → ℕ → Answer Planned ℕ → Answer Searched ℕ
+found_beside j budget (Ok plan) =
+    Ok (record {
+      rows = plan.rows;
+      counts = plan.counts;
+      steps = (found j budget).steps;
+      ended = (found j budget).ended;
+      shortfall = (found j budget).shortfall;
+    })
+found_beside j budget (Err k) = Err k
+
+beside_answered : (j : Job) (budget k : ℕ) (plan : Planned) → found_beside j budget (answered k plan) ≡ cond (eqb k 0) (found_beside j budget (Ok plan)) (Err k)
+beside_answered j budget k plan = by_cond_both (λ x y. found_beside j budget x ≡ y) (eqb k 0) (λ t. refl) (λ t. refl)
 
 module _ (h : JobInput) (budget : ℕ) (marks slots cs layers bytes : List ℕ) where
   abbrev j : Job
@@ -44,71 +62,45 @@ module _ (h : JobInput) (budget : ℕ) (marks slots cs layers bytes : List ℕ) 
   abbrev lent : ListSlices
   lent = slices_of marks slots cs layers bytes
 
-  abbrev OutputTo : Searched → (marks slots cs layers bytes : List ℕ) → Type 0
-  OutputTo r marks' slots' cs' layers' bytes' = SearchOutput h budget (slices_of marks slots cs layers bytes) r (slices_of marks' slots' cs' layers' bytes')
-
-  output_refused : (k : ℕ) → search_refusal h budget lent ≡ k → (k ≡ 0 → ⊥) → (r : Searched) → OnlyNumber r k → OutputTo r marks slots cs layers bytes
-  output_refused k e o r x =
-      let g : given h budget lent ≡ false = ap (λ (n : ℕ). eqb n 0) e ∙ ne_eqb k 0 o in
+  -- Where the plan is handed over, or a refusal alone.
+  output_by :
+      (refused : ℕ) → search_refusal h budget lent ≡ refused → {r : Answer Planned Refusal} {marks' slots' cs' layers' bytes' : List ℕ} →
+      Outputs refused (own_result j (plan_found j budget)) marks slots cs layers bytes r marks' slots' cs' layers' bytes' →
+      {s : Answer Searched Refusal} → by_number s ≡ found_beside j budget (by_number r) →
+      SearchOutput h budget lent s (slices_of marks' slots' cs' layers' bytes')
+  output_by refused e {r} {marks'} {slots'} {cs'} {layers'} {bytes'} x b =
+      let y = subst (λ (k : ℕ). Outputs k (own_result j (plan_found j budget)) marks slots cs layers bytes r marks' slots' cs' layers' bytes') (sym e) x in
       record {
-        answer = x.0 ∙ sym (rw (g, e));
-        counts = x.1 ∙ sym (rw g);
-        steps = x.2 ∙ sym (rw g);
-        ended = x.3 ∙ sym (rw g);
-        shortfall = x.4 ∙ sym (rw g);
-        marks_are = sym (rw g);
-        slots_are = sym (rw g);
-        chunks_are = sym (rw g);
-        layers_are = sym (rw g);
-        bytes_are = sym (rw g);
+        answer = b ∙ ap (found_beside j budget) y.answer ∙ beside_answered j budget (search_refusal h budget lent) _;
+        marks_are = y.marks_are;
+        slots_are = y.slots_are;
+        chunks_are = y.chunks_are;
+        layers_are = y.layers_are;
+        bytes_are = y.bytes_are;
       }
 
   -- 5, 6, 18 or 7.
-  pub refused_input : (k : ℕ) → k ≡ job_refusal h → 0 < k → (r : Searched) → OnlyNumber r k → OutputTo r marks slots cs layers bytes
-  refused_input k e o r x = output_refused k (or_else_some (job_refusal h) (unless 11 (holds_found j budget lent)) (λ z. omega arith) ∙ sym e) (λ z. omega arith) r x
+  pub refused_input : (e : Refusal) → number_of e ≡ job_refusal h → SearchOutput h budget lent (Err e) lent
+  refused_input e is =
+      let k = number_of e in
+      let above : k ≡ 0 → ⊥ = λ z. omega (arith, number_above_0 e) in
+      output_by k (or_else_some (job_refusal h) (unless 11 (holds_found j budget lent)) (λ z. above (is ∙ z)) ∙ sym is) (over_refused (own_result j (plan_found j budget)) {r = Err e} k k refl above refl) refl
 
   -- 11.
-  refused_short : job_refusal h ≡ 0 → holds_found j budget lent ≡ false → (r : Searched) → OnlyNumber r 11 → OutputTo r marks slots cs layers bytes
-  refused_short e f r x = output_refused 11 (or_else_none (job_refusal h) (unless 11 (holds_found j budget lent)) e ∙ rw f) (λ z. omega arith) r x
+  pub short_marks : job_refusal h ≡ 0 → length marks < chunks j → SearchOutput h budget lent (Err ShortBuffer) lent
+  short_marks e f =
+      output_by 11 (or_else_none (job_refusal h) (unless 11 (holds_found j budget lent)) e ∙ rw (lt-leb (chunks j) (length marks) f)) (over_refused (own_result j (plan_found j budget)) {r = Err ShortBuffer} 11 11 refl (λ z. omega arith) refl) refl
 
-  pub short_marks : job_refusal h ≡ 0 → length marks < chunks j → (r : Searched) → OnlyNumber r 11 → OutputTo r marks slots cs layers bytes
-  short_marks e f r x = refused_short e (rw (lt-leb (chunks j) (length marks) f)) r x
-
-  -- The marks fit: the rows say.
-  holds_rows : chunks j ≤ length marks → (b : Bool) → leb (length (rows_found j budget)) (length slots) && (leb (length (rows_found j budget)) (length cs) && (leb (length (rows_found j budget)) (length layers) && leb (length (rows_found j budget)) (length bytes))) ≡ b → holds_found j budget lent ≡ b
-  holds_rows f b e = rw (le-leb (chunks j) (length marks) f) e
-
-  module _
-      (z : job_refusal h ≡ 0) (fit : chunks j ≤ length marks) {made : Output} {marks' slots' cs' layers' bytes' : List ℕ}
-      (l : WritePost (own_result j (plan_found j budget)) marks slots cs layers bytes made marks' slots' cs' layers' bytes') {steps short : ℕ} {ended : Bool}
-      (st : steps ≡ (found j budget).steps) (en : ended ≡ (found j budget).ended) (sh : short ≡ (found j budget).shortfall) (r : Searched) where
-    -- Whole,
-    laid_whole :
-        made.whole ≡ true → AllOf made steps ended short r →
-        OutputTo r marks' slots' cs' layers' bytes'
-    laid_whole t x =
-        let e : search_refusal h budget lent ≡ 0 = or_else_none (job_refusal h) (unless 11 (holds_found j budget lent)) z ∙ rw (holds_rows fit true (sym l.whole ∙ t)) in
-        let g : given h budget lent ≡ true = eq-eqb (search_refusal h budget lent) 0 e in
-        record {
-          answer = x.0 ∙ ap Rows l.rows ∙ sym (rw g);
-          counts = x.1 ∙ l.counts ∙ sym (rw g);
-          steps = x.2 ∙ st ∙ sym (rw g);
-          ended = x.3 ∙ en ∙ sym (rw g);
-          shortfall = x.4 ∙ sh ∙ sym (rw g);
-          marks_are = l.marks_are ∙ rw (t, g);
-          slots_are = l.slots_are ∙ rw (t, g);
-          chunks_are = l.chunks_are ∙ rw (t, g);
-          layers_are = l.layers_are ∙ rw (t, g);
-          bytes_are = l.bytes_are ∙ rw (t, g);
-        }
-
-    -- or not at all.
-    pub output_laid : AnsweredPost made steps ended short r → OutputTo r marks' slots' cs' layers' bytes'
-    output_laid x =
-        ⊎_elim
-        (λ t. let e = T_true made.whole t in laid_whole e (x.whole e))
-        (λ t. let e = not_T_false made.whole t in unlaid l e (OutputTo r) (refused_short z (holds_rows fit false (sym l.whole ∙ e)) r (x.not_whole e)))
-        (test made.whole)
+  -- The marks fit: what was laid, whole or not at all.
+  pub output_laid :
+      job_refusal h ≡ 0 → chunks j ≤ length marks → {made : Output} {marks' slots' cs' layers' bytes' : List ℕ} →
+      WritePost (own_result j (plan_found j budget)) marks slots cs layers bytes made marks' slots' cs' layers' bytes' →
+      (r : Answer Planned Refusal) → by_number r ≡ laid made →
+      {s : Answer Searched Refusal} → by_number s ≡ found_beside j budget (by_number r) →
+      SearchOutput h budget lent s (slices_of marks' slots' cs' layers' bytes')
+  output_laid e f l r a b =
+      output_by (short_refusal (rows_found j budget) slots cs layers bytes) (or_else_none (job_refusal h) (unless 11 (holds_found j budget lent)) e ∙ rw (le-leb (chunks j) (length marks) f))
+      (over_laid (own_result j (plan_found j budget)) l a) b
 
 -- ---- what writing the plan asks for
 
@@ -165,6 +157,6 @@ more_steps h budget z =
     }
 
 -- The rest of the promise needs no look at the code.
-pub promise_of : {h : JobInput} {budget : ℕ} {lent lent' : ListSlices} {r : Searched} → SearchOutput h budget lent r lent' → SearchPromise h budget lent r lent'
+pub promise_of : {h : JobInput} {budget : ℕ} {lent lent' : ListSlices} {r : Answer Searched Refusal} → SearchOutput h budget lent r lent' → SearchPromise h budget lent r lent'
 promise_of {h} {budget} x =
     record { output = x; found = found_by_walk h budget; enough = good_enough_found h budget; more_steps = more_steps h budget }

@@ -2,7 +2,7 @@
 -- best set met .., the steps .. actually taken, whether the walk ended .., and a shortfall", with
 -- the plan over that set, or a refusal's number. The walk, the plan over a set and what is claimed
 -- of both are stated in theory_search: Statement; they are computed in theory_search: Search.
-use Rattle.std.specs.Prelude.{ℕ, suc, ◌+◌, ◌*◌, ◌-◌, ◌≤◌, ◌≡◌, Bool, false, cond, List, [], ◌∷◌, map, length, get_or, eqb}
+use Rattle.std.specs.Prelude.{ℕ, ◌*◌, ◌-◌, ◌≤◌, ◌≡◌, Bool, List, map, length, get_or, Result}
 use Rattle.theory_basics.specs.Lent.{lent_after}
 use Rattle.theory_basics.specs.Lists.{has}
 use Rattle.theory_basics.specs.Refusals.{unless, ◌or_else◌}
@@ -13,8 +13,8 @@ use Rattle.fetch.specs.Rows.{Row, row_slot, row_chunk, row_layer, row_bytes}
 use Rattle.fetch.specs.Slices.{ListSlices, room}
 use Rattle.theory_plan.specs.Own.{own_list}
 use Rattle.theory_plan.specs.Statement.{Same, SettledByTrials, count_of, counts_of, marks_of}
-use Rattle.planner.specs.declared.Answer.{Answer}
-use Rattle.planner.specs.declared.Answer.TheVariants.{Rows, Refused}
+use Rattle.refusals.specs.declared.Refusal.{Refusal}
+use Rattle.refusals.specs.Numbers.{answered, by_number}
 use Rattle.theory_search.specs.Statement.{Found, GoodEnough, IsFound, IsPlanOver}
 use Rattle.theory_search.specs.Search.{found, plan_over}
 use Rattle.search.specs.declared.Searched.{Searched}
@@ -41,34 +41,27 @@ search_refusal h budget l = job_refusal h or_else unless 11 (holds_found (job_in
 
 -- ---- what is handed over
 
--- Where nothing is refused; a refusal carries only its number: beside it counts, steps and
--- shortfall are 0, and the walk has not ended.
-abbrev pub given : JobInput → ℕ → ListSlices → Bool
-given h budget l = eqb (search_refusal h budget l) 0
-
--- How many rows, or the refusal's number.
-abbrev pub answer_of : JobInput → ℕ → ListSlices → Answer
-answer_of h budget l = cond (given h budget l) (Rows (length (rows_found (job_in h) budget))) (Refused (search_refusal h budget l))
-
-abbrev pub search_counts : JobInput → ℕ → ListSlices → List ℕ
-search_counts h budget l = cond (given h budget l) (counts_of (job_in h) (plan_found (job_in h) budget)) (0 ∷ 0 ∷ 0 ∷ 0 ∷ [])
+-- How many rows "that plan" has, and its counts, in "document 01's way"; "the steps of that fixed
+-- walk actually taken, whether the walk ended (also yes if its last step spends the budget), and a
+-- shortfall."
+abbrev pub search_numbers : Job → ℕ → Searched
+search_numbers j budget =
+    record {
+      rows = length (rows_found j budget);
+      counts = counts_of j (plan_found j budget);
+      steps = (found j budget).steps;
+      ended = (found j budget).ended;
+      shortfall = (found j budget).shortfall;
+    }
 
 -- A lent slice at exit: the result, then the old contents; on a refusal the old contents alone.
 abbrev pub slice_after : JobInput → ℕ → ListSlices → List ℕ → List ℕ → List ℕ
 slice_after h budget l result old = lent_after (search_refusal h budget l) result old
 
 -- What is answered, and what stands in the lent slices.
-pub record SearchOutput (h : JobInput) (budget : ℕ) (lent : ListSlices) (r : Searched) (lent' : ListSlices) : Type 0 where
-  -- How many rows "that plan" has, or the refusal's number.
-  pub answer : r.answer ≡ answer_of h budget lent
-  -- Its counts, in "document 01's way"; zeros beside a refusal.
-  pub counts : r.counts ≡ search_counts h budget lent
-  -- "The steps of that fixed walk actually taken,
-  pub steps : r.steps ≡ cond (given h budget lent) (found (job_in h) budget).steps 0
-  -- whether the walk ended (also yes if its last step spends the budget),
-  pub ended : r.ended ≡ cond (given h budget lent) (found (job_in h) budget).ended false
-  -- and a shortfall."
-  pub shortfall : r.shortfall ≡ cond (given h budget lent) (found (job_in h) budget).shortfall 0
+pub record SearchOutput (h : JobInput) (budget : ℕ) (lent : ListSlices) (r : Result Searched Refusal) (lent' : ListSlices) : Type 0 where
+  -- What is said of the set found and the plan over it, or a refusal's number alone.
+  pub answer : by_number r ≡ answered (search_refusal h budget lent) (search_numbers (job_in h) budget)
   -- "The best set met, that of most chunks, first met among equals", as bit 0 of the marks, and the
   -- plan's upper layers above it.
   pub marks_are : lent'.marks ≡ slice_after h budget lent (marks_of (job_in h) (plan_found (job_in h) budget)) lent.marks
@@ -114,7 +107,7 @@ abbrev pub MoreSteps : JobInput → ℕ → Type 0
 MoreSteps h budget = job_refusal h ≡ 0 → Steps (job_in h) budget
 
 -- The promise of `search`.
-pub record SearchPromise (h : JobInput) (budget : ℕ) (lent : ListSlices) (r : Searched) (lent' : ListSlices) : Type 0 where
+pub record SearchPromise (h : JobInput) (budget : ℕ) (lent : ListSlices) (r : Result Searched Refusal) (lent' : ListSlices) : Type 0 where
   -- "The result is the best set met .., the steps .. actually taken, whether the walk ended .., and
   -- a shortfall", with the plan over that set, or the refusal's number; every lent byte, on a
   -- refusal too.

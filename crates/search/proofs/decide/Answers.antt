@@ -1,28 +1,22 @@
 -- `decide` meets its contract: what the tables hold at the end is the plan over the set found.
 use mathlib.Core.Path.{refl}
 use Prim.Native.Nat.{ℕ}
-use lib.ListN.{length-replicate}
+use lib.ListN.{length, length-replicate}
 use Rattle.core_sizes.specs.Table.{table_at}
 use Rattle.core_decide.proofs.Decided.{kept_from}
 use Rattle.search.proofs.Deciding.{find_from, found_each, short_from}
 use Rattle.search.proofs.decide.Goals as goal
 
-pub best_within-out-requires : goal.best_within-out-requires
-best_within-out-requires c =
-    let a = c.args in
-    find_from a.p a.layers (table_at a.table.now) a.forecast.now a.ids.now a.ready.now a.mark.now c.requires _ c.sum_after.ensures _ _ (length-replicate {A = ℕ} 500 0) (length-replicate {A = ℕ} 500 0)
+pub best_within-met-requires : goal.best_within-met-requires
+best_within-met-requires c = find_from c.requires c.sum_after.ensures _ _ (length-replicate {A = ℕ} 500 0) (length-replicate {A = ℕ} 500 0)
 
 pub shortfall-short-requires : goal.shortfall-short-requires
-shortfall-short-requires c =
-    let a = c.args in
-    short_from a.p a.layers (table_at a.table.now) a.forecast.now a.ids.now a.ready.now a.mark.now c.requires _ c.sum_after.ensures _ c.best_within-out.ensures.kept.within
+shortfall-short-requires c = short_from c.requires c.sum_after.ensures _ c.best_within-met.ensures.kept.within
 
 pub settle_kept-requires : goal.settle_kept-requires
 settle_kept-requires c =
     let a = c.args in
-    kept_from a.p a.layers (table_at a.table.now) 1 a.forecast.now a.ids.now a.ready.now a.mark.now c.requires c.sum_after.ensures c.best_within-out.ensures.kept _ (length-replicate {A = ℕ} 500 0)
+    kept_from a.job.now.programme (length a.job.now.sizes.now) (table_at a.table.now) 1 a.job.now.forecast.now a.ids.now a.ready.now a.mark.now c.requires c.sum_after.ensures c.best_within-met.ensures.kept _ (length-replicate {A = ℕ} 500 0)
 
 pub returns : goal.returns
-returns c =
-    let a = c.args in
-    found_each a.p a.layers (table_at a.table.now) a.forecast.now a.ids.now a.ready.now a.mark.now c.requires _ c.sum_after.ensures a.budget _ _ _ _ c.best_within-out.ensures refl refl refl c.shortfall-short.ensures c.settle_kept.ensures
+returns c = found_each c.requires c.sum_after.ensures c.best_within-met.ensures refl refl refl c.shortfall-short.ensures c.settle_kept.ensures

@@ -1,15 +1,12 @@
 -- Lemmas. What the functions of search hand each other: the shortfall of a set, and the set found
 -- with its releases and marks, in tables.
-use Rattle.std.specs.Prelude.{ℕ, ◌-◌, ◌≤◌, ◌≡◌, Bool, true, false, List, [], ◌∷◌, length}
+use Rattle.std.specs.Prelude.{ℕ, ◌≤◌, ◌≡◌, List, length}
 use Rattle.job.specs.declared.Programme.{Programme}
 use Rattle.job.specs.Job.{Accepted, Job, Override, size_in}
 use Rattle.core_moore_hodgson.specs.lemmas.Tables.{Fit}
 use Rattle.core_decide.specs.lemmas.Decision.{Decides, job_from}
-use Rattle.core_output.specs.declared.Output.{Output}
-use Rattle.planner.specs.declared.Answer.TheVariants.{Rows, Refused}
 use Rattle.theory_search.specs.Search.{found}
 use Rattle.search.specs.declared.Decision.{Decision}
-use Rattle.search.specs.declared.Searched.{Searched}
 use Rattle.search.specs.Answer.{plan_found}
 
 -- The set begins at place first.
@@ -29,18 +26,3 @@ abbrev pub DecidePost : Programme → ℕ → (ℕ → ℕ → ℕ) → List ℕ
 DecidePost p layers size forecast budget r ids ready mark =
     (sizes : List ℕ) (overrides : List Override) → layers ≡ length sizes → size ≡ size_in sizes overrides →
     Accepted (job_from p sizes overrides 1 forecast) → DecidesFound (job_from p sizes overrides 1 forecast) budget r ids ready mark
-
--- ---- the answer
-
--- Nothing but a number.
-abbrev pub OnlyNumber : Searched → ℕ → Type 0
-OnlyNumber r k = (r.answer ≡ Refused k) × (r.counts ≡ 0 ∷ 0 ∷ 0 ∷ 0 ∷ []) × (r.steps ≡ 0) × (r.ended ≡ false) × (r.shortfall ≡ 0)
-
--- All of it.
-abbrev pub AllOf : Output → ℕ → Bool → ℕ → Searched → Type 0
-AllOf made steps ended short r = (r.answer ≡ Rows made.rows) × (r.counts ≡ made.counts) × (r.steps ≡ steps) × (r.ended ≡ ended) × (r.shortfall ≡ short)
-
--- All of what was laid, if the slices hold it whole, else 11.
-pub record AnsweredPost (made : Output) (steps : ℕ) (ended : Bool) (short : ℕ) (r : Searched) : Type 0 where
-  pub whole : made.whole ≡ true → AllOf made steps ended short r
-  pub not_whole : made.whole ≡ false → OnlyNumber r 11
