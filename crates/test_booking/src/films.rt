@@ -13,56 +13,64 @@ enum Call {
     Release,
 }
 
-// A job but for its forecast.
 #[derive(Clone, Copy)]
-struct Film<'a> {
-    name: &'a str,
-    programme: Programme,
-    sizes: &'a [u32],
-    overrides: Overrides<'a>,
+enum Film {
+    Main,
+    Safety,
 }
 
-const MAIN: Film = Film {
-    name: "main film",
-    programme: Programme {
-        chunks: 3,
-        span: 2,
-        delay: 2,
-        limit: 2,
-    },
-    sizes: &[3, 1],
-    overrides: Overrides {
-        chunks: &[],
-        layers: &[],
-        bytes: &[],
-    },
-};
-
-const SAFETY: Film = Film {
-    name: "safety film",
-    programme: Programme {
-        chunks: 6,
-        span: 1,
-        delay: 1,
-        limit: 2,
-    },
-    sizes: &[1, 1],
-    overrides: Overrides {
-        chunks: &[3, 5],
-        layers: &[1, 1],
-        bytes: &[2, 3],
-    },
-};
+fn name(film: Film) -> &'static str {
+    match film {
+        Film::Main => "main film",
+        Film::Safety => "safety film",
+    }
+}
 
 // What the link carries before the first booking.
 const BEFORE: [u32; 6] = [5, 4, 2, 6, 3, 4];
 
-fn job_of<'a>(film: &Film<'a>, forecast: &'a [u32]) -> JobInput<'a> {
+fn main_job(forecast: &[u32]) -> JobInput<'_> {
+    let overrides = Overrides {
+        chunks: &[],
+        layers: &[],
+        bytes: &[],
+    };
     JobInput {
-        programme: film.programme,
-        sizes: film.sizes,
-        overrides: film.overrides,
+        programme: Programme {
+            chunks: 3,
+            span: 2,
+            delay: 2,
+            limit: 2,
+        },
+        sizes: &[3, 1],
+        overrides,
         forecast,
+    }
+}
+
+fn safety_job(forecast: &[u32]) -> JobInput<'_> {
+    let overrides = Overrides {
+        chunks: &[3, 5],
+        layers: &[1, 1],
+        bytes: &[2, 3],
+    };
+    JobInput {
+        programme: Programme {
+            chunks: 6,
+            span: 1,
+            delay: 1,
+            limit: 2,
+        },
+        sizes: &[1, 1],
+        overrides,
+        forecast,
+    }
+}
+
+fn job_of(film: Film, forecast: &[u32]) -> JobInput<'_> {
+    match film {
+        Film::Main => main_job(forecast),
+        Film::Safety => safety_job(forecast),
     }
 }
 
@@ -70,12 +78,17 @@ fn job_of<'a>(film: &Film<'a>, forecast: &'a [u32]) -> JobInput<'a> {
 fn put(
     rt: &impl Print,
     call: Call,
-    film: &Film,
+    film: Film,
     forecast: &mut [u32; 6],
     list: &FetchList,
 ) -> io::Result<()> {
-    let p = film.programme;
-    let overrides = &film.overrides;
+    // Booking changes the forecast, which a job shares.
+    let JobInput {
+        programme,
+        sizes,
+        overrides,
+        forecast: _,
+    } = job_of(film, &[]);
     match call {
         Call::Check => {
             print!(rt; "checked: ")?;
@@ -83,13 +96,13 @@ fn put(
         }
         Call::Book => {
             print!(rt; "booked: ")?;
-            done_said(rt, booking::book(p, film.sizes, overrides, forecast, list))
+            done_said(rt, booking::book(programme, sizes, &overrides, forecast, list))
         }
         Call::Release => {
             print!(rt; "released: ")?;
             done_said(
                 rt,
-                booking::release(p, film.sizes, overrides, forecast, &list.rows),
+                booking::release(programme, sizes, &overrides, forecast, &list.rows),
             )
         }
     }
@@ -99,7 +112,7 @@ fn put(
 fn act(
     rt: &impl Print,
     call: Call,
-    film: &Film,
+    film: Film,
     planned: &[u32; 6],
     forecast: &mut [u32; 6],
 ) -> io::Result<()> {
@@ -115,18 +128,18 @@ fn act(
         layers: &mut layers,
         bytes: &mut bytes,
     };
-    let plan = planner::plan(&job_of(film, planned), &mut lent);
-    let n = plan.map_or(0, |plan| plan.rows);
-    let name = film.name;
-    print!(rt; "{name} of {n} rows ")?;
+    let job = job_of(film, planned);
+    let n = planner::plan(&job, &mut lent).map_or(0, |plan| plan.rows);
+    print!(rt; "{} of {n} rows ", name(film))?;
+    let rows = Rows {
+        slots: prefix(&slots, n),
+        chunks: prefix(&chunks, n),
+        layers: prefix(&layers, n),
+        bytes: prefix(&bytes, n),
+    };
     let list = FetchList {
-        marks: prefix(&marks, film.programme.chunks as usize),
-        rows: Rows {
-            slots: prefix(&slots, n),
-            chunks: prefix(&chunks, n),
-            layers: prefix(&layers, n),
-            bytes: prefix(&bytes, n),
-        },
+        marks: prefix(&marks, job.programme.chunks as usize),
+        rows,
     };
     put(rt, call, film, forecast, &list)?;
     forecast_said(rt, forecast)
@@ -134,24 +147,24 @@ fn act(
 
 pub(crate) fn together(rt: &impl Print) -> io::Result<()> {
     let mut forecast = BEFORE;
-    act(rt, Call::Check, &MAIN, &BEFORE, &mut forecast)?;
-    act(rt, Call::Book, &MAIN, &BEFORE, &mut forecast)?;
-    act(rt, Call::Check, &MAIN, &BEFORE, &mut forecast)?;
+    act(rt, Call::Check, Film::Main, &BEFORE, &mut forecast)?;
+    act(rt, Call::Book, Film::Main, &BEFORE, &mut forecast)?;
+    act(rt, Call::Check, Film::Main, &BEFORE, &mut forecast)?;
     let rest = forecast;
-    act(rt, Call::Check, &SAFETY, &rest, &mut forecast)?;
-    act(rt, Call::Book, &SAFETY, &rest, &mut forecast)?;
-    act(rt, Call::Check, &SAFETY, &rest, &mut forecast)?;
-    act(rt, Call::Book, &MAIN, &BEFORE, &mut forecast)?;
-    act(rt, Call::Release, &MAIN, &BEFORE, &mut forecast)?;
-    act(rt, Call::Release, &SAFETY, &rest, &mut forecast)
+    act(rt, Call::Check, Film::Safety, &rest, &mut forecast)?;
+    act(rt, Call::Book, Film::Safety, &rest, &mut forecast)?;
+    act(rt, Call::Check, Film::Safety, &rest, &mut forecast)?;
+    act(rt, Call::Book, Film::Main, &BEFORE, &mut forecast)?;
+    act(rt, Call::Release, Film::Main, &BEFORE, &mut forecast)?;
+    act(rt, Call::Release, Film::Safety, &rest, &mut forecast)
 }
 
 pub(crate) fn other_way_round(rt: &impl Print) -> io::Result<()> {
     let mut forecast = BEFORE;
     let rest = [1u32, 0, 2, 2, 3, 4];
     println!(rt; "the other way round")?;
-    act(rt, Call::Book, &SAFETY, &rest, &mut forecast)?;
-    act(rt, Call::Book, &MAIN, &BEFORE, &mut forecast)?;
-    act(rt, Call::Release, &SAFETY, &rest, &mut forecast)?;
-    act(rt, Call::Release, &MAIN, &BEFORE, &mut forecast)
+    act(rt, Call::Book, Film::Safety, &rest, &mut forecast)?;
+    act(rt, Call::Book, Film::Main, &BEFORE, &mut forecast)?;
+    act(rt, Call::Release, Film::Safety, &rest, &mut forecast)?;
+    act(rt, Call::Release, Film::Main, &BEFORE, &mut forecast)
 }

@@ -35,28 +35,30 @@ fn book(rt: &impl Print, verdict: u8, list: &FetchList) -> io::Result<()> {
 
 // The plan's own list, with a mark of chunk 3.
 fn book_own(rt: &impl Print, verdict: u8, mark: u8) -> io::Result<()> {
+    let rows = Rows {
+        slots: &[1, 1, 5],
+        chunks: &[2, 2, 3],
+        layers: &[0, 1, 0],
+        bytes: &[2, 1, 2],
+    };
     let list = FetchList {
         marks: &[0, 3, mark],
-        rows: Rows {
-            slots: &[1, 1, 5],
-            chunks: &[2, 2, 3],
-            layers: &[0, 1, 0],
-            bytes: &[2, 1, 2],
-        },
+        rows,
     };
     book(rt, verdict, &list)
 }
 
 // The own list with its last row split.
 fn book_split(rt: &impl Print, verdict: u8) -> io::Result<()> {
+    let rows = Rows {
+        slots: &[1, 1, 3, 5],
+        chunks: &[2, 2, 3, 3],
+        layers: &[0, 1, 0, 0],
+        bytes: &[2, 1, 1, 1],
+    };
     let list = FetchList {
         marks: &[0, 3, 1],
-        rows: Rows {
-            slots: &[1, 1, 3, 5],
-            chunks: &[2, 2, 3, 3],
-            layers: &[0, 1, 0, 0],
-            bytes: &[2, 1, 1, 1],
-        },
+        rows,
     };
     book(rt, verdict, &list)
 }
@@ -81,27 +83,29 @@ fn one_row(slot: u16, chunk: u16, layer: u8, bytes: u32) -> Row {
 
 // One row, with a mark of chunk 2 and one of chunk 3.
 fn book_one(rt: &impl Print, verdict: u8, second: u8, third: u8, row: Row) -> io::Result<()> {
+    let rows = Rows {
+        slots: &[row.slot],
+        chunks: &[row.chunk],
+        layers: &[row.layer],
+        bytes: &[row.bytes],
+    };
     let list = FetchList {
         marks: &[0, second, third],
-        rows: Rows {
-            slots: &[row.slot],
-            chunks: &[row.chunk],
-            layers: &[row.layer],
-            bytes: &[row.bytes],
-        },
+        rows,
     };
     book(rt, verdict, &list)
 }
 
 fn book_none(rt: &impl Print, verdict: u8) -> io::Result<()> {
+    let rows = Rows {
+        slots: &[],
+        chunks: &[],
+        layers: &[],
+        bytes: &[],
+    };
     let list = FetchList {
         marks: &[0, 0, 0],
-        rows: Rows {
-            slots: &[],
-            chunks: &[],
-            layers: &[],
-            bytes: &[],
-        },
+        rows,
     };
     book(rt, verdict, &list)
 }

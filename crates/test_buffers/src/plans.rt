@@ -12,14 +12,15 @@ fn write_plan(
     slots: usize,
     room: &mut [u8],
 ) -> io::Result<()> {
+    let rows = Rows {
+        slots: prefix(&[1, 1, 5], slots),
+        chunks: &[2, 2, 3],
+        layers: &[0, 1, 0],
+        bytes: &[2, 1, 2],
+    };
     let list = FetchList {
         marks: &[0, 3, 1],
-        rows: Rows {
-            slots: prefix(&[1, 1, 5], slots),
-            chunks: &[2, 2, 3],
-            layers: &[0, 1, 0],
-            bytes: &[2, 1, 2],
-        },
+        rows,
     };
     print!(rt; "{text}")?;
     written_said(rt, planfile::write_plan(&job_of(film), &list, room))

@@ -7,6 +7,11 @@ use std::io;
 // Job A, but of so many chunks, layers and slots: of 3 chunks, 2 layers and 6 slots it is job A, of
 // 2 chunks the forecast has slots past the last due one, of 501 it is refused by 5.
 pub(crate) fn job_part(chunks: u16, layers: usize, slots: usize) -> JobInput<'static> {
+    let overrides = Overrides {
+        chunks: &[],
+        layers: &[],
+        bytes: &[],
+    };
     JobInput {
         programme: Programme {
             chunks,
@@ -15,11 +20,7 @@ pub(crate) fn job_part(chunks: u16, layers: usize, slots: usize) -> JobInput<'st
             limit: 2,
         },
         sizes: prefix(&[2, 1, 1, 1, 1], layers),
-        overrides: Overrides {
-            chunks: &[],
-            layers: &[],
-            bytes: &[],
-        },
+        overrides,
         forecast: prefix(&[3, 0, 1, 0, 2, 0], slots),
     }
 }

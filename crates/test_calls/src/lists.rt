@@ -29,6 +29,11 @@ const WHOLE: Lengths = Lengths {
 };
 
 fn check(rt: &impl Print, text: &str, lengths: Lengths) -> io::Result<()> {
+    let overrides = Overrides {
+        chunks: &[],
+        layers: &[],
+        bytes: &[],
+    };
     let job = JobInput {
         programme: Programme {
             chunks: lengths.film,
@@ -37,21 +42,18 @@ fn check(rt: &impl Print, text: &str, lengths: Lengths) -> io::Result<()> {
             limit: 2,
         },
         sizes: prefix(&[2, 1], lengths.sizes),
-        overrides: Overrides {
-            chunks: &[],
-            layers: &[],
-            bytes: &[],
-        },
+        overrides,
         forecast: &[3, 0, 1, 0, 2, 0],
+    };
+    let rows = Rows {
+        slots: &[1, 1, 5],
+        chunks: prefix(&[2, 2, 3], lengths.chunks),
+        layers: prefix(&[0, 1, 0], lengths.layers),
+        bytes: prefix(&[2, 1, 2], lengths.bytes),
     };
     let list = FetchList {
         marks: prefix(&[0, 3, 1, 0], lengths.marks),
-        rows: Rows {
-            slots: &[1, 1, 5],
-            chunks: prefix(&[2, 2, 3], lengths.chunks),
-            layers: prefix(&[0, 1, 0], lengths.layers),
-            bytes: prefix(&[2, 1, 2], lengths.bytes),
-        },
+        rows,
     };
     print!(rt; "{text}")?;
     match checker::check(&job, &list) {

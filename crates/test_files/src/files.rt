@@ -32,14 +32,15 @@ fn empty_room() -> Room {
 // The job that was read into the room.
 fn job_in<'a>(room: &'a Room, read: &ReadJob) -> JobInput<'a> {
     let n = read.overrides;
+    let overrides = Overrides {
+        chunks: prefix(&room.chunks, n),
+        layers: prefix(&room.layers, n),
+        bytes: prefix(&room.bytes, n),
+    };
     JobInput {
         programme: read.programme,
         sizes: prefix(&room.sizes, read.layers),
-        overrides: Overrides {
-            chunks: prefix(&room.chunks, n),
-            layers: prefix(&room.layers, n),
-            bytes: prefix(&room.bytes, n),
-        },
+        overrides,
         forecast: prefix(&room.forecast, read.slots),
     }
 }
@@ -156,14 +157,15 @@ fn plan_file(rt: &impl Print, file: &[u8]) -> io::Result<()> {
     match planfile::read_plan(&JOB_A, file, &mut lent) {
         Ok(n) => {
             print!(rt; "rows {n}")?;
+            let rows = Rows {
+                slots: prefix(&slots, n),
+                chunks: prefix(&chunks, n),
+                layers: prefix(&layers, n),
+                bytes: prefix(&bytes, n),
+            };
             let list = FetchList {
                 marks: &marks,
-                rows: Rows {
-                    slots: prefix(&slots, n),
-                    chunks: prefix(&chunks, n),
-                    layers: prefix(&layers, n),
-                    bytes: prefix(&bytes, n),
-                },
+                rows,
             };
             verdict_said(rt, &list)
         }

@@ -9,6 +9,11 @@ use std::rt::Files;
 
 // A job of so many chunks, due in slots 1, 2, ..
 fn job_of(chunks: u16) -> JobInput<'static> {
+    let overrides = Overrides {
+        chunks: &[],
+        layers: &[],
+        bytes: &[],
+    };
     JobInput {
         programme: Programme {
             chunks,
@@ -17,25 +22,22 @@ fn job_of(chunks: u16) -> JobInput<'static> {
             limit: 0,
         },
         sizes: &[1],
-        overrides: Overrides {
-            chunks: &[],
-            layers: &[],
-            bytes: &[],
-        },
+        overrides,
         forecast: prefix(&[1; 8], chunks as usize),
     }
 }
 
 // Writes a plan of so many chunks and rows, and answers how many bytes it has; 0 for a refusal.
 fn write(rt: &impl Print, chunks: u16, rows: usize, out: &mut [u8; 65537]) -> io::Result<usize> {
+    let rows = Rows {
+        slots: prefix(&[65535; 5955], rows),
+        chunks: prefix(&[1; 5955], rows),
+        layers: prefix(&[7; 5955], rows),
+        bytes: prefix(&[4294967295; 5955], rows),
+    };
     let list = FetchList {
         marks: prefix(&[255; 8], chunks as usize),
-        rows: Rows {
-            slots: prefix(&[65535; 5955], rows),
-            chunks: prefix(&[1; 5955], rows),
-            layers: prefix(&[7; 5955], rows),
-            bytes: prefix(&[4294967295; 5955], rows),
-        },
+        rows,
     };
     match planfile::write_plan(&job_of(chunks), &list, out) {
         Ok(n) => {

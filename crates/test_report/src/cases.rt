@@ -34,14 +34,15 @@ fn report_of(rt: &impl Print, file: &[u8]) -> io::Result<()> {
     match jobfile::read_job(file, &mut lent) {
         Ok(read) => {
             let n = read.overrides;
+            let overrides = Overrides {
+                chunks: prefix(&chunks, n),
+                layers: prefix(&layers, n),
+                bytes: prefix(&bytes, n),
+            };
             let job = JobInput {
                 programme: read.programme,
                 sizes: prefix(&sizes, read.layers),
-                overrides: Overrides {
-                    chunks: prefix(&chunks, n),
-                    layers: prefix(&layers, n),
-                    bytes: prefix(&bytes, n),
-                },
+                overrides,
                 forecast: prefix(&forecast, read.slots),
             };
             print_report(rt, &job)

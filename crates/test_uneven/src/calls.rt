@@ -52,14 +52,15 @@ fn plan(job: &JobInput) -> Result<usize, Refusal> {
 
 // The list has a byte of chunk 2's base, in slot 1.
 fn check(job: &JobInput) -> Result<usize, Refusal> {
+    let rows = Rows {
+        slots: &[1],
+        chunks: &[2],
+        layers: &[0],
+        bytes: &[1],
+    };
     let list = FetchList {
         marks: &[0, 1, 0],
-        rows: Rows {
-            slots: &[1],
-            chunks: &[2],
-            layers: &[0],
-            bytes: &[1],
-        },
+        rows,
     };
     checker::check(job, &list).map(|verdict| verdict as usize)
 }
