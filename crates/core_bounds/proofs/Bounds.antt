@@ -142,9 +142,6 @@ module _ {p : Programme} {sizes : ℕ → ℕ → ℕ} {left : List ℕ} (o : Bo
   pub held_small : p.limit / p.span ≤ 65535
   held_small = omega (arith, div-le_self p.limit p.span, ok.limit_in.high)
 
-  pub slot_least : (k : ℕ) → 1 ≤ due_slot p k
-  slot_least k = omega (arith, ok.delay_in.low)
-
   pub slot_most : (k : ℕ) → k ≤ p.chunks → due_slot p k ≤ 3600
   slot_most k h = omega (arith, due_by p k h, ok.last_in)
 

@@ -21,32 +21,6 @@ ghost use Rattle.theory_plan.specs.lemmas.Queue.{ones};
 
 use job::{CHUNKS, Programme, SUMS, SizeTable, SlotSums};
 
-// Kept: crates above still call this function and the three after it.
-pub fn larger(a: u64, b: u64) -> u64
-    ensures { result ≡ max a b }
-{
-    a.max(b)
-}
-
-pub fn smaller(a: u64, b: u64) -> u64
-    ensures { result ≡ min a b }
-{
-    a.min(b)
-}
-
-pub fn wide(x: u32) -> u64
-    ensures { result ≡ x }
-{
-    x as u64
-}
-
-// What is left of a after b, or 0.
-pub fn less(a: u64, b: u64) -> u64
-    ensures { result ≡ a - b }
-{
-    a.saturating_sub(b)
-}
-
 // The forecast left after each slot, for a part of the forecast that starts at slot start. Sums in
 // 64 bits: 3,600 slots need 36.
 pub fn sum_after(part: &[u32], start: usize, after: &mut SlotSums)

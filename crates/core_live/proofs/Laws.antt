@@ -1,25 +1,25 @@
 -- Laws on the scans over the chunks, of plain tests and lists. Assumes nothing.
 use Prim.Native.Nat.{ℕ, suc, ◌+◌, ◌≤◌}
-use mathlib.Core.Path.{◌≡◌}
-use mathlib.Core.Bool.{Bool, false, not}
+use mathlib.Core.Path.{◌≡◌, refl}
+use mathlib.Core.Bool.{Bool, true, false, cond, not}
 use mathlib.Core.Logic.{⊎_elim}
 use native.Mathlib.Omega.{arith}
 use native.Mathlib.Numerals.{add-one}
-use lib.Dec.{T, T_not, leb, ltb, ltb→lt, nltb→le}
-use borrow.Author.Tests.{le-leb, le-ltb, lt-leb, lt-ltb}
+use mir.Val.{bool_byte}
+use lib.Dec.{T, eqb, T_not, ltb, ltb→lt, nltb→le}
 use Rattle.theory_basics.specs.lemmas.Tests.{last, test}
 use Rattle.theory_live.specs.Statement.{first_that}
 use Rattle.theory_live.specs.lemmas.Firsts.{found}
 
-pub not_below_lem : (i last : ℕ) → leb last i ≡ not (ltb i last)
-not_below_lem i last =
-    ⊎_elim
-    (λ t. let h = ltb→lt i last t in rw (lt-leb last i h, lt-ltb i last h))
-    (λ t. let h = nltb→le i last t in rw (le-leb last i h, le-ltb i last h))
-    (test (ltb i last))
+-- ---- a test as a number
 
-pub false_T : (b : Bool) → b ≡ false → T (not b)
-false_T b e = rw e tt
+pub byte_is : (b : Bool) → bool_byte b ≡ cond b 1 0
+byte_is true = refl
+byte_is false = refl
+
+pub byte_says : (b : Bool) → eqb (bool_byte b) 1 ≡ b
+byte_says true = refl
+byte_says false = refl
 
 -- ---- the first that passes
 

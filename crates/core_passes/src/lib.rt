@@ -267,9 +267,7 @@ fn look(
     let lowest = has.max(bound.saturating_sub(passes as usize));
     for below in (lowest..bound).rev() {
         let target = below + 1;
-        let front = pass(
-            film, target, ends, opens, bases, smallest, work, sets, next,
-        );
+        let front = pass(film, target, ends, opens, bases, smallest, work, sets, next);
         let place = largest_set(&sets.counts, front.sets);
         let count = usize::from(sets.counts[place]);
         if is_reached(target, front.sets, count) {

@@ -4,14 +4,13 @@
 // releases are core_decide's.
 #![tactic(auto)]
 
-ghost use Rattle.std.specs.Prelude.{◌≡◌, ◌&&◌, cond, ℕ, ◌+◌, ◌-◌, ◌<◌, ◌≤◌, max, length, leb, ltb, eqb};
+ghost use Rattle.std.specs.Prelude.{◌≡◌, cond, ◌+◌, ◌-◌, ◌≤◌, max, length, ltb};
 ghost use Rattle.core_sizes.specs.Table.{table_at};
 ghost use Rattle.core_replan_decide.specs.lemmas.Tables.{Falls, NeedCapPost, PlacesBelowPost, LastBegunPost};
 ghost use Rattle.core_replan_decide.specs.lemmas.Tables.{FindFrontPre, FindFrontPost, CanKeepPre, CanKeepPost};
 ghost use Rattle.core_replan_decide.specs.lemmas.Tables.{NewBasesPre, NewBasesPost};
 ghost use Rattle.core_replan_decide.specs.lemmas.Begun.{choose, KeepBegunPre, KeepBegunPost};
 ghost use Rattle.core_replan_decide.specs.lemmas.Decision.{DecidePre, DecidePost};
-ghost use Rattle.theory_plan.specs.Bases.{Asc};
 
 use job::{CHUNKS, Programme, SUMS, SizeTable, SlotSums};
 

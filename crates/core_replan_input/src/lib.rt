@@ -3,7 +3,7 @@
 // asks, by the sums and first slots of rules.
 #![tactic(auto)]
 
-ghost use Rattle.std.specs.Prelude.{◌≡◌, ◌&&◌, cond, ℕ, ◌-◌, ◌<◌, ◌≤◌, length, leb, ltb};
+ghost use Rattle.std.specs.Prelude.{◌≡◌, ◌≤◌};
 ghost use Rattle.theory_basics.specs.Tests.{all_below};
 ghost use Rattle.core_sizes.specs.Table.{table_at};
 ghost use Rattle.fetch.specs.Rows.{rows_of};
@@ -102,8 +102,7 @@ pub fn gather(
     begun: &mut [u8; CHUNKS],
     whole: &mut [u8; CHUNKS],
 ) -> bool
-    requires { GatherPre p depth earlier.now slots.now chunks.now layers.now bytes.now left.old
-        begun.old whole.old }
+    requires { GatherPre p depth earlier.now slots.now chunks.now layers.now bytes.now }
     ensures { GatherPost p table.now depth earlier.now
         (rows_of slots.now chunks.now layers.now bytes.now)
         result left.new begun.new whole.new }

@@ -38,18 +38,6 @@ pub struct Layers {
 
 const CAP: u64 = 1099511627776;
 
-pub fn both(a: bool, b: bool) -> bool
-    ensures { result ≡ a && b }
-{
-    a && b
-}
-
-pub fn wide(x: u16) -> usize
-    ensures { result ≡ x }
-{
-    x as usize
-}
-
 // Rule 1 of one row.
 fn in_range(last: usize, count: u16, depth: usize, s: u16, c: u16, l: u8, b: u32) -> bool
     ensures { result ≡ in_range last count depth (record { slot = s; chunk = c; layer = l; bytes = b }) }

@@ -2,15 +2,13 @@
 -- tables, and where it stands at the end. Assumes nothing.
 use Prim.Native.Nat.{ℕ, zero, suc, ◌+◌, ◌-◌, ◌/◌, ◌≤◌, ◌<◌}
 use mathlib.Core.Path.{◌≡◌, refl, sym, ap, ◌∙◌, subst, fun_ext}
-use mathlib.Core.Bool.{Bool, true, false, cond}
+use mathlib.Core.Bool.{true, cond}
 use mathlib.Core.List.{List, [], ◌∷◌, map}
 use native.Mathlib.Omega.{arith}
-use native.Mathlib.Nat.{div-le_self}
-use native.Mathlib.Numerals.{add-one}
 use borrow.Author.Tests.{lt-ltb}
 use lib.ListN.{length, get_or, set, drop, length-set, drop_of_length-le, get_or-eq_default}
 use lib.Dec.{ltb}
-use Rattle.theory_basics.specs.lemmas.Tables.{all_from, at_set, below_next, drop_before, set_before}
+use Rattle.theory_basics.specs.lemmas.Tables.{all_from, drop_before, set_before}
 use Rattle.theory_basics.specs.lemmas.Tests.{by_cond}
 use Rattle.job.specs.declared.Programme.{Programme}
 use Rattle.job.specs.Job.{Within, due_slot}
@@ -20,23 +18,12 @@ use Rattle.theory_plan.specs.lemmas.Parts.{at}
 use Rattle.theory_plan.specs.lemmas.Trials.{Stack, keeps}
 use Rattle.theory_plan.specs.lemmas.Words.{due_by}
 use Rattle.core_moore_hodgson.specs.lemmas.Tables.{KeptIn, Long}
-use Rattle.theory_search.specs.Search.{Walked, better, cut, goes_on, meet, spend, start}
+use Rattle.theory_search.specs.Search.{Walked, cut, goes_on, meet, spend, start}
 use Rattle.theory_search.specs.lemmas.Stack.{empty, in_front, search_stack}
 use Rattle.core_search.specs.declared.Outcome.{Outcome}
 use Rattle.core_search.specs.lemmas.Tables.{base_of, of, best_at, walked, walk_in, DueTable, PlaceBestPre, SearchPre, SearchPost, FindBestPre, FindBestPost}
-use Rattle.core_search.proofs.Laws.{best_long}
 
 -- ---- due slots
-
-pub due_table_start : (p : Programme) (dues : List ℕ) → length dues ≡ 500 → DueTable p 0 dues
-due_table_start p dues e = record { is = λ k h. absurd (omega arith); long = e }
-
-pub due_table_more : (p : Programme) (n : ℕ) (dues : List ℕ) → DueTable p n dues → n < 500 → {slot : ℕ} → slot ≡ due_slot p (n + 1) → DueTable p (n + 1) (set dues n slot)
-due_table_more p n dues t h {slot} e =
-    record {
-      is = λ k u. at_set (λ v. v ≡ due_slot p (k + 1)) dues n slot k (omega (arith, t.long)) (λ z. rw z e) (λ o. t.is k (below_next k n u o));
-      long = simp length-set t.long;
-    }
 
 -- ---- a set at the end of ids, with its due slots and bytes
 

@@ -1,21 +1,20 @@
 -- Laws on the search over tables: the kept chunks and the best set at the ends of tables, and a
 -- turn of the recursion. Assumes nothing.
-use Prim.Native.Nat.{ℕ, zero, suc, ◌+◌, ◌-◌, ◌≤◌, ◌<◌, max}
+use Prim.Native.Nat.{ℕ, suc, ◌+◌, ◌-◌, ◌≤◌, ◌<◌, max}
 use mathlib.Core.Path.{◌≡◌, refl, sym, ap, ◌∙◌, subst}
 use mathlib.Core.Bool.{Bool, true, false, cond, not, ◌&&◌}
-use mathlib.Core.List.{List, [], ◌∷◌}
+use mathlib.Core.List.{List, ◌∷◌}
 use native.Mathlib.Omega.{arith}
-use borrow.Author.Tests.{le-ltb, lt-ltb, le-leb, lt-leb}
-use lib.ListN.{length, get_or, set, drop, length-set, length-drop, drop_of_length-le}
+use borrow.Author.Tests.{le-ltb, lt-ltb, lt-leb}
+use lib.ListN.{length, get_or, set, drop, length-set, length-drop}
 use lib.Seq.{drop-drop, drop-set-lt, get_or-drop, get_or-set_same}
 use lib.Dec.{T, leb, ltb, leb→le}
-use Rattle.theory_basics.specs.lemmas.Tables.{drop_before, set_before, written_before}
+use Rattle.theory_basics.specs.lemmas.Tables.{set_before, written_before}
 use Rattle.theory_basics.specs.lemmas.Tests.{and_T, true_T}
 use Rattle.theory_plan.specs.lemmas.Parts.{at}
 use Rattle.theory_plan.specs.lemmas.Trials.{Stack, candidate, keeps}
 use Rattle.theory_search.specs.Search.{Walked, better, cut, goes_on, meet, spend}
 use Rattle.theory_search.specs.lemmas.Stack.{in_front, search_keeps, search_skips, search_stops, search_stack}
-use Rattle.theory_search.proofs.Walk.{better_stays}
 use Rattle.core_search.specs.lemmas.Tables.{base_of, of, stack_at, best_at, walked, Given, KeepBestPost, CanKeepPost, CanKeepPre, SearchPre, SearchPost}
 
 -- ---- the end of a table
@@ -34,26 +33,6 @@ best_long count best h e = length-drop (500 - count) best ∙ omega arith
 module _ (k : ℕ) (ids best : List ℕ) (count : ℕ) (within : k ≤ 500) (few : count ≤ 500) (long : length ids ≡ 500) (held : length best ≡ 500) where
   ids_long : length (drop k ids) ≡ 500 - k
   ids_long = length-drop k ids ∙ omega arith
-
-  pub noted_none : 500 - k ≤ count → KeepBestPost k ids best count best count
-  noted_none h =
-      record {
-        is = sym (better_stays (best_at count best) (drop k ids) (omega (arith, ids_long, best_long count best few held)));
-        more = omega arith;
-        few = few;
-        long = held;
-      }
-
-  pub noted_more : (best' : List ℕ) → count < 500 - k → drop k best' ≡ drop k ids → length best' ≡ 500 → KeepBestPost k ids best count best' (500 - k)
-  noted_more best' h e l =
-      let t : ltb (length (best_at count best)) (length (drop k ids)) ≡ true = lt-ltb (length (best_at count best)) (length (drop k ids)) (omega (arith, ids_long, best_long count best few held)) in
-      let z : 500 - (500 - k) ≡ k = omega arith in
-      record {
-        is = rw (t, z) e;
-        more = omega arith;
-        few = omega arith;
-        long = l;
-      }
 
 -- ---- the test
 
@@ -77,9 +56,6 @@ module _ {i first held : ℕ} {size : ℕ → ℕ → ℕ} {dues after needs : L
 
   pub tested_not_all : at after 0 < cand → CanKeepPost i first held size dues after needs (set needs (first - 1) cand) false
   tested_not_all g = record { is = rw (lt-leb cand (at after 0) g); wrote = refl }
-
-  pub tested_held : cand ≤ at after 0 → CanKeepPost i first held size dues after needs (set needs (first - 1) cand) (leb (get_or (cand ∷ drop first needs) held 0) (at after (of dues i - 1)))
-  tested_held g = record { is = rw (le-leb cand (at after 0) g); wrote = refl }
 
 -- ---- a turn of the search
 
@@ -159,22 +135,6 @@ module _ {i first held : ℕ} {size : ℕ → ℕ → ℕ} {dues after ids needs
     before : suc (i - 1) ≡ i
     before = omega arith
 
-    -- No step is left for the keep.
-    pub no_keep : left < 2 → result ids needs best count 0
-    no_keep e =
-        record {
-          is = stops left count best e ∙ sym (turn_stops (base_of size) (of dues) (at after) held (stack_at first ids needs) here i (i - 1) before (goes_not left count best e));
-          same_ids = refl;
-          same_needs = refl;
-          less = omega arith;
-          more = omega arith;
-          few = f.few;
-          long = f.long;
-        }
-
-    pub test_from : CanKeepPre i first held size dues after needs
-    test_from = record { given = f.given; some = omega arith; room = f.room; within = f.within; top = f.top; long = f.long.1 }
-
     wrote_same : {needs₁ : List ℕ} → needs₁ ≡ set needs (first - 1) wanted → drop first needs₁ ≡ drop first needs
     wrote_same e = rw e (drop-set-lt first needs (first - 1) wanted (omega (arith, f.room)))
 
@@ -214,18 +174,6 @@ module _ {i first held : ℕ} {size : ℕ → ℕ → ℕ} {dues after ids needs
 
         ids_front : drop (first - 1) (set ids (first - 1) i) ≡ i ∷ drop first ids
         ids_front = set_before ids first i (omega (arith, f.room)) (omega (arith, f.within, f.long))
-
-        -- The deeper search.
-        pub keep_from : SearchPre (i - 1) (first - 1) held size dues after (set ids (first - 1) i) needs₁ best₁ count₁
-        keep_from =
-            record {
-              given = given_less f.given;
-              room = omega (arith, f.room);
-              within = omega (arith, f.within);
-              top = top_small;
-              few = n.few;
-              long = (simp length-set f.long.0, wrote_long t.wrote, n.long);
-            }
 
         -- The new set is met.
         met_is : walked (left - 1) count₁ best₁ ≡ meet (i ∷ drop first ids) (spend here)

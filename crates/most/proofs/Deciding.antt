@@ -49,24 +49,24 @@ module _
   pub some_job : SomeJob p (λ j. Says j size left)
   some_job = record { sizes = o.sizes; overrides = o.overrides; forecast = padded 1 f; holds = says_job }
 
-  pub find_from : (dues bytes needs : List ℕ) → length dues ≡ 500 → length bytes ≡ 500 → length needs ≡ 500 → FindPre p size left work₀ ids₀ dues bytes needs
-  find_from dues bytes needs a b c = record { job = some_job; room = o.room; long = (o.from.long.0, a, b, c) }
+  pub find_from : FindPre p size left work₀
+  find_from = record { job = some_job; room = o.room }
 
   pub any_small : {any : ℕ} → AnyOrderPost p size left any → any ≤ 500
   any_small a = omega (arith, a o.sizes o.overrides (padded 1 f) says_job, bound_any_small (job_from p o.sizes o.overrides 1 f) o.accepted)
 
-  module _ {out : Sought} {work ids dues bytes needs : List ℕ} (w : FindPost p size left work₀ out work ids dues bytes needs) where
+  module _ {out : Sought} {work ids : List ℕ} (w : FindPost p size left work₀ out work ids) where
     pub found_small : out.bound ≤ 500
     found_small = omega (arith, (w.each o.sizes o.overrides (padded 1 f) says_job).no_higher, bound_small (job_from p o.sizes o.overrides 1 f) o.accepted)
 
-    pub place_from : PlaceBestPre p out.first ids dues bytes
-    place_from =
+    pub place_from : {dues bytes : List ℕ} → length ids ≡ 500 → length dues ≡ 500 → length bytes ≡ 500 → PlaceBestPre p out.first ids dues bytes
+    place_from a b c =
         record {
           few = o.from.few;
           ends = o.from.ends;
           within = w.within;
           ascending = (w.each o.sizes o.overrides (padded 1 f) says_job).set_in.ascending;
-          long = (w.long.0, w.long.1, w.long.2);
+          long = (a, b, c);
         }
 
     -- Of a job that the handed numbers say.

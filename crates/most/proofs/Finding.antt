@@ -148,30 +148,29 @@ module _
       }
 
 module _
-    {p : Programme} {z : ℕ → ℕ → ℕ} {left work₀ ids₀ dues₀ bytes₀ needs₀ : List ℕ} (o : FindPre p z left work₀ ids₀ dues₀ bytes₀ needs₀)
+    {p : Programme} {z : ℕ → ℕ → ℕ} {left work₀ : List ℕ} (o : FindPre p z left work₀)
     (ends opens bases smallest : List ℕ) (levels : SetLevelsPost p z left ends opens bases smallest) (held : ℕ) (h : held ≡ p.limit / p.span) where
-  pub settle_from : SettleBasesPre p z left ids₀ dues₀ bytes₀ needs₀
-  settle_from = let w = o.job in bases_from p z left w.sizes w.overrides w.forecast w.holds ids₀ dues₀ bytes₀ needs₀ o.long
+  pub settle_from :
+      (ids dues bytes needs : List ℕ) → (length ids ≡ 500) × (length dues ≡ 500) × (length bytes ≡ 500) × (length needs ≡ 500) →
+      SettleBasesPre p z left ids dues bytes needs
+  settle_from = let w = o.job in bases_from p z left w.sizes w.overrides w.forecast w.holds
 
   -- Where at most one chunk may be held,
   module _ (few : held < 2) where
-    pub forward_from : ForwardPre p.chunks held ends opens bases ids₀
+    pub forward_from : ForwardPre p.chunks held ends opens bases
     forward_from =
         let w = o.job in
         record {
           job = job_of p w.sizes w.overrides w.forecast;
           holds = forward_for p z left w.sizes w.overrides w.forecast w.holds (levels w.sizes w.overrides w.forecast w.holds) h few;
-          long = o.long.0;
         }
 
-    pub forward_each :
-        {r : Sought} {ids : List ℕ} → FindForwardPost p.chunks held ends opens bases r ids → FindPost p z left work₀ r work₀ ids dues₀ bytes₀ needs₀
+    pub forward_each : {r : Sought} {ids : List ℕ} → FindForwardPost p.chunks held ends opens bases r ids → FindPost p z left work₀ r work₀ ids
     forward_each f =
         record {
           each = λ sizes overrides forecast s. f.each (job_of p sizes overrides forecast) (forward_for p z left sizes overrides forecast s (levels sizes overrides forecast s) h few);
           within = f.within;
           work_long = refl;
-          long = (f.long, o.long.1, o.long.2, o.long.3);
         }
 
   -- and where more may be.
@@ -187,16 +186,15 @@ module _
     pub seek_from : SeekPre (film_in p.chunks held (get_or left 0 0)) most ends opens bases smallest work first ids
     seek_from =
         let w = o.job in
-        record { job = job_of p w.sizes w.overrides w.forecast; holds = each_for w.sizes w.overrides w.forecast w.holds; within = k.within; long = k.long.0 }
+        record { job = job_of p w.sizes w.overrides w.forecast; holds = each_for w.sizes w.overrides w.forecast w.holds; within = k.within }
 
     pub sought_each :
-        {r : Sought} {ids' needs : List ℕ} → SeekPost (film_in p.chunks held (get_or left 0 0)) most ends opens bases smallest work first ids r ids' →
-        length needs ≡ 500 → FindPost p z left work₀ r work ids' dues bytes needs
-    sought_each q n =
+        {r : Sought} {ids' : List ℕ} → SeekPost (film_in p.chunks held (get_or left 0 0)) most ends opens bases smallest work first ids r ids' →
+        FindPost p z left work₀ r work ids'
+    sought_each q =
         record {
           each =
               λ sizes overrides forecast s. sought_found p z left sizes overrides forecast s k (q.each (job_of p sizes overrides forecast) (each_for sizes overrides forecast s)) q.long;
           within = q.within;
           work_long = b.long;
-          long = (q.long, k.long.1, k.long.2, n);
         }

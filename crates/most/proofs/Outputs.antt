@@ -22,7 +22,10 @@ use Rattle.fetch.specs.Marks.{with_layer}
 use Rattle.core_decide.specs.lemmas.Accepted.{decide_from}
 use Rattle.core_output.specs.declared.Output.{Output}
 use Rattle.core_output.specs.lemmas.Writing.{Decided, own_result, WritePost}
-use Rattle.planner.specs.declared.Answer.TheVariants.{Rows}
+use Rattle.std.specs.Prelude.{Result as Answer, Ok, Err}
+use Rattle.refusals.specs.declared.Refusal.{Refusal}
+use Rattle.refusals.specs.Numbers.{by_number, number_of}
+use Rattle.refusals.specs.Laws.{number_above_0}
 use Rattle.theory_search.specs.Search.{plan_over}
 use Rattle.theory_search.proofs.Theorems.{over_exists}
 use Rattle.theory_search.specs.lemmas.Fitting.{count_kept}
@@ -31,7 +34,7 @@ use Rattle.theory_most.specs.Statement.{Most, bound}
 use Rattle.most.specs.declared.Decision.{Decision}
 use Rattle.most.specs.declared.MostPlan.{MostPlan}
 use Rattle.most.specs.Promise.{MostOutput, MostPromise, given, lent_room, most_refusal, rows_over}
-use Rattle.most.specs.lemmas.Deciding.{AnsweredPost, DecideMostPre, DecidesMost, OnlyNumber, WriteMostPost, WriteMostPre}
+use Rattle.most.specs.lemmas.Deciding.{DecideMostPre, DecidesMost, WriteMostPost, WriteMostPre}
 use Rattle.most.specs.lemmas.Finds.{finds_of, plan_finds}
 use Rattle.most.proofs.Deciding.{plan_over_fits}
 
@@ -51,15 +54,11 @@ module _ (h : JobInput) (lent : ListSlices) (work : List ℕ) where
   j = job_in h
 
   output_refused :
-      (set : List ℕ) (most k : ℕ) → most_refusal h lent work ≡ k → (k ≡ 0 → ⊥) → (r : MostPlan) → OnlyNumber r k → MostOutput h set most lent work r lent work
-  output_refused set most k e o r x =
+      (set : List ℕ) (most k : ℕ) → most_refusal h lent work ≡ k → (k ≡ 0 → ⊥) → {r : Answer MostPlan Refusal} → by_number r ≡ Err k → MostOutput h set most lent work r lent work
+  output_refused set most k e o n =
       let g : given h lent work ≡ false = ap (λ (n : ℕ). eqb n 0) e ∙ ne_eqb k 0 o in
       record {
-        answer = x.0 ∙ sym (rw (g, e));
-        counts = x.1 ∙ sym (rw g);
-        bound_is = x.2 ∙ sym (rw g);
-        bound_any_is = x.3 ∙ sym (rw g);
-        exact = x.4 ∙ sym (rw g);
+        answer = n ∙ sym (rw (g, e));
         marks_are = sym (rw g);
         slots_are = sym (rw g);
         chunks_are = sym (rw g);
@@ -70,26 +69,30 @@ module _ (h : JobInput) (lent : ListSlices) (work : List ℕ) where
       }
 
   -- 5, 6, 18 or 7.
-  pub refused_input : (k : ℕ) → k ≡ job_refusal h → 0 < k → (r : MostPlan) → OnlyNumber r k → MostPromise h lent work r lent work
-  refused_input k e o r x =
+  pub refused_input :
+      (e : Refusal) → number_of e ≡ job_refusal h → (r : Answer MostPlan Refusal) → by_number r ≡ Err (number_of e) → MostPromise h lent work r lent work
+  refused_input e is r n =
+      let above : number_of e ≡ 0 → ⊥ = λ z. omega (arith, number_above_0 e) in
       record {
         set = [];
         bound = 0;
-        output = output_refused [] 0 k (or_else_some (job_refusal h) (unless 11 (lent_room j lent work)) (λ z. omega arith) ∙ sym e) (λ z. omega arith) r x;
-        finds = λ z. absurd (omega arith);
+        output = output_refused [] 0 (number_of e) (or_else_some (job_refusal h) (unless 11 (lent_room j lent work)) (λ z. above (is ∙ z)) ∙ sym is) above n;
+        finds = λ z. absurd (above (is ∙ z));
       }
 
   -- 11: the plan's own bases and its bound keep what is promised.
-  pub refused_short : job_refusal h ≡ 0 → lent_room j lent work ≡ false → (r : MostPlan) → OnlyNumber r 11 → MostPromise h lent work r lent work
-  refused_short e f r x =
+  pub refused_short :
+      job_refusal h ≡ 0 → (e : Refusal) → number_of e ≡ unless 11 (lent_room j lent work) → (r : Answer MostPlan Refusal) → by_number r ≡ Err (number_of e) →
+      MostPromise h lent work r lent work
+  refused_short z e is r n =
       record {
         set = kept j (plan j);
         bound = bound j;
-        output = output_refused (kept j (plan j)) (bound j) 11 (or_else_none (job_refusal h) (unless 11 (lent_room j lent work)) e ∙ rw f) (λ z. omega arith) r x;
-        finds = λ z. plan_finds j (input_accepted h e);
+        output = output_refused (kept j (plan j)) (bound j) (number_of e) (or_else_none (job_refusal h) (unless 11 (lent_room j lent work)) z ∙ sym is) (λ z. omega (arith, number_above_0 e)) n;
+        finds = λ z. plan_finds j (input_accepted h z);
       }
 
-  pub promise_of : {lent' : ListSlices} {work' : List ℕ} {r : MostPlan} → job_refusal h ≡ 0 → WriteMostPost h lent work r lent' work' → MostPromise h lent work r lent' work'
+  pub promise_of : {lent' : ListSlices} {work' : List ℕ} {r : MostPlan} → job_refusal h ≡ 0 → WriteMostPost h lent work r lent' work' → MostPromise h lent work (Ok r) lent' work'
   promise_of e w = record { set = w.set; bound = w.bound; output = w.output; finds = λ z. finds_of j (input_accepted h e) w.set w.bound w.most }
 
 -- ---- what is written
@@ -174,8 +177,11 @@ module _ (h : JobInput) (marks slots cs layers bytes work : List ℕ) (o : Write
           le-leb n (length bytes) (omega (arith, y.bytes_fit)),
         )
 
-    pub output_written : (work' : List ℕ) → length work' ≡ length work → (r : MostPlan) → AnsweredPost made out r → WriteMostPost h slices work r (slices_of marks' slots' cs' layers' bytes') work'
-    output_written work' long r x =
+    pub output_written :
+        (work' : List ℕ) → length work' ≡ length work →
+        WriteMostPost h slices work (record { rows = made.rows; counts = made.counts; bound = out.bound; bound_any = out.bound_any; exact = eqb (get_or made.counts 0 0) out.bound })
+        (slices_of marks' slots' cs' layers' bytes') work'
+    output_written work' long =
         let e : most_refusal h slices work ≡ 0 = or_else_none (job_refusal h) (unless 11 (lent_room job slices work)) o.accepted ∙ rw o.room in
         let g : given h slices work ≡ true = eq-eqb (most_refusal h slices work) 0 e in
         record {
@@ -184,11 +190,7 @@ module _ (h : JobInput) (marks slots cs layers bytes work : List ℕ) (o : Write
           most = d.most;
           output =
               record {
-                answer = x.answer ∙ ap Rows l.rows ∙ sym (rw g);
-                counts = x.counts ∙ l.counts ∙ sym (rw g);
-                bound_is = x.bound_is ∙ sym (rw g);
-                bound_any_is = x.bound_any_is ∙ d.any_is ∙ sym (rw g);
-                exact = x.exact ∙ ap (λ (c : List ℕ). eqb (get_or c 0 0) out.bound) l.counts ∙ ap (λ (n : ℕ). eqb n out.bound) (count_over job ok_of set d.most) ∙ sym (rw g);
+                answer = rw (l.rows, l.counts, d.any_is, count_over job ok_of set d.most) (sym (rw g));
                 marks_are = l.marks_are ∙ rw (whole, g);
                 slots_are = l.slots_are ∙ rw (whole, g);
                 chunks_are = l.chunks_are ∙ rw (whole, g);

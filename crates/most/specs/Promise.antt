@@ -2,7 +2,7 @@
 -- bounds, or a refusal's number. Which set is found is free; what holds of it, of the plan over it
 -- and of the bounds is stated in theory_most: Statement (`Most`, `Shown`). A refusal is settled by
 -- the job and the lengths of the slices, before anything is written.
-use Rattle.std.specs.Prelude.{ℕ, ◌+◌, ◌*◌, ◌≡◌, Bool, false, cond, ◌&&◌, List, [], ◌∷◌, map, length, eqb, leb}
+use Rattle.std.specs.Prelude.{ℕ, ◌+◌, ◌*◌, ◌≡◌, Bool, false, ◌&&◌, List, map, length, eqb, leb, Result}
 use Rattle.theory_basics.specs.Lent.{lent_after}
 use Rattle.theory_basics.specs.Refusals.{unless, ◌or_else◌}
 use Rattle.job.specs.Job.{Job, chunks}
@@ -11,7 +11,8 @@ use Rattle.fetch.specs.Rows.{Row, row_slot, row_chunk, row_layer, row_bytes}
 use Rattle.fetch.specs.Slices.{ListSlices}
 use Rattle.theory_plan.specs.Own.{own_list}
 use Rattle.theory_plan.specs.Statement.{Same, counts_of, marks_of}
-use Rattle.planner.specs.declared.Answer.TheVariants.{Rows, Refused}
+use Rattle.refusals.specs.declared.Refusal.{Refusal}
+use Rattle.refusals.specs.Numbers.{answered, by_number}
 use Rattle.theory_search.specs.Statement.{IsPlanOver}
 use Rattle.theory_search.specs.Search.{plan_over}
 use Rattle.theory_most.specs.Statement.{Most, Shown, bound_any}
@@ -35,7 +36,7 @@ lent_room j lent work =
 abbrev pub most_refusal : JobInput → ListSlices → List ℕ → ℕ
 most_refusal h lent work = job_refusal h or_else unless 11 (lent_room (job_in h) lent work)
 
--- Where nothing is refused; beside a refusal all numbers are 0.
+-- Where nothing is refused.
 abbrev pub given : JobInput → ListSlices → List ℕ → Bool
 given h lent work = eqb (most_refusal h lent work) 0
 
@@ -45,20 +46,26 @@ given h lent work = eqb (most_refusal h lent work) 0
 abbrev pub rows_over : Job → List ℕ → List Row
 rows_over j set = own_list j (plan_over j set)
 
+-- How many rows the plan over a set of bases has, how many chunks carry each layer, the bounds, and
+-- whether the set has as many bases as the bound in playing order.
+abbrev pub most_numbers : Job → List ℕ → ℕ → MostPlan
+most_numbers j set bound =
+    record {
+      rows = length (rows_over j set);
+      counts = counts_of j (plan_over j set);
+      bound = bound;
+      bound_any = bound_any j;
+      exact = eqb (length set) bound;
+    }
+
 -- A caller's slice at exit: the result, then the old contents; on a refusal the old contents alone.
 abbrev pub slice_after : JobInput → ListSlices → List ℕ → List ℕ → List ℕ → List ℕ
 slice_after h lent work result old = lent_after (most_refusal h lent work) result old
 
 -- For a set of bases and a bound in playing order.
-pub record MostOutput (h : JobInput) (set : List ℕ) (bound : ℕ) (lent : ListSlices) (work : List ℕ) (r : MostPlan) (lent' : ListSlices) (work' : List ℕ) : Type 0 where
-  -- How many rows the plan over the set has, or the refusal's number.
-  pub answer : r.answer ≡ cond (given h lent work) (Rows (length (rows_over (job_in h) set))) (Refused (most_refusal h lent work))
-  -- How many chunks carry each layer.
-  pub counts : r.counts ≡ cond (given h lent work) (counts_of (job_in h) (plan_over (job_in h) set)) (0 ∷ 0 ∷ 0 ∷ 0 ∷ [])
-  -- The bounds, and whether the set has as many bases as the bound in playing order.
-  pub bound_is : r.bound ≡ cond (given h lent work) bound 0
-  pub bound_any_is : r.bound_any ≡ cond (given h lent work) (bound_any (job_in h)) 0
-  pub exact : r.exact ≡ cond (given h lent work) (eqb (length set) bound) false
+pub record MostOutput (h : JobInput) (set : List ℕ) (bound : ℕ) (lent : ListSlices) (work : List ℕ) (r : Result MostPlan Refusal) (lent' : ListSlices) (work' : List ℕ) : Type 0 where
+  -- What is said of the plan over the set and the bounds, or a refusal's number alone.
+  pub answer : by_number r ≡ answered (most_refusal h lent work) (most_numbers (job_in h) set bound)
   -- The plan's marks and rows, a slice for each of their four numbers.
   pub marks_are : lent'.marks ≡ slice_after h lent work (marks_of (job_in h) (plan_over (job_in h) set)) lent.marks
   pub slots_are : lent'.slots ≡ slice_after h lent work (map row_slot (rows_over (job_in h) set)) lent.slots
@@ -86,7 +93,7 @@ pub record Finds (j : Job) (set : List ℕ) (bound : ℕ) : Type 0 where
   pub shown : Shown j bound (bound_any j) (plan_over j set) (rows_over j set)
 
 -- The promise of `most_pictures`.
-pub record MostPromise (h : JobInput) (lent : ListSlices) (work : List ℕ) (r : MostPlan) (lent' : ListSlices) (work' : List ℕ) : Type 0 where
+pub record MostPromise (h : JobInput) (lent : ListSlices) (work : List ℕ) (r : Result MostPlan Refusal) (lent' : ListSlices) (work' : List ℕ) : Type 0 where
   -- A set of bases and a bound,
   pub set : List ℕ
   pub bound : ℕ

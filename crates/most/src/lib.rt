@@ -3,30 +3,33 @@
 // adds the refusals, the layers above the bases, and the output.
 #![tactic(auto)]
 
-ghost use Rattle.std.specs.Prelude.{◌≡◌, ◌&&◌, ◌+◌, ◌*◌, ◌≤◌, length};
-ghost use Rattle.job.specs.Input.{job_input, job_refusal};
+ghost use Rattle.std.specs.Prelude.{◌≡◌, length};
+ghost use Rattle.theory_basics.specs.Refusals.{unless};
+ghost use Rattle.refusals.specs.Numbers.{refusal_number};
+ghost use Rattle.job.specs.Input.{job_in};
+ghost use Rattle.job.specs.Handed.{handed};
 ghost use Rattle.core_sizes.specs.Table.{table_at};
-ghost use Rattle.fetch.specs.Slices.{slices_of};
-ghost use Rattle.most.specs.Promise.{MostOutput, MostPromise, has_room};
-ghost use Rattle.most.specs.lemmas.Deciding.{AnsweredPost, DecideMostPre, DecidePost, FindForwardPost};
-ghost use Rattle.most.specs.lemmas.Deciding.{FindForwardPre, FindPost, FindPre, OnlyNumber};
-ghost use Rattle.most.specs.lemmas.Deciding.{WriteMostPost, WriteMostPre};
+ghost use Rattle.fetch.specs.Handed.{SameSlices, lent_list};
+ghost use Rattle.core_covering.specs.lemmas.Tables.{ForwardPre};
+ghost use Rattle.most.specs.Promise.{MostPromise, lent_room};
+ghost use Rattle.most.specs.lemmas.Deciding.{DecideMostPre, DecidePost, FindForwardPost};
+ghost use Rattle.most.specs.lemmas.Deciding.{FindPost, FindPre, WriteMostPost, WriteMostPre};
 
 use core_covering::LEVELS;
-use core_output::Output;
 use core_passes::{Film, Sought};
-use job::{CHUNKS, Programme, ROWS, SIZES, SUMS, SizeTable, SlotSums};
-use planner::Answer;
+use fetch::LentList;
+use job::{CHUNKS, JobInput, Programme, ROWS, SIZES, SUMS, SizeTable, SlotSums};
+use refusals::{Refusal, refuse_unless};
 
 // Numbers of the work slice to a row: the needs of 0 to 500 bases.
 pub const WORK_ROW: usize = 501;
 
-// The number of rows or the refusal's number, how many chunks carry each layer, the most bases that
-// a passing list in playing order carries, the most that any passing list carries, and whether the
-// plan carries as many as the first of the two.
+// How many rows the plan has, how many chunks carry each layer, the most bases that a passing list
+// in playing order carries, the most that any passing list carries, and whether the plan carries as
+// many as the first of the two.
 #[derive(Clone, Copy)]
 pub struct MostPlan {
-    pub answer: Answer,
+    pub rows: usize,
     pub counts: [u16; 4],
     pub bound: u16,
     pub bound_any: u16,
@@ -41,39 +44,22 @@ struct Decision {
     pub bound_any: u16,
 }
 
-// A refusal's number and nothing else.
-fn refused(n: u8) -> MostPlan
-    ensures { OnlyNumber result n }
+// 11, unless the slices hold any plan of so many chunks, and the work slice its rows of needs.
+fn accept_room(job: &JobInput, work: &[u64], out: &LentList) -> Result<(), Refusal>
+    ensures { refusal_number result ≡
+        unless 11 (lent_room (job_in (handed job.now)) (lent_list out.now) work.now) }
 {
-    MostPlan {
-        answer: Answer::Refused(n),
-        counts: [0u16; 4],
-        bound: 0,
-        bound_any: 0,
-        exact: false,
-    }
-}
-
-// Whether the slices hold any plan of so many chunks, and the work slice its rows of needs.
-fn has_room(
-    count: usize,
-    work: usize,
-    marks: usize,
-    slots: usize,
-    chunks: usize,
-    layers: usize,
-    bytes: usize,
-) -> bool
-    requires { count ≤ 500 }
-    ensures { result ≡ has_room count work marks slots chunks layers bytes }
-{
-    if work < (count + 1) * WORK_ROW {
-        return false;
-    }
-    if marks < count {
-        return false;
-    }
-    core_slices::all_at_least(ROWS, slots, chunks, layers, bytes)
+    let count = job.programme.chunks as usize;
+    let holds = (count + 1) * WORK_ROW <= work.len()
+        && count <= out.marks.len()
+        && core_slices::all_at_least(
+            ROWS,
+            out.slots.len(),
+            out.chunks.len(),
+            out.layers.len(),
+            out.bytes.len(),
+        );
+    refuse_unless(holds, Refusal::ShortBuffer)
 }
 
 // Where at most one chunk may be held: each chunk in turn, kept if it is in time.
@@ -85,7 +71,7 @@ fn find_forward(
     bases: &[u64; LEVELS],
     ids: &mut [u16; CHUNKS],
 ) -> Sought
-    requires { FindForwardPre count held ends.now opens.now bases.now ids.old }
+    requires { ForwardPre count held ends.now opens.now bases.now }
     ensures { FindForwardPost count held ends.now opens.now bases.now result
         ids.new }
 {
@@ -108,9 +94,8 @@ fn find(
     bytes: &mut [u32; CHUNKS],
     needs: &mut [u64; CHUNKS],
 ) -> Sought
-    requires { FindPre p (table_at table.now) after.now work.old ids.old dues.old bytes.old needs.old }
-    ensures { FindPost p (table_at table.now) after.now work.old result
-        work.new ids.new dues.new bytes.new needs.new }
+    requires { FindPre p (table_at table.now) after.now work.old }
+    ensures { FindPost p (table_at table.now) after.now work.old result work.new ids.new }
 {
     let mut ends = [0u64; LEVELS];
     let mut opens = [0u64; LEVELS];
@@ -132,8 +117,11 @@ fn find(
     }
     let first = core_decide::settle_bases(p, table, after, ids, dues, bytes, needs);
     let bound = core_bounds::in_order(p, table, after, work);
-    let all = after[0];
-    let film = Film { count, held, all };
+    let film = Film {
+        count,
+        held,
+        all: after[0],
+    };
     core_passes::seek(
         film, bound, passes, &ends, &opens, &bases, &smallest, work, first, ids,
     )
@@ -141,92 +129,61 @@ fn find(
 
 // The set found, with its releases and marks: the layers above its bases follow document 01's way.
 fn decide(
-    p: Programme,
-    layers: usize,
+    job: &JobInput,
     table: &SizeTable,
-    forecast: &[u32],
     passes: u32,
     work: &mut [u64],
     ids: &mut [u16; CHUNKS],
     ready: &mut [u16; CHUNKS],
     mark: &mut [u8; CHUNKS],
 ) -> Decision
-    requires { DecideMostPre p layers (table_at table.now) forecast.now work.old
-        ids.old ready.old mark.old }
-    ensures { DecidePost p layers (table_at table.now) forecast.now work.old result
-        work.new ids.new ready.new mark.new }
+    requires { DecideMostPre job.now.programme (length job.now.sizes.now) (table_at table.now)
+        job.now.forecast.now work.old ids.old ready.old mark.old }
+    ensures { DecidePost job.now.programme (length job.now.sizes.now) (table_at table.now)
+        job.now.forecast.now work.old result work.new ids.new ready.new mark.new }
 {
+    let p = job.programme;
     let mut after = [0u64; SUMS];
     let mut room = [0u64; CHUNKS];
     let mut dues = [0u16; CHUNKS];
     let mut bytes = [0u32; CHUNKS];
-    core_decide::sum_after(forecast, 1, &mut after);
-    let bound_any = core_bounds::any_order(p, table, &after);
-    let out = find(
+    core_decide::sum_after(job.forecast, 1, &mut after);
+    let any = core_bounds::any_order(p, table, &after);
+    let sought = find(
         p, table, &after, passes, work, ids, &mut dues, &mut bytes, &mut room,
     );
-    let first = out.first;
+    let first = sought.first;
     core_search::set_bases(p, table, first, ids, &mut dues, &mut bytes);
     core_decide::settle_kept(
-        p, layers, table, &after, first, ids, &dues, &mut bytes, &mut room, ready, mark,
+        p,
+        job.sizes.len(),
+        table,
+        &after,
+        first,
+        ids,
+        &dues,
+        &mut bytes,
+        &mut room,
+        ready,
+        mark,
     );
-    let bound = out.bound as u16;
-    let any = bound_any as u16;
     Decision {
         first,
-        bound,
-        bound_any: any,
+        bound: sought.bound as u16,
+        bound_any: any as u16,
     }
 }
 
-// The answer for what was written: the slices had room for any plan.
-fn answered(made: Output, out: Decision) -> MostPlan
-    ensures { AnsweredPost made out result }
-{
-    let counts = made.counts;
-    let count = counts[0];
-    MostPlan {
-        answer: Answer::Rows(made.rows),
-        counts,
-        bound: out.bound,
-        bound_any: out.bound_any,
-        exact: count == out.bound,
-    }
-}
-
-// Finds a set of bases of an accepted job and writes the plan over it to the output slices.
-fn write_most(
-    p: Programme,
-    sizes: &[u32],
-    size_chunks: &[u16],
-    size_layers: &[u8],
-    size_bytes: &[u32],
-    forecast: &[u32],
-    passes: u32,
-    work: &mut [u64],
-    marks: &mut [u8],
-    slots: &mut [u16],
-    chunks: &mut [u16],
-    layers: &mut [u8],
-    bytes: &mut [u32],
-) -> MostPlan
-    requires { WriteMostPre
-        (job_input p sizes.now size_chunks.now size_layers.now size_bytes.now forecast.now)
-        work.old
-        (slices_of marks.old slots.old chunks.old layers.old bytes.old) }
-    ensures { WriteMostPost
-        (job_input p sizes.now size_chunks.now size_layers.now
-        size_bytes.now forecast.now)
-        (slices_of marks.old slots.old chunks.old
-        layers.old bytes.old)
-        work.old
-        result
-        (slices_of marks.new slots.new chunks.new
-        layers.new bytes.new)
-        work.new }
+// Finds a set of bases of an accepted job and writes the plan over it into slices that have room for
+// any plan.
+fn write_most(job: &JobInput, passes: u32, work: &mut [u64], out: &mut LentList) -> MostPlan
+    requires { WriteMostPre (handed job.now) work.old (lent_list out.old) }
+    ensures same { SameSlices out.old out.new }
+    ensures output { WriteMostPost (handed job.now) (lent_list out.old) work.old
+        result (lent_list out.new) work.new }
 {
     let mut table = [0u32; SIZES];
-    core_sizes::fill_sizes(sizes, size_chunks, size_layers, size_bytes, &mut table);
+    core_sizes::fill_sizes(job, &mut table);
     let mut ids = [0u16; CHUNKS];
     let mut ready = [0u16; CHUNKS];
     // A kept chunk has its base.
@@ -234,24 +191,36 @@ fn write_most(
     let mut mark = [base; CHUNKS];
     // A chunk that is left out has the mark 0.
     let none = [0u8; CHUNKS];
-    let count = p.chunks as usize;
-    let out = decide(
-        p,
-        sizes.len(),
-        &table,
-        forecast,
-        passes,
-        work,
-        &mut ids,
-        &mut ready,
-        &mut mark,
+    let count = job.programme.chunks as usize;
+    let found = decide(
+        job, &table, passes, work, &mut ids, &mut ready, &mut mark,
     );
-    let first = out.first;
     let made = core_output::write_plan(
-        count, forecast, 1, false, &table, first, &ids, &ready, &mark, &none, marks, slots, chunks,
-        layers, bytes,
+        count,
+        job.forecast,
+        1,
+        false,
+        &table,
+        found.first,
+        &ids,
+        &ready,
+        &mark,
+        &none,
+        out.marks,
+        out.slots,
+        out.chunks,
+        out.layers,
+        out.bytes,
     );
-    answered(made, out)
+    let counts = made.counts;
+    let bases = counts[0];
+    MostPlan {
+        rows: made.rows,
+        counts,
+        bound: found.bound,
+        bound_any: found.bound_any,
+        exact: bases == found.bound,
+    }
 }
 
 // Finds a set of bases and writes the plan over it: marks, one per chunk, and rows by slot, chunk,
@@ -260,60 +229,16 @@ fn write_most(
 // a row slice fewer than 5,599; a refusal writes nothing. The work slice holds the search's tables;
 // what it holds afterwards means nothing.
 pub fn most_pictures(
-    p: Programme,
-    sizes: &[u32],
-    size_chunks: &[u16],
-    size_layers: &[u8],
-    size_bytes: &[u32],
-    forecast: &[u32],
+    job: &JobInput,
     passes: u32,
     work: &mut [u64],
-    marks: &mut [u8],
-    slots: &mut [u16],
-    chunks: &mut [u16],
-    layers: &mut [u8],
-    bytes: &mut [u32],
-) -> MostPlan
-    ensures { MostPromise
-        (job_input p sizes.now size_chunks.now size_layers.now
-        size_bytes.now forecast.now)
-        (slices_of marks.old slots.old chunks.old
-        layers.old bytes.old)
-        work.old
-        result
-        (slices_of marks.new slots.new chunks.new
-        layers.new bytes.new)
-        work.new }
+    out: &mut LentList,
+) -> Result<MostPlan, Refusal>
+    ensures same { SameSlices out.old out.new }
+    ensures promise { MostPromise (handed job.now) (lent_list out.old) work.old
+        result (lent_list out.new) work.new }
 {
-    let refusal = job::refusal(p, sizes, size_chunks, size_layers, size_bytes, forecast);
-    if 0 < refusal {
-        return refused(refusal);
-    }
-    let count = p.chunks as usize;
-    if has_room(
-        count,
-        work.len(),
-        marks.len(),
-        slots.len(),
-        chunks.len(),
-        layers.len(),
-        bytes.len(),
-    ) {
-        return write_most(
-            p,
-            sizes,
-            size_chunks,
-            size_layers,
-            size_bytes,
-            forecast,
-            passes,
-            work,
-            marks,
-            slots,
-            chunks,
-            layers,
-            bytes,
-        );
-    }
-    refused(11)
+    job::accept(job)?;
+    accept_room(job, work, out)?;
+    Ok(write_most(job, passes, work, out))
 }

@@ -21,41 +21,44 @@ use Rattle.theory_reasons.specs.Statement.{Line, Place, Reason, Under, against, 
 use Rattle.theory_reasons.proofs.Theorems.{line_refused, missing_iff, plan_reasons, stretch_forbids, text_fits}
 use Rattle.core_text.specs.lemmas.Places.{Put, put_front, put_whole}
 use Rattle.reasons.specs.Answer.{LinesOfPlan, ReasonsPromise, TrueLine, TrueReason, refusal}
+use Rattle.std.specs.Prelude.{Result, Ok, Err}
+use Rattle.refusals.specs.declared.Refusal.{Refusal}
+use Rattle.refusals.specs.declared.Refusal.TheVariants.{ShortBuffer}
+use Rattle.refusals.specs.Numbers.{number_of}
+use Rattle.refusals.specs.Laws.{number_above_0}
 use Rattle.reasons.specs.lemmas.Told.{Told}
-use Rattle.records.specs.declared.Written.{Written}
-use Rattle.records.specs.declared.Written.TheVariants.{Bytes, Refused}
 use Rattle.job.specs.Theorems.{input_accepted}
 
 pub fits : (h : JobInput) → job_refusal h ≡ 0 → length (plan_text (job_in h)) ≤ 94000
 fits h z = text_fits (job_in h) (input_accepted h z)
 
 module _ (h : JobInput) (old : List ℕ) where
-  pub told_refused : (k : ℕ) → k ≡ job_refusal h → 0 < k → Told h old old (Refused k)
-  told_refused k e o =
-      let z : job_refusal h ≡ 0 → ⊥ = λ z. omega arith in
-      let r : refusal h old ≡ k = or_else_some (job_refusal h) (unless 11 (leb (length (plan_text (job_in h))) (length old))) z ∙ sym e in
-      let n = ne_eqb k 0 (λ z. omega arith) in
+  pub told_refused : (e : Refusal) → number_of e ≡ job_refusal h → Told h old old (Err e)
+  told_refused e is =
+      let z : job_refusal h ≡ 0 → ⊥ = λ z. omega (arith, number_above_0 e) in
+      let r : refusal h old ≡ number_of e = or_else_some (job_refusal h) (unless 11 (leb (length (plan_text (job_in h))) (length old))) z ∙ sym is in
+      let n = ne_eqb (number_of e) 0 (λ z. omega (arith, number_above_0 e)) in
       record { result = rw (r, n); buffer = rw (r, n) }
 
   module _ (z : job_refusal h ≡ 0) where
-    pub told_short : length old < length (plan_text (job_in h)) → Told h old old (Refused 11)
+    pub told_short : length old < length (plan_text (job_in h)) → Told h old old (Err ShortBuffer)
     told_short l =
         let r : refusal h old ≡ 11 = or_else_none (job_refusal h) (unless 11 (leb (length (plan_text (job_in h))) (length old))) z ∙ rw (lt-leb (length (plan_text (job_in h))) (length old) l) in
         record { result = rw r; buffer = rw r }
 
-    pub told : (n : ℕ) (new : List ℕ) → length (plan_text (job_in h)) ≤ length old → n ≡ length (plan_text (job_in h)) → new ≡ plan_text (job_in h) ++ drop (length (plan_text (job_in h))) old → Told h old new (Bytes n)
+    pub told : (n : ℕ) (new : List ℕ) → length (plan_text (job_in h)) ≤ length old → n ≡ length (plan_text (job_in h)) → new ≡ plan_text (job_in h) ++ drop (length (plan_text (job_in h))) old → Told h old new (Ok n)
     told n new l e b =
         let r : refusal h old ≡ 0 = or_else_none (job_refusal h) (unless 11 (leb (length (plan_text (job_in h))) (length old))) z ∙ rw (le-leb (length (plan_text (job_in h))) (length old) l) in
         record { result = rw (r, e); buffer = rw r b }
 
     -- Put into the buffer itself,
-    pub told_put : (n : ℕ) (new : List ℕ) → length (plan_text (job_in h)) ≤ length old → Put old 0 (plan_text (job_in h)) new n → Told h old new (Bytes n)
+    pub told_put : (n : ℕ) (new : List ℕ) → length (plan_text (job_in h)) ≤ length old → Put old 0 (plan_text (job_in h)) new n → Told h old new (Ok n)
     told_put n new l p = told n new l (omega (arith, p.place)) (put_whole l p)
 
     -- or put aside and copied.
     pub told_copied :
         (n : ℕ) (new before aside : List ℕ) → length (plan_text (job_in h)) ≤ length before → Put before 0 (plan_text (job_in h)) aside n → n ≤ length old →
-        new ≡ written old 0 (take n aside) → Told h old new (Bytes n)
+        new ≡ written old 0 (take n aside) → Told h old new (Ok n)
     told_copied n new before aside room p l e =
         let t = (put_front room p).1 in
         let fit : length (plan_text (job_in h)) ≤ length old = omega (arith, p.place) in
@@ -94,6 +97,6 @@ lines_of_plan h z p d =
       are_true = under_all (Reason j p (against j p)) (TrueLine j p) (missing j p) its ((only its).1 refl) (true_line j (input_accepted h z) p d);
     }
 
-pub promised : {h : JobInput} {out out' : List ℕ} {r : Written} → Told h out out' r → ReasonsPromise h out r out'
+pub promised : {h : JobInput} {out out' : List ℕ} {r : Result ℕ Refusal} → Told h out out' r → ReasonsPromise h out r out'
 promised {h = h} t =
     record { result = t.result; buffer = t.buffer; lines = lines_of_plan h; forbids = λ z. stretch_forbids (job_in h) (input_accepted h z) }

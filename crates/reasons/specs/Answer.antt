@@ -2,21 +2,17 @@
 -- "Direct calls without files check 5, 6, 7", with document 02's 18 before 7, then 11: "A lent
 -- buffer is shorter than the whole result, after all input refusals. In a longer one the bytes past
 -- the result stay unchanged." The lines are printed text and no file, so 9 does not apply.
-use Rattle.std.specs.Prelude.{ℕ, ◌≡◌, cond, List, ◌↔◌, length, leb, eqb}
+use Rattle.std.specs.Prelude.{ℕ, ◌≡◌, List, ◌↔◌, length, leb, Result}
 use Rattle.theory_basics.specs.Lent.{lent_after}
 use Rattle.theory_basics.specs.Tests.{All}
 use Rattle.theory_basics.specs.Refusals.{unless, ◌or_else◌}
+use Rattle.refusals.specs.declared.Refusal.{Refusal}
+use Rattle.refusals.specs.Numbers.{answered, by_number}
 use Rattle.job.specs.Input.{JobInput, job_in, job_refusal}
 use Rattle.job.specs.Job.{Job}
 use Rattle.theory_plan.specs.Statement.{CanCarry, Choice, IsPlan}
 use Rattle.theory_reasons.specs.Lines.{plan_text}
 use Rattle.theory_reasons.specs.Statement.{Line, Reasons, Short, against, lower, reasons_text, short}
-use Rattle.records.specs.declared.Written.{Written}
-use Rattle.records.specs.declared.Written.TheVariants.{Bytes, Refused}
-
--- The answer: the refusal, or with none the number of bytes written.
-abbrev pub answer : ℕ → ℕ → Written
-answer refused n = cond (eqb refused 0) (Bytes n) (Refused refused)
 
 -- The refusal of the call: 5, 6, 18, 7 by the job, then 11 exactly if the buffer is shorter than
 -- the text.
@@ -61,9 +57,9 @@ StretchForbids h =
 
 -- What `reasons` promises of a job as handed and the buffer that it is lent, with its answer and
 -- the buffer afterwards.
-pub record ReasonsPromise (h : JobInput) (out : List ℕ) (r : Written) (out' : List ℕ) : Type 0 where
+pub record ReasonsPromise (h : JobInput) (out : List ℕ) (r : Result ℕ Refusal) (out' : List ℕ) : Type 0 where
   -- The number of bytes, or a refusal's number.
-  pub result : r ≡ answer (refusal h out) (length (plan_text (job_in h)))
+  pub result : by_number r ≡ answered (refusal h out) (length (plan_text (job_in h)))
   -- "In a longer one the bytes past the result stay unchanged"; on a refusal all of them.
   pub buffer : out' ≡ lent_after (refusal h out) (plan_text (job_in h)) out
   -- "For each layer of the job that its plan doesn't carry", whichever plan of the job is taken.

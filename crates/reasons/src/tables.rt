@@ -5,22 +5,21 @@ ghost use Rattle.theory_basics.specs.Tests.{All};
 ghost use Rattle.job.specs.Job.{Within};
 ghost use Rattle.reasons.specs.lemmas.Tables.{SizesIn, Summed, layers_in, spread};
 
-use job::{CHUNKS, SIZES, SizeTable};
+use job::{CHUNKS, LAYERS, SIZES, SizeTable};
 
 // How many layers a mark has, of layers from the base up.
 fn layers_in(mark: u8) -> u8
     ensures { result ≡ layers_in mark }
 {
     if mark < 2 {
-        return mark;
+        mark
+    } else if mark < 4 {
+        2
+    } else if mark < 8 {
+        3
+    } else {
+        4
     }
-    if mark < 4 {
-        return 2;
-    }
-    if mark < 8 {
-        return 3;
-    }
-    4
 }
 
 // How many layers the kept chunks carry, by their marks; chunk k at k - 1.
@@ -39,11 +38,9 @@ pub(crate) fn set_levels(
         × (levels.new ≡ spread (drop first ids.now) (drop first mark.now)
         levels.old) }
 {
-    let mut q = first;
-    while q < CHUNKS {
+    for q in first..CHUNKS {
         let at = ids[q] as usize - 1;
         levels[at] = layers_in(mark[q]);
-        q = q + 1;
     }
 }
 
@@ -52,15 +49,11 @@ pub(crate) fn sum_sizes(table: &SizeTable, sums: &mut SizeTable)
     requires { SizesIn table.now × (length sums.old ≡ 2000) }
     ensures { Summed table.now 2000 sums.new }
 {
-    let mut i: usize = 0;
-    while i < SIZES {
-        if i % 4 == 0 {
+    for i in 0..SIZES {
+        if i % LAYERS == 0 {
             sums[i] = table[i];
-            i = i + 1;
         } else {
-            let g = i - 1;
-            sums[i] = sums[g] + table[i];
-            i = i + 1;
+            sums[i] = sums[i - 1] + table[i];
         }
     }
 }

@@ -9,7 +9,7 @@ use Rattle.theory_most.specs.Statement.{Settled, covered, hopeless, stays}
 use Rattle.core_covering.specs.lemmas.Tables.{CoveredBy}
 use Rattle.core_front.specs.declared.Measure.{Measure}
 use Rattle.core_front.specs.declared.Sets.{Sets}
-use Rattle.core_front.specs.lemmas.Tables.{FrontIn, IsCoveredPost, IsHopelessPost, Long, MoveSetPost, MoveSetPre, Same, SetCoversFor, SetCoversPost, SetCoversPre, SetIn, SettleFor, SettledOf, SettlePost, SettlePre, TakeOutPost, TrialFor, TrialPre, front_of, set_at}
+use Rattle.core_front.specs.lemmas.Tables.{FrontIn, IsCoveredPost, IsHopelessPost, Long, MoveSetPost, MoveSetPre, Same, SetCoversFor, SetCoversPost, SetIn, SettleFor, SettledOf, SettlePost, SettlePre, TakeOutPost, TrialFor, TrialPre, front_of, set_at}
 use Rattle.core_front.specs.lemmas.Sets.{before_or_at}
 
 -- ---- the sets of a front
@@ -98,17 +98,6 @@ module _ {by : Measure} {opens : List ℕ} {sets : Sets} {n : ℕ} (g : TrialPre
           other = same_in (t.ahead c r s) (f.front.each c (omega arith));
         }
 
-    pub taking_asked : (b c : ℕ) → a ≤ b → b ≤ n → a ≤ c → c ≤ n → SetCoversPre by opens sets' b c
-    taking_asked b c p q r s =
-        record {
-          job = g.job;
-          chunk = g.chunk;
-          holds = taking_two g.holds b c p q r s;
-          long = t.long;
-          one_in = omega (arith, g.holds.room);
-          other_in = omega (arith, g.holds.room);
-        }
-
     pub taking_out : (r : Bool) → r ≡ true → SetCoversPost by opens sets' n a r → Taking by opens sets n sets' left (a + 1)
     taking_out r e p =
         let u = (t.ahead n t.inside (omega arith)).set_is in
@@ -125,15 +114,6 @@ module _ {by : Measure} {opens : List ℕ} {sets : Sets} {n : ℕ} (g : TrialPre
               (λ y. t.gone q y)
               (λ y. inr (rw y c))
               (before_or_at q a (omega arith));
-        }
-
-    pub moving_asked : MoveSetPre sets' a left
-    moving_asked =
-        record {
-          long = t.long;
-          from_in = omega (arith, g.holds.room);
-          up = t.up;
-          few = omega (arith, few_at a (omega arith), (t.ahead a (omega arith) t.inside).count_is);
         }
 
     module _ {sets'' : Sets} (m : MoveSetPost sets' a left sets'') where

@@ -5,10 +5,10 @@ use Rattle.std.proofs.Common.{sym, ap, arith}
 use Rattle.std.proofs.Math.Path.{subst}
 use mathlib.Core.List.{List}
 use Rattle.job.specs.Job.{Job}
-use Rattle.core_covering.specs.lemmas.Tables.{CoversPost, CoversPre, HopelessFor, HopelessPost, HopelessPre, TwoSets}
+use Rattle.core_covering.specs.lemmas.Tables.{CoversPost, HopelessFor, HopelessPost, HopelessPre, TwoSets}
 use Rattle.core_front.specs.declared.Measure.{Measure}
 use Rattle.core_front.specs.declared.Sets.{Sets}
-use Rattle.core_front.specs.lemmas.Tables.{IsCoveredPost, IsHopelessPost, SetCoversFor, SetCoversPost, SetCoversPre, SettleFor, SettlePre, TrialFor, TrialPre, set_at}
+use Rattle.core_front.specs.lemmas.Tables.{IsCoveredPost, IsHopelessPost, SetCoversFor, SetCoversPost, SettleFor, SettlePre, TrialFor, set_at}
 
 -- A slice from the first place of a set to the one behind its last.
 pub part_is : (sets : Sets) (a n : ℕ) → n ≡ get_or sets.counts a 0 → take (a * 500 + n - a * 500) (drop (a * 500) sets.chunks) ≡ set_at sets a
@@ -35,14 +35,6 @@ module _ {by : Measure} {opens : List ℕ} {sets : Sets} {a b : ℕ} where
         held_some = m.held_some;
         opens_are = m.opens_are;
       }
-
-  pub covers_asked :
-      SetCoversPre by opens sets a b → (u s : List ℕ) → u ≡ set_at sets a → s ≡ set_at sets b →
-      CoversPre by.held by.smallest opens u (get_or sets.useds a 0) s (get_or sets.useds b 0)
-  covers_asked g u s e f =
-      subst (λ (u : List ℕ). CoversPre by.held by.smallest opens u (get_or sets.useds a 0) s (get_or sets.useds b 0)) (sym e)
-      (subst (λ (s : List ℕ). CoversPre by.held by.smallest opens (set_at sets a) (get_or sets.useds a 0) s (get_or sets.useds b 0)) (sym f)
-      (record { job = g.job; holds = two_sets g.holds }))
 
   pub covers_says :
       (u s : List ℕ) (r : Bool) → u ≡ set_at sets a → s ≡ set_at sets b →
@@ -95,17 +87,6 @@ module _ {by : Measure} {row opens : List ℕ} {sets : Sets} {n : ℕ} where
 module _ {by : Measure} {opens : List ℕ} {sets : Sets} {n : ℕ} where
   pub two_of : {j : Job} {i : ℕ} → TrialFor j i by opens sets n → (a b : ℕ) → a ≤ n → b ≤ n → SetCoversFor j i by opens sets a b
   two_of h a b u v = record { measure = h.measure; one = h.front.each a (omega arith); other = h.front.each b (omega arith) }
-
-  pub two_asked : TrialPre by opens sets n → (a b : ℕ) → a ≤ n → b ≤ n → SetCoversPre by opens sets a b
-  two_asked g a b u v =
-      record {
-        job = g.job;
-        chunk = g.chunk;
-        holds = two_of g.holds a b u v;
-        long = g.holds.front.long;
-        one_in = omega (arith, g.holds.room);
-        other_in = omega (arith, g.holds.room);
-      }
 
   pub covered_by : (a : ℕ) (r : Bool) → a < n → r ≡ true → SetCoversPost by opens sets a n r → IsCoveredPost by opens sets n true
   covered_by a r u e p j i h t = record { place = a; inside = u; covered = p j i (two_of h a n (omega arith) (omega arith)) e }

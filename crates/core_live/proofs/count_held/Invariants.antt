@@ -1,5 +1,4 @@
 -- `count_held` meets its contract: held of the chunks up to i.
-use Prim.Native.Nat.{◌-◌, ◌≤◌}
 use mathlib.Core.Path.{◌≡◌}
 use mathlib.Core.Bool.{◌&&◌}
 use lib.Dec.{ltb}
@@ -9,7 +8,4 @@ use Rattle.core_live.specs.lemmas.ByTables.{begun_at}
 use Rattle.core_live.proofs.count_held.Given as goal
 
 abbrev pub invariant-loop-i : goal.invariant-loop-i
-invariant-loop-i l = (l.i ≤ l.p.chunks) × (l.held ≡ count (λ k. begun_at l.begun k && ltb l.start (due_slot l.p k)) l.i)
-
-abbrev pub decreases-loop-i : goal.decreases-loop-i
-decreases-loop-i l = l.p.chunks - l.i
+invariant-loop-i l = l.held ≡ count (λ k. begun_at l.begun k && ltb l.start (due_slot l.p k)) l.i

@@ -81,7 +81,6 @@ asked_at p start left begun last from until i =
 -- The flags of the chunks up to n say which are asked.
 pub record AskedFlags (p : Programme) (start : ℕ) (left : ℕ → ℕ → ℕ) (begun : List ℕ) (last from until n : ℕ) (asked : List ℕ) : Type 0 where
   pub flag_is : (i : ℕ) → 1 ≤ i → i ≤ n → begun_at asked i ≡ asked_at p start left begun last from until i
-  pub long : length asked ≡ 500
 
 -- ---- the pieces
 
@@ -98,19 +97,12 @@ abbrev pub pieces_at : (ℕ → ℕ → ℕ) → List ℕ → ℕ → ℕ → Li
 pieces_at left asked c zero = []
 pieces_at left asked c (suc n) = pieces_at left asked c n ++ layer_at left asked n c
 
--- Tables with room for any pieces.
-pub record Long (chunks layers bytes : List ℕ) : Type 0 where
-  pub chunks_long : length chunks ≡ 2000
-  pub layers_long : length layers ≡ 2000
-  pub bytes_long : length bytes ≡ 2000
-
 -- The pieces stand at the start of three tables, by column.
 pub record PiecesStand (pieces : List Piece) (n : ℕ) (chunks layers bytes : List ℕ) : Type 0 where
   pub many : n ≡ length pieces
   pub chunks_are : take n chunks ≡ map piece_chunk pieces
   pub layers_are : take n layers ≡ map piece_layer pieces
   pub bytes_are : take n bytes ≡ map piece_bytes pieces
-  pub long : Long chunks layers bytes
 
 -- The pieces of layer n stand behind those that stood, whatever they were.
 pub record PutLayerPost (left : ℕ → ℕ → ℕ) (asked : List ℕ) (n count at : ℕ) (cs ls bs : List ℕ) (r : ℕ) (cs' ls' bs' : List ℕ) : Type 0 where
@@ -120,17 +112,14 @@ pub record PutLayerPost (left : ℕ → ℕ → ℕ) (asked : List ℕ) (n count
 
 -- ---- the whole
 
-pub record AskPre (p : Programme) (depth : ℕ) (begun chunks layers bytes : List ℕ) : Type 0 where
+pub record AskPre (p : Programme) (depth : ℕ) : Type 0 where
   pub fine : Fine p
   pub few_layers : depth ≤ 4
-  pub begun_long : length begun ≡ 500
-  pub long : Long chunks layers bytes
 
 -- For every accepted job and rows with these tables that 21 and 22 let pass: the asks of
 -- theory_live.
 pub record AskPost (p : Programme) (depth start rate : ℕ) (left : ℕ → ℕ → ℕ) (begun : List ℕ) (r : ℕ) (chunks layers bytes : List ℕ) : Type 0 where
   pub few : r ≤ 2000
-  pub long : Long chunks layers bytes
   pub stand :
       (sizes : List ℕ) (os : List Override) (forecast : List ℕ) (rows : List Row) (whole : List ℕ) →
       let j = job_of p sizes os forecast in

@@ -1,6 +1,5 @@
 use mathlib.Core.Bool.{true}
 use mathlib.Core.Path.{◌≡◌}
-use native.Mathlib.Omega.{arith}
 use Rattle.core_passes.specs.lemmas.Passing.{passing_end, passing_more, passing_start}
 use Rattle.core_passes.proofs.pass.Goals.{else-whole, then-whole}
 use Rattle.core_passes.proofs.pass.Goals as goal

@@ -1,26 +1,23 @@
 -- Lemmas. A turn of a pass (the next front takes the front's place), a pass, and the search: one
 -- pass after the other for falling targets. Assumes nothing.
-use Rattle.std.specs.Prelude.{ℕ, suc, ◌+◌, ◌*◌, ◌-◌, ◌<◌, ◌≤◌, ◌≡◌, Bool, true, List, [], ◌∷◌, length, get_or, set, take, drop, leb, ltb}
-use Rattle.std.proofs.Common.{sym, ap, ◌∙◌, subst, ⊎_elim, arith, add-one, length-drop, length-set, length-take, ltb→lt, nltb→le, get_or-drop, get_or-set_same, get_or-take}
-use Rattle.theory_basics.specs.lemmas.Tests.{test}
+use Rattle.std.specs.Prelude.{ℕ, suc, ◌+◌, ◌*◌, ◌-◌, ◌<◌, ◌≤◌, ◌≡◌, Bool, true, List, [], ◌∷◌, length, get_or, set, take, drop, leb}
+use Rattle.std.proofs.Common.{sym, ap, ◌∙◌, subst, arith, add-one, length-drop, length-set, length-take, get_or-drop, get_or-set_same, get_or-take}
 use Rattle.job.specs.Job.{Job, chunks}
 use Rattle.theory_plan.specs.Plan.{after}
 use Rattle.theory_most.specs.Statement.{Next, NoneAboveInOrder, Pass, Set, after_set, begin, bound, least, onward}
 use Rattle.theory_most.proofs.Theorems.{bound_in_order, pass_ends}
 use Rattle.theory_most.proofs.Bounds.{largest_le}
-use Rattle.core_covering.specs.lemmas.Tables.{PlacedPost, RowOf}
+use Rattle.core_covering.specs.lemmas.Tables.{RowOf}
 use Rattle.core_front.specs.declared.Front.{Front}
 use Rattle.core_front.specs.declared.Measure.{Measure}
 use Rattle.core_front.specs.declared.Sets.{Sets}
-use Rattle.core_front.specs.lemmas.Sets.{before_or_at, set_long}
-use Rattle.core_front.specs.lemmas.Tests.{part_is}
+use Rattle.core_front.specs.lemmas.Sets.{set_long}
 use Rattle.core_front.specs.lemmas.Tables.{FrontIn, Long, SetIn, front_of, set_at}
 use Rattle.core_passes.specs.declared.Chunk.{Chunk}
 use Rattle.core_passes.specs.declared.Film.{Film}
 use Rattle.core_passes.specs.declared.Found.{Found}
-use Rattle.core_passes.specs.declared.Sought.{Sought}
 use Rattle.core_passes.specs.lemmas.Fronts.{front_all, front_same, set_moves}
-use Rattle.core_passes.specs.lemmas.Tables.{CopyFrontPost, CopyFrontPre, FilmOf, LargestPost, LookPost, LookPre, PassPost, PassPre, SeekPost, SeekPre, StepFor, StepPost, StepPre, TurnFor, TurnPost, TurnPre}
+use Rattle.core_passes.specs.lemmas.Tables.{CopyFrontPost, CopyFrontPre, FilmOf, LargestPost, LookPost, LookPre, PassPost, PassPre, StepFor, StepPost, StepPre, TurnFor, TurnPost, TurnPre}
 
 -- ---- a turn
 
@@ -84,16 +81,16 @@ module _ {film : Film} {target i : ℕ} {ends opens bases smallest work : List �
         StepPre (measure_at film target smallest k) (chunk_at bases ends k) (row_at work k) opens sets n nextSets
     turn_step_pre = record { job = p.job; before = i; holds = step_for p.holds k e; long = p.next_long }
 
-    module _ {r : Front} {S : Sets} (stepped : StepPost (measure_at film target smallest k) (chunk_at bases ends k) (row_at work k) opens sets n r S) where
-      pub turn_copy_pre : CopyFrontPre S r.sets sets
+    module _ {r : Front} {made : Sets} (stepped : StepPost (measure_at film target smallest k) (chunk_at bases ends k) (row_at work k) opens sets n r made) where
+      pub turn_copy_pre : CopyFrontPre made r.sets sets
       turn_copy_pre =
           let f = (stepped.each p.job i (step_for p.holds k e)).front in
           record { long = f.long; to_long = p.holds.front.long; few = λ a h. (f.each a h).few; room = stepped.room }
 
       pub turn_post :
-          {S' : Sets} → CopyFrontPost S r.sets S' →
-          TurnPost film target i ends opens bases smallest work sets n r S' S
-      turn_post {S'} copied =
+          {made' : Sets} → CopyFrontPost made r.sets made' →
+          TurnPost film target i ends opens bases smallest work sets n r made' made
+      turn_post {made'} copied =
           record {
             each = λ j t.
                 let o = stepped.each j i (step_for t k e) in
@@ -102,7 +99,7 @@ module _ {film : Film} {target i : ℕ} {ends opens bases smallest work : List �
                     each = λ a h. set_moves (copied.same a h) (copied.same_counts a h) (copied.same_useds a h) (o.front.each a h);
                     long = copied.long;
                   };
-                  next = λ w. subst (λ (l : List (List ℕ)). Next j target i (front_of sets n) l) (sym (front_same S S' r.sets copied.same)) (o.next w);
+                  next = λ w. subst (λ (l : List (List ℕ)). Next j target i (front_of sets n) l) (sym (front_same made made' r.sets copied.same)) (o.next w);
                 };
             room = stepped.room;
             next_long = (stepped.each p.job i (step_for p.holds k e)).front.long;
@@ -162,19 +159,14 @@ module _ {film : Film} {target : ℕ} {ends opens bases smallest work : List ℕ
   turn_for {j} f t =
       record { film_is = f; target_in = t; inside = omega (arith, f.count_is); front = (v.each j f t).front; room = v.room }
 
-  pub passing_turn_pre :
-      {S₀ N₀ : Sets} → PassPre film target ends opens bases smallest work S₀ N₀ →
-      TurnPre film target i ends opens bases smallest work sets n nextSets
-  passing_turn_pre p = record { job = p.job; holds = turn_for p.film_is (omega (arith, p.target_in, p.film_is.count_is)); next_long = v.next_long }
-
   pub passing_more :
-      {r : Front} {S N : Sets} {whole' : Bool} → TurnPost film target i ends opens bases smallest work sets n r S N →
+      {r : Front} {made nextMade : Sets} {whole' : Bool} → TurnPost film target i ends opens bases smallest work sets n r made nextMade →
       (whole' ≡ true → (whole ≡ true) × (r.whole ≡ true)) →
-      Passing film target ends opens bases smallest work S N r.sets whole' (i + 1)
-  passing_more {r} {S} {N} {whole'} turned both =
+      Passing film target ends opens bases smallest work made nextMade r.sets whole' (i + 1)
+  passing_more {r} {made} {nextMade} {whole'} turned both =
       record { each = on; room = turned.room; so_far = omega arith; next_long = turned.next_long }
     where
-      on : (j : Job) → FilmOf j film ends opens bases smallest work → target ≤ chunks j → PassingOf j target S r.sets whole' (i + 1)
+      on : (j : Job) → FilmOf j film ends opens bases smallest work → target ≤ chunks j → PassingOf j target made r.sets whole' (i + 1)
       on j f t =
           let o = turned.each j (turn_for f t) in
           rw (add-one i)
@@ -186,12 +178,12 @@ module _ {film : Film} {target : ℕ} {ends opens bases smallest work : List ℕ
 pub passing_long :
     {film : Film} {target : ℕ} {ends opens bases smallest work : List ℕ} {sets nextSets : Sets} {n : ℕ} {whole : Bool} {i : ℕ} →
     Passing film target ends opens bases smallest work sets nextSets n whole i →
-    {S₀ N₀ : Sets} → PassPre film target ends opens bases smallest work S₀ N₀ → Long sets
+    {made₀ nextMade₀ : Sets} → PassPre film target ends opens bases smallest work made₀ nextMade₀ → Long sets
 passing_long v p = (v.each p.job p.film_is (omega (arith, p.target_in, p.film_is.count_is))).front.long
 
 pub passing_end :
     {film : Film} {target : ℕ} {ends opens bases smallest work : List ℕ} {sets nextSets : Sets} {i : ℕ} (r : Front) →
-    {S₀ N₀ : Sets} → PassPre film target ends opens bases smallest work S₀ N₀ →
+    {made₀ nextMade₀ : Sets} → PassPre film target ends opens bases smallest work made₀ nextMade₀ →
     Passing film target ends opens bases smallest work sets nextSets r.sets r.whole i → film.count ≤ i →
     PassPost film target ends opens bases smallest work r sets nextSets
 passing_end {film} {target} {sets = sets} {i = i} r p v h =
@@ -212,35 +204,6 @@ pub record Larger (counts : List ℕ) (n best a : ℕ) : Type 0 where
   pub none : a ≤ 0 → best ≤ 0
   pub most : (b : ℕ) → b < a → get_or counts b 0 ≤ get_or counts best 0
   pub so_far : a ≤ n
-
-pub larger_start : (counts : List ℕ) (n : ℕ) → Larger counts n 0 0
-larger_start counts n = record { one = λ h. absurd (omega arith); none = λ h. omega arith; most = λ b h. absurd (omega arith); so_far = omega arith }
-
-module _ {counts : List ℕ} {n best a : ℕ} (v : Larger counts n best a) where
-  pub larger_inside : n ≤ 64 → best ≤ 64
-  larger_inside h = ⊎_elim (λ t. omega (arith, v.one (ltb→lt 0 a t), v.so_far)) (λ t. omega (arith, v.none (nltb→le 0 a t))) (test (ltb 0 a))
-
-  pub larger_more : a < n → get_or counts best 0 < get_or counts a 0 → Larger counts n a (a + 1)
-  larger_more h l =
-      record {
-        one = λ u. omega arith;
-        none = λ u. absurd (omega arith);
-        most = λ b u. ⊎_elim (λ w. omega (arith, v.most b w)) (λ w. rw w (omega arith)) (before_or_at b a (omega arith));
-        so_far = omega arith;
-      }
-
-  pub larger_same : a < n → get_or counts a 0 ≤ get_or counts best 0 → Larger counts n best (a + 1)
-  larger_same h l =
-      record {
-        one = λ u. ⊎_elim (λ t. omega (arith, v.one (ltb→lt 0 a t))) (λ t. omega (arith, v.none (nltb→le 0 a t))) (test (ltb 0 a));
-        none = λ u. absurd (omega arith);
-        most = λ b u. ⊎_elim (λ w. v.most b w) (λ w. rw w l) (before_or_at b a (omega arith));
-        so_far = omega arith;
-      }
-
-  pub larger_end : n ≤ 64 → n ≤ a → LargestPost counts n best
-  larger_end h l =
-      record { inside = larger_inside h; one = λ u. omega (arith, v.one (omega arith), v.so_far); most = λ b u. v.most b (omega arith) }
 
 -- ---- the search
 
@@ -267,7 +230,7 @@ looking_start p =
     }
 
 module _ {film : Film} {most : ℕ} {ends opens bases smallest work : List ℕ} {sets nextSets : Sets} {lowest target : ℕ} (v : Looking film most ends opens bases smallest work sets nextSets lowest target) where
-  module _ {S₀ N₀ : Sets} (p : LookPre film most ends opens bases smallest work S₀ N₀) where
+  module _ {made₀ nextMade₀ : Sets} (p : LookPre film most ends opens bases smallest work made₀ nextMade₀) where
     pub looking_pass_pre : PassPre film target ends opens bases smallest work sets nextSets
     looking_pass_pre =
         record {
@@ -280,10 +243,10 @@ module _ {film : Film} {most : ℕ} {ends opens bases smallest work : List ℕ} 
 
     -- A set that reaches the target is found.
     pub looked_found :
-        {r : Front} {S N : Sets} (has : ℕ) (out : Found) → PassPost film target ends opens bases smallest work r S N →
-        out.place < r.sets → out.count ≡ get_or S.counts out.place 0 → out.bound ≡ lowest →
-        LookPost film most has ends opens bases smallest work out S
-    looked_found {r} {S} has out q inside counted lowered =
+        {r : Front} {made nextMade : Sets} (has : ℕ) (out : Found) → PassPost film target ends opens bases smallest work r made nextMade →
+        out.place < r.sets → out.count ≡ get_or made.counts out.place 0 → out.bound ≡ lowest →
+        LookPost film most has ends opens bases smallest work out made
+    looked_found {r} {made} has out q inside counted lowered =
         let f = (q.each p.job p.film_is (omega (arith, v.target_in, p.bound_is, bound_few p.job))).front in
         record {
           each = λ j g e. record {
@@ -297,96 +260,25 @@ module _ {film : Film} {most : ℕ} {ends opens bases smallest work : List ℕ} 
           count_is = λ h. counted;
         }
 
-  -- A pass that found none: the target falls.
-  pub looking_on :
-      {r : Front} {S N : Sets} {next : ℕ} → PassPost film target ends opens bases smallest work r S N → next + 1 ≡ target →
-      Looking film most ends opens bases smallest work S N lowest next
-  looking_on q e = record { each = v.each; target_in = omega (arith, v.target_in); long = q.long; next_long = q.next_long }
-
   -- And if it was whole, so does the bound.
   pub looking_lower :
-      {r : Front} {S N : Sets} {next place low : ℕ} → PassPost film target ends opens bases smallest work r S N → next + 1 ≡ target →
-      LargestPost S.counts r.sets place → (0 < r.sets → get_or S.counts place 0 < target) → r.whole ≡ true → low ≡ next →
-      Looking film most ends opens bases smallest work S N low next
-  looking_lower {r} {S} {next = next} {place = place} {low = low} q e l small whole lowered =
+      {r : Front} {made nextMade : Sets} {next place low : ℕ} → PassPost film target ends opens bases smallest work r made nextMade → next + 1 ≡ target →
+      LargestPost made.counts r.sets place → (0 < r.sets → get_or made.counts place 0 < target) → r.whole ≡ true → low ≡ next →
+      Looking film most ends opens bases smallest work made nextMade low next
+  looking_lower {r} {made} {next = next} {place = place} {low = low} q e l small whole lowered =
       record {
         each = λ j f b.
             let o = q.each j f (omega (arith, v.target_in, b, bound_few j)) in
             let d : target - 1 ≡ low = omega arith in (
               subst (NoneAboveInOrder j) d
-                  (pass_ends j f.accepted target (front_of S r.sets) (o.pass whole)
-                  (front_all (λ ks. length ks < target) S r.sets
+                  (pass_ends j f.accepted target (front_of made r.sets) (o.pass whole)
+                  (front_all (λ ks. length ks < target) made r.sets
                   (λ a h.
                   let one = o.front.each a h in
-                  omega (arith, set_long S a q.long.sets_long (omega (arith, q.room)) one.few, l.most a h, small (omega arith))))),
+                  omega (arith, set_long made a q.long.sets_long (omega (arith, q.room)) one.few, l.most a h, small (omega arith))))),
               omega (arith, v.target_in, b),
             );
         target_in = omega (arith, v.target_in);
         long = q.long;
         next_long = q.next_long;
       }
-
-  pub looked_none :
-      (has : ℕ) (out : Found) → out.place ≡ 0 → out.count ≡ 0 → out.bound ≡ lowest → LookPost film most has ends opens bases smallest work out sets
-  looked_none has out first none lowered =
-      record {
-        each = λ j g e. record {
-          none_above = rw lowered (v.each j g e).0;
-          no_higher = omega (arith, lowered, (v.each j g e).1);
-          set_in = λ h. absurd (omega (arith, h, none));
-        };
-        long = v.long;
-        place_in = omega (arith, first);
-        few = omega (arith, none);
-        count_is = λ h. absurd (omega (arith, h, none));
-      }
-
--- ---- the set found, at the end of ids
-
-module _ {film : Film} {most : ℕ} {ends opens bases smallest work : List ℕ} {first : ℕ} {ids : List ℕ} (p : SeekPre film most ends opens bases smallest work first ids) where
-  pub seek_look_pre :
-      {sets nextSets : Sets} → Long sets → Long nextSets →
-      LookPre film most ends opens bases smallest work sets nextSets
-  seek_look_pre l m = record { job = p.job; film_is = p.holds.film_is; bound_is = p.holds.bound_is; long = l; next_long = m }
-
-  module _ {out : Found} {S : Sets} (o : LookPost film most (500 - first) ends opens bases smallest work out S) where
-    pub seek_none : (r : Sought) → r.first ≡ first → r.bound ≡ out.bound → length ids ≡ 500 → SeekPost film most ends opens bases smallest work first ids r ids
-    seek_none r e b long =
-        record {
-          each = λ j k.
-              let g = o.each j k.film_is k.bound_is in
-              record {
-                set_in = rw e k.set_in;
-                no_fewer = omega (arith, e);
-                none_above = rw b g.none_above;
-                no_higher = omega (arith, b, g.no_higher);
-              };
-          within = omega (arith, e, p.within);
-          long = long;
-        }
-
-    pub seek_place_pre :
-        length (take (out.place * 500 + out.count - out.place * 500) (drop (out.place * 500) S.chunks)) ≤ 500
-    seek_place_pre =
-        omega (arith, length-take (out.place * 500 + out.count - out.place * 500) (drop (out.place * 500) S.chunks), o.few)
-
-    pub seek_found :
-        {ids' : List ℕ} (r : Sought) → 500 - first < out.count →
-        PlacedPost (take (out.place * 500 + out.count - out.place * 500) (drop (out.place * 500) S.chunks)) r.first ids' → r.bound ≡ out.bound → length ids' ≡ 500 →
-        SeekPost film most ends opens bases smallest work first ids r ids'
-    seek_found {ids'} r h placed b long =
-        let n = o.count_is h in
-        let q = subst (λ (l : List ℕ). PlacedPost l r.first ids') (part_is S out.place out.count n) placed in
-        let l = set_long S out.place o.long.sets_long o.place_in (omega (arith, n, o.few)) in
-        record {
-          each = λ j k.
-              let g = o.each j k.film_is k.bound_is in
-              record {
-                set_in = rw q.kept (g.set_in h);
-                no_fewer = omega (arith, q.within, l, n, p.within);
-                none_above = rw b g.none_above;
-                no_higher = omega (arith, b, g.no_higher);
-              };
-          within = omega (arith, q.within);
-          long = long;
-        }

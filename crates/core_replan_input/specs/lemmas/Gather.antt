@@ -45,7 +45,7 @@ pub record SetLeftPost (table sums left : List ℕ) : Type 0 where
 
 -- ---- the whole
 
-pub record GatherPre (p : Programme) (depth : ℕ) (earlier ss cs ls bs left begun whole : List ℕ) : Type 0 where
+pub record GatherPre (p : Programme) (depth : ℕ) (earlier ss cs ls bs : List ℕ) : Type 0 where
   pub chunks_few : p.chunks ≤ 500
   pub slots_few : last_due p ≤ 3600
   pub layers_few : depth ≤ 4

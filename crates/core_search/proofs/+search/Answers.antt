@@ -1,7 +1,6 @@
 -- `search` meets its contract. The laws of Laws say what each way of a turn leads to; where both
 -- ways of the keep meet, `both` says what they have in common.
 use Rattle.std.proofs.Common.{arith}
-use Prim.Native.Nat.{◌<◌}
 use native.Mathlib.Nat.{pos_of_ne-zero}
 use Rattle.core_sizes.specs.Table.{table_at}
 use Rattle.core_search.proofs.Laws.{Turn, kept_turn_lem, no_skip, refused_turn, skip_done, skip_from}

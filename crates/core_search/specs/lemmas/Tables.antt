@@ -1,6 +1,6 @@
 -- Lemmas. What the functions of this crate hand each other: tables of 500 places, and the search of
 -- crate theory_search over what they hold.
-use Rattle.std.specs.Prelude.{ℕ, ◌+◌, ◌-◌, ◌/◌, ◌≤◌, ◌<◌, ◌≡◌, Bool, List, [], map, length, get_or, set, take, drop, ltb}
+use Rattle.std.specs.Prelude.{ℕ, ◌+◌, ◌-◌, ◌/◌, ◌≤◌, ◌<◌, ◌≡◌, Bool, List, length, get_or, set, drop, ltb}
 use Rattle.job.specs.declared.Programme.{Programme}
 use Rattle.job.specs.Job.{due_slot, last_due}
 use Rattle.theory_plan.specs.Bases.{Asc}

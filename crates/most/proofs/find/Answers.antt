@@ -1,19 +1,14 @@
 -- `find` meets its contract: the forward set where at most one chunk may be held, else what the passes find.
 use native.Mathlib.Omega.{arith}
-use Rattle.most.proofs.Finding.{forward_each, forward_from, seek_from, settle_from, sought_each}
+use Rattle.most.proofs.Finding.{forward_each, seek_from, settle_from, sought_each}
 use Rattle.most.proofs.find.Goals as goal
-
-pub find_forward-requires : goal.find_forward-requires
-find_forward-requires c = forward_from c.requires _ _ _ _ c.set_levels.ensures _ c.held_most-held.ensures c.if-held-lt2.true
 
 pub returns-then-held-lt2 : goal.returns-then-held-lt2
 returns-then-held-lt2 c = forward_each c.requires _ _ _ _ c.set_levels.ensures _ c.held_most-held.ensures c.if-held-lt2.true c.find_forward.ensures
 
 pub settle_bases-first-requires : goal.settle_bases-first-requires
-settle_bases-first-requires c = settle_from c.requires _ _ _ _ c.set_levels.ensures _ c.held_most-held.ensures
-
-pub in_order-bound-requires : goal.in_order-bound-requires
-in_order-bound-requires c = let o = c.requires in record { job = o.job; held_some = omega (arith, c.held_most-held.ensures, c.if-held-lt2.false); long = o.room }
+settle_bases-first-requires c =
+    settle_from c.requires _ _ _ _ c.set_levels.ensures _ c.held_most-held.ensures _ _ _ _ (c.told-ids, c.told-dues, c.told-bytes, c.told-needs)
 
 pub seek-requires : goal.seek-requires
 seek-requires c = seek_from c.requires _ _ _ _ c.set_levels.ensures _ c.held_most-held.ensures c.if-held-lt2.false c.in_order-bound.ensures c.settle_bases-first.ensures.kept_in
@@ -21,4 +16,4 @@ seek-requires c = seek_from c.requires _ _ _ _ c.set_levels.ensures _ c.held_mos
 pub returns : goal.returns
 returns c =
     sought_each c.requires _ _ _ _ c.set_levels.ensures _ c.held_most-held.ensures c.if-held-lt2.false c.in_order-bound.ensures
-    c.settle_bases-first.ensures.kept_in c.seek.ensures c.settle_bases-first.ensures.room
+    c.settle_bases-first.ensures.kept_in c.seek.ensures

@@ -1,23 +1,13 @@
 -- `most_pictures` meets its contract: the refusals in their order, then what is found.
-use mathlib.Core.Path.{sym, ◌∙◌}
-use native.Mathlib.Omega.{arith}
-use Rattle.theory_basics.specs.lemmas.Refusals.{found_none}
-use Rattle.job.specs.Theorems.{input_accepted}
+use Rattle.std.proofs.Common.{rules}
 use Rattle.most.proofs.Outputs.{promise_of, refused_input, refused_short}
 use Rattle.most.proofs.most_pictures.Goals as goal
 
-pub returns-then-refusal-gt0 : goal.returns-then-refusal-gt0
-returns-then-refusal-gt0 c = refused_input _ _ _ _ c.refusal-refusal.ensures c.if-refusal-gt0.true _ c.refused.ensures
+pub returns-in_err-accept-clause-promise : goal.returns-in_err-accept-clause-promise
+returns-in_err-accept-clause-promise c = refused_input _ _ _ _ c.in_err-accept.ensures _ (search rules)
 
-pub has_room-requires : goal.has_room-requires
-has_room-requires c = omega (arith, (input_accepted _ (found_none c.refusal-refusal.ensures c.if-refusal-gt0.false)).chunks_in.high)
+pub returns-in_err-accept_room-clause-promise : goal.returns-in_err-accept_room-clause-promise
+returns-in_err-accept_room-clause-promise c = refused_short _ _ _ (search rules) _ c.in_err-accept_room.ensures _ (search rules)
 
-pub write_most-requires : goal.write_most-requires
-write_most-requires c = record { accepted = found_none c.refusal-refusal.ensures c.if-refusal-gt0.false; room = sym c.has_room.ensures ∙ c.if-has_room.true }
-
-pub returns-then-has_room : goal.returns-then-has_room
-returns-then-has_room c = promise_of _ _ _ (found_none c.refusal-refusal.ensures c.if-refusal-gt0.false) c.write_most.ensures
-
-pub returns : goal.returns
-returns c =
-    refused_short _ _ _ (found_none c.refusal-refusal.ensures c.if-refusal-gt0.false) (sym c.has_room.ensures ∙ c.if-has_room.false) _ c.refused-2.ensures
+pub returns-clause-promise : goal.returns-clause-promise
+returns-clause-promise c = promise_of _ _ _ (search rules) c.write_most.ensures.output

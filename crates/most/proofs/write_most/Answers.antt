@@ -8,23 +8,23 @@ use Rattle.core_output.proofs.Rows.{writes_choice, written_choice}
 use Rattle.most.proofs.Outputs.{decide_pre, decided, output_written, room_of}
 use Rattle.most.proofs.write_most.Goals as goal
 
-pub decide-out-requires : goal.decide-out-requires
-decide-out-requires c =
+pub decide-found-requires : goal.decide-found-requires
+decide-found-requires c =
     let o = c.requires in
-    let says = filled _ (input_accepted _ c.requires.accepted) _ (c.fill_sizes.ensures (length-replicate {A = ℕ} 2000 0)) in
+    let says = filled _ (input_accepted _ o.accepted) _ c.fill_sizes.ensures in
     decide_pre _ _ _ _ _ _ _ o _ says _ _ (length-replicate {A = ℕ} 500 0) (length-replicate {A = ℕ} 500 0) c.with-base.ensures
 
 pub write_plan-made-requires : goal.write_plan-made-requires
 write_plan-made-requires c =
     let o = c.requires in
-    let says = filled _ (input_accepted _ c.requires.accepted) _ (c.fill_sizes.ensures (length-replicate {A = ℕ} 2000 0)) in
-    let d = c.decide-out.ensures.each _ _ refl says (input_accepted _ o.accepted) in
+    let says = filled _ (input_accepted _ o.accepted) _ c.fill_sizes.ensures in
+    let d = c.decide-found.ensures.each _ _ refl says (input_accepted _ o.accepted) in
     writes_choice _ _ _ _ _ _ _ _ _ (decided _ _ _ _ _ _ _ o _ says d) _ (length-replicate {A = ℕ} 500 0) (room_of _ _ _ _ _ _ _ o).marks_fit
 
-pub returns : goal.returns
-returns c =
+pub returns-clause-output : goal.returns-clause-output
+returns-clause-output c =
     let o = c.requires in
-    let says = filled _ (input_accepted _ c.requires.accepted) _ (c.fill_sizes.ensures (length-replicate {A = ℕ} 2000 0)) in
-    let d = c.decide-out.ensures.each _ _ refl says (input_accepted _ o.accepted) in
+    let says = filled _ (input_accepted _ o.accepted) _ c.fill_sizes.ensures in
+    let d = c.decide-found.ensures.each _ _ refl says (input_accepted _ o.accepted) in
     output_written _ _ _ _ _ _ _ o d
-    (written_choice _ _ _ _ _ _ _ _ _ (decided _ _ _ _ _ _ _ o _ says d) (replicate 500 0) (λ i l. get_or-replicate 500 i 0 0 l) c.write_plan-made.ensures) _ c.decide-out.ensures.work_long _ c.answered.ensures
+    (written_choice _ _ _ _ _ _ _ _ _ (decided _ _ _ _ _ _ _ o _ says d) (replicate 500 0) (λ i l. get_or-replicate 500 i 0 0 l) c.write_plan-made.ensures) _ c.decide-found.ensures.work_long

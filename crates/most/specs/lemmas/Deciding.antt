@@ -1,18 +1,16 @@
 -- Lemmas. What the functions of most hand each other: a set of bases with a bound in tables, and
 -- the plan over the set.
-use Rattle.std.specs.Prelude.{ℕ, ◌+◌, ◌*◌, ◌≤◌, ◌≡◌, true, false, List, [], ◌∷◌, length, drop, get_or, eqb}
+use Rattle.std.specs.Prelude.{ℕ, ◌+◌, ◌*◌, ◌≤◌, ◌≡◌, true, List, length, drop, Ok}
 use Rattle.job.specs.declared.Programme.{Programme}
 use Rattle.job.specs.Job.{Accepted, Job, Override, chunks, size_in}
 use Rattle.job.specs.Input.{JobInput, job_in, job_refusal}
 use Rattle.fetch.specs.Slices.{ListSlices}
 use Rattle.theory_plan.specs.Plan.{kept, plan}
 use Rattle.core_decide.specs.lemmas.Decision.{DecidePre, Decides, job_from}
-use Rattle.core_output.specs.declared.Output.{Output}
-use Rattle.planner.specs.declared.Answer.TheVariants.{Rows, Refused}
 use Rattle.theory_search.specs.Search.{plan_over}
 use Rattle.theory_most.specs.Statement.{Most, NoneAboveInOrder, Set, bound, bound_any}
 use Rattle.theory_most.specs.lemmas.InTables.{EachJob, Says, SomeJob}
-use Rattle.core_covering.specs.lemmas.Tables.{ForwardFor, ForwardPre}
+use Rattle.core_covering.specs.lemmas.Tables.{ForwardFor}
 use Rattle.core_passes.specs.declared.Sought.{Sought}
 use Rattle.most.specs.declared.Decision.{Decision}
 use Rattle.most.specs.declared.MostPlan.{MostPlan}
@@ -28,28 +26,22 @@ pub record FoundIn (j : Job) (r : Sought) (ids : List ℕ) : Type 0 where
   pub none_above : NoneAboveInOrder j r.bound
   pub no_higher : r.bound ≤ bound j
 
-abbrev pub FindForwardPre : ℕ → ℕ → List ℕ → List ℕ → List ℕ → List ℕ → Type 0
-FindForwardPre count held ends opens bases ids = ForwardPre count held ends opens bases ids
-
 pub record FindForwardPost (count held : ℕ) (ends opens bases : List ℕ) (r : Sought) (ids' : List ℕ) : Type 0 where
   pub each : (j : Job) → ForwardFor j count held ends opens bases → FoundIn j r ids'
   pub within : r.first ≤ 500
-  pub long : length ids' ≡ 500
 
 -- Room in the work slice for C + 1 rows of needs.
 abbrev pub DecideRoom : Programme → List ℕ → Type 0
 DecideRoom p work = (p.chunks + 1) * 501 ≤ length work
 
-pub record FindPre (p : Programme) (sizes : ℕ → ℕ → ℕ) (left work ids dues bytes needs : List ℕ) : Type 0 where
+pub record FindPre (p : Programme) (sizes : ℕ → ℕ → ℕ) (left work : List ℕ) : Type 0 where
   pub job : SomeJob p (λ j. Says j sizes left)
   pub room : DecideRoom p work
-  pub long : (length ids ≡ 500) × (length dues ≡ 500) × (length bytes ≡ 500) × (length needs ≡ 500)
 
-pub record FindPost (p : Programme) (sizes : ℕ → ℕ → ℕ) (left work : List ℕ) (r : Sought) (work' ids' dues' bytes' needs' : List ℕ) : Type 0 where
+pub record FindPost (p : Programme) (sizes : ℕ → ℕ → ℕ) (left work : List ℕ) (r : Sought) (work' ids' : List ℕ) : Type 0 where
   pub each : EachJob p (λ j. Says j sizes left → FoundIn j r ids')
   pub within : r.first ≤ 500
   pub work_long : length work' ≡ length work
-  pub long : (length ids' ≡ 500) × (length dues' ≡ 500) × (length bytes' ≡ 500) × (length needs' ≡ 500)
 
 -- ---- the plan over the set
 
@@ -77,17 +69,6 @@ pub record DecidePost (p : Programme) (layers : ℕ) (size : ℕ → ℕ → ℕ
 
 -- ---- the answer
 
--- Nothing but a number.
-abbrev pub OnlyNumber : MostPlan → ℕ → Type 0
-OnlyNumber r k = (r.answer ≡ Refused k) × (r.counts ≡ 0 ∷ 0 ∷ 0 ∷ 0 ∷ []) × (r.bound ≡ 0) × (r.bound_any ≡ 0) × (r.exact ≡ false)
-
-pub record AnsweredPost (made : Output) (out : Decision) (r : MostPlan) : Type 0 where
-  pub answer : r.answer ≡ Rows made.rows
-  pub counts : r.counts ≡ made.counts
-  pub bound_is : r.bound ≡ out.bound
-  pub bound_any_is : r.bound_any ≡ out.bound_any
-  pub exact : r.exact ≡ eqb (get_or made.counts 0 0) out.bound
-
 pub record WriteMostPre (h : JobInput) (work : List ℕ) (lent : ListSlices) : Type 0 where
   pub accepted : job_refusal h ≡ 0
   pub room : lent_room (job_in h) lent work ≡ true
@@ -97,4 +78,4 @@ pub record WriteMostPost (h : JobInput) (lent : ListSlices) (work : List ℕ) (r
   pub set : List ℕ
   pub bound : ℕ
   pub most : Most (job_in h) set bound
-  pub output : MostOutput h set bound lent work r lent' work'
+  pub output : MostOutput h set bound lent work (Ok r) lent' work'

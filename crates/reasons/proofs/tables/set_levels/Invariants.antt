@@ -5,6 +5,3 @@ use Rattle.reasons.proofs.tables.set_levels.Given as goal
 
 abbrev pub invariant-loop-q : goal.invariant-loop-q
 invariant-loop-q l = Spreading l.ids l.mark l.first l.initial.levels l.levels l.q
-
-abbrev pub decreases-loop-q : goal.decreases-loop-q
-decreases-loop-q l = 500 - l.q

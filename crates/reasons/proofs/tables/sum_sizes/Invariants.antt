@@ -5,6 +5,3 @@ use Rattle.reasons.proofs.tables.sum_sizes.Given as goal
 
 abbrev pub invariant-loop-i : goal.invariant-loop-i
 invariant-loop-i l = Summed l.table l.i l.sums × (l.i ≤ 2000)
-
-abbrev pub decreases-loop-i : goal.decreases-loop-i
-decreases-loop-i l = 2000 - l.i
