@@ -1,4 +1,3 @@
-mod Ends
 mod Front
 mod Reader
 mod Writer

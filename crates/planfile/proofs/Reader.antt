@@ -2,18 +2,21 @@
 -- plan. Assumes nothing.
 use Prim.Native.Nat.{ℕ, ◌+◌, ◌*◌, ◌≤◌}
 use mathlib.Core.Path.{◌≡◌, sym, ap, ◌∙◌}
-use mathlib.Core.Bool.{Bool, true, false}
 use mathlib.Core.List.{List, ◌++◌, map}
 use mathlib.Core.Logic.{⊎_elim}
 use native.Mathlib.Omega.{arith}
 use lib.ListN.{length, drop}
 use lib.Dec.{eqb, eqb→eq}
 use borrow.Author.Tests.{eq-eqb, ne_eqb}
-use Rattle.theory_basics.specs.lemmas.Tests.{test, not_T_false, T_true, true_T, tests}
+use Rattle.theory_basics.specs.lemmas.Tests.{test, not_T_false, T_true, tests}
 use Rattle.theory_basics.specs.Lists.{up_to}
 use Rattle.theory_basics.specs.lemmas.Lists.{length_up_to}
 use Rattle.theory_basics.specs.Refusals.{unless, ◌or_else◌}
-use Rattle.theory_basics.specs.lemmas.Refusals.{or_else_some}
+use Rattle.theory_basics.specs.lemmas.Refusals.{unless_iff, or_else_none, or_else_some}
+use Rattle.std.specs.Prelude.{Ok, Err}
+use Rattle.refusals.specs.declared.Refusal.{Refusal}
+use Rattle.refusals.specs.Numbers.{number_of, answered}
+use Rattle.refusals.specs.Laws.{number_above_0}
 use Rattle.records.specs.File.{file_refusal}
 use Rattle.job.specs.Job.{chunks}
 use Rattle.job.specs.Input.{JobInput, job_in, job_refusal}
@@ -21,25 +24,23 @@ use Rattle.fetch.specs.Rows.{Row}
 use Rattle.fetch.specs.Slices.{ListSlices, slices_of, room}
 use Rattle.planfile.specs.PlanFile.{format, plan_in}
 use Rattle.planfile.specs.Calls.{PlanReadPromise, plan_read_refusal}
-use Rattle.planfile.specs.lemmas.Scan.{answer_of, mark_on, row_on, Laid, FileRowsPost, filled}
+use Rattle.planfile.specs.lemmas.Scan.{mark_on, row_on, Laid, FileRowsPost, filled}
 use Rattle.planfile.specs.lemmas.Writing.{map_up_to}
-use Rattle.planfile.specs.declared.PlanRead.{PlanRead}
-use Rattle.planfile.specs.declared.PlanRead.TheVariants.{Rows, Refused}
 
 -- ---- which answer says what
 
-answer_refused : (f m n : ℕ) → Refused n ≡ answer_of f m → (f ≡ n) × (f ≡ 0 → ⊥)
+answer_refused : (f m n : ℕ) → Err n ≡ answered f m → (f ≡ n) × (f ≡ 0 → ⊥)
 answer_refused f m n e =
     ⊎_elim
-    (λ t. let x : Refused n ≡ Rows m = e ∙ rw (T_true (eqb f 0) t) in let z : ◌≡◌ {A = ℕ} 0 1 = cc in absurd (omega arith))
-    (λ t. let x : Refused n ≡ Refused f = e ∙ rw (not_T_false (eqb f 0) t) in (cc, λ z. absurd (rw (eq-eqb f 0 z) at t)))
+    (λ t. let x : Err n ≡ Ok m = e ∙ rw (T_true (eqb f 0) t) in let z : ◌≡◌ {A = ℕ} 0 1 = cc in absurd (omega arith))
+    (λ t. let x : Err n ≡ Err f = e ∙ rw (not_T_false (eqb f 0) t) in (cc, λ z. absurd (rw (eq-eqb f 0 z) at t)))
     (test (eqb f 0))
 
-answer_rows : (f m n : ℕ) → Rows n ≡ answer_of f m → (f ≡ 0) × (n ≡ m)
+answer_rows : (f m n : ℕ) → Ok n ≡ answered f m → (f ≡ 0) × (n ≡ m)
 answer_rows f m n e =
     ⊎_elim
-    (λ t. let x : Rows n ≡ Rows m = e ∙ rw (T_true (eqb f 0) t) in (eqb→eq f 0 t, cc))
-    (λ t. let x : Rows n ≡ Refused f = e ∙ rw (not_T_false (eqb f 0) t) in let z : ◌≡◌ {A = ℕ} 0 1 = cc in absurd (omega arith))
+    (λ t. let x : Ok n ≡ Ok m = e ∙ rw (T_true (eqb f 0) t) in (eqb→eq f 0 t, cc))
+    (λ t. let x : Ok n ≡ Err f = e ∙ rw (not_T_false (eqb f 0) t) in let z : ◌≡◌ {A = ℕ} 0 1 = cc in absurd (omega arith))
     (test (eqb f 0))
 
 -- ---- the values of a laid out file
@@ -82,31 +83,36 @@ pub record MayCopy (count rows : ℕ) (file : List ℕ) (lent : ListSlices) : Ty
   pub for_bytes : rows ≤ length lent.bytes
   pub inside : 5 * count + 11 * rows ≤ length file
 
-module _ (h : JobInput) (file : List ℕ) (lent : ListSlices) (r : ℕ) (e : r ≡ job_refusal h) where
+module _ (h : JobInput) (file : List ℕ) (lent : ListSlices) where
   abbrev count : ℕ
   count = chunks (job_in h)
 
-  refuses : (n : ℕ) → (n ≡ 0 → ⊥) → plan_read_refusal h file lent ≡ n → PlanReadPromise h file lent (Refused n) lent
-  refuses n p q = record { answer = rw (q, ne_eqb n 0 p); after = rw (q, ne_eqb n 0 p) }
+  refuses : (e : Refusal) → plan_read_refusal h file lent ≡ number_of e → PlanReadPromise h file lent (Err (number_of e)) lent
+  refuses e q =
+      let some = ne_eqb (number_of e) 0 (λ y. omega (arith, number_above_0 e)) in
+      record { answer = rw (q, some); after = rw (q, some) }
 
-  pub job_refused : (r ≡ 0 → ⊥) → PlanReadPromise h file lent (Refused r) lent
+  pub job_refused : (e : Refusal) → number_of e ≡ job_refusal h → PlanReadPromise h file lent (Err (number_of e)) lent
   unfolding plan_read_refusal
-  job_refused n = refuses r n (rw (← e) (or_else_some r (file_refusal (format count) file or_else unless 11 (room lent count (length (plan_in count file).rows))) n))
+  job_refused e is =
+      let rest = file_refusal (format count) file or_else unless 11 (room lent count (length (plan_in count file).rows)) in
+      let some : job_refusal h ≡ 0 → ⊥ = λ y. omega (arith, number_above_0 e) in
+      refuses e (or_else_some (job_refusal h) rest some ∙ sym is)
 
-  module _ (z : r ≡ 0) (a : PlanRead) (d : FileRowsPost count file (file_refusal (format count) file) a) where
+  module _ (job_taken : 0 ≡ job_refusal h) where
     from_file : plan_read_refusal h file lent ≡ file_refusal (format count) file or_else unless 11 (room lent count (length (plan_in count file).rows))
     unfolding plan_read_refusal
-    from_file = rw (← e, z)
+    from_file = or_else_none (job_refusal h) (file_refusal (format count) file or_else unless 11 (room lent count (length (plan_in count file).rows))) (sym job_taken)
 
-    pub file_refused : (n : ℕ) → a ≡ Refused n → PlanReadPromise h file lent a lent
-    file_refused n q =
+    pub file_refused : (e : Refusal) → FileRowsPost count file (file_refusal (format count) file) (Err (number_of e)) → PlanReadPromise h file lent (Err (number_of e)) lent
+    file_refused e d =
         let f = file_refusal (format count) file in
-        let u = answer_refused f (length (plan_in count file).rows) n (sym q ∙ d.answer) in
-        rw q (refuses n (λ w. u.1 (u.0 ∙ w)) (from_file ∙ or_else_some f (unless 11 (room lent count (length (plan_in count file).rows))) u.1 ∙ u.0))
+        let u = answer_refused f (length (plan_in count file).rows) (number_of e) d.answer in
+        refuses e (from_file ∙ or_else_some f (unless 11 (room lent count (length (plan_in count file).rows))) u.1 ∙ u.0)
 
-    module _ (n : ℕ) (q : a ≡ Rows n) where
+    module _ (n : ℕ) (d : FileRowsPost count file (file_refusal (format count) file) (Ok n)) where
       accepted : (file_refusal (format count) file ≡ 0) × (n ≡ length (plan_in count file).rows)
-      accepted = answer_rows (file_refusal (format count) file) (length (plan_in count file).rows) n (sym q ∙ d.answer)
+      accepted = answer_rows (file_refusal (format count) file) (length (plan_in count file).rows) n d.answer
 
       only_room : plan_read_refusal h file lent ≡ unless 11 (room lent count n)
       only_room = from_file ∙ rw (accepted.0, ← accepted.1)
@@ -114,11 +120,13 @@ module _ (h : JobInput) (file : List ℕ) (lent : ListSlices) (r : ℕ) (e : r �
       laid : Laid count file
       laid = d.laid accepted.0
 
-      -- by the test for room
-      module _ (b : Bool) (s : b ≡ room lent count n) where
-        pub may_copy : b ≡ true → MayCopy count n file lent
-        may_copy t =
-            let u = simp tests at (true_T (room lent count n) (sym s ∙ t)) in
+      pub short : (e : Refusal) → number_of e ≡ unless 11 (room lent count n) → PlanReadPromise h file lent (Err (number_of e)) lent
+      short e is = refuses e (only_room ∙ sym is)
+
+      module _ (fits : 0 ≡ unless 11 (room lent count n)) where
+        pub may_copy : MayCopy count n file lent
+        may_copy =
+            let u = simp tests at ((unless_iff 11 (room lent count n) (omega arith)).0 (sym fits)) in
             record {
               for_marks = u.0;
               for_slots = u.1.0;
@@ -128,12 +136,9 @@ module _ (h : JobInput) (file : List ℕ) (lent : ListSlices) (r : ℕ) (e : r �
               inside = rw accepted.1 laid.inside;
             }
 
-        pub short : b ≡ false → PlanReadPromise h file lent (Refused 11) lent
-        short t = refuses 11 (λ w. omega arith) (only_room ∙ rw (sym s ∙ t))
-
-        pub whole : b ≡ true → (after : ListSlices) → after ≡ filled_all count file n lent → PlanReadPromise h file lent (Rows n) after
-        whole t after Filled-is =
-            let none : plan_read_refusal h file lent ≡ 0 = only_room ∙ rw (sym s ∙ t) in
+        pub whole : (after : ListSlices) → after ≡ filled_all count file n lent → PlanReadPromise h file lent (Ok n) after
+        whole after Filled-is =
+            let none : plan_read_refusal h file lent ≡ 0 = only_room ∙ sym fits in
             let plan = plan_in count file in
             let rows : plan.rows ≡ up_to (row_on file count) n = rw accepted.1 laid.rows_are in
             record {

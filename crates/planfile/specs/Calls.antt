@@ -2,18 +2,15 @@
 -- slices afterwards. "A plan reader checks the job it is handed by 5, 6, 7 before its file";
 -- "Direct calls without files check 5, 6, 7, then 8 .. and a writer then 9"; 18 "after 6 and before
 -- 7"; "11. A lent buffer is shorter than the whole result, after all input refusals".
-use Rattle.std.specs.Prelude.{ℕ, ◌≡◌, cond, List, map, length, leb, eqb}
+use Rattle.std.specs.Prelude.{ℕ, ◌≡◌, List, map, length, leb, Result}
 use Rattle.theory_basics.specs.Lent.{lent_after}
 use Rattle.theory_basics.specs.Refusals.{unless, ◌or_else◌}
+use Rattle.refusals.specs.Numbers.{answered}
 use Rattle.records.specs.File.{file_refusal}
 use Rattle.job.specs.Job.{chunks}
 use Rattle.job.specs.Input.{JobInput, job_in, job_refusal}
 use Rattle.fetch.specs.Slices.{ListSlices, list_rows, slices_refusal, room}
 use Rattle.planfile.specs.PlanFile.{format, Plan, plan_in, file_of}
-use Rattle.planfile.specs.declared.PlanRead.{PlanRead}
-use Rattle.records.specs.declared.Written.{Written}
-use Rattle.planfile.specs.declared.PlanRead.TheVariants as planRead
-use Rattle.records.specs.declared.Written.TheVariants as written
 
 -- ---- reading
 
@@ -25,9 +22,8 @@ plan_read_refusal h file lent =
     or_else unless 11 (room lent (chunks (job_in h)) (length (plan_in (chunks (job_in h)) file).rows))
 
 -- The number of rows, or the refusal.
-abbrev pub read_answer : JobInput → List ℕ → ListSlices → PlanRead
-read_answer h file lent =
-    cond (eqb (plan_read_refusal h file lent) 0) (planRead.Rows (length (plan_in (chunks (job_in h)) file).rows)) (planRead.Refused (plan_read_refusal h file lent))
+abbrev pub read_answer : JobInput → List ℕ → ListSlices → Result ℕ ℕ
+read_answer h file lent = answered (plan_read_refusal h file lent) (length (plan_in (chunks (job_in h)) file).rows)
 
 -- The plan's marks and rows at the front of the lent slices.
 abbrev pub read_lent : JobInput → List ℕ → ListSlices → ListSlices
@@ -44,7 +40,7 @@ read_lent h file lent =
 
 -- What `read_plan` promises of a job as handed, a file and the slices that it is lent, with its
 -- answer and the slices afterwards.
-pub record PlanReadPromise (h : JobInput) (file : List ℕ) (lent : ListSlices) (r : PlanRead) (lent' : ListSlices) : Type 0 where
+pub record PlanReadPromise (h : JobInput) (file : List ℕ) (lent : ListSlices) (r : Result ℕ ℕ) (lent' : ListSlices) : Type 0 where
   -- The number of rows, or a refusal's number: "A plan reader checks the job it is handed by 5, 6,
   -- 7 before its file", with 18 before 7, then 11.
   pub answer : r ≡ read_answer h file lent
@@ -69,10 +65,10 @@ unfoldable pub write_refusal : JobInput → ListSlices → List ℕ → ℕ
 write_refusal h s out = job_refusal h or_else write_rest (chunks (job_in h)) s out
 
 -- The number of bytes, or the refusal.
-abbrev pub written_by : ℕ → ListSlices → Written
-written_by refused s = cond (eqb refused 0) (written.Bytes (length (file_of (plan_of s)))) (written.Refused refused)
+abbrev pub written_by : ℕ → ListSlices → Result ℕ ℕ
+written_by refused s = answered refused (length (file_of (plan_of s)))
 
-abbrev pub write_answer : JobInput → ListSlices → List ℕ → Written
+abbrev pub write_answer : JobInput → ListSlices → List ℕ → Result ℕ ℕ
 write_answer h s out = written_by (write_refusal h s out) s
 
 -- The plan's file at the front of the lent buffer.
@@ -81,7 +77,7 @@ write_lent h s out = lent_after (write_refusal h s out) (file_of (plan_of s)) ou
 
 -- What `write_plan` promises of a job and a list as handed and the buffer that it is lent, with its
 -- answer and the buffer afterwards.
-pub record PlanWritePromise (h : JobInput) (s : ListSlices) (out : List ℕ) (r : Written) (out' : List ℕ) : Type 0 where
+pub record PlanWritePromise (h : JobInput) (s : ListSlices) (out : List ℕ) (r : Result ℕ ℕ) (out' : List ℕ) : Type 0 where
   -- The number of bytes, or a refusal's number: "Direct calls without files check 5, 6, 7, then 8
   -- .. and a writer then 9", with 18 before 7, then 11.
   pub answer : r ≡ write_answer h s out

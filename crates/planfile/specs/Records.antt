@@ -1,13 +1,11 @@
 -- Meaning. One record of a plan file: document 01, "KP chunk h, marks b, for chunk 1 to C; then FT
 -- slot h, chunk h, layer b, bytes w; EN" and "Each record is taken only if its mark and its whole
 -- body are there".
-use Rattle.std.specs.Prelude.{ℕ, ◌+◌, Bool, true, false, cond, List, [], ◌∷◌, ◌++◌, length, get_or, drop, leb}
+use Rattle.std.specs.Prelude.{ℕ, ◌+◌, Bool, true, false, cond, List, [], ◌∷◌, ◌++◌, length, get_or, drop, leb, Result, Ok, Err}
 use Rattle.records.specs.Fields.{h, w, h_at, w_at, marked}
 use Rattle.records.specs.File.{Front, got, none}
 use Rattle.planfile.specs.declared.Record.{Record}
 use Rattle.planfile.specs.declared.Record.TheVariants.{Kp, Ft, En}
-use Rattle.planfile.specs.declared.Read.{Read}
-use Rattle.planfile.specs.declared.Read.TheVariants.{Got, Refused}
 
 -- The marks KP, FT and EN in ASCII.
 abbrev pub kp : List ℕ
@@ -47,9 +45,9 @@ is_end En = true
 
 -- The same as the record reader's answer: at a place, a record with the place after it, or a
 -- refusal.
-abbrev pub read_of : ℕ → Front Record → Read
-read_of at (got r n) = Got r (at + n)
-read_of at (none n) = Refused n
+abbrev pub read_of : ℕ → Front Record → Result (Record × ℕ) ℕ
+read_of at (got r n) = Ok (r, at + n)
+read_of at (none n) = Err n
 
-abbrev pub read_at : List ℕ → ℕ → Read
+abbrev pub read_at : List ℕ → ℕ → Result (Record × ℕ) ℕ
 read_at s at = read_of at (front (drop at s))

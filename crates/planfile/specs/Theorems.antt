@@ -1,7 +1,7 @@
 -- Theorems. Demand 2: "Job and plan files read back as the job and plan written", for plan files.
 -- Then refusals 8 and 9 exactly where document 01 lists them, and that a plan of at most 5,599 rows
 -- always fits a file. Assumes nothing.
-use Rattle.std.specs.Prelude.{ℕ, ◌+◌, ◌*◌, ◌≤◌, ◌<◌, ◌≡◌, refl, List, ◌++◌, ◌↔◌, length, drop, T}
+use Rattle.std.specs.Prelude.{ℕ, ◌+◌, ◌*◌, ◌≤◌, ◌<◌, ◌≡◌, refl, List, ◌++◌, ◌↔◌, length, drop, T, Ok}
 use Rattle.std.proofs.Common.{⊎_elim, arith}
 use Rattle.theory_basics.specs.Refusals.{unless, ◌or_else◌}
 use Rattle.theory_basics.specs.lemmas.Lists.{length_up_to}
@@ -18,7 +18,6 @@ use Rattle.planfile.specs.lemmas.Writing.{length_file}
 use Rattle.planfile.specs.lemmas.Few.{rows_inside}
 use Rattle.planfile.specs.lemmas.Back.{file_accepted, file_says, accepts, field, not_short, nine_by_size}
 use Rattle.planfile.specs.lemmas.Order.{in_order_accepted, accepted_in_order, none_or_eight}
-use Rattle.planfile.specs.declared.PlanRead.TheVariants.{Rows}
 
 -- ---- what is written reads back
 
@@ -43,7 +42,7 @@ slices_back s lent =
     (s.bytes ++ drop (length s.bytes) lent.bytes)
 
 pub record SlicesBack (h : JobInput) (s lent : ListSlices) : Type 0 where
-  pub answer : read_answer h (file_of (plan_of s)) lent ≡ Rows (length s.slots)
+  pub answer : read_answer h (file_of (plan_of s)) lent ≡ Ok (length s.slots)
   pub lent_after : read_lent h (file_of (plan_of s)) lent ≡ slices_back s lent
 
 pub reads_what_was_written : (h : JobInput) (s : ListSlices) (out : List ℕ) (lent : ListSlices) → InWidth (plan_of s) → write_refusal h s out ≡ 0 → T (room lent (chunks (job_in h)) (length s.slots)) → SlicesBack h s lent

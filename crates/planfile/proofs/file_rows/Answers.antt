@@ -1,13 +1,17 @@
--- 9 by the length; then the KPs in turn, the FTs after them, and what stands where they end. Assumes
--- nothing.
+use Rattle.std.proofs.lemmas.Result.{err_from_is_err_and}
 use Rattle.planfile.specs.lemmas.Scan.{too_long, file_refused, file_taken}
 use Rattle.planfile.proofs.file_rows.Goals as goal
 
-pub returns-then-file-gt-FILE_BYTES : goal.returns-then-file-gt-FILE_BYTES
-returns-then-file-gt-FILE_BYTES c = too_long c.args.count c.args.file.now c.if-file-gt-FILE_BYTES.true
+pub returns-in_err-refuse_unless : goal.returns-in_err-refuse_unless
+returns-in_err-refuse_unless c =
+    let p = err_from_is_err_and c.from_residual.result c.from_residual.ensures.1 in
+    rw (p.1, p.2) (too_long c.args.count c.args.file.now _ c.in_err-refuse_unless.ensures)
 
-pub returns-then-refused-ne0 : goal.returns-then-refused-ne0
-returns-then-refused-ne0 c = let a = c.args in file_refused a.count a.file.now c.if-file-gt-FILE_BYTES.false c.count_kps-kept.result c.count_kps-kept.ensures c.count_fts-rows.result c.count_fts-rows.ensures c.end_refusal-refused.result c.end_refusal-refused.ensures c.if-refused-ne0.true
+pub returns-in_err-accept_end : goal.returns-in_err-accept_end
+returns-in_err-accept_end c =
+    let a = c.args in
+    let p = err_from_is_err_and c.from_residual-in_err-accept_end.result c.from_residual-in_err-accept_end.ensures.1 in
+    rw (p.1, p.2) (file_refused a.count a.file.now c.in_ok-refuse_unless.ensures c.count_kps-kept.result c.count_kps-kept.ensures c.count_fts-rows.result c.count_fts-rows.ensures _ c.in_err-accept_end.ensures)
 
 pub returns : goal.returns
-returns c = let a = c.args in file_taken a.count a.file.now c.if-file-gt-FILE_BYTES.false c.count_kps-kept.result c.count_kps-kept.ensures c.count_fts-rows.result c.count_fts-rows.ensures c.end_refusal-refused.result c.end_refusal-refused.ensures c.if-refused-ne0.false
+returns c = let a = c.args in file_taken a.count a.file.now c.in_ok-refuse_unless.ensures c.count_kps-kept.result c.count_kps-kept.ensures c.count_fts-rows.result c.count_fts-rows.ensures c.in_ok-accept_end.ensures

@@ -1,15 +1,13 @@
--- The job's refusal, or what `write_file` does. Assumes nothing.
-use Rattle.job.specs.Input.{job_input}
-use Rattle.fetch.specs.Slices.{slices_of}
+use Rattle.std.proofs.lemmas.Result.{err_from_is_err_and}
+use Rattle.job.specs.Handed.{handed}
+use Rattle.fetch.specs.Handed.{handed_list}
 use Rattle.planfile.proofs.Writer.{job_refused, job_accepted}
 use Rattle.planfile.proofs.write_plan.Goals as goal
 
-pub returns-then-job-ne0 : goal.returns-then-job-ne0
-returns-then-job-ne0 c =
-    let a = c.args in
-    job_refused (job_input a.p a.sizes.now a.size_chunks.now a.size_layers.now a.size_bytes.now a.forecast.now) (slices_of a.marks.now a.slots.now a.chunks.now a.layers.now a.bytes.now) a.out.now c.refusal-job.result c.refusal-job.ensures c.if-job-ne0.true
+pub returns-in_err-accept : goal.returns-in_err-accept
+returns-in_err-accept c =
+    let p = err_from_is_err_and c.from_residual.result c.from_residual.ensures.1 in
+    rw (p.1, p.2) (job_refused (handed c.args.job.now) (handed_list c.args.list.now) c.args.out.now _ c.in_err-accept.ensures)
 
 pub returns : goal.returns
-returns c =
-    let a = c.args in
-    job_accepted (job_input a.p a.sizes.now a.size_chunks.now a.size_layers.now a.size_bytes.now a.forecast.now) (slices_of a.marks.now a.slots.now a.chunks.now a.layers.now a.bytes.now) a.out.now c.refusal-job.result c.refusal-job.ensures c.if-job-ne0.false _ _ (c.write_file.ensures.answer, c.write_file.ensures.lent)
+returns c = job_accepted (handed c.args.job.now) (handed_list c.args.list.now) c.args.out.now c.in_ok-accept.ensures _ _ c.write_file.ensures.answer c.write_file.ensures.lent

@@ -1,18 +1,17 @@
 -- Lemmas. Going through a plan file: the KPs in turn, the FTs after them, and what stands where they
 -- end; and where each record stands in an accepted file. Assumes nothing.
-use Rattle.std.specs.Prelude.{ℕ, suc, ◌+◌, ◌*◌, ◌-◌, ◌≤◌, ◌<◌, ◌≡◌, Bool, false, cond, ◌&&◌, get_or, set, drop, T, leb}
+use Rattle.std.specs.Prelude.{ℕ, suc, ◌+◌, ◌*◌, ◌-◌, ◌≤◌, ◌<◌, ◌≡◌, Bool, false, ◌&&◌, get_or, set, drop, T, leb, Result, Ok, Err}
 use Rattle.std.proofs.Math.Path.{refl, ap}
 use Rattle.std.proofs.Common.{sym, subst, ◌∙◌, arith, add-one, length-append, length-set, drop-cons, leb→le, eq-eqb, ne_eqb, le-leb}
 use mathlib.Core.List.{List, [], ◌∷◌, ◌++◌, append-nil, append_assoc}
 use Rattle.std.proofs.Math.ListN.{length, length-drop}
 use Rattle.std.proofs.lemmas.List.{set_at}
 use Rattle.std.proofs.Math.Dec.{not_T, eqb, eqb→eq}
-use Rattle.std.proofs.lemmas.Bool.{lt-leb}
 use Rattle.theory_basics.specs.lemmas.Tests.{by_cond, and_T, T_and, T_true, not_T_false, same_test, eqb_iff, leb_iff, tests}
 use Rattle.theory_basics.specs.Lists.{up_to}
 use Rattle.theory_basics.specs.lemmas.Lists.{length_up_to}
 use Rattle.theory_basics.specs.Refusals.{unless, ◌or_else◌}
-use Rattle.theory_basics.specs.lemmas.Refusals.{unless_iff, or_else_iff}
+use Rattle.theory_basics.specs.lemmas.Refusals.{unless_iff, or_else_iff, or_else_none, or_else_some}
 use Rattle.records.specs.Fields.{h_at, w_at, marked}
 use Rattle.records.specs.File.{Front, got, none, records_refusal, file_refusal}
 use Rattle.records.specs.lemmas.Places.{byte_on, h_on, w_on}
@@ -22,10 +21,9 @@ use Rattle.planfile.specs.Records.{kp, ft, en, front, read_of, read_at}
 use Rattle.planfile.specs.PlanFile.{marks_in, rows_in, fault, format, plan_in}
 use Rattle.planfile.specs.declared.Record.{Record}
 use Rattle.planfile.specs.declared.Record.TheVariants.{Kp, Ft, En}
-use Rattle.planfile.specs.declared.Read.{Read}
-use Rattle.planfile.specs.declared.Read.TheVariants as read
-use Rattle.planfile.specs.declared.PlanRead.{PlanRead}
-use Rattle.planfile.specs.declared.PlanRead.TheVariants.{Rows, Refused}
+use Rattle.refusals.specs.declared.Refusal.{Refusal}
+use Rattle.refusals.specs.Numbers.{number_of, answered}
+use Rattle.refusals.specs.Laws.{number_above_0}
 
 -- ---- what stands in front
 
@@ -85,22 +83,16 @@ ft_front s l m = rw (le-leb 2 (length s) (omega arith), not_kp s m, T_true (mark
 
 -- ---- answers
 
--- The number of rows, or a refusal.
-abbrev pub answer_of : ℕ → ℕ → PlanRead
-answer_of refused rows = cond (eqb refused 0) (Rows rows) (Refused refused)
+-- The refusal where the KPs in turn and the FTs end, by the record that is read there and the place
+-- after it, in a file of so many bytes; 0 for EN.
+abbrev pub end_at : ℕ → ℕ → ℕ → Record → ℕ → ℕ
+end_at count kept size (Kp chunk marks) next = 8
+end_at count kept size (Ft slot chunk layer bytes) next = 1
+end_at count kept size En next = unless 3 (eqb size next) or_else unless 8 (eqb kept count)
 
--- The refusal, or 0 for a record.
-abbrev pub refusal_of : Read → ℕ
-refusal_of (read.Got r n) = 0
-refusal_of (read.Refused n) = n
-
--- The refusal where the KPs in turn and the FTs end, by what is read there, in a file of so many
--- bytes; 0 for EN.
-abbrev pub end_of : ℕ → ℕ → ℕ → Read → ℕ
-end_of count kept size (read.Refused n) = n
-end_of count kept size (read.Got (Kp chunk marks) next) = 8
-end_of count kept size (read.Got (Ft slot chunk layer bytes) next) = 1
-end_of count kept size (read.Got En next) = unless 3 (eqb size next) or_else unless 8 (eqb kept count)
+abbrev pub end_of : ℕ → ℕ → ℕ → Result (Record × ℕ) ℕ → ℕ
+end_of count kept size (Err n) = n
+end_of count kept size (Ok r) = end_at count kept size r.0 r.1
 
 -- ---- where the records of an accepted file stand
 
@@ -120,8 +112,8 @@ pub record Laid (count : ℕ) (file : List ℕ) : Type 0 where
   pub inside : 5 * count + 11 * length (plan_in count file).rows ≤ length file
 
 -- A file of that refusal gets that answer, and is laid out so if it is accepted.
-pub record FileRowsPost (count : ℕ) (file : List ℕ) (refused : ℕ) (a : PlanRead) : Type 0 where
-  pub answer : a ≡ answer_of refused (length (plan_in count file).rows)
+pub record FileRowsPost (count : ℕ) (file : List ℕ) (refused : ℕ) (a : Result ℕ ℕ) : Type 0 where
+  pub answer : a ≡ answered refused (length (plan_in count file).rows)
   pub laid : refused ≡ 0 → Laid count file
 
 -- The file is read up to a place, so many KPs and FTs taken.
@@ -240,7 +232,7 @@ fts_end file from rows at i n =
 -- ---- where they end, the file's refusal is known
 
 -- A file that is refused.
-refused : (count : ℕ) (file : List ℕ) (r n rows : ℕ) → 0 < n → r ≡ n → FileRowsPost count file r (answer_of n rows)
+refused : (count : ℕ) (file : List ℕ) (r n rows : ℕ) → 0 < n → r ≡ n → FileRowsPost count file r (answered n rows)
 refused count file r n rows p e = record { answer = rw (e, ne_eqb n 0 (λ z. omega arith)); laid = λ z. absurd (omega arith) }
 
 module _ (count : ℕ) (file : List ℕ) (kept : ℕ) (k : KpsTaken count file kept) (rows : ℕ) (f : FtsTaken file (5 * kept) rows) where
@@ -254,7 +246,7 @@ module _ (count : ℕ) (file : List ℕ) (kept : ℕ) (k : KpsTaken count file k
   i = f.read.scanned count kept k.scanned
 
   abbrev Ends : Front Record → Type 0
-  Ends x = FileRowsPost count file (records_refusal (format count) file) (answer_of (end_of count kept (length file) (read_of end x)) rows)
+  Ends x = FileRowsPost count file (records_refusal (format count) file) (answered (end_of count kept (length file) (read_of end x)) rows)
 
   -- A KP here is for another chunk, or for one above C, or it is after an FT.
   late : (chunk : ℕ) → 5 ≤ length s → T (marked kp s) → chunk ≡ h_at s 2 → T (eqb chunk (kept + 1) && (leb chunk count && eqb rows 0)) → ⊥
@@ -294,29 +286,36 @@ module _ (count : ℕ) (file : List ℕ) (kept : ℕ) (k : KpsTaken count file k
       absurd (subst T f.last (T_and (leb 11 (length s)) (marked ft s) ((leb_iff 11 (length s)).1 (omega (arith, t.0, t.1))) t.2))
   by_front (got En n) e t = en_end n e t.1
 
-  pub file_end : FileRowsPost count file (records_refusal (format count) file) (answer_of (end_of count kept (length file) (read_at file end)) rows)
+  pub file_end : FileRowsPost count file (records_refusal (format count) file) (answered (end_of count kept (length file) (read_at file end)) rows)
   file_end = by_front (front s) refl (stands s)
 
 -- ---- 9 first
 
 module _ (count : ℕ) (file : List ℕ) where
-  pub too_long : 65536 < length file → FileRowsPost count file (file_refusal (format count) file) (Refused 9)
-  unfolding file_refusal
-  too_long l = refused count file (file_refusal (format count) file) 9 0 (omega arith) (rw (lt-leb (length file) 65536 l))
-
-  abbrev Answers : PlanRead → Type 0
+  abbrev Answers : Result ℕ ℕ → Type 0
   Answers a = FileRowsPost count file (file_refusal (format count) file) a
 
-  module _ (l : length file ≤ 65536) (kept : ℕ) (k : KpsTaken count file kept) (rows : ℕ) (f : FtsTaken file (5 * kept) rows) (r : ℕ) (e : r ≡ end_of count kept (length file) (read_at file (5 * kept + 11 * rows))) where
-    answered : Answers (answer_of r rows)
+  pub too_long : (e : Refusal) → number_of e ≡ unless 9 (leb (length file) 65536) → Answers (Err (number_of e))
+  unfolding file_refusal
+  too_long e is =
+      let n = number_of e in
+      let some : unless 9 (leb (length file) 65536) ≡ 0 → ⊥ = λ y. omega (arith, number_above_0 e) in
+      let long = or_else_some (unless 9 (leb (length file) 65536)) (records_refusal (format count) file) some ∙ sym is in
+      subst Answers (rw (ne_eqb n 0 (λ y. omega (arith, number_above_0 e)))) (refused count file (file_refusal (format count) file) n 0 (number_above_0 e) long)
+
+  module _ (short : 0 ≡ unless 9 (leb (length file) 65536)) (kept : ℕ) (k : KpsTaken count file kept) (rows : ℕ) (f : FtsTaken file (5 * kept) rows) where
+    abbrev stop : ℕ
+    stop = end_of count kept (length file) (read_at file (5 * kept + 11 * rows))
+
+    by_end : Answers (answered stop rows)
     unfolding file_refusal
-    answered = rw (le-leb (length file) 65536 l, e) (file_end count file kept k rows f)
+    by_end = rw (or_else_none (unless 9 (leb (length file) 65536)) (records_refusal (format count) file) (sym short)) (file_end count file kept k rows f)
 
-    pub file_refused : (r ≡ 0 → ⊥) → Answers (Refused r)
-    file_refused n = subst Answers (rw (ne_eqb r 0 n)) answered
+    pub file_refused : (e : Refusal) → number_of e ≡ stop → Answers (Err (number_of e))
+    file_refused e is = subst Answers (rw (← is, ne_eqb (number_of e) 0 (λ y. omega (arith, number_above_0 e)))) by_end
 
-    pub file_taken : r ≡ 0 → Answers (Rows rows)
-    file_taken z = subst Answers (rw z) answered
+    pub file_taken : 0 ≡ stop → Answers (Ok rows)
+    file_taken z = subst Answers (rw (← z)) by_end
 
 -- ---- filling a lent slice
 
