@@ -1,6 +1,6 @@
 -- Meaning. What the call hands over: the asks of slot p (theory_live, Statement), by chunk, layer
 -- and bytes, each in a slice of its own, or a refusal's number.
-use Rattle.std.specs.Prelude.{ℕ, suc, ◌≤◌, ◌<◌, ◌≡◌, Bool, cond, ◌&&◌, List, [], ◌++◌, map, length, leb, eqb}
+use Rattle.std.specs.Prelude.{ℕ, suc, ◌≤◌, ◌<◌, ◌≡◌, Bool, ◌&&◌, List, [], ◌++◌, map, length, leb, Result}
 use Rattle.theory_basics.specs.Lent.{lent_after}
 use Rattle.theory_basics.specs.Refusals.{◌or_else◌, unless}
 use Rattle.job.specs.Input.{JobInput, job_in, job_refusal}
@@ -12,8 +12,8 @@ use Rattle.theory_plan.specs.Own.{Piece}
 use Rattle.theory_replan.specs.Statement.{Acceptable, joined}
 use Rattle.theory_live.specs.Refusal.{live_refusal}
 use Rattle.theory_live.specs.Statement.{asks, piece_bytes, piece_chunk, piece_layer, taken_of}
-use Rattle.live.specs.declared.Answer.TheVariants.{Pieces, Refused}
-use Rattle.live.specs.declared.Answer.{Answer}
+use Rattle.refusals.specs.declared.Refusal.{Refusal}
+use Rattle.refusals.specs.Numbers.{answered, by_number}
 
 -- ---- what is handed and lent
 
@@ -67,9 +67,9 @@ refusal i l = input_refusal i or_else unless 11 (holds (pieces i) l)
 -- ---- what is handed over
 
 -- What is answered, and what stands in the lent slices.
-pub record LiveOutput (refused : ℕ) (ps : List Piece) (l : PieceSlices) (r : Answer) (l' : PieceSlices) : Type 0 where
+pub record LiveOutput (refused : ℕ) (ps : List Piece) (l : PieceSlices) (r : Result ℕ Refusal) (l' : PieceSlices) : Type 0 where
   -- How many pieces, or the refusal's number.
-  pub answer : r ≡ cond (eqb refused 0) (Pieces (length ps)) (Refused refused)
+  pub answer : by_number r ≡ answered refused (length ps)
   -- The pieces, a slice for each of their three numbers, then the old contents; on a refusal these
   -- alone.
   pub chunks_are : l'.chunks ≡ lent_after refused (map piece_chunk ps) l.chunks
@@ -77,7 +77,7 @@ pub record LiveOutput (refused : ℕ) (ps : List Piece) (l : PieceSlices) (r : A
   pub bytes_are : l'.bytes ≡ lent_after refused (map piece_bytes ps) l.bytes
 
 -- The promise of the call.
-pub record LivePromise (i : LiveInput) (l : PieceSlices) (r : Answer) (l' : PieceSlices) : Type 0 where
+pub record LivePromise (i : LiveInput) (l : PieceSlices) (r : Result ℕ Refusal) (l' : PieceSlices) : Type 0 where
   -- The asks, or the refusal.
   pub output : LiveOutput (refusal i l) (pieces i) l r l'
   -- "At most 2,000 pieces."

@@ -17,12 +17,12 @@ use Rattle.theory_live.specs.Statement.{act, taken_of}
 use Rattle.theory_live.specs.Theorems.{at_most_2000, safe_whatever_forecast}
 use Rattle.replan.specs.Answer as replan
 use Rattle.live.specs.Answer.{fetched, input_refusal, LiveInput, pieces}
-use Rattle.live.specs.lemmas.Writing.{as_replan}
+use Rattle.live.specs.lemmas.AsReplan.{as_replan}
 
 module _ (i : LiveInput) where
   -- "In that order and for the same reasons as planning afresh."
-  pub as_replan_lem : replan.input_refusal i.job (as_replan i) ≡ input_refusal i
-  as_replan_lem =
+  pub refused_as_replan : replan.input_refusal i.job (as_replan i) ≡ input_refusal i
+  refused_as_replan =
       let job = job_refusal i.job in
       let list = list_refusal 0 [] i.rows.slots i.rows.chunks i.rows.layers i.rows.bytes in
       let theirs = replan_refusal (job_in i.job) i.slot (fetched i) (as_replan i).onward in

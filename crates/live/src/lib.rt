@@ -4,177 +4,77 @@
 // 22, as long as the forecast that it hands of each slot gone covers what that slot brought.
 #![tactic(auto)]
 
-ghost use Rattle.std.specs.Prelude.{◌≡◌, ◌&&◌, ◌-◌, drop, leb};
-ghost use Rattle.job.specs.Input.{job_input};
-ghost use Rattle.core_sizes.specs.Table.{table_at};
-ghost use Rattle.live.specs.Answer.{live_input, LivePromise, piece_slices};
-ghost use Rattle.live.specs.lemmas.Writing.{WritePiecesPre, WritePiecesPost};
-ghost use Rattle.fetch.specs.Slices.{row_slices};
+ghost use Rattle.std.specs.Prelude.{◌≡◌, ◌-◌, drop};
+ghost use Rattle.job.specs.Handed.{handed};
+ghost use Rattle.fetch.specs.Handed.{handed_rows};
+ghost use Rattle.live.specs.Answer.{live_input, LivePromise};
+ghost use Rattle.live.specs.Handed.{SamePieces, lent_pieces};
 
-use job::{CHUNKS, Programme, SIZES, SizeTable};
+use fetch::Rows;
+use job::{CHUNKS, JobInput, SIZES};
+use refusals::Refusal;
 
-// How many pieces are asked, or the refusal's number.
-#[derive(Clone, Copy)]
-pub enum Answer {
-    Pieces(usize),
-    Refused(u8),
+// Room for pieces: what is written stands at the front of each slice.
+#[derive(Drop)]
+pub struct LentPieces<'a> {
+    pub chunks: &'a mut [u16],
+    pub layers: &'a mut [u8],
+    pub bytes: &'a mut [u32],
 }
 
 // The forecast from a slot on, as the job has it.
 fn onward(forecast: &[u32], from: usize) -> &[u32]
     ensures { result.now ≡ drop (from - 1) forecast.now }
 {
-    if from < 1 {
-        return forecast;
-    }
-    let gone = from - 1;
-    let all = forecast.len();
-    if all < gone {
-        return &forecast[all..];
-    }
-    &forecast[gone..]
+    &forecast[from.saturating_sub(1).min(forecast.len())..]
 }
 
-// Whether each of three lengths is at least n.
-fn all_at_least(n: usize, a: usize, b: usize, c: usize) -> bool
-    ensures { result ≡ leb n a && (leb n b && leb n c) }
-{
-    if a < n {
-        return false;
-    }
-    if b < n {
-        return false;
-    }
-    n <= c
-}
-
-// The pieces, put aside and copied if they fit whole; else 11.
-fn write_pieces(
-    p: Programme,
-    depth: u8,
-    start: usize,
+// The asks of slot from at a rate, beside the rows fetched before it: for each layer from the base
+// up, for each asked chunk in playing order, the bytes not yet fetched. They are put aside, and
+// copied if they fit whole. Refusals 5, 6, 18, 7, 8, 21, 22 as in planning afresh, then 11 where a
+// slice is shorter than the result; a refusal writes nothing.
+pub fn live(
+    job: &JobInput,
+    from: u16,
+    fetched: &Rows,
     rate: u32,
-    left: &SizeTable,
-    begun: &[u8; CHUNKS],
-    chunks: &mut [u16],
-    layers: &mut [u8],
-    bytes: &mut [u32],
-) -> Answer
-    requires { WritePiecesPre p depth begun.now }
-    ensures { WritePiecesPost p depth start rate (table_at left.now) begun.now
-        (piece_slices chunks.old layers.old bytes.old)
-        result
-        (piece_slices chunks.new layers.new bytes.new) }
+    out: &mut LentPieces,
+) -> Result<usize, Refusal>
+    ensures same { SamePieces out.old out.new }
+    ensures promise { LivePromise (live_input (handed job.now) from (handed_rows fetched.now) rate)
+        (lent_pieces out.old) result (lent_pieces out.new) }
 {
-    let mut own_chunks = [0u16; SIZES];
-    let mut own_layers = [0u8; SIZES];
-    let mut own_bytes = [0u32; SIZES];
+    let start = from as usize;
+    // Every place is written before it is read. A filling that is no constant is stored in wide
+    // words, faster than cleared.
+    let p = job.programme;
+    let unset = p.chunks as u32;
+    let mut left = [unset; SIZES];
+    let mut begun = [0u8; CHUNKS];
+    let mut whole = [0u8; CHUNKS];
+    let rest = onward(job.forecast, start);
+    replan::accept_fetched(job, from, fetched, rest, &mut left, &mut begun, &mut whole)?;
+    let mut chunks = [0u16; SIZES];
+    let mut layers = [0u8; SIZES];
+    let mut bytes = [0u32; SIZES];
+    let depth = job.sizes.len() as u8;
     let n = core_live::ask(
         p,
         depth,
         start,
         rate,
-        left,
-        begun,
-        &mut own_chunks,
-        &mut own_layers,
-        &mut own_bytes,
-    );
-    if all_at_least(n, chunks.len(), layers.len(), bytes.len()) {
-        core_slices::copy16(&own_chunks, n, chunks);
-        core_slices::copy8(&own_layers, n, layers);
-        core_slices::copy32(&own_bytes, n, bytes);
-        Answer::Pieces(n)
-    } else {
-        Answer::Refused(11)
-    }
-}
-
-// The asks of slot from at a rate, beside the rows fetched before it: for each layer from the base
-// up, for each asked chunk in playing order, the bytes not yet fetched. Refusals 5, 6, 18, 7, 8,
-// 21, 22 as in planning afresh, then 11 where a slice is shorter than the result; a refusal writes
-// nothing.
-pub fn live(
-    p: Programme,
-    sizes: &[u32],
-    size_chunks: &[u16],
-    size_layers: &[u8],
-    size_bytes: &[u32],
-    forecast: &[u32],
-    from: u16,
-    fetched_slots: &[u16],
-    fetched_chunks: &[u16],
-    fetched_layers: &[u8],
-    fetched_bytes: &[u32],
-    rate: u32,
-    chunks: &mut [u16],
-    layers: &mut [u8],
-    bytes: &mut [u32],
-) -> Answer
-    ensures { LivePromise
-        (live_input
-        (job_input p sizes.now size_chunks.now size_layers.now
-        size_bytes.now forecast.now)
-        from
-        (row_slices fetched_slots.now fetched_chunks.now
-        fetched_layers.now fetched_bytes.now)
-        rate)
-        (piece_slices chunks.old layers.old bytes.old)
-        result
-        (piece_slices chunks.new layers.new bytes.new) }
-{
-    let start = from as usize;
-    let no = replan::asked_refusal(
-        p,
-        sizes,
-        size_chunks,
-        size_layers,
-        size_bytes,
-        forecast,
-        from,
-        fetched_slots,
-        fetched_chunks,
-        fetched_layers,
-        fetched_bytes,
-        onward(forecast, start),
-    );
-    if 0 < no {
-        return Answer::Refused(no);
-    }
-    let depth = sizes.len();
-    // Every place is written before it is read. A filling that is no constant is stored in wide
-    // words, faster than cleared.
-    let unset = p.chunks as u32;
-    let mut table = [unset; SIZES];
-    let mut left = [unset; SIZES];
-    let mut begun = [0u8; CHUNKS];
-    let mut whole = [0u8; CHUNKS];
-    core_sizes::fill_sizes(sizes, size_chunks, size_layers, size_bytes, &mut table);
-    let kept = core_replan_input::gather(
-        p,
-        &table,
-        depth,
-        &forecast[..start - 1],
-        fetched_slots,
-        fetched_chunks,
-        fetched_layers,
-        fetched_bytes,
-        &mut left,
-        &mut begun,
-        &mut whole,
-    );
-    if !kept {
-        return Answer::Refused(22);
-    }
-    write_pieces(
-        p,
-        depth as u8,
-        start,
-        rate,
         &left,
         &begun,
-        chunks,
-        layers,
-        bytes,
-    )
+        &mut chunks,
+        &mut layers,
+        &mut bytes,
+    );
+    if n <= out.chunks.len() && n <= out.layers.len() && n <= out.bytes.len() {
+        core_slices::copy_over(&chunks, n, out.chunks);
+        core_slices::copy_over(&layers, n, out.layers);
+        core_slices::copy_over(&bytes, n, out.bytes);
+        Ok(n)
+    } else {
+        Err(Refusal::ShortBuffer)
+    }
 }

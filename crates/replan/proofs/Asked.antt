@@ -24,14 +24,6 @@ use Rattle.theory_replan.specs.Refusal.{before_iff, before_refusal, fetched_kept
 use Rattle.replan.specs.Answer.{ReplanInput, fetched, input_refusal, job_on}
 use Rattle.replan.specs.lemmas.Asked.{asked_refusal, part_refusal}
 
--- The first refuses,
-pub refuses : {k a : ℕ} (b : ℕ) → k ≡ a → (k ≡ 0 → ⊥) → k ≡ (a or_else b)
-refuses {k} {a} b e n = e ∙ sym (or_else_some a b (λ z. n (e ∙ z)))
-
--- or it doesn't, and the next are asked.
-pub passes_on : {k a m : ℕ} (b : ℕ) → k ≡ a → k ≡ 0 → m ≡ b → m ≡ (a or_else b)
-passes_on {k} {a} {m} b e z f = f ∙ sym (or_else_none a b (sym e ∙ z))
-
 -- ---- asked in turn
 
 after : (a b c : ℕ) → ((a or_else b) or_else c) ≡ (a or_else b or_else c)

@@ -2,10 +2,13 @@
 -- of the plan, and they tell its rows, marks and counts. Assumes nothing.
 use mathlib.Core.Path.{◌≡◌, refl, sym, ◌∙◌, ap, subst}
 use mathlib.Core.Bool.{Bool, true, false, not, cond, ◌&&◌}
-use mathlib.Core.List.{List, [], ◌∷◌, ◌++◌, map, append_assoc, append-nil}
+use mathlib.Core.List.{List, [], ◌∷◌, ◌++◌, map, append-nil}
 use mathlib.Core.Logic.{⊎_elim}
 use Prim.Native.Nat.{ℕ, zero, suc, ◌+◌, ◌*◌, ◌-◌, ◌≤◌, ◌<◌, max}
 use native.Mathlib.Omega.{arith}
+use Rattle.std.specs.Prelude.{flat_map}
+use Rattle.std.proofs.lemmas.List.{map-append}
+use Rattle.std.proofs.lemmas.Grind.{flat_map-append}
 use lib.ListN.{length, get_or, take, drop, length-append, length-drop}
 use lib.Seq.{get_or-append-add}
 use lib.Dec.{T, leb, ltb, ltb→lt, nltb→le}
@@ -142,22 +145,7 @@ unfetched_append fetched (x ∷ a) b = by (ltb (bytes_of_layer fetched x.chunk x
     by true e = ap (λ (l : List own.Piece). own.without x (bytes_of_layer fetched x.chunk x.layer) ∷ l) e
     by false e = e
 
-map_append : {A B : Type 0} (f : A → B) (a b : List A) → map f (a ++ b) ≡ map f a ++ map f b
-map_append f [] b = refl
-map_append f (x ∷ a) b = rw (map_append f a b)
-
--- All pieces of the chunks ks, chunk by chunk.
-all_pieces : (ℕ → List QueuedPiece) → List ℕ → List QueuedPiece
-all_pieces f [] = []
-all_pieces f (k ∷ ks) = f k ++ all_pieces f ks
-
-all_append : (f : ℕ → List QueuedPiece) (a b : List ℕ) → all_pieces f (a ++ b) ≡ all_pieces f a ++ all_pieces f b
-unfolding all_pieces
-all_append f [] b = refl
-all_append f (x ∷ a) b = rw (all_append f a b) (sym (append_assoc (f x) (all_pieces f a) (all_pieces f b)))
-
-all_cong : (f g : ℕ → List QueuedPiece) (ks : List ℕ) → All (λ k. f k ≡ g k) ks → all_pieces f ks ≡ all_pieces g ks
-unfolding all_pieces
+all_cong : (f g : ℕ → List QueuedPiece) (ks : List ℕ) → All (λ k. f k ≡ g k) ks → flat_map f ks ≡ flat_map g ks
 all_cong f g [] a = refl
 all_cong f g (k ∷ ks) a = rw (a.0, all_cong f g ks a.1)
 
@@ -172,8 +160,8 @@ asc_all lo hi (k ∷ ks) a = (a.0, weaker (suc k) ks (omega (arith, a.0)) (asc_a
 -- The queue, each chunk with the release at its place.
 queue_all :
     (size : ℕ → ℕ → ℕ) (lv : ℕ → ℕ) (lo hi : ℕ) (ks rs : List ℕ) → Asc lo hi ks → length ks ≤ length rs →
-    queue_left size lv ks rs ≡ all_pieces (λ k. pieces_left size k (ready_of ks rs k) 0 (lv k)) ks
-unfolding queue_left all_pieces
+    queue_left size lv ks rs ≡ flat_map (λ k. pieces_left size k (ready_of ks rs k) 0 (lv k)) ks
+unfolding queue_left
 queue_all size lv lo hi [] rs a l = refl
 queue_all size lv lo hi (k ∷ ks) [] a l = absurd (omega arith)
 queue_all size lv lo hi (k ∷ ks) (r ∷ rs) a l =
@@ -335,7 +323,7 @@ module _
   chunk_left i (suc n) =
       let e : n + 1 ≡ suc n = omega arith in
       ap (map pc) (unfetched_append fetched (up_to (whole_layer j i) n) (whole_layer j i n ∷ []))
-      ∙ map_append pc (unfetched fetched (up_to (whole_layer j i) n)) (unfetched fetched (whole_layer j i n ∷ []))
+      ∙ map-append pc (unfetched fetched (up_to (whole_layer j i) n)) (unfetched fetched (whole_layer j i n ∷ []))
       ∙ ap (λ (l : List QueuedPiece). l ++ map pc (unfetched fetched (whole_layer j i n ∷ []))) (chunk_left i n)
       ∙ ap (λ (l : List QueuedPiece). pieces_left (rest j fetched) i (ready_of cs rs i) 0 n ++ l) (one_left i n)
       ∙ sym (pieces_next (rest j fetched) i (ready_of cs rs i) n)
@@ -349,8 +337,7 @@ module _
       let r = layer_of j k i u v (omega (arith, d.choice k u v, z)) in
       omega (arith, (level_iff j fetched ok.lower k i r).1 (omega (arith, e))))
 
-  carried_left : (m : ℕ) → m ≤ chunks j → map pc (unfetched fetched (carried_to j plan m)) ≡ all_pieces of_chunk (picked member 0 m)
-  unfolding all_pieces
+  carried_left : (m : ℕ) → m ≤ chunks j → map pc (unfetched fetched (carried_to j plan m)) ≡ flat_map of_chunk (picked member 0 m)
   carried_left zero h = refl
   carried_left (suc m) h =
       let i = suc m in
@@ -358,13 +345,13 @@ module _
       let o : m + 0 ≡ m = omega arith in
       let split : picked member 0 i ≡ picked member 0 m ++ picked member m 1 = rw (e, o) at (picked_split member 0 m 1) in
       ap (map pc) (unfetched_append fetched (carried_to j plan m) (up_to (whole_layer j i) (plan i)))
-      ∙ map_append pc (unfetched fetched (carried_to j plan m)) (unfetched fetched (up_to (whole_layer j i) (plan i)))
+      ∙ map-append pc (unfetched fetched (carried_to j plan m)) (unfetched fetched (up_to (whole_layer j i) (plan i)))
       ∙ ap (λ (l : List QueuedPiece). l ++ map pc (unfetched fetched (up_to (whole_layer j i) (plan i)))) (carried_left m (omega arith))
-      ∙ ap (λ (l : List QueuedPiece). all_pieces of_chunk (picked member 0 m) ++ l) (chunk_left i (plan i) ∙ last_one)
-      ∙ sym (all_append of_chunk (picked member 0 m) (picked member m 1))
-      ∙ ap (all_pieces of_chunk) (sym split)
+      ∙ ap (λ (l : List QueuedPiece). flat_map of_chunk (picked member 0 m) ++ l) (chunk_left i (plan i) ∙ last_one)
+      ∙ sym (flat_map-append of_chunk (picked member 0 m) (picked member m 1))
+      ∙ ap (flat_map of_chunk) (sym split)
     where
-      last_one : of_chunk (suc m) ≡ all_pieces of_chunk (picked member m 1)
+      last_one : of_chunk (suc m) ≡ flat_map of_chunk (picked member m 1)
       last_one =
           ⊎_elim
           (λ t. rw (T_true (member (suc m)) t) (sym (append-nil (of_chunk (suc m)))))

@@ -13,7 +13,7 @@ use Rattle.fetch.specs.Input.{list_refusal}
 use Rattle.fetch.specs.Rows.{Permuted, Row, row_bytes, row_chunk, row_layer, row_slot, rows_of}
 use Rattle.fetch.proofs.Theorems.{verdict_from_iff}
 use Rattle.fetch.specs.Slices.{ListSlices, room, slices_of}
-use Rattle.theory_plan.specs.Statement.{Same, counts_of, marks_of}
+use Rattle.theory_plan.specs.Statement.{Same, marks_of}
 use Rattle.theory_plan.proofs.Theorems.{same_counts, same_marks}
 use Rattle.refusals.specs.declared.Refusal.{Refusal}
 use Rattle.refusals.specs.Numbers.{answered}

@@ -44,12 +44,7 @@ fn accept_part(p: Programme, from: u16, onward: &[u32]) -> Result<(), Refusal>
 }
 
 // 5, 6, 18, 7, 8, 21, and 7 of the handed forecast.
-pub fn accept_asked(
-    job: &JobInput,
-    from: u16,
-    fetched: &Rows,
-    onward: &[u32],
-) -> Result<(), Refusal>
+fn accept_asked(job: &JobInput, from: u16, fetched: &Rows, onward: &[u32]) -> Result<(), Refusal>
     ensures { refusal_number result ≡
         asked_refusal (handed job.now) (handed_on from fetched.now onward.now) }
 {
@@ -68,6 +63,8 @@ pub fn accept_asked(
 // All but 11: those refusals, then 22. Where there is none, left, begun and whole say what the
 // fetched rows leave of each layer, which chunks they begin, and the marks of the layers whole in
 // them.
+// Kept: these are three parameters, since core_replan_input fills and core_replan_decide reads
+// three tables.
 pub fn accept_fetched(
     job: &JobInput,
     from: u16,
@@ -119,12 +116,15 @@ pub fn replan(
     ensures promise { ReplanPromise (handed job.now) (handed_on from fetched.now onward.now)
         (lent_list out.old) result (lent_list out.new) }
 {
+    // Every place is written before it is read, here too.
     let p = job.programme;
     let unset = p.chunks as u32;
     let mut left = [unset; SIZES];
     let mut begun = [0u8; CHUNKS];
     let mut whole = [0u8; CHUNKS];
-    accept_fetched(job, from, fetched, onward, &mut left, &mut begun, &mut whole)?;
+    accept_fetched(
+        job, from, fetched, onward, &mut left, &mut begun, &mut whole,
+    )?;
     let count = p.chunks as usize;
     if out.marks.len() < count {
         return Err(Refusal::ShortBuffer);
@@ -146,21 +146,8 @@ pub fn replan(
         &mut mark,
     );
     let made = core_output::write_plan(
-        count,
-        onward,
-        start,
-        true,
-        &left,
-        first,
-        &ids,
-        &ready,
-        &mark,
-        &whole,
-        out.marks,
-        out.slots,
-        out.chunks,
-        out.layers,
-        out.bytes,
+        count, onward, start, true, &left, first, &ids, &ready, &mark, &whole, out.marks,
+        out.slots, out.chunks, out.layers, out.bytes,
     );
     planner::answered(made)
 }

@@ -1,87 +1,58 @@
--- `live` meets its contract: the refusals in their order, then the asks.
-use Prim.Native.Nat.{ℕ}
+-- `live` meets its contract: the refusals in their order, then the asks, whole or not at all.
+use mathlib.Core.Path.{◌≡◌, refl, sym}
+use mathlib.Core.Bool.{false, ◌&&◌}
 use native.Mathlib.Omega.{arith}
-use lib.ListN.{length-replicate}
-use Rattle.job.specs.Input.{job_input}
-use Rattle.theory_basics.specs.lemmas.Refusals.{found_none}
-use Rattle.replan.proofs.Outputs.{earlier_long, gather_from, some_slot}
-use Rattle.live.specs.Answer.{live_input, piece_slices}
-use Rattle.live.specs.lemmas.Writing.{as_replan}
-use Rattle.live.proofs.Writing.{hand_from, promised_pieces, refused_asked, refused_kept}
-use Rattle.fetch.specs.Slices.{row_slices}
+use lib.Dec.{leb}
+use lib.ListN.{length}
+use borrow.Author.Tests.{le-leb, lt-leb}
+use Rattle.std.proofs.lemmas.Result.{err_from_is_err_and}
+use Rattle.job.specs.Handed.{handed}
+use Rattle.fetch.specs.Handed.{handed_rows}
+use Rattle.live.specs.Answer.{live_input}
+use Rattle.live.specs.Handed.{lent_pieces}
+use Rattle.live.proofs.Writing.{ask_from, few_layers, handed_whole, output_short, refused_fetched}
+use Rattle.live.proofs.live.Goals.{else-n-out-via-then-n-out+then-n-out-2+else-n-out-3, else-n-out-via-then-n-out+else-n-out-2, else-n-out-via-else-n-out}
 use Rattle.live.proofs.live.Goals as goal
 
-pub returns-then-no-gt0 : goal.returns-then-no-gt0
-returns-then-no-gt0 c =
+pub returns-in_err-accept_fetched-clause-promise : goal.returns-in_err-accept_fetched-clause-promise
+returns-in_err-accept_fetched-clause-promise c =
     let a = c.args in
-    let h = job_input a.p a.sizes.now a.size_chunks.now a.size_layers.now a.size_bytes.now a.forecast.now in
-    let i = live_input h a.from (row_slices a.fetched_slots.now a.fetched_chunks.now a.fetched_layers.now a.fetched_bytes.now) a.rate in
-    let l = piece_slices a.chunks.now a.layers.now a.bytes.now in
-    refused_asked i l (rw c.onward.ensures at c.asked_refusal-no.ensures) c.if-no-gt0.true
-
-pub slice_bounds-gather-count : goal.slice_bounds-gather-count
-slice_bounds-gather-count c =
-    let a = c.args in
-    let h = job_input a.p a.sizes.now a.size_chunks.now a.size_layers.now a.size_bytes.now a.forecast.now in
-    let i = live_input h a.from (row_slices a.fetched_slots.now a.fetched_chunks.now a.fetched_layers.now a.fetched_bytes.now) a.rate in
-    let l = piece_slices a.chunks.now a.layers.now a.bytes.now in
-    let z = found_none (rw c.onward.ensures at c.asked_refusal-no.ensures) c.if-no-gt0.false in
-    some_slot h (as_replan i) z
-
-pub slice_bounds-gather-length : goal.slice_bounds-gather-length
-slice_bounds-gather-length c =
-    let a = c.args in
-    let h = job_input a.p a.sizes.now a.size_chunks.now a.size_layers.now a.size_bytes.now a.forecast.now in
-    let i = live_input h a.from (row_slices a.fetched_slots.now a.fetched_chunks.now a.fetched_layers.now a.fetched_bytes.now) a.rate in
-    let l = piece_slices a.chunks.now a.layers.now a.bytes.now in
-    let z = found_none (rw c.onward.ensures at c.asked_refusal-no.ensures) c.if-no-gt0.false in
-    earlier_long h (as_replan i) z
-
-pub gather-kept-requires : goal.gather-kept-requires
-gather-kept-requires c =
-    let a = c.args in
-    let h = job_input a.p a.sizes.now a.size_chunks.now a.size_layers.now a.size_bytes.now a.forecast.now in
-    let i = live_input h a.from (row_slices a.fetched_slots.now a.fetched_chunks.now a.fetched_layers.now a.fetched_bytes.now) a.rate in
-    let l = piece_slices a.chunks.now a.layers.now a.bytes.now in
-    let z = found_none (rw c.onward.ensures at c.asked_refusal-no.ensures) c.if-no-gt0.false in
-    gather_from h (as_replan i) z (length-replicate {A = ℕ} 2000 a.p.chunks) (length-replicate {A = ℕ} 500 0) (length-replicate {A = ℕ} 500 0)
-
-pub returns-then-not-kept : goal.returns-then-not-kept
-returns-then-not-kept c =
-    let a = c.args in
-    let h = job_input a.p a.sizes.now a.size_chunks.now a.size_layers.now a.size_bytes.now a.forecast.now in
-    let i = live_input h a.from (row_slices a.fetched_slots.now a.fetched_chunks.now a.fetched_layers.now a.fetched_bytes.now) a.rate in
-    let l = piece_slices a.chunks.now a.layers.now a.bytes.now in
-    let z = found_none (rw c.onward.ensures at c.asked_refusal-no.ensures) c.if-no-gt0.false in
-    let its = c.fill_sizes.ensures (length-replicate {A = ℕ} 2000 a.p.chunks) in
-    refused_kept i l z its c.gather-kept.ensures c.if-not-kept.true
+    let i = live_input (handed a.job.now) a.from (handed_rows a.fetched.now) a.rate in
+    let p = err_from_is_err_and c.from_residual.result c.from_residual.ensures.1 in
+    rw (p.1, p.2) (refused_fetched i (lent_pieces a.out.now) _ c.onward-rest.ensures _ c.in_err-accept_fetched.ensures.refused)
 
 pub overflow_cast-depth : goal.overflow_cast-depth
 overflow_cast-depth c =
     let a = c.args in
-    let h = job_input a.p a.sizes.now a.size_chunks.now a.size_layers.now a.size_bytes.now a.forecast.now in
-    let i = live_input h a.from (row_slices a.fetched_slots.now a.fetched_chunks.now a.fetched_layers.now a.fetched_bytes.now) a.rate in
-    let l = piece_slices a.chunks.now a.layers.now a.bytes.now in
-    let z = found_none (rw c.onward.ensures at c.asked_refusal-no.ensures) c.if-no-gt0.false in
-    let its = c.fill_sizes.ensures (length-replicate {A = ℕ} 2000 a.p.chunks) in
-    omega (arith, (hand_from i l z its c.gather-kept.ensures c.if-not-kept.false).few_layers)
+    let i = live_input (handed a.job.now) a.from (handed_rows a.fetched.now) a.rate in
+    let f = c.in_ok-accept_fetched.ensures in
+    omega (arith, few_layers i (lent_pieces a.out.now) _ c.onward-rest.ensures (sym f.refused) (f.gathered refl))
 
-pub write_pieces-requires : goal.write_pieces-requires
-write_pieces-requires c =
+pub ask-n-requires : goal.ask-n-requires
+ask-n-requires c =
     let a = c.args in
-    let h = job_input a.p a.sizes.now a.size_chunks.now a.size_layers.now a.size_bytes.now a.forecast.now in
-    let i = live_input h a.from (row_slices a.fetched_slots.now a.fetched_chunks.now a.fetched_layers.now a.fetched_bytes.now) a.rate in
-    let l = piece_slices a.chunks.now a.layers.now a.bytes.now in
-    let z = found_none (rw c.onward.ensures at c.asked_refusal-no.ensures) c.if-no-gt0.false in
-    let its = c.fill_sizes.ensures (length-replicate {A = ℕ} 2000 a.p.chunks) in
-    hand_from i l z its c.gather-kept.ensures c.if-not-kept.false
+    let i = live_input (handed a.job.now) a.from (handed_rows a.fetched.now) a.rate in
+    let f = c.in_ok-accept_fetched.ensures in
+    ask_from i (lent_pieces a.out.now) _ c.onward-rest.ensures (sym f.refused) (f.gathered refl)
 
-pub returns : goal.returns
-returns c =
+pub returns-then-n-out-3-clause-promise : goal.returns-then-n-out-3-clause-promise
+returns-then-n-out-3-clause-promise c =
     let a = c.args in
-    let h = job_input a.p a.sizes.now a.size_chunks.now a.size_layers.now a.size_bytes.now a.forecast.now in
-    let i = live_input h a.from (row_slices a.fetched_slots.now a.fetched_chunks.now a.fetched_layers.now a.fetched_bytes.now) a.rate in
-    let l = piece_slices a.chunks.now a.layers.now a.bytes.now in
-    let z = found_none (rw c.onward.ensures at c.asked_refusal-no.ensures) c.if-no-gt0.false in
-    let its = c.fill_sizes.ensures (length-replicate {A = ℕ} 2000 a.p.chunks) in
-    promised_pieces i l z its c.gather-kept.ensures c.if-not-kept.false c.write_pieces.ensures
+    let i = live_input (handed a.job.now) a.from (handed_rows a.fetched.now) a.rate in
+    let f = c.in_ok-accept_fetched.ensures in
+    handed_whole i (lent_pieces a.out.now) _ c.onward-rest.ensures (sym f.refused) (f.gathered refl) c.ask-n.ensures
+    c.if-n-out.true c.if-n-out-2.true c.if-n-out-3.true c.copy_over.ensures c.copy_over-then-n-out-3.ensures c.copy_over-then-n-out-3-2.ensures
+
+pub returns-else-n-out-clause-promise : goal.returns-else-n-out-clause-promise
+returns-else-n-out-clause-promise c =
+    let a = c.args in
+    let n = c.ask-n.result in
+    let i = live_input (handed a.job.now) a.from (handed_rows a.fetched.now) a.rate in
+    let f = c.in_ok-accept_fetched.ensures in
+    let short : leb n (length a.out.now.chunks.now) && (leb n (length a.out.now.layers.now) && leb n (length a.out.now.bytes.now)) ≡ false =
+    elim c.else-n-out.branch [
+      | else-n-out-via-then-n-out+then-n-out-2+else-n-out-3 w ↦ rw (le-leb _ _ w.if-n-out.true, le-leb _ _ w.if-n-out-2.true, lt-leb _ _ w.if-n-out-3.false) refl
+      | else-n-out-via-then-n-out+else-n-out-2 w ↦ rw (le-leb _ _ w.if-n-out.true, lt-leb _ _ w.if-n-out-2.false) refl
+      | else-n-out-via-else-n-out w ↦ rw (lt-leb _ _ w.if-n-out.false) refl
+    ] in
+    output_short i (lent_pieces a.out.now) _ c.onward-rest.ensures (sym f.refused) (f.gathered refl) c.ask-n.ensures short
