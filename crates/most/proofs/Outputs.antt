@@ -5,7 +5,7 @@ use mathlib.Core.List.{List, []}
 use Prim.Native.Nat.{ℕ, ◌+◌, ◌*◌, ◌≤◌, ◌<◌}
 use native.Mathlib.Omega.{arith}
 use borrow.Author.Tests.{eq-eqb, ne_eqb, le-leb}
-use lib.ListN.{length, get_or, replicate}
+use lib.ListN.{drop, length, get_or, replicate}
 use lib.Dec.{T, eqb, leb, leb→le}
 use Rattle.theory_basics.specs.Refusals.{unless}
 use Rattle.theory_basics.specs.lemmas.Lists.{get_d_up_to}
@@ -142,28 +142,31 @@ module _ (h : JobInput) (marks slots cs layers bytes work : List ℕ) (o : Write
   -- What the decision asks for.
   pub decide_pre :
       (own : ℕ → ℕ → ℕ) → own ≡ size job → (ids ready : List ℕ) → length ids ≡ 500 → length ready ≡ 500 → {base : ℕ} → base ≡ with_layer 0 0 →
-      DecideMostPre job.programme (layers_of job) own job.forecast work ids ready (replicate 500 base)
+      DecideMostPre job own work ids ready (replicate 500 base)
   decide_pre own says ids ready a b e =
-      record { from = decide_from job ok_of own says ids ready a b e; sizes = job.sizes; overrides = job.overrides; says = says; accepted = ok_of; room = room_of.work_fits }
+      record { accepted = ok_of; sizes_are = says; from = decide_from job ok_of own says ids ready a b e; room = room_of.work_fits }
 
   -- What writing the plan asks for.
   pub decided :
-      (own : ℕ → ℕ → ℕ) → own ≡ size job → {set : List ℕ} {out : Decision} {ids ready mark : List ℕ} → DecidesMost job set out ids ready mark →
-      Decided (chunks job) job.forecast own out.first ids ready mark job (plan_over job set)
-  decided own says {set} d =
+      (own : ℕ → ℕ → ℕ) → own ≡ size job → {out : Decision} {ids ready mark : List ℕ} → DecidesMost job out ids ready mark →
+      Decided (chunks job) job.forecast own out.first ids ready mark job (plan_over job (drop out.first ids))
+  decided own says {out} {ids} d =
       record {
         accepted = ok_of;
         counted = refl;
         forecast_is = refl;
         sizes_are = says;
-        choice = (over_exists job ok_of set).choice;
+        choice = (over_exists job ok_of (drop out.first ids)).choice;
         fits = plan_over_fits job ok_of d.most;
         tables = d.tables;
       }
 
   module _
-      {set : List ℕ} {out : Decision} {ids ready mark : List ℕ} (d : DecidesMost job set out ids ready mark) {made : Output} {marks' slots' cs' layers' bytes' : List ℕ}
-      (l : WritePost (own_result job (plan_over job set)) marks slots cs layers bytes made marks' slots' cs' layers' bytes') where
+      {out : Decision} {ids ready mark : List ℕ} (d : DecidesMost job out ids ready mark) {made : Output} {marks' slots' cs' layers' bytes' : List ℕ}
+      (l : WritePost (own_result job (plan_over job (drop out.first ids))) marks slots cs layers bytes made marks' slots' cs' layers' bytes') where
+    abbrev set : List ℕ
+    set = drop out.first ids
+
     whole : made.whole ≡ true
     whole =
         let few = own_list_rows job ok_of (plan_over job set) (over_exists job ok_of set).choice in

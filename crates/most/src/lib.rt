@@ -113,18 +113,19 @@ fn find(
     let held = job::held_most(p) as usize;
     let count = p.chunks as usize;
     if held < 2 {
-        return find_forward(count, held, &ends, &opens, &bases, ids);
+        find_forward(count, held, &ends, &opens, &bases, ids)
+    } else {
+        let first = core_decide::settle_bases(p, table, after, ids, dues, bytes, needs);
+        let bound = core_bounds::in_order(p, table, after, work);
+        let film = Film {
+            count,
+            held,
+            all: after[0],
+        };
+        core_passes::seek(
+            film, bound, passes, &ends, &opens, &bases, &smallest, work, first, ids,
+        )
     }
-    let first = core_decide::settle_bases(p, table, after, ids, dues, bytes, needs);
-    let bound = core_bounds::in_order(p, table, after, work);
-    let film = Film {
-        count,
-        held,
-        all: after[0],
-    };
-    core_passes::seek(
-        film, bound, passes, &ends, &opens, &bases, &smallest, work, first, ids,
-    )
 }
 
 // The set found, with its releases and marks: the layers above its bases follow document 01's way.
@@ -137,10 +138,10 @@ fn decide(
     ready: &mut [u16; CHUNKS],
     mark: &mut [u8; CHUNKS],
 ) -> Decision
-    requires { DecideMostPre job.now.programme (length job.now.sizes.now) (table_at table.now)
-        job.now.forecast.now work.old ids.old ready.old mark.old }
-    ensures { DecidePost job.now.programme (length job.now.sizes.now) (table_at table.now)
-        job.now.forecast.now work.old result work.new ids.new ready.new mark.new }
+    requires { DecideMostPre (job_in (handed job.now)) (table_at table.now) work.old
+        ids.old ready.old mark.old }
+    ensures { DecidePost (job_in (handed job.now)) work.old result
+        work.new ids.new ready.new mark.new }
 {
     let p = job.programme;
     let mut after = [0u64; SUMS];

@@ -4,15 +4,14 @@
 #![tactic(auto)]
 
 ghost use Rattle.std.specs.Prelude.{◌≡◌, cond, ◌-◌, ◌≤◌, length};
-ghost use Rattle.job.specs.Input.{job_refusal};
+ghost use Rattle.job.specs.Input.{job_in, job_refusal};
 ghost use Rattle.job.specs.Handed.{handed};
 ghost use Rattle.core_sizes.specs.Table.{table_at};
 ghost use Rattle.fetch.specs.Handed.{SameSlices, lent_list};
 ghost use Rattle.theory_plan.specs.lemmas.Parts.{at};
 ghost use Rattle.core_moore_hodgson.specs.lemmas.Tables.{moore_hodgson_in};
-ghost use Rattle.core_decide.specs.lemmas.Decision.{DecidePre};
 ghost use Rattle.search.specs.Answer.{SearchOutput, SearchPromise};
-ghost use Rattle.search.specs.lemmas.Deciding.{DecidePost, ShortfallPre};
+ghost use Rattle.search.specs.lemmas.Deciding.{DecideFoundPre, DecidesFound, ShortfallPre};
 
 use fetch::LentList;
 use job::{CHUNKS, JobInput, Programme, SIZES, SUMS, SizeTable, SlotSums};
@@ -64,10 +63,9 @@ fn decide(
     ready: &mut [u16; CHUNKS],
     mark: &mut [u8; CHUNKS],
 ) -> Decision
-    requires { DecidePre job.now.programme (length job.now.sizes.now) (table_at table.now)
-        1 job.now.forecast.now ids.old ready.old mark.old }
-    ensures { DecidePost job.now.programme (length job.now.sizes.now) (table_at table.now)
-        job.now.forecast.now budget result ids.new ready.new mark.new }
+    requires { DecideFoundPre (job_in (handed job.now)) (table_at table.now)
+        ids.old ready.old mark.old }
+    ensures { DecidesFound (job_in (handed job.now)) budget result ids.new ready.new mark.new }
 {
     let p = job.programme;
     let mut after = [0u64; SUMS];

@@ -1,11 +1,10 @@
 -- `decide` meets its contract: what the tables hold at the end is the plan over the set found.
-use mathlib.Core.Path.{refl}
 use native.Mathlib.Omega.{arith}
 use Rattle.std.proofs.Common.{rules}
 use lib.ListN.{length}
 use Rattle.core_sizes.specs.Table.{table_at}
 use Rattle.core_decide.proofs.Decided.{kept_from}
-use Rattle.most.proofs.Deciding.{any_small, decided_each, found_small, place_from}
+use Rattle.most.proofs.Deciding.{any_small, decided_job, found_small, place_from}
 use Rattle.most.proofs.decide.Goals as goal
 
 pub set_bases-requires : goal.set_bases-requires
@@ -24,4 +23,4 @@ overflow_cast-result-2 c = omega (arith, any_small c.requires c.sum_after.ensure
 
 pub returns : goal.returns
 returns c =
-    decided_each c.requires c.sum_after.ensures c.find-sought.ensures refl refl c.any_order-any.ensures c.settle_kept.ensures
+    decided_job c.requires c.sum_after.ensures c.find-sought.ensures c.any_order-any.ensures c.settle_kept.ensures

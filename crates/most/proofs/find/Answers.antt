@@ -13,7 +13,7 @@ settle_bases-first-requires c =
 pub seek-requires : goal.seek-requires
 seek-requires c = seek_from c.requires _ _ _ _ c.set_levels.ensures _ c.held_most-held.ensures c.if-held-lt2.false c.in_order-bound.ensures c.settle_bases-first.ensures.kept_in
 
-pub returns : goal.returns
-returns c =
+pub returns-else-held-lt2 : goal.returns-else-held-lt2
+returns-else-held-lt2 c =
     sought_each c.requires _ _ _ _ c.set_levels.ensures _ c.held_most-held.ensures c.if-held-lt2.false c.in_order-bound.ensures
     c.settle_bases-first.ensures.kept_in c.seek.ensures

@@ -2,11 +2,11 @@
 -- the plan over the set.
 use Rattle.std.specs.Prelude.{ℕ, ◌+◌, ◌*◌, ◌≤◌, ◌≡◌, true, List, length, drop, Ok}
 use Rattle.job.specs.declared.Programme.{Programme}
-use Rattle.job.specs.Job.{Accepted, Job, Override, chunks, size_in}
+use Rattle.job.specs.Job.{Accepted, Job, chunks, layers, size}
 use Rattle.job.specs.Input.{JobInput, job_in, job_refusal}
 use Rattle.fetch.specs.Slices.{ListSlices}
 use Rattle.theory_plan.specs.Plan.{kept, plan}
-use Rattle.core_decide.specs.lemmas.Decision.{DecidePre, Decides, job_from}
+use Rattle.core_decide.specs.lemmas.Decision.{DecidePre, Decides}
 use Rattle.theory_search.specs.Search.{plan_over}
 use Rattle.theory_most.specs.Statement.{Most, NoneAboveInOrder, Set, bound, bound_any}
 use Rattle.theory_most.specs.lemmas.InTables.{EachJob, Says, SomeJob}
@@ -45,26 +45,21 @@ pub record FindPost (p : Programme) (sizes : ℕ → ℕ → ℕ) (left work : L
 
 -- ---- the plan over the set
 
--- What the decision asks for, with some accepted job that the handed numbers say.
-pub record DecideMostPre (p : Programme) (layers : ℕ) (size : ℕ → ℕ → ℕ) (forecast work ids ready mark : List ℕ) : Type 0 where
-  pub from : DecidePre p layers size 1 forecast ids ready mark
-  pub sizes : List ℕ
-  pub overrides : List Override
-  pub says : size ≡ size_in sizes overrides
-  pub accepted : Accepted (job_from p sizes overrides 1 forecast)
-  pub room : DecideRoom p work
+-- An accepted job, whose sizes a table says, tables for what is decided of it, and a work slice.
+pub record DecideMostPre (j : Job) (own : ℕ → ℕ → ℕ) (work ids ready mark : List ℕ) : Type 0 where
+  pub accepted : Accepted j
+  pub sizes_are : own ≡ size j
+  pub from : DecidePre j.programme (layers j) own 1 j.forecast ids ready mark
+  pub room : DecideRoom j.programme work
 
-pub record DecidesMost (j : Job) (set : List ℕ) (r : Decision) (ids ready mark : List ℕ) : Type 0 where
-  pub set_is : drop r.first ids ≡ set
-  pub most : Most j set r.bound
+-- The set stands at the end of ids.
+pub record DecidesMost (j : Job) (r : Decision) (ids ready mark : List ℕ) : Type 0 where
+  pub most : Most j (drop r.first ids) r.bound
   pub any_is : r.bound_any ≡ bound_any j
-  pub tables : Decides j (plan_over j set) r.first ids ready mark
+  pub tables : Decides j (plan_over j (drop r.first ids)) r.first ids ready mark
 
--- So for every accepted job that the handed numbers say, however its sizes are stored.
-pub record DecidePost (p : Programme) (layers : ℕ) (size : ℕ → ℕ → ℕ) (forecast work : List ℕ) (r : Decision) (work' ids ready mark : List ℕ) : Type 0 where
-  pub each :
-      (sizes : List ℕ) (overrides : List Override) → layers ≡ length sizes → size ≡ size_in sizes overrides →
-      Accepted (job_from p sizes overrides 1 forecast) → DecidesMost (job_from p sizes overrides 1 forecast) (drop r.first ids) r ids ready mark
+pub record DecidePost (j : Job) (work : List ℕ) (r : Decision) (work' ids ready mark : List ℕ) : Type 0 where
+  pub decides : DecidesMost j r ids ready mark
   pub work_long : length work' ≡ length work
 
 -- ---- the answer

@@ -1,10 +1,9 @@
 -- `decide` meets its contract: what the tables hold at the end is the plan over the set found.
-use mathlib.Core.Path.{refl}
 use Prim.Native.Nat.{ℕ}
 use lib.ListN.{length, length-replicate}
 use Rattle.core_sizes.specs.Table.{table_at}
 use Rattle.core_decide.proofs.Decided.{kept_from}
-use Rattle.search.proofs.Deciding.{find_from, found_each, short_from}
+use Rattle.search.proofs.Deciding.{find_from, found_job, short_from}
 use Rattle.search.proofs.decide.Goals as goal
 
 pub best_within-met-requires : goal.best_within-met-requires
@@ -16,7 +15,7 @@ shortfall-short-requires c = short_from c.requires c.sum_after.ensures _ c.best_
 pub settle_kept-requires : goal.settle_kept-requires
 settle_kept-requires c =
     let a = c.args in
-    kept_from a.job.now.programme (length a.job.now.sizes.now) (table_at a.table.now) 1 a.job.now.forecast.now a.ids.now a.ready.now a.mark.now c.requires c.sum_after.ensures c.best_within-met.ensures.kept _ (length-replicate {A = ℕ} 500 0)
+    kept_from a.job.now.programme (length a.job.now.sizes.now) (table_at a.table.now) 1 a.job.now.forecast.now a.ids.now a.ready.now a.mark.now c.requires.from c.sum_after.ensures c.best_within-met.ensures.kept _ (length-replicate {A = ℕ} 500 0)
 
 pub returns : goal.returns
-returns c = found_each c.requires c.sum_after.ensures c.best_within-met.ensures refl refl refl c.shortfall-short.ensures c.settle_kept.ensures
+returns c = found_job c.requires c.sum_after.ensures c.best_within-met.ensures c.shortfall-short.ensures c.settle_kept.ensures
