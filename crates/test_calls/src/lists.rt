@@ -62,7 +62,7 @@ fn check(rt: &impl Print, text: &str, lengths: Lengths) -> io::Result<()> {
     }
 }
 
-pub(crate) fn lengths(rt: &impl Print) -> io::Result<()> {
+pub(crate) fn every_length(rt: &impl Print) -> io::Result<()> {
     check(rt, "", WHOLE)?;
     check(rt, "a mark too few: ", Lengths { marks: 2, ..WHOLE })?;
     check(rt, "a mark too many: ", Lengths { marks: 4, ..WHOLE })?;

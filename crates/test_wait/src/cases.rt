@@ -7,7 +7,7 @@ use std::io;
 use wait::Film;
 
 // A film of equal chunks.
-fn film<'a>(
+fn equal_film<'a>(
     chunks: u16,
     span: u16,
     limit: u16,
@@ -61,20 +61,20 @@ fn show(rt: &impl Print, text: &str, film: Film) -> io::Result<()> {
 
 // One chunk of one slot and one byte, nothing held.
 fn one(rt: &impl Print, text: &str, forecast: &[u32]) -> io::Result<()> {
-    show(rt, text, film(1, 1, 0, &[1], forecast))
+    show(rt, text, equal_film(1, 1, 0, &[1], forecast))
 }
 
 pub(crate) fn small(rt: &impl Print) -> io::Result<()> {
     one(rt, "a longer wait is worse", &[1, 0])?;
     one(rt, "the last s", &[0, 0, 1])?;
     one(rt, "no s works", &[0, 0])?;
-    show(rt, "H = 0", film(2, 1, 0, &[2], &[2, 1, 2, 2]))
+    show(rt, "H = 0", equal_film(2, 1, 0, &[2], &[2, 1, 2, 2]))
 }
 
 pub(crate) fn binding(rt: &impl Print) -> io::Result<()> {
-    let worse = film(2, 1, 1, &[2], &[1, 2, 1, 0, 2, 2]);
-    let job_a = film(3, 2, 2, &[2, 1], &[3, 0, 1, 0, 2, 0]);
-    let short = film(3, 2, 9, &[1], &[1, 1, 1, 1]);
+    let worse = equal_film(2, 1, 1, &[2], &[1, 2, 1, 0, 2, 2]);
+    let job_a = equal_film(3, 2, 2, &[2, 1], &[3, 0, 1, 0, 2, 0]);
+    let short = equal_film(3, 2, 9, &[1], &[1, 1, 1, 1]);
     show(rt, "worse, then better", worse)?;
     show(rt, "job A without s", job_a)?;
     show(rt, "too short for s = 1", short)
@@ -90,7 +90,7 @@ fn of_lengths(
     slots: usize,
 ) -> io::Result<()> {
     let ones = [1; 5];
-    let film = film(
+    let film = equal_film(
         chunks,
         span,
         65535,
@@ -118,7 +118,7 @@ pub(crate) fn lengths(rt: &impl Print) -> io::Result<()> {
 
 // A second layer of so many bytes, and a slot of so many.
 fn of_bytes(rt: &impl Print, text: &str, span: u16, size: u32, bytes: u32) -> io::Result<()> {
-    ask(rt, text, &film(500, span, 0, &[1, size], &[bytes]))
+    ask(rt, text, &equal_film(500, span, 0, &[1, size], &[bytes]))
 }
 
 pub(crate) fn ranges(rt: &impl Print) -> io::Result<()> {
@@ -148,10 +148,11 @@ fn sz(chunk: u16, layer: u8, size: u32) -> Override {
 
 // A film of one layer of 2 bytes and an SZ, of two chunks and so many slots.
 fn uneven(rt: &impl Print, text: &str, sz: Override, slots: usize) -> io::Result<()> {
+    let size = [sz.size];
     let overrides = Overrides {
         chunks: &[sz.chunk],
         layers: &[sz.layer],
-        bytes: prefix(&[sz.size], usize::from(sz.whole)),
+        bytes: prefix(&size, usize::from(sz.whole)),
     };
     let film = Film {
         chunks: 2,
@@ -182,22 +183,22 @@ pub(crate) fn uneven_films(rt: &impl Print) -> io::Result<()> {
 
 pub(crate) fn large(rt: &impl Print) -> io::Result<()> {
     let mut forecast = [0u32; 3601];
-    ask(rt, "3,601 slots", &film(1, 1, 0, &[1], &forecast))?;
+    ask(rt, "3,601 slots", &equal_film(1, 1, 0, &[1], &forecast))?;
     ask(
         rt,
         "3,600 slots of nothing",
-        &film(500, 1, 499, &[1], &forecast[..3600]),
+        &equal_film(500, 1, 499, &[1], &forecast[..3600]),
     )?;
     forecast[3100..].fill(1);
     ask(
         rt,
         "the last s of 500 chunks",
-        &film(500, 1, 0, &[1], &forecast[..3600]),
+        &equal_film(500, 1, 0, &[1], &forecast[..3600]),
     )?;
     forecast[1..].fill(16777216);
     ask(
         rt,
         "sums above 32 bits",
-        &film(300, 1, 0, &[16777216], &forecast[..3600]),
+        &equal_film(300, 1, 0, &[16777216], &forecast[..3600]),
     )
 }
