@@ -23,12 +23,14 @@ pub(crate) fn writes(rt: &impl Print) -> io::Result<()> {
 
 fn read_said(rt: &impl Print, read: Result<ReadJob, Refusal>) -> io::Result<()> {
     match read {
-        Ok(ReadJob {
-            programme: _,
-            layers,
-            overrides: _,
-            slots,
-        }) => print!(rt; "layers {layers} slots {slots}"),
+        Ok(
+            ReadJob {
+                programme: _,
+                layers,
+                overrides: _,
+                slots,
+            },
+        ) => print!(rt; "layers {layers} slots {slots}"),
         Err(refusal) => print!(rt; "refused {}", refusal.number()),
     }
 }

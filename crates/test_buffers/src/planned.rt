@@ -8,9 +8,9 @@ use std::io;
 // A refusal has no counts, which the line says by zeros.
 fn plan_said(rt: &impl Print, plan: Result<Planned, Refusal>) -> io::Result<()> {
     match plan {
-        Ok(Planned { rows, counts }) => {
-            let [a, b, c, d] = counts;
-            print!(rt; "rows {rows} counts {a} {b} {c} {d}")
+        Ok(plan) => {
+            let [a, b, c, d] = plan.counts;
+            print!(rt; "rows {} counts {a} {b} {c} {d}", plan.rows)
         }
         Err(refusal) => print!(rt; "refused {} counts 0 0 0 0", refusal.number()),
     }
