@@ -6,12 +6,14 @@ use std::io;
 
 fn read_said(rt: &impl Print, read: Result<ReadJob, Refusal>) -> io::Result<()> {
     match read {
-        Ok(ReadJob {
-            programme: _,
-            layers,
-            overrides,
-            slots,
-        }) => print!(rt; "layers {layers} SZs {overrides} slots {slots}"),
+        Ok(
+            ReadJob {
+                programme: _,
+                layers,
+                overrides,
+                slots,
+            },
+        ) => print!(rt; "layers {layers} SZs {overrides} slots {slots}"),
         Err(refusal) => print!(rt; "refused {}", refusal.number()),
     }
 }
