@@ -51,9 +51,9 @@ fn mixed(rt: &(impl Files + Print)) -> io::Result<()> {
     let n = core_input::read_file(rt, b"q00", &mut file)?;
     println!(rt; "q00 as marks")?;
     for length in 0..18 {
-        mark_counts(rt, "marks", &file[..length])?;
+        mark_counts(rt, "marks", prefix(&file, length))?;
     }
-    mark_counts(rt, "marks", &file[..500])?;
+    mark_counts(rt, "marks", prefix(&file, 500))?;
     mark_counts(rt, "marks", prefix(&file, n))
 }
 
