@@ -1,7 +1,9 @@
 // The order of the refusals: a row in slot 7, for 19 and 20, on job A or a part of it, booked and
 // released.
-use crate::print::{said, word};
-use job::Programme;
+use crate::print::done_said;
+use core_prefix::prefix;
+use fetch::{FetchList, Rows};
+use job::{Overrides, Programme};
 use std::io;
 
 // How much is handed: chunks, layers and slots of job A, SZs of chunk 1, which it has none of,
@@ -27,64 +29,67 @@ fn job_of(chunks: u16) -> Programme {
     }
 }
 
-fn room(s: &mut [u32], n: usize) -> &mut [u32] {
-    if s.len() < n {
-        return s;
+fn overrides_of(lengths: Lengths) -> Overrides<'static> {
+    Overrides {
+        chunks: prefix(&[1], lengths.uneven),
+        layers: prefix(&[0], lengths.uneven),
+        bytes: prefix(&[1], lengths.uneven),
     }
-    &mut s[..n]
+}
+
+fn rows_of(lengths: Lengths) -> Rows<'static> {
+    Rows {
+        slots: &[7],
+        chunks: prefix(&[2], lengths.chunk),
+        layers: prefix(&[0], lengths.layer),
+        bytes: prefix(&[2], lengths.bytes),
+    }
 }
 
 fn book(rt: &impl Print, lengths: Lengths) -> io::Result<()> {
     let mut forecast = [3u32, 0, 1, 0, 2, 0];
-    said(
+    let list = FetchList {
+        marks: prefix(&[0, 1, 0], lengths.marks),
+        rows: rows_of(lengths),
+    };
+    done_said(
         rt,
         booking::book(
             job_of(lengths.chunks),
-            core_prefix::words(&[2, 1], lengths.layers),
-            core_prefix::halves(&[1], lengths.uneven),
-            core_prefix::bytes(&[0], lengths.uneven),
-            core_prefix::words(&[1], lengths.uneven),
-            room(&mut forecast, lengths.slots),
-            core_prefix::bytes(&[0, 1, 0], lengths.marks),
-            &[7],
-            core_prefix::halves(&[2], lengths.chunk),
-            core_prefix::bytes(&[0], lengths.layer),
-            core_prefix::words(&[2], lengths.bytes),
+            prefix(&[2, 1], lengths.layers),
+            &overrides_of(lengths),
+            &mut forecast[..lengths.slots.min(6)],
+            &list,
         ),
     )
 }
 
 fn release(rt: &impl Print, lengths: Lengths) -> io::Result<()> {
     let mut forecast = [3u32, 0, 1, 0, 2, 0];
-    said(
+    done_said(
         rt,
         booking::release(
             job_of(lengths.chunks),
-            core_prefix::words(&[2, 1], lengths.layers),
-            core_prefix::halves(&[1], lengths.uneven),
-            core_prefix::bytes(&[0], lengths.uneven),
-            core_prefix::words(&[1], lengths.uneven),
-            room(&mut forecast, lengths.slots),
-            &[7],
-            core_prefix::halves(&[2], lengths.chunk),
-            core_prefix::bytes(&[0], lengths.layer),
-            core_prefix::words(&[2], lengths.bytes),
+            prefix(&[2, 1], lengths.layers),
+            &overrides_of(lengths),
+            &mut forecast[..lengths.slots.min(6)],
+            &rows_of(lengths),
         ),
     )
 }
 
-fn both(rt: &impl Print, text: &[u8], lengths: Lengths) -> io::Result<()> {
-    word(rt, text)?;
+fn both(rt: &impl Print, text: &str, lengths: Lengths) -> io::Result<()> {
+    print!(rt; "{text}: ")?;
     book(rt, lengths)?;
-    word(rt, b", ")?;
+    print!(rt; ", ")?;
     release(rt, lengths)?;
-    word(rt, b"\n")
+    println!(rt;)
 }
 
 // The row's chunk is not handed, and a mark too few.
 fn short(
     rt: &impl Print,
-    text: &[u8],
+    text: &str,
     chunks: u16,
     layers: usize,
     uneven: usize,
@@ -104,7 +109,7 @@ fn short(
 }
 
 // The whole job A.
-fn whole(rt: &impl Print, text: &[u8], marks: usize, layer: usize, bytes: usize) -> io::Result<()> {
+fn whole(rt: &impl Print, text: &str, marks: usize, layer: usize, bytes: usize) -> io::Result<()> {
     let lengths = Lengths {
         chunks: 3,
         layers: 2,
@@ -119,13 +124,13 @@ fn whole(rt: &impl Print, text: &[u8], marks: usize, layer: usize, bytes: usize)
 }
 
 pub(crate) fn order(rt: &impl Print) -> io::Result<()> {
-    short(rt, b"5 first: ", 501, 0, 1, 5)?;
-    short(rt, b"then 6: ", 3, 0, 1, 5)?;
-    short(rt, b"then 18: ", 3, 2, 1, 5)?;
-    short(rt, b"then 7: ", 3, 2, 0, 5)?;
-    short(rt, b"then 8: ", 3, 2, 0, 6)?;
-    whole(rt, b"8 for a layer: ", 3, 0, 1)?;
-    whole(rt, b"8 for bytes: ", 3, 1, 0)?;
-    whole(rt, b"8 for a mark in booking alone: ", 2, 1, 1)?;
-    whole(rt, b"then 19 and 20: ", 3, 1, 1)
+    short(rt, "5 first", 501, 0, 1, 5)?;
+    short(rt, "then 6", 3, 0, 1, 5)?;
+    short(rt, "then 18", 3, 2, 1, 5)?;
+    short(rt, "then 7", 3, 2, 0, 5)?;
+    short(rt, "then 8", 3, 2, 0, 6)?;
+    whole(rt, "8 for a layer", 3, 0, 1)?;
+    whole(rt, "8 for bytes", 3, 1, 0)?;
+    whole(rt, "8 for a mark in booking alone", 2, 1, 1)?;
+    whole(rt, "then 19 and 20", 3, 1, 1)
 }

@@ -6,7 +6,6 @@
 mod jobs;
 mod planned;
 mod plans;
-mod print;
 mod rooms;
 
 use std::io;

@@ -1,81 +1,48 @@
 // The planner's room: exact, and one short, for each lent slice.
-use crate::print::{four, pair, word};
-use crate::rooms::{job_of, marks_shown, room8, room16, room32};
-use planner::Answer;
+use crate::rooms::{Lengths, each, job_of, marks_said};
+use fetch::LentList;
+use planner::Planned;
+use refusals::Refusal;
 use std::io;
 
-fn half(x: u16) -> usize {
-    x as usize
-}
-
-fn counts_shown(rt: &impl Print, counts: [u16; 4]) -> io::Result<()> {
-    four(
-        rt,
-        b" counts",
-        half(counts[0]),
-        half(counts[1]),
-        half(counts[2]),
-        half(counts[3]),
-    )
-}
-
-fn rows_said(rt: &impl Print, answer: Answer) -> io::Result<()> {
-    match answer {
-        Answer::Rows(n) => pair(rt, b"rows ", n),
-        Answer::Refused(r) => pair(rt, b"refused ", r as usize),
+// A refusal has no counts, which the line says by zeros.
+fn plan_said(rt: &impl Print, plan: Result<Planned, Refusal>) -> io::Result<()> {
+    match plan {
+        Ok(plan) => {
+            let [a, b, c, d] = plan.counts;
+            print!(rt; "rows {} counts {a} {b} {c} {d}", plan.rows)
+        }
+        Err(refusal) => print!(rt; "refused {} counts 0 0 0 0", refusal.number()),
     }
 }
 
-// Job A's plan into room for so many marks and so many of each field of the rows.
-fn plan(
-    rt: &impl Print,
-    text: &[u8],
-    film: u16,
-    room: usize,
-    slot: usize,
-    chunk: usize,
-    layer: usize,
-    byte: usize,
-) -> io::Result<()> {
-    let sizes = [2u32, 1];
-    let forecast = [3u32, 0, 1, 0, 2, 0];
+// Job A's plan, or that of a part of it, into so much room.
+fn plan(rt: &impl Print, text: &str, film: u16, lengths: Lengths) -> io::Result<()> {
     let mut marks = [9u8; 4];
     let mut slots = [9u16; 4];
     let mut chunks = [9u16; 4];
     let mut layers = [9u8; 4];
     let mut bytes = [9u32; 4];
-    word(rt, text)?;
-    let plan = planner::plan(
-        job_of(film),
-        &sizes,
-        &[],
-        &[],
-        &[],
-        &forecast,
-        room8(&mut marks, room),
-        room16(&mut slots, slot),
-        room16(&mut chunks, chunk),
-        room8(&mut layers, layer),
-        room32(&mut bytes, byte),
-    );
-    let answer = plan.answer;
-    let counts = plan.counts;
-    rows_said(rt, answer)?;
-    counts_shown(rt, counts)?;
-    marks_shown(rt, &marks, &layers)
+    let mut lent = LentList {
+        marks: &mut marks[..lengths.marks.min(4)],
+        slots: &mut slots[..lengths.slots.min(4)],
+        chunks: &mut chunks[..lengths.chunks.min(4)],
+        layers: &mut layers[..lengths.layers.min(4)],
+        bytes: &mut bytes[..lengths.bytes.min(4)],
+    };
+    print!(rt; "{text}")?;
+    plan_said(rt, planner::plan(&job_of(film), &mut lent))?;
+    marks_said(rt, marks, layers)
 }
 
 pub(crate) fn rooms(rt: &impl Print) -> io::Result<()> {
-    plan(rt, b"", 3, 4, 4, 4, 4, 4)?;
-    plan(rt, b"", 3, 3, 3, 3, 3, 3)?;
-    plan(rt, b"no room for a mark: ", 3, 2, 3, 3, 3, 3)?;
-    short_rooms(rt)?;
-    plan(rt, b"5 before 11: ", 501, 0, 0, 0, 0, 0)
-}
-
-fn short_rooms(rt: &impl Print) -> io::Result<()> {
-    plan(rt, b"for a slot: ", 3, 3, 2, 3, 3, 3)?;
-    plan(rt, b"for a chunk: ", 3, 3, 3, 2, 3, 3)?;
-    plan(rt, b"for a layer: ", 3, 3, 3, 3, 2, 3)?;
-    plan(rt, b"for bytes: ", 3, 3, 3, 3, 3, 2)
+    let exact = each(3);
+    plan(rt, "", 3, each(4))?;
+    plan(rt, "", 3, exact)?;
+    plan(rt, "no room for a mark: ", 3, Lengths { marks: 2, ..exact })?;
+    plan(rt, "for a slot: ", 3, Lengths { slots: 2, ..exact })?;
+    plan(rt, "for a chunk: ", 3, Lengths { chunks: 2, ..exact })?;
+    plan(rt, "for a layer: ", 3, Lengths { layers: 2, ..exact })?;
+    plan(rt, "for bytes: ", 3, Lengths { bytes: 2, ..exact })?;
+    plan(rt, "5 before 11: ", 501, each(0))
 }

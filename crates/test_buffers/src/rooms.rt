@@ -1,57 +1,65 @@
-// What the tests lend and say of it.
-use crate::print::{four, word};
-use job::Programme;
+// What the tests hand over and lend, and what they say of it.
+use core_prefix::prefix;
+use job::{JobInput, Overrides, Programme};
+use refusals::Refusal;
 use std::io;
 
-// Room for n elements at most.
-pub(crate) fn room8(s: &mut [u8], n: usize) -> &mut [u8] {
-    if s.len() < n {
-        return s;
+// Job A, but of so many chunks, layers and slots: of 3 chunks, 2 layers and 6 slots it is job A, of
+// 2 chunks the forecast has slots past the last due one, of 501 it is refused by 5.
+pub(crate) fn job_part(chunks: u16, layers: usize, slots: usize) -> JobInput<'static> {
+    let overrides = Overrides {
+        chunks: &[],
+        layers: &[],
+        bytes: &[],
+    };
+    JobInput {
+        programme: Programme {
+            chunks,
+            span: 2,
+            delay: 2,
+            limit: 2,
+        },
+        sizes: prefix(&[2, 1, 1, 1, 1], layers),
+        overrides,
+        forecast: prefix(&[3, 0, 1, 0, 2, 0], slots),
     }
-    &mut s[..n]
 }
 
-pub(crate) fn room16(s: &mut [u16], n: usize) -> &mut [u16] {
-    if s.len() < n {
-        return s;
-    }
-    &mut s[..n]
+pub(crate) fn job_of(chunks: u16) -> JobInput<'static> {
+    job_part(chunks, 2, 6)
 }
 
-pub(crate) fn room32(s: &mut [u32], n: usize) -> &mut [u32] {
-    if s.len() < n {
-        return s;
-    }
-    &mut s[..n]
+// How much of a room for marks and rows is lent, at most 4 of each.
+#[derive(Clone, Copy)]
+pub(crate) struct Lengths {
+    pub marks: usize,
+    pub slots: usize,
+    pub chunks: usize,
+    pub layers: usize,
+    pub bytes: usize,
 }
 
-// Job A, but of so many chunks: of 3 it is job A, of 2 the forecast has slots past the last due
-// one, of 501 it is refused by 5.
-pub(crate) fn job_of(chunks: u16) -> Programme {
-    Programme {
-        chunks,
-        span: 2,
-        delay: 2,
-        limit: 2,
+// So much of each.
+pub(crate) fn each(n: usize) -> Lengths {
+    Lengths {
+        marks: n,
+        slots: n,
+        chunks: n,
+        layers: n,
+        bytes: n,
+    }
+}
+
+pub(crate) fn written_said(rt: &impl Print, written: Result<usize, Refusal>) -> io::Result<()> {
+    match written {
+        Ok(n) => println!(rt; "written {n}"),
+        Err(refusal) => println!(rt; "refused {}", refusal.number()),
     }
 }
 
 // Numbers of the lent slices after a call.
-pub(crate) fn then(rt: &impl Print, a: usize, b: usize, c: usize, d: usize) -> io::Result<()> {
-    four(rt, b", then", a, b, c, d)?;
-    word(rt, b"\n")
-}
-
-fn byte(x: u8) -> usize {
-    x as usize
-}
-
-pub(crate) fn marks_shown(rt: &impl Print, marks: &[u8; 4], layers: &[u8; 4]) -> io::Result<()> {
-    then(
-        rt,
-        byte(marks[1]),
-        byte(marks[3]),
-        byte(layers[1]),
-        byte(layers[3]),
-    )
+pub(crate) fn marks_said(rt: &impl Print, marks: [u8; 4], layers: [u8; 4]) -> io::Result<()> {
+    let [_, mark, _, last_mark] = marks;
+    let [_, layer, _, last_layer] = layers;
+    println!(rt; ", then {mark} {last_mark} {layer} {last_layer}")
 }

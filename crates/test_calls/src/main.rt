@@ -11,7 +11,7 @@ mod print;
 use std::io;
 
 fn main(rt: HostRuntime) -> io::Result<()> {
-    lists::lengths(&rt)?;
+    lists::every_length(&rt)?;
     meters::samples(&rt)?;
     meters::forecasts(&rt)?;
     meters::means(&rt)?;

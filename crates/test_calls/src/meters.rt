@@ -1,40 +1,38 @@
 // The link meter: refusals 10, 12 and 13, the last ten samples, the forecast.
-use crate::print::{line, refused, word};
-use meter::{Answer, Meter};
+use crate::print::refused;
+use meter::Meter;
 use std::io;
 
-// The meter after the sample; the refusal, if there is one, is printed.
+// The meter after the sample; the refusal, if there is one, is printed, and the meter stays.
 fn take(rt: &impl Print, m: Meter, slot: u16, bytes: u32) -> io::Result<Meter> {
-    let taken = meter::take(m, slot, bytes);
-    if taken.code != 0 {
-        refused(rt, taken.code)?;
+    match meter::take(m, slot, bytes) {
+        Ok(taken) => Ok(taken),
+        Err(refusal) => {
+            refused(rt, refusal)?;
+            Ok(m)
+        }
     }
-    Ok(taken.meter)
 }
 
 fn forecast(rt: &impl Print, m: Meter) -> io::Result<()> {
     match meter::forecast(m) {
-        Answer::Bytes(n) => line(rt, b"forecast ", n as usize),
-        Answer::Refused(n) => refused(rt, n),
+        Ok(bytes) => println!(rt; "forecast {bytes}"),
+        Err(refusal) => refused(rt, refusal),
     }
 }
 
 pub(crate) fn samples(rt: &impl Print) -> io::Result<()> {
-    word(rt, b"slot 0: ")?;
+    print!(rt; "slot 0: ")?;
     let m = take(rt, meter::new(), 0, 1)?;
-    word(rt, b"16,777,217 bytes: ")?;
+    print!(rt; "16,777,217 bytes: ")?;
     let m = take(rt, m, 1, 16777217)?;
     let m = take(rt, m, 5, 16777216)?;
-    word(rt, b"the same slot: ")?;
+    print!(rt; "the same slot: ")?;
     let m = take(rt, m, 5, 1)?;
-    word(rt, b"10 before 13: ")?;
+    print!(rt; "10 before 13: ")?;
     let m = take(rt, m, 5, 16777217)?;
     forecast(rt, m)?;
     forecast(rt, take(rt, m, 6, 1)?)
-}
-
-fn wide(x: u16) -> usize {
-    x as usize
 }
 
 // A meter that no call makes: too many samples, or slots that don't rise.
@@ -47,7 +45,7 @@ fn odd(kept: u8, slot: u16) -> Meter {
 }
 
 pub(crate) fn forecasts(rt: &impl Print) -> io::Result<()> {
-    word(rt, b"no sample: ")?;
+    print!(rt; "no sample: ")?;
     forecast(rt, meter::new())?;
     let m = take(rt, take(rt, meter::new(), 1, 6)?, 2, 3)?;
     forecast(rt, m)?;
@@ -57,11 +55,11 @@ pub(crate) fn forecasts(rt: &impl Print) -> io::Result<()> {
 }
 
 fn odd_forecasts(rt: &impl Print) -> io::Result<()> {
-    word(rt, b"eleven kept: ")?;
+    print!(rt; "eleven kept: ")?;
     forecast(rt, odd(11, 2))?;
-    word(rt, b"slots not rising: ")?;
+    print!(rt; "slots not rising: ")?;
     forecast(rt, odd(2, 1))?;
-    word(rt, b"kept out of order: ")?;
+    print!(rt; "kept out of order: ")?;
     take(rt, odd(2, 1), 3, 1)?;
     Ok(())
 }
@@ -70,8 +68,7 @@ fn full_forecasts(rt: &impl Print) -> io::Result<()> {
     let full = take(rt, odd(10, 2), 11, 1000)?;
     forecast(rt, odd(10, 2))?;
     forecast(rt, full)?;
-    let slots = full.slots;
-    line(rt, b"oldest slot ", wide(slots[0]))
+    println!(rt; "oldest slot {}", full.slots[0])
 }
 
 // Ten samples of the same bytes.

@@ -1,22 +1,7 @@
-// Words and numbers to standard output.
+// A refusal, to standard output.
+use refusals::Refusal;
 use std::io;
 
-pub(crate) fn word(rt: &impl Print, text: &[u8]) -> io::Result<()> {
-    rt.write_all(text)
-}
-
-// A word and a number.
-pub(crate) fn pair(rt: &impl Print, text: &[u8], n: usize) -> io::Result<()> {
-    word(rt, text)?;
-    rt.print(n as u64)
-}
-
-// A word, a number and a line feed.
-pub(crate) fn line(rt: &impl Print, text: &[u8], n: usize) -> io::Result<()> {
-    pair(rt, text, n)?;
-    word(rt, b"\n")
-}
-
-pub(crate) fn refused(rt: &impl Print, n: u8) -> io::Result<()> {
-    line(rt, b"refused ", n as usize)
+pub(crate) fn refused(rt: &impl Print, refusal: Refusal) -> io::Result<()> {
+    println!(rt; "refused {}", refusal.number())
 }

@@ -12,45 +12,28 @@ mod lists;
 mod sums;
 mod tally;
 
-ghost use Rattle.std.specs.Prelude.{◌≤◌};
-
 use crate::asked::Case;
 use crate::film::Film;
 use std::io;
 
-// The rates tried, by number.
-const RATES: u16 = 5;
+// The rates tried. At the largest no piece is passed over.
+const LARGEST: u32 = 4294967295;
 
-fn rate(w: u16) -> u32 {
-    if w < 4 {
-        return w as u32;
-    }
-    4294967295
-}
+const RATES: [u32; 5] = [0, 1, 2, 3, LARGEST];
 
-// Whether fewer pieces are asked at this rate than at the largest, at which none is passed over.
+// Whether fewer pieces are asked at this rate than at the largest.
 fn is_fewer(c: Case, pieces: usize) -> bool {
-    let mut most = c;
-    most.rate = rate(4);
-    pieces < asked::ask(most).pieces
+    let most = asked::ask(Case { rate: LARGEST, ..c });
+    most.pieces.is_some_and(|most| pieces < most)
 }
 
 // One more byte of the asks, and the slot after it.
 fn follow(c: Case, came: u32, tally: &mut [u64]) {
-    if film::last_due(c.film) <= c.p {
-        return;
+    if c.p < film::last_due(c.film) {
+        let got = asked::ask(Case { came, ..c });
+        tally::add(tally, tally::TAKEN, 1);
+        tally::add_if(tally, tally::ACCEPTED, got.accepted);
     }
-    let mut with = c;
-    with.came = came;
-    let got = asked::ask(with);
-    tally::add(tally, tally::TAKEN, 1);
-    tally::add_if(tally, tally::ACCEPTED, got.accepted);
-}
-
-fn follow_all(c: Case, tally: &mut [u64]) {
-    follow(c, 0, tally);
-    follow(c, 1, tally);
-    follow(c, 2, tally);
 }
 
 fn note(c: Case, pieces: usize, tally: &mut [u64]) {
@@ -63,36 +46,34 @@ fn note(c: Case, pieces: usize, tally: &mut [u64]) {
 // Whether the call answered; the refusals do not depend on the rate.
 fn trial(c: Case, tally: &mut [u64]) -> bool {
     let got = asked::ask(c);
-    let mut other = c;
-    other.back = true;
-    let again = asked::ask(other);
+    let again = asked::ask(Case { back: true, ..c });
     let sum = sums::plus(tally::number(tally, tally::SUM), got.sum);
     tally::set(tally, tally::SUM, sum);
     tally::add_if(tally, tally::TURNED, got.sum == again.sum);
-    if got.pieces == 99 {
+    let Some(pieces) = got.pieces else {
         tally::add(tally, tally::REFUSED, 1);
         return false;
+    };
+    note(c, pieces, tally);
+    for came in 0..3 {
+        follow(c, came, tally);
     }
-    note(c, got.pieces, tally);
-    follow_all(c, tally);
     true
 }
 
 fn every_rate(f: Film, p: u16, list: u32, tally: &mut [u64]) {
-    let mut w: u16 = 0;
-    while w < RATES {
+    for &rate in &RATES {
         let c = Case {
             film: f,
             p,
             list,
             back: false,
-            rate: rate(w),
+            rate,
             came: 0,
         };
         if !trial(c, tally) {
             return;
         }
-        w = w + 1;
     }
 }
 
@@ -104,11 +85,8 @@ fn one_list(f: Film, p: u16, list: u32, tally: &mut [u64]) {
 }
 
 fn every_list(f: Film, p: u16, tally: &mut [u64]) {
-    let bound = lists::bound(p);
-    let mut list: u32 = 0;
-    while list < bound {
+    for list in 0..lists::bound(p) {
         one_list(f, p, list, tally);
-        list = list + 1;
     }
 }
 
@@ -118,31 +96,24 @@ fn every_slot(f: Film, tally: &mut [u64]) {
         return;
     }
     tally::add(tally, tally::FILMS, 1);
-    let mut p: u16 = 0;
-    while p < last {
-        p = p + 1;
+    for p in 1..=last {
         every_list(f, p, tally);
     }
 }
 
 fn every_film(tally: &mut [u64]) {
-    let mut k: u16 = 0;
-    while k < film::NUMBERS {
+    for k in 0..film::NUMBERS {
         every_slot(film::film_of(k), tally);
-        k = k + 1;
     }
 }
 
 // The words, and the numbers from one on and before another.
-fn say(rt: &impl Print, words: &[u8], tally: &[u64], from: u16, to: u16) -> io::Result<()> {
-    rt.write_all(words)?;
-    let mut k = from;
-    while k < to {
-        rt.write_all(b" ")?;
-        rt.print(tally::number(tally, k))?;
-        k = k + 1;
+fn say(rt: &impl Print, words: &str, tally: &[u64], from: u16, to: u16) -> io::Result<()> {
+    print!(rt; "{words}")?;
+    for k in from..to {
+        print!(rt; " {}", tally::number(tally, k))?;
     }
-    rt.write_all(b"\n")
+    println!(rt;)
 }
 
 fn main(rt: HostRuntime) -> io::Result<()> {
@@ -150,28 +121,28 @@ fn main(rt: HostRuntime) -> io::Result<()> {
     every_film(&mut tally);
     say(
         &rt,
-        b"films; lists of rows fetched; refused by 22:",
+        "films; lists of rows fetched; refused by 22:",
         &tally,
         tally::FILMS,
         tally::ASKED,
     )?;
     say(
         &rt,
-        b"asks; of nothing; pieces; asks of fewer pieces than at the largest rate:",
+        "asks; of nothing; pieces; asks of fewer pieces than at the largest rate:",
         &tally,
         tally::ASKED,
         tally::TURNED,
     )?;
     say(
         &rt,
-        b"the same with the rows in another order; checksum over all answers:",
+        "the same with the rows in another order; checksum over all answers:",
         &tally,
         tally::TURNED,
         tally::TAKEN,
     )?;
     say(
         &rt,
-        b"first bytes of the asks as rows; that the next slot accepts:",
+        "first bytes of the asks as rows; that the next slot accepts:",
         &tally,
         tally::TAKEN,
         tally::ALL,

@@ -24,33 +24,22 @@ pub(crate) const ACCEPTED: u16 = 10;
 pub(crate) const ALL: u16 = 11;
 
 pub(crate) fn add(tally: &mut [u64], k: u16, n: u32) {
-    let at = k as usize;
-    if at < tally.len() {
-        let x = tally[at];
-        if x < 1000000000000000 {
-            tally[at] = x + (n as u64);
-        }
+    if let Some(x) = tally.get_mut(k as usize) {
+        *x = x.saturating_add(u64::from(n));
     }
 }
 
 // One more of k, where the test holds.
 pub(crate) fn add_if(tally: &mut [u64], k: u16, test: bool) {
-    if test {
-        add(tally, k, 1);
-    }
+    add(tally, k, u32::from(test));
 }
 
 pub(crate) fn set(tally: &mut [u64], k: u16, n: u64) {
-    let at = k as usize;
-    if at < tally.len() {
-        tally[at] = n;
+    if let Some(x) = tally.get_mut(k as usize) {
+        *x = n;
     }
 }
 
 pub(crate) fn number(tally: &[u64], k: u16) -> u64 {
-    let at = k as usize;
-    if at < tally.len() {
-        return tally[at];
-    }
-    0
+    tally.get(k as usize).copied().unwrap_or(0)
 }

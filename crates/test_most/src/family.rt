@@ -2,9 +2,9 @@
 // forecast of 0, 1 or 2 bytes a slot, and four kinds of uneven sizes. Of each the plan is made,
 // then most pictures are found with enough passes, and the checker asked.
 use crate::cases::WORK;
-use crate::print::{pair, rows_of, word};
-use checker::Checked;
-use job::{Programme, ROWS};
+use core_prefix::prefix;
+use fetch::{FetchList, LentList, Rows};
+use job::{JobInput, Overrides, Programme, ROWS};
 use most::MostPlan;
 use std::io;
 
@@ -21,184 +21,122 @@ struct Tally {
     passed: u64,
 }
 
-// Numbers here stay far below the bound; it tells the prover so.
-fn plus(a: u64, b: u64) -> u64 {
-    if a < 1 << 32 {
-        if b < 1 << 32 {
-            return a + b;
-        }
-    }
-    a
+fn add(sum: &mut u64, n: u64) {
+    *sum = sum.saturating_add(n);
 }
 
-fn one_if(test: bool) -> u64 {
-    if test {
-        return 1;
-    }
-    0
-}
-
-fn wide(n: u16) -> u64 {
-    n as u64
-}
-
-fn noted(t: Tally, plan: u64, found: MostPlan, passed: bool) -> Tally {
-    let counts = found.counts;
-    Tally {
-        films: plus(t.films, 1),
-        plan: plus(t.plan, plan),
-        found: plus(t.found, wide(counts[0])),
-        bound: plus(t.bound, wide(found.bound)),
-        bound_any: plus(t.bound_any, wide(found.bound_any)),
-        exact: plus(t.exact, one_if(found.exact)),
-        passed: plus(t.passed, one_if(passed)),
-    }
-}
-
-fn is_passed(verdict: Checked) -> bool {
-    match verdict {
-        Checked::Verdict(n) => n == 0,
-        Checked::Refused(_) => false,
-    }
+fn note(plan: u16, found: MostPlan, passed: bool, tally: &mut Tally) {
+    add(&mut tally.films, 1);
+    add(&mut tally.plan, u64::from(plan));
+    add(&mut tally.found, u64::from(found.counts[0]));
+    add(&mut tally.bound, u64::from(found.bound));
+    add(&mut tally.bound_any, u64::from(found.bound_any));
+    add(&mut tally.exact, u64::from(found.exact));
+    add(&mut tally.passed, u64::from(passed));
 }
 
 // How many bases the plan has.
-fn planned(
-    p: Programme,
-    sizes: &[u32],
-    size_chunks: &[u16],
-    size_bytes: &[u32],
-    forecast: &[u32],
-) -> u64 {
+fn planned(job: &JobInput) -> u16 {
     let mut marks = [0u8; 4];
     let mut slots = [0u16; 24];
     let mut chunks = [0u16; 24];
     let mut layers = [0u8; 24];
     let mut bytes = [0u32; 24];
-    let made = planner::plan(
-        p,
-        sizes,
-        size_chunks,
-        core_prefix::bytes(&[0, 0], size_chunks.len()),
-        size_bytes,
-        forecast,
-        &mut marks,
-        &mut slots,
-        &mut chunks,
-        &mut layers,
-        &mut bytes,
-    );
-    let counts = made.counts;
-    wide(counts[0])
+    let mut lent = LentList {
+        marks: &mut marks,
+        slots: &mut slots,
+        chunks: &mut chunks,
+        layers: &mut layers,
+        bytes: &mut bytes,
+    };
+    planner::plan(job, &mut lent).map_or(0, |plan| plan.counts[0])
 }
 
-fn one_film(
-    p: Programme,
-    sizes: &[u32],
-    size_chunks: &[u16],
-    size_bytes: &[u32],
-    forecast: &[u32],
-    t: Tally,
-) -> Tally {
+// No film here is refused.
+fn one_film(job: &JobInput, tally: &mut Tally) {
     let mut work = [0u64; WORK];
     let mut marks = [0u8; 4];
     let mut slots = [0u16; ROWS];
     let mut chunks = [0u16; ROWS];
     let mut layers = [0u8; ROWS];
     let mut bytes = [0u32; ROWS];
-    let size_layers = core_prefix::bytes(&[0, 0], size_chunks.len());
-    let found = most::most_pictures(
-        p,
-        sizes,
-        size_chunks,
-        size_layers,
-        size_bytes,
-        forecast,
-        9,
-        &mut work,
-        &mut marks,
-        &mut slots,
-        &mut chunks,
-        &mut layers,
-        &mut bytes,
-    );
-    let answer = found.answer;
-    let n = rows_of(answer);
-    let verdict = checker::check(
-        p,
-        sizes,
-        size_chunks,
-        size_layers,
-        size_bytes,
-        forecast,
-        core_prefix::bytes(&marks, p.chunks as usize),
-        core_prefix::halves(&slots, n),
-        core_prefix::halves(&chunks, n),
-        core_prefix::bytes(&layers, n),
-        core_prefix::words(&bytes, n),
-    );
-    let plan = planned(p, sizes, size_chunks, size_bytes, forecast);
-    noted(t, plan, found, is_passed(verdict))
+    let mut lent = LentList {
+        marks: &mut marks,
+        slots: &mut slots,
+        chunks: &mut chunks,
+        layers: &mut layers,
+        bytes: &mut bytes,
+    };
+    let Ok(found) = most::most_pictures(job, 9, &mut work, &mut lent) else {
+        return;
+    };
+    let n = found.rows;
+    let rows = Rows {
+        slots: prefix(&slots, n),
+        chunks: prefix(&chunks, n),
+        layers: prefix(&layers, n),
+        bytes: prefix(&bytes, n),
+    };
+    let list = FetchList {
+        marks: prefix(&marks, job.programme.chunks as usize),
+        rows,
+    };
+    let passed = checker::check(job, &list) == Ok(0);
+    note(planned(job), found, passed, tally);
 }
 
-// How many of two SZs, of the chunks a and b, are of chunks of the job.
-fn overrides(chunks: u16, a: u16, b: u16) -> usize {
-    if b <= chunks {
-        return 2;
-    }
-    if a <= chunks {
-        return 1;
-    }
-    0
+// Layer sizes, and SZs of bases by chunk.
+#[derive(Clone, Copy)]
+struct Kind {
+    sizes: &'static [u32],
+    chunks: &'static [u16],
+    bytes: &'static [u32],
 }
 
-fn every_kind(p: Programme, forecast: &[u32], t: Tally) -> Tally {
-    let c = p.chunks;
-    let m = overrides(c, 2, 4);
-    let a = one_film(
-        p,
-        &[1],
-        core_prefix::halves(&[2], m),
-        core_prefix::words(&[2], m),
-        forecast,
-        t,
-    );
-    let b = one_film(
-        p,
-        &[2, 1],
-        core_prefix::halves(&[2], m),
-        core_prefix::words(&[1], m),
-        forecast,
-        a,
-    );
-    let n = overrides(c, 3, 4);
-    let d = one_film(
-        p,
-        &[1, 1],
-        core_prefix::halves(&[3], n),
-        core_prefix::words(&[2], n),
-        forecast,
-        b,
-    );
-    let q = overrides(c, 2, 3);
-    one_film(
-        p,
-        &[2],
-        core_prefix::halves(&[2, 3], q),
-        core_prefix::words(&[1, 1], q),
-        forecast,
-        d,
-    )
+const KINDS: [Kind; 4] = [
+    Kind {
+        sizes: &[1],
+        chunks: &[2],
+        bytes: &[2],
+    },
+    Kind {
+        sizes: &[2, 1],
+        chunks: &[2],
+        bytes: &[1],
+    },
+    Kind {
+        sizes: &[1, 1],
+        chunks: &[3],
+        bytes: &[2],
+    },
+    Kind {
+        sizes: &[2],
+        chunks: &[2, 3],
+        bytes: &[1, 1],
+    },
+];
+
+// The SZs of chunks of the job.
+fn every_kind(p: Programme, forecast: &[u32], tally: &mut Tally) {
+    for kind in &KINDS {
+        let n = kind.chunks.iter().filter(|&&i| i <= p.chunks).count();
+        let overrides = Overrides {
+            chunks: prefix(kind.chunks, n),
+            layers: prefix(&[0, 0], n),
+            bytes: prefix(kind.bytes, n),
+        };
+        let job = JobInput {
+            programme: p,
+            sizes: kind.sizes,
+            overrides,
+            forecast,
+        };
+        one_film(&job, tally);
+    }
 }
 
 fn digit(f: u16) -> u32 {
     (f % 3) as u32
-}
-
-// The forecast numbered f, of so many slots.
-fn one(p: Programme, f: u16, slots: usize, t: Tally) -> Tally {
-    let forecast = [digit(f), digit(f / 3), digit(f / 9), digit(f / 27)];
-    every_kind(p, core_prefix::words(&forecast, slots), t)
 }
 
 // The programme numbered k.
@@ -222,28 +160,30 @@ fn forecasts(slots: usize) -> u16 {
     }
 }
 
-fn every_forecast(p: Programme, t: Tally) -> Tally {
+fn every_forecast(p: Programme, tally: &mut Tally) {
     let slots = job::last_due(p);
-    let mut tally = t;
     for f in 0..forecasts(slots) {
-        tally = one(p, f, slots, tally);
+        let forecast = [digit(f), digit(f / 3), digit(f / 9), digit(f / 27)];
+        every_kind(p, prefix(&forecast, slots), tally);
     }
-    tally
 }
 
-fn say(rt: &impl Print, t: Tally) -> io::Result<()> {
-    pair(rt, b"family: films ", t.films)?;
-    pair(rt, b", bases of the plans ", t.plan)?;
-    pair(rt, b", found ", t.found)?;
-    pair(rt, b", bounds ", t.bound)?;
-    pair(rt, b" and ", t.bound_any)?;
-    pair(rt, b", exact ", t.exact)?;
-    pair(rt, b", passed ", t.passed)?;
-    word(rt, b"\n")
+fn say(rt: &impl Print, tally: Tally) -> io::Result<()> {
+    let Tally {
+        films,
+        plan,
+        found,
+        bound,
+        bound_any,
+        exact,
+        passed,
+    } = tally;
+    print!(rt; "family: films {films}, bases of the plans {plan}, found {found}")?;
+    println!(rt; ", bounds {bound} and {bound_any}, exact {exact}, passed {passed}")
 }
 
 pub(crate) fn all(rt: &impl Print) -> io::Result<()> {
-    let mut t = Tally {
+    let mut tally = Tally {
         films: 0,
         plan: 0,
         found: 0,
@@ -252,8 +192,8 @@ pub(crate) fn all(rt: &impl Print) -> io::Result<()> {
         exact: 0,
         passed: 0,
     };
-    for k in 0..64u16 {
-        t = every_forecast(programme(k), t);
+    for k in 0..64 {
+        every_forecast(programme(k), &mut tally);
     }
-    say(rt, t)
+    say(rt, tally)
 }

@@ -5,17 +5,14 @@ ghost use Rattle.std.specs.Prelude.{◌≤◌};
 pub(crate) fn digit(word: u32, k: u16) -> u32
     ensures { result ≤ 15 }
 {
-    if k < 8 {
-        return (word >> (4 * k)) % 16;
-    }
-    0
+    if k < 8 { (word >> (4 * k)) % 16 } else { 0 }
 }
 
 // How many bits are set; the remainder tells the prover that there are at most 32.
 pub(crate) fn ones(word: u32) -> u32
     ensures { result ≤ 32 }
 {
-    u32::count_ones(word) % 33
+    word.count_ones() % 33
 }
 
 // The lowest bits of the numbers that are 0.

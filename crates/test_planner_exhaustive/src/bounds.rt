@@ -6,18 +6,20 @@ use crate::{film, lists, marks, tally};
 // A bound: the list carries layer n for at most as many chunks as the plan.
 fn at_most(plan: u32, given: u32, n: u16, bound: u16) -> u32 {
     if marks::count(given, n) <= marks::count(plan, n) {
-        return tally::flag(bound);
+        tally::flag(bound)
+    } else {
+        tally::flag(tally::BROKEN)
     }
-    tally::flag(tally::BROKEN)
 }
 
 // "For every layer n, every passing list in playing order that carries all the plan's own layers
 // below n carries layer n for at most as many chunks as the plan."
 fn of_layer(f: Film, ordered: bool, plan: u32, given: u32, n: u16) -> u32 {
     if ordered && 0 < film::size(f, n) && marks::covers_below(given, plan, n) {
-        return at_most(plan, given, n, tally::BY_LAYER + n % 4);
+        at_most(plan, given, n, tally::BY_LAYER + n % 4)
+    } else {
+        0
     }
-    0
 }
 
 // "Where the buffer limit holds the whole programme, take any passing list whose counts are not the
@@ -26,12 +28,10 @@ fn of_whole(f: Film, plan: u32, given: u32) -> u32 {
     if film::held_most(f) < f.chunks {
         return 0;
     }
-    let mut n: u16 = 0;
-    while n < 4 {
+    for n in 0..4 {
         if marks::count(plan, n) != marks::count(given, n) {
             return at_most(plan, given, n, tally::WHOLE);
         }
-        n = n + 1;
     }
     0
 }
@@ -40,12 +40,13 @@ fn of_whole(f: Film, plan: u32, given: u32) -> u32 {
 // the others, the lists that carry more.
 fn of_uneven(f: Film, plan: u32, given: u32) -> u32 {
     if f.chunks <= film::held_most(f) {
-        return at_most(plan, given, 0, tally::MOST);
+        at_most(plan, given, 0, tally::MOST)
+    } else {
+        tally::flag_if(
+            tally::BEATEN,
+            marks::count(plan, 0) < marks::count(given, 0),
+        )
     }
-    tally::flag_if(
-        tally::BEATEN,
-        marks::count(plan, 0) < marks::count(given, 0),
-    )
 }
 
 // The first is "Every fetch list that passes, in whatever order it fetches, carries the base layer
@@ -57,9 +58,6 @@ pub(crate) fn weigh(f: Film, plan: u32, given: u32, list: u32) -> u32 {
     let ordered = lists::in_order(given, list);
     tally::flag(tally::LISTS)
         | at_most(plan, given, 0, tally::ANY_ORDER)
-        | of_layer(f, ordered, plan, given, 0)
-        | of_layer(f, ordered, plan, given, 1)
-        | of_layer(f, ordered, plan, given, 2)
-        | of_layer(f, ordered, plan, given, 3)
+        | (0..4).fold(0, |flags, n| flags | of_layer(f, ordered, plan, given, n))
         | of_whole(f, plan, given)
 }

@@ -32,20 +32,16 @@ pub(crate) fn due(f: Film, i: u16) -> usize {
 
 // The paper's d(C).
 pub(crate) fn last_due(f: Film) -> usize {
-    let c = f.chunks;
-    if c == 0 {
-        return 0;
+    if f.chunks == 0 {
+        0
+    } else {
+        due(f, f.chunks - 1)
     }
-    due(f, c - 1)
 }
 
 // H, the whole part of limit / L.
 pub(crate) fn held_most(f: Film) -> u16 {
-    let span = f.span;
-    if span == 0 {
-        return 0;
-    }
-    f.limit / span
+    f.limit.checked_div(f.span).unwrap_or(0)
 }
 
 // The bytes of a part: layer n of chunk i is part 4i + n. 0 for a layer that the job does not have.
@@ -53,9 +49,10 @@ pub(crate) fn size(f: Film, part: u16) -> u32
     ensures { result ≤ 3 }
 {
     if part < 12 {
-        return (f.sizes >> (2 * part)) % 4;
+        (f.sizes >> (2 * part)) % 4
+    } else {
+        0
     }
-    0
 }
 
 // The sizes of chunk 0 for every chunk.
@@ -73,20 +70,6 @@ pub(crate) fn ends_equal(f: Film) -> bool {
     f.sizes >> shift == equal_sizes(f) >> shift
 }
 
-fn one_if(test: bool) -> usize
-    ensures { result ≤ 1 }
-{
-    if test {
-        return 1;
-    }
-    0
-}
-
-pub(crate) fn layers(f: Film) -> usize
-    ensures { result ≤ 4 }
-{
-    one_if(0 < size(f, 0))
-        + one_if(0 < size(f, 1))
-        + one_if(0 < size(f, 2))
-        + one_if(0 < size(f, 3))
+pub(crate) fn layers(f: Film) -> usize {
+    (0..4).filter(|&n| 0 < size(f, n)).count()
 }

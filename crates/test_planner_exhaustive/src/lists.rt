@@ -2,8 +2,6 @@
 // bits stand for slot t, and each is 0 or 1 + the part that the byte is of. Lists that only split
 // or repeat rows otherwise are one: rules 1 to 6 and playing order speak of sums and of first
 // slots.
-ghost use Rattle.std.specs.Prelude.{◌≤◌};
-
 use crate::film::Film;
 use crate::{bits, film, marks};
 
@@ -18,9 +16,10 @@ pub(crate) fn has_byte(f: Film, k: u16) -> bool {
 // The list with byte k of the part v - 1, or of none if v is 0.
 pub(crate) fn with(list: u32, k: u16, v: u16) -> u32 {
     if k < BYTES {
-        return list | (((v % 16) as u32) << (4 * k));
+        list | (((v % 16) as u32) << (4 * k))
+    } else {
+        list
     }
-    list
 }
 
 // How many bytes of a part are in all slots; in slot t.
@@ -30,9 +29,10 @@ pub(crate) fn in_all(list: u32, part: u16) -> u32 {
 
 pub(crate) fn in_slot(list: u32, t: u16, part: u16) -> u32 {
     if t < 4 {
-        return in_all((list >> (8 * t)) % 256, part);
+        in_all((list >> (8 * t)) % 256, part)
+    } else {
+        0
     }
-    0
 }
 
 // Whether a part has all its bytes.
@@ -49,40 +49,28 @@ pub(crate) fn rows(list: u32) -> u32 {
 
 // The first slot in which chunk i has a row; 4 if it has none.
 fn begun(list: u32, i: u16) -> u16 {
-    let mut k: u16 = 0;
-    while k < BYTES {
+    for k in 0..BYTES {
         if (bits::digit(list, k) + 3) / 4 == 1 + (i % 3) as u32 {
             return k / 2;
         }
-        k = k + 1;
     }
     4
 }
 
-// 1 if chunk i is held at the end of slot t: begun by then, and due later.
-fn held(f: Film, list: u32, t: u16, i: u16) -> u16
-    ensures { result ≤ 1 }
-{
-    if t < begun(list, i) {
-        return 0;
-    }
-    if film::due(f, i) <= (t as usize) + 1 {
-        return 0;
-    }
-    1
+// Whether chunk i is held at the end of slot t: begun by then, and due later.
+fn is_held(f: Film, list: u32, t: u16, i: u16) -> bool {
+    begun(list, i) <= t && (t as usize) + 1 < film::due(f, i)
 }
 
 // Rule 6 at the end of slot t: at most H chunks are held.
 pub(crate) fn holds_few(f: Film, list: u32, t: u16) -> bool {
-    held(f, list, t, 0) + held(f, list, t, 1) + held(f, list, t, 2) <= film::held_most(f)
+    let held = (0..3).filter(|&i| is_held(f, list, t, i)).count();
+    held <= film::held_most(f) as usize
 }
 
 // Whether chunk k is not begun in an earlier slot than chunk i, if that is carried.
 fn follows(marks: u32, list: u32, i: u16, k: u16) -> bool {
-    if marks::carries(marks, 4 * (i % 3)) {
-        return begun(list, i) <= begun(list, k);
-    }
-    true
+    !marks::carries(marks, 4 * (i % 3)) || begun(list, i) <= begun(list, k)
 }
 
 // Playing order: no chunk is begun in an earlier slot than a carried chunk that plays before it.
@@ -97,31 +85,20 @@ const BROKEN: u32 = 0x1000;
 fn with_part(f: Film, list: u32, part: u16, marks: u32) -> u32 {
     let bytes = in_all(list, part);
     if bytes == 0 {
-        return marks;
+        marks
+    } else if bytes == film::size(f, part) {
+        marks::with(marks, part)
+    } else {
+        BROKEN
     }
-    if bytes == film::size(f, part) {
-        return marks::with(marks, part);
-    }
-    BROKEN
 }
 
 // The marks that the rows give.
 pub(crate) fn marks_given(f: Film, list: u32) -> u32 {
-    let mut marks: u32 = 0;
-    let mut part: u16 = 0;
-    while part < marks::PARTS {
-        marks = with_part(f, list, part, marks);
-        part = part + 1;
-    }
-    marks
+    (0..marks::PARTS).fold(0, |marks, part| with_part(f, list, part, marks))
 }
 
 // Whether a list passes that keeps rules 4 and 5 and gives these marks.
 pub(crate) fn passes(f: Film, list: u32, given: u32) -> bool {
-    given < BROKEN
-        && marks::keep_rule_3(given)
-        && holds_few(f, list, 0)
-        && holds_few(f, list, 1)
-        && holds_few(f, list, 2)
-        && holds_few(f, list, 3)
+    given < BROKEN && marks::keep_rule_3(given) && (0..4).all(|t| holds_few(f, list, t))
 }

@@ -23,38 +23,15 @@ ghost use Rattle.std.specs.Prelude.{◌≤◌};
 use crate::film::Film;
 use std::io;
 
-// 48 programmes, 81 forecasts of four slots, and 22 kinds of sizes, the last 11 of them uneven.
+// 48 programmes, 81 forecasts of four slots.
 const NUMBERS: u16 = 3888;
 
-const KINDS: u16 = 22;
-
-// Two bits a layer, the base lowest, and a byte a chunk, the first lowest.
-fn sizes(kind: u16) -> u32 {
-    match kind {
-        0 => 0x10101,
-        1 => 0x20202,
-        2 => 0x50505,
-        3 => 0x60606,
-        4 => 0x90909,
-        5 => 0x151515,
-        6 => 0x161616,
-        7 => 0x191919,
-        8 => 0x555555,
-        9 => 0x565656,
-        10 => 0x595959,
-        11 => 0x20101,
-        12 => 0x10201,
-        13 => 0x20201,
-        14 => 0x10102,
-        15 => 0x20102,
-        16 => 0x10202,
-        17 => 0x90605,
-        18 => 0x90506,
-        19 => 0x50905,
-        20 => 0x60509,
-        _ => 0x151615,
-    }
-}
+// Two bits a layer, the base lowest, and a byte a chunk, the first lowest. The last 11 are uneven.
+const SIZES: [u32; 22] = [
+    0x10101, 0x20202, 0x50505, 0x60606, 0x90909, 0x151515, 0x161616, 0x191919, 0x555555, 0x565656,
+    0x595959, 0x20101, 0x10201, 0x20201, 0x10102, 0x20102, 0x10202, 0x90605, 0x90506, 0x50905,
+    0x60509, 0x151615,
+];
 
 fn third(k: u16) -> u32
     ensures { result ≤ 2 }
@@ -66,14 +43,14 @@ fn forecast(k: u16) -> u32 {
     third(k) + 16 * third(k / 3) + 256 * third(k / 9) + 4096 * third(k / 27)
 }
 
-// The job numbered k of a kind.
-fn film_of(k: u16, kind: u16) -> Film {
+// The job numbered k of these sizes.
+fn film_of(k: u16, sizes: u32) -> Film {
     Film {
         chunks: 1 + k % 3,
         span: 1 + k / 3 % 2,
         delay: 1 + k / 6 % 2,
         limit: k / 12 % 4,
-        sizes: sizes(kind),
+        sizes,
         forecast: forecast(k / 48),
     }
 }
@@ -86,16 +63,13 @@ fn is_job(f: Film) -> bool {
 }
 
 fn leaves_rest(f: Film) -> bool {
-    let span = f.span;
-    0 < span && 0 < f.limit % span
+    0 < f.span && 0 < f.limit % f.span
 }
 
 // The plan of the same film with a limit that holds the whole programme, of at most 3 chunks of 2
 // slots.
 fn unlimited_plan(f: Film) -> u32 {
-    let mut wide = f;
-    wide.limit = 6;
-    search::plan(wide)
+    search::plan(Film { limit: 6, ..f })
 }
 
 fn flags_of(f: Film, marks: u32) -> u32 {
@@ -124,34 +98,24 @@ fn trial(f: Film, tally: &mut [u64]) {
     tally::add(tally, tally::UPPERS, bits::ones(marks & 0xeee));
     tally::add(tally, tally::ROWS, lists::rows(own));
     tally::add_flags(tally, flags_of(f, marks) | planned::compare(f, marks, own));
-    search::search(f, true, marks, lists::BYTES, 0, tally);
+    search::weigh_all(f, marks, tally);
     steady::trial(f, tally);
 }
 
-fn every_kind(k: u16, tally: &mut [u64]) {
-    let mut kind: u16 = 0;
-    while kind < KINDS {
-        trial(film_of(k, kind), tally);
-        kind = kind + 1;
-    }
-}
-
 fn every_job(tally: &mut [u64]) {
-    let mut k: u16 = 0;
-    while k < NUMBERS {
-        every_kind(k, tally);
-        k = k + 1;
+    for k in 0..NUMBERS {
+        for &sizes in &SIZES {
+            trial(film_of(k, sizes), tally);
+        }
     }
 }
 
 // The words, and the numbers from one on and before another.
 fn say(rt: &impl Print, words: &[u8], tally: &[u64], from: u16, to: u16) -> io::Result<()> {
     rt.write_all(words)?;
-    let mut k = from;
-    while k < to {
+    for k in from..to {
         rt.write_all(b" ")?;
         rt.print(tally::number(tally, k))?;
-        k = k + 1;
     }
     rt.write_all(b"\n")
 }

@@ -13,9 +13,10 @@ pub(crate) fn carries(marks: u32, part: u16) -> bool {
 // The marks with a part carried too.
 pub(crate) fn with(marks: u32, part: u16) -> u32 {
     if part < PARTS {
-        return marks | (1 << part);
+        marks | (1 << part)
+    } else {
+        marks
     }
-    marks
 }
 
 // How many chunks carry layer n.
@@ -23,9 +24,10 @@ pub(crate) fn count(marks: u32, n: u16) -> u32
     ensures { result ≤ 32 }
 {
     if n < 4 {
-        return bits::ones(marks & (0x111 << n));
+        bits::ones(marks & (0x111 << n))
+    } else {
+        0
     }
-    0
 }
 
 // Whether, for every chunk, a carries each layer below n that b carries.

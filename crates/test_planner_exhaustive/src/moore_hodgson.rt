@@ -27,9 +27,10 @@ fn kept_bytes(f: Film, kept: u32, i: u16) -> u32
     ensures { result ≤ 3 }
 {
     if marks::carries(kept, 4 * (i % 3)) {
-        return base(f, i);
+        base(f, i)
+    } else {
+        0
     }
-    0
 }
 
 // What the forecast brings in slot t, if that is before a slot.
@@ -37,9 +38,10 @@ fn brought_in(f: Film, t: u16, before: usize) -> u32
     ensures { result ≤ 15 }
 {
     if (t as usize) < before {
-        return bits::digit(f.forecast, t);
+        bits::digit(f.forecast, t)
+    } else {
+        0
     }
-    0
 }
 
 // Whether the kept bases are at most the forecast up to the due slot of chunk i.
@@ -55,9 +57,10 @@ fn fit(f: Film, kept: u32, i: u16) -> bool {
 // Of two chunks the one with more kept bytes, the first among equals.
 fn larger(f: Film, kept: u32, i: u16, k: u16) -> u16 {
     if kept_bytes(f, kept, i) < kept_bytes(f, kept, k) {
-        return k;
+        k
+    } else {
+        i
     }
-    i
 }
 
 fn without(kept: u32, i: u16) -> u32 {
@@ -71,11 +74,12 @@ fn step(f: Film, kept: u32, i: u16) -> u32 {
     }
     let more = marks::with(kept, 4 * (i % 3));
     if fit(f, more, i) {
-        return more;
+        more
+    } else {
+        without(more, larger(f, more, larger(f, more, 0, 1), 2))
     }
-    without(more, larger(f, more, larger(f, more, 0, 1), 2))
 }
 
 pub(crate) fn bases(f: Film) -> u32 {
-    step(f, step(f, step(f, 0, 0), 1), 2)
+    (0..3).fold(0, |kept, i| step(f, kept, i))
 }

@@ -1,30 +1,56 @@
 // The planner's own answer for a job, against the marks found by search: the same marks, the counts
 // that are theirs, the rows of their own list, a list that the checker passes and that is in
 // playing order.
-ghost use Rattle.std.specs.Prelude.{◌≤◌};
-
 use crate::film::Film;
 use crate::{bits, film, lists, marks, tally};
-use checker::Checked;
-use planner::{Answer, Order};
+use core_prefix::prefix;
+use fetch::{FetchList, LentList, Rows};
+use job::{JobInput, Overrides};
+use planner::Planned;
+use refusals::Refusal;
+use std::cmp::Ordering;
 
-// The sizes of chunk 0 and the forecast as the calls take them.
-fn own_sizes(f: Film) -> [u32; 4] {
-    [
-        film::size(f, 0),
-        film::size(f, 1),
-        film::size(f, 2),
-        film::size(f, 3),
-    ]
+// A film's numbers as the calls take them: the sizes of chunk 0, the SZs and the forecast.
+#[derive(Clone, Copy)]
+struct Numbers {
+    sizes: [u32; 4],
+    forecast: [u32; 4],
+    chunks: [u16; 8],
+    layers: [u8; 8],
+    bytes: [u32; 8],
+    uneven: usize,
 }
 
-fn forecast_of(f: Film) -> [u32; 4] {
-    [
-        bits::digit(f.forecast, 0),
-        bits::digit(f.forecast, 1),
-        bits::digit(f.forecast, 2),
-        bits::digit(f.forecast, 3),
-    ]
+// A plan has at most a row for each layer of each chunk and for each slot but the last.
+#[derive(Clone, Copy)]
+struct Room {
+    marks: [u8; 3],
+    slots: [u16; 15],
+    chunks: [u16; 15],
+    layers: [u8; 15],
+    bytes: [u32; 15],
+}
+
+// The numbers of a job of equal chunks.
+fn equal_numbers(f: Film) -> Numbers {
+    Numbers {
+        sizes: [
+            film::size(f, 0),
+            film::size(f, 1),
+            film::size(f, 2),
+            film::size(f, 3),
+        ],
+        forecast: [
+            bits::digit(f.forecast, 0),
+            bits::digit(f.forecast, 1),
+            bits::digit(f.forecast, 2),
+            bits::digit(f.forecast, 3),
+        ],
+        chunks: [0; 8],
+        layers: [0; 8],
+        bytes: [0; 8],
+        uneven: 0,
+    }
 }
 
 // Whether a part of a later chunk has an SZ: its size is not chunk 0's.
@@ -32,171 +58,101 @@ fn is_uneven(f: Film, part: u16) -> bool {
     part / 4 < f.chunks && film::size(f, part) != film::size(f, part % 4)
 }
 
-// The SZs as the calls take them, and how many there are.
-fn uneven_sizes(
-    f: Film,
-    chunks: &mut [u16; 8],
-    layers: &mut [u8; 8],
-    bytes: &mut [u32; 8],
-) -> usize {
-    let mut n: usize = 0;
-    let mut part: u16 = 4;
-    while part < 12 {
-        if is_uneven(f, part) {
-            if n < 8 {
-                chunks[n] = 1 + part / 4;
-                layers[n] = (part % 4) as u8;
-                bytes[n] = film::size(f, part);
-                n = n + 1;
-            }
+// The numbers of a job, with its SZs.
+fn numbers_of(f: Film) -> Numbers {
+    let mut numbers = equal_numbers(f);
+    for part in 4..12 {
+        let n = numbers.uneven;
+        if is_uneven(f, part) && n < 8 {
+            numbers.chunks[n] = 1 + part / 4;
+            numbers.layers[n] = (part % 4) as u8;
+            numbers.bytes[n] = film::size(f, part);
+            numbers.uneven = n + 1;
         }
-        part = part + 1;
     }
-    n
+    numbers
+}
+
+fn job_of(f: Film, numbers: &Numbers) -> JobInput<'_> {
+    let n = numbers.uneven;
+    JobInput {
+        programme: film::programme(f),
+        sizes: prefix(&numbers.sizes, film::layers(f)),
+        overrides: Overrides {
+            chunks: prefix(&numbers.chunks, n),
+            layers: prefix(&numbers.layers, n),
+            bytes: prefix(&numbers.bytes, n),
+        },
+        forecast: prefix(&numbers.forecast, film::last_due(f)),
+    }
+}
+
+fn empty_room() -> Room {
+    Room {
+        marks: [0; 3],
+        slots: [0; 15],
+        chunks: [0; 15],
+        layers: [0; 15],
+        bytes: [0; 15],
+    }
+}
+
+fn plan_into(job: &JobInput, room: &mut Room) -> Result<Planned, Refusal> {
+    let mut lent = LentList {
+        marks: &mut room.marks,
+        slots: &mut room.slots,
+        chunks: &mut room.chunks,
+        layers: &mut room.layers,
+        bytes: &mut room.bytes,
+    };
+    planner::plan(job, &mut lent)
 }
 
 // What of the planner's answer is as it should be, as flags of the tally. Playing order is asked of
 // the own list, whose rows the planner's are to be.
 pub(crate) fn compare(f: Film, found: u32, own: u32) -> u32 {
-    let mut chunks = [0u16; 8];
-    let mut layers = [0u8; 8];
-    let mut bytes = [0u32; 8];
-    let n = uneven_sizes(f, &mut chunks, &mut layers, &mut bytes);
-    tally::flag_if(tally::ORDERED, lists::in_order(found, own))
-        | plan_first(f, found, own, &chunks, &layers, &bytes, n)
+    let numbers = numbers_of(f);
+    let ordered = lists::in_order(found, own);
+    tally::flag_if(tally::ORDERED, ordered) | plan(f, &job_of(f, &numbers), found, own)
 }
 
-fn plan_first(
-    f: Film,
-    found: u32,
-    own: u32,
-    chunks: &[u16; 8],
-    layers: &[u8; 8],
-    bytes: &[u32; 8],
-    n: usize,
-) -> u32 {
-    plan(
-        f,
-        found,
-        own,
-        core_prefix::halves(chunks, n),
-        core_prefix::bytes(layers, n),
-        core_prefix::words(bytes, n),
-    )
-}
-
-// A plan has at most a row for each layer of each chunk and for each slot but the last.
-fn plan(
-    f: Film,
-    found: u32,
-    own: u32,
-    size_chunks: &[u16],
-    size_layers: &[u8],
-    size_bytes: &[u32],
-) -> u32 {
-    let sizes = own_sizes(f);
-    let forecast = forecast_of(f);
-    let mut marks = [0u8; 3];
-    let mut slots = [0u16; 15];
-    let mut chunks = [0u16; 15];
-    let mut layers = [0u8; 15];
-    let mut bytes = [0u32; 15];
-    let plan = planner::plan(
-        film::programme(f),
-        core_prefix::words(&sizes, film::layers(f)),
-        size_chunks,
-        size_layers,
-        size_bytes,
-        core_prefix::words(&forecast, film::last_due(f)),
-        &mut marks,
-        &mut slots,
-        &mut chunks,
-        &mut layers,
-        &mut bytes,
-    );
-    let answer = plan.answer;
-    let counts = plan.counts;
-    let n = rows_of(answer);
-    tally::flag_if(tally::SAME_MARKS, marks_as(marks, found))
-        | tally::flag_if(tally::SAME_COUNTS, counts_as(counts, found))
-        | tally::flag_if(
-            tally::SAME_ROWS,
-            are_rows(own, slots, chunks, layers, bytes, n),
-        )
-        | tally::flag_if(
-            tally::PASSED,
-            pass(
-                f,
-                size_chunks,
-                size_layers,
-                size_bytes,
-                &marks,
-                &slots,
-                &chunks,
-                &layers,
-                &bytes,
-                n,
-            ),
-        )
+fn plan(f: Film, job: &JobInput, found: u32, own: u32) -> u32 {
+    let mut room = empty_room();
+    let Ok(planned) = plan_into(job, &mut room) else {
+        return 0;
+    };
+    let n = planned.rows;
+    let list = FetchList {
+        marks: prefix(&room.marks, f.chunks as usize),
+        rows: Rows {
+            slots: prefix(&room.slots, n),
+            chunks: prefix(&room.chunks, n),
+            layers: prefix(&room.layers, n),
+            bytes: prefix(&room.bytes, n),
+        },
+    };
+    let passes = checker::check(job, &list) == Ok(0);
+    tally::flag_if(tally::SAME_MARKS, marks_as(room.marks, found))
+        | tally::flag_if(tally::SAME_COUNTS, counts_as(planned.counts, found))
+        | tally::flag_if(tally::SAME_ROWS, are_rows(own, &list.rows))
+        | tally::flag_if(tally::PASSED, passes)
 }
 
 // How many bases the planner carries of a job of equal chunks; 999 for a refusal.
 pub(crate) fn bases(f: Film) -> u32 {
-    let sizes = own_sizes(f);
-    let forecast = forecast_of(f);
-    let mut marks = [0u8; 3];
-    let mut slots = [0u16; 15];
-    let mut chunks = [0u16; 15];
-    let mut layers = [0u8; 15];
-    let mut bytes = [0u32; 15];
-    let plan = planner::plan(
-        film::programme(f),
-        core_prefix::words(&sizes, film::layers(f)),
-        &[],
-        &[],
-        &[],
-        core_prefix::words(&forecast, film::last_due(f)),
-        &mut marks,
-        &mut slots,
-        &mut chunks,
-        &mut layers,
-        &mut bytes,
-    );
-    let answer = plan.answer;
-    let counts = plan.counts;
-    if 15 < rows_of(answer) {
-        return 999;
+    let numbers = equal_numbers(f);
+    let mut room = empty_room();
+    match plan_into(&job_of(f, &numbers), &mut room) {
+        Ok(planned) => u32::from(planned.counts[0]),
+        Err(_) => 999,
     }
-    half(counts[0])
-}
-
-fn half(x: u16) -> u32 {
-    x as u32
-}
-
-fn wide(x: u8) -> u32
-    ensures { result ≤ 255 }
-{
-    x as u32
 }
 
 // Whether the mark bytes are those of marks in one word.
 fn marks_as(marks: [u8; 3], found: u32) -> bool {
-    if wide(marks[0]) != bits::digit(found, 0) {
-        return false;
-    }
-    if wide(marks[1]) != bits::digit(found, 1) {
-        return false;
-    }
-    wide(marks[2]) == bits::digit(found, 2)
-}
-
-// The number of rows, or one that no plan here has.
-fn rows_of(answer: Answer) -> usize {
-    match answer {
-        Answer::Rows(n) => n,
-        Answer::Refused(_) => 16,
-    }
+    u32::from(marks[0]) == bits::digit(found, 0)
+        && u32::from(marks[1]) == bits::digit(found, 1)
+        && u32::from(marks[2]) == bits::digit(found, 2)
 }
 
 fn counts_as(counts: [u16; 4], marks: u32) -> bool {
@@ -206,79 +162,30 @@ fn counts_as(counts: [u16; 4], marks: u32) -> bool {
         marks::count(marks, 2) as u16,
         marks::count(marks, 3) as u16,
     ];
-    let order = planner::compare(counts, theirs);
-    match order {
-        Order::Same => true,
-        _ => false,
-    }
+    planner::compare(counts, theirs) == Ordering::Equal
 }
 
-// Whether the checker's verdict on the first n rows is 0.
-fn pass(
-    f: Film,
-    size_chunks: &[u16],
-    size_layers: &[u8],
-    size_bytes: &[u32],
-    marks: &[u8],
-    slots: &[u16],
-    chunks: &[u16],
-    layers: &[u8],
-    bytes: &[u32],
-    n: usize,
-) -> bool {
-    let sizes = own_sizes(f);
-    let forecast = forecast_of(f);
-    let verdict = checker::check(
-        film::programme(f),
-        core_prefix::words(&sizes, film::layers(f)),
-        size_chunks,
-        size_layers,
-        size_bytes,
-        core_prefix::words(&forecast, film::last_due(f)),
-        core_prefix::bytes(marks, f.chunks as usize),
-        core_prefix::halves(slots, n),
-        core_prefix::halves(chunks, n),
-        core_prefix::bytes(layers, n),
-        core_prefix::words(bytes, n),
-    );
-    match verdict {
-        Checked::Verdict(v) => v == 0,
-        Checked::Refused(_) => false,
-    }
+// Whether row r is that of a cell: its slot, chunk and layer, with all its bytes.
+fn is_row(list: u32, cell: u16, rows: &Rows, r: usize) -> bool {
+    let bytes = lists::in_slot(list, cell / 12, cell % 12);
+    rows.slots.get(r) == Some(&(1 + cell / 12 % 4))
+        && rows.chunks.get(r) == Some(&(1 + cell / 4 % 3))
+        && rows.layers.get(r) == Some(&((cell % 4) as u8))
+        && rows.bytes.get(r) == Some(&bytes)
 }
 
-// Whether a row is that of a cell: its slot, chunk and layer, with all its bytes.
-fn is_row(list: u32, cell: u16, slot: u16, chunk: u16, layer: u8, bytes: u32) -> bool {
-    if slot != 1 + cell / 12 % 4 || chunk != 1 + cell / 4 % 3 {
-        return false;
-    }
-    wide(layer) == (cell % 4) as u32 && bytes == lists::in_slot(list, cell / 12, cell % 12)
-}
-
-// "One row per slot, chunk and layer", handed by slot, chunk, layer: whether the first n rows are
-// those of the list, one for each cell 12t + 4i + n with bytes of layer n of chunk i in slot t, and
-// no others.
-fn are_rows(
-    list: u32,
-    slots: [u16; 15],
-    chunks: [u16; 15],
-    layers: [u8; 15],
-    bytes: [u32; 15],
-    n: usize,
-) -> bool {
+// "One row per slot, chunk and layer", handed by slot, chunk, layer: whether the rows are those of
+// the list, one for each cell 12t + 4i + n with bytes of layer n of chunk i in slot t, and no
+// others.
+fn are_rows(list: u32, rows: &Rows) -> bool {
     let mut r: usize = 0;
-    let mut cell: u16 = 0;
-    while cell < 48 {
+    for cell in 0..48 {
         if 0 < lists::in_slot(list, cell / 12, cell % 12) {
-            if 15 <= r {
+            if !is_row(list, cell, rows, r) {
                 return false;
             }
-            if !is_row(list, cell, slots[r], chunks[r], layers[r], bytes[r]) {
-                return false;
-            }
-            r = r + 1;
+            r += 1;
         }
-        cell = cell + 1;
     }
-    r == n
+    r == rows.slots.len()
 }

@@ -61,35 +61,22 @@ pub(crate) fn flag(k: u16) -> u32 {
 }
 
 pub(crate) fn flag_if(k: u16, test: bool) -> u32 {
-    if test {
-        return flag(k);
-    }
-    0
+    if test { flag(k) } else { 0 }
 }
 
 pub(crate) fn add(tally: &mut [u64], k: u16, n: u32) {
-    let at = k as usize;
-    if at < tally.len() {
-        let x = tally[at];
-        if x < 1000000000000000 {
-            tally[at] = x + (n as u64);
-        }
+    if let Some(x) = tally.get_mut(k as usize) {
+        *x = x.saturating_add(u64::from(n));
     }
 }
 
 // One more of each flag.
 pub(crate) fn add_flags(tally: &mut [u64], flags: u32) {
-    let mut k: u16 = 0;
-    while k < BASES {
+    for k in 0..BASES {
         add(tally, k, (flags >> k) % 2);
-        k = k + 1;
     }
 }
 
 pub(crate) fn number(tally: &[u64], k: u16) -> u64 {
-    let at = k as usize;
-    if at < tally.len() {
-        return tally[at];
-    }
-    0
+    tally.get(k as usize).copied().unwrap_or(0)
 }

@@ -12,11 +12,7 @@ use std::io;
 
 fn main(rt: HostRuntime) -> io::Result<()> {
     cases::texts(&rt)?;
-    rooms::exact(&rt)?;
-    rooms::longer(&rt)?;
-    rooms::one_short(&rt)?;
-    rooms::any(&rt)?;
-    rooms::refused_first(&rt)?;
+    rooms::rooms(&rt)?;
     rooms::nothing(&rt)?;
     family::every_job(&rt)
 }

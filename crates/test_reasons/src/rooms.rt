@@ -1,78 +1,67 @@
 // Room for job A's lines: exact, longer, one byte short, and for any text.
-use crate::cases::{line, word};
-use job::Programme;
-use records::Written;
+use crate::cases::refused;
+use job::{JobInput, Overrides, Programme};
+use refusals::Refusal;
 use std::io;
 
-fn programme(chunks: u16) -> Programme {
-    Programme {
-        chunks,
-        span: 2,
-        delay: 2,
-        limit: 2,
+fn answered(rt: &impl Print, answer: Result<usize, Refusal>) -> io::Result<()> {
+    match answer {
+        Ok(n) => println!(rt; "written {n}"),
+        Err(refusal) => refused(rt, refusal),
     }
 }
 
-// The answer; the bytes at the ends of the buffer tell what was written.
-fn answered(rt: &impl Print, r: Written, first: u8, last: u8) -> io::Result<()> {
-    match r {
-        Written::Bytes(n) => line(rt, b"written ", n)?,
-        Written::Refused(n) => line(rt, b"refused ", n as usize)?,
-    }
-    line(rt, b"first ", first as usize)?;
-    line(rt, b"last ", last as usize)
+// The answer for job A, but of so many chunks; the first byte of the buffer and one at a later
+// place tell what was written.
+fn a_into(rt: &impl Print, chunks: u16, out: &mut [u8], place: usize) -> io::Result<()> {
+    let job = JobInput {
+        programme: Programme {
+            chunks,
+            span: 2,
+            delay: 2,
+            limit: 2,
+        },
+        sizes: &[2, 1],
+        overrides: Overrides {
+            chunks: &[],
+            layers: &[],
+            bytes: &[],
+        },
+        forecast: &[3, 0, 1, 0, 2, 0],
+    };
+    answered(rt, reasons::reasons(&job, out))?;
+    let first = out.first().copied().unwrap_or(0);
+    let last = out.get(place).copied().unwrap_or(0);
+    println!(rt; "first {first}")?;
+    println!(rt; "last {last}")
 }
 
-fn a_into(chunks: u16, out: &mut [u8]) -> Written {
-    let sizes = [2u32, 1];
-    let forecast = [3u32, 0, 1, 0, 2, 0];
-    reasons::reasons(programme(chunks), &sizes, &[], &[], &[], &forecast, out)
-}
-
-pub fn exact(rt: &impl Print) -> io::Result<()> {
-    let mut out = [9u8; 128];
-    let r = a_into(3, &mut out);
-    answered(rt, r, out[0], out[127])
-}
-
-pub fn longer(rt: &impl Print) -> io::Result<()> {
-    let mut out = [9u8; 129];
-    let r = a_into(3, &mut out);
-    answered(rt, r, out[0], out[128])
-}
-
-pub fn one_short(rt: &impl Print) -> io::Result<()> {
-    let mut out = [9u8; 127];
-    let r = a_into(3, &mut out);
-    answered(rt, r, out[0], out[126])
-}
-
-pub fn refused_first(rt: &impl Print) -> io::Result<()> {
-    let mut out = [9u8; 1];
-    word(rt, b"5 before 11: ")?;
-    let r = a_into(501, &mut out);
-    answered(rt, r, out[0], out[0])
-}
-
-pub fn any(rt: &impl Print) -> io::Result<()> {
-    let mut out = [9u8; 94000];
-    let r = a_into(3, &mut out);
-    answered(rt, r, out[0], out[128])
+pub(crate) fn rooms(rt: &impl Print) -> io::Result<()> {
+    a_into(rt, 3, &mut [9; 128], 127)?;
+    a_into(rt, 3, &mut [9; 129], 128)?;
+    a_into(rt, 3, &mut [9; 127], 126)?;
+    a_into(rt, 3, &mut [9; 94000], 128)?;
+    print!(rt; "5 before 11: ")?;
+    a_into(rt, 501, &mut [9; 1], 0)
 }
 
 // A plan that lacks nothing, into a buffer of no bytes.
-pub fn nothing(rt: &impl Print) -> io::Result<()> {
-    let mut out = [9u8; 1];
-    let forecast = [5u32];
-    let p = Programme {
-        chunks: 1,
-        span: 1,
-        delay: 1,
-        limit: 0,
+pub(crate) fn nothing(rt: &impl Print) -> io::Result<()> {
+    let job = JobInput {
+        programme: Programme {
+            chunks: 1,
+            span: 1,
+            delay: 1,
+            limit: 0,
+        },
+        sizes: &[5],
+        overrides: Overrides {
+            chunks: &[],
+            layers: &[],
+            bytes: &[],
+        },
+        forecast: &[5],
     };
-    word(rt, b"nothing in no room: ")?;
-    match reasons::reasons(p, &forecast, &[], &[], &[], &forecast, &mut out[..0]) {
-        Written::Bytes(n) => line(rt, b"written ", n),
-        Written::Refused(n) => line(rt, b"refused ", n as usize),
-    }
+    print!(rt; "nothing in no room: ")?;
+    answered(rt, reasons::reasons(&job, &mut []))
 }

@@ -2,45 +2,46 @@
 // numbers.
 ghost use Rattle.std.specs.Prelude.{◌≤◌};
 
-pub(crate) fn narrow(numbers: &[u32; 512], halves: &mut [u16; 512], bytes: &mut [u8; 512]) {
-    let mut k: usize = 0;
-    while k < 512 {
-        let x = numbers[k];
+use fetch::Rows;
+use job::{JobInput, Overrides, Programme};
+
+#[derive(Clone, Copy)]
+pub(crate) struct Tables {
+    pub words: [u32; 512],
+    pub halves: [u16; 512],
+    pub bytes: [u8; 512],
+}
+
+pub(crate) fn tables_of(numbers: [u32; 512]) -> Tables {
+    let mut halves = [0; 512];
+    let mut bytes = [0; 512];
+    for (k, x) in numbers.iter().enumerate() {
         halves[k] = (x % 65536) as u16;
         bytes[k] = (x % 256) as u8;
-        k = k + 1;
+    }
+    Tables {
+        words: numbers,
+        halves,
+        bytes,
     }
 }
 
 // The number at a place, below 512.
-pub(crate) fn small(numbers: &[u32; 512], at: usize) -> usize
+pub(crate) fn small(tables: &Tables, at: usize) -> usize
     ensures { result ≤ 511 }
 {
     if at < 512 {
-        return (numbers[at] % 512) as usize;
+        (tables.words[at] % 512) as usize
+    } else {
+        0
     }
-    0
-}
-
-pub(crate) fn half(halves: &[u16; 512], at: usize) -> u16 {
-    if at < 512 {
-        return halves[at];
-    }
-    0
 }
 
 // The place after the list at a place.
-fn after(numbers: &[u32; 512], at: usize) -> usize
+fn after(tables: &Tables, at: usize) -> usize
     ensures { result ≤ 511 }
 {
-    if 511 < at {
-        return 511;
-    }
-    let next = at + 1 + small(numbers, at);
-    if 511 < next {
-        return 511;
-    }
-    next
+    (at.min(511) + 1 + small(tables, at)).min(511)
 }
 
 // Where the lists of a case stand: its sizes, its SZs' chunks, layers and bytes, its forecast, the
@@ -61,19 +62,19 @@ pub(crate) struct Places {
     pub room: usize,
 }
 
-pub(crate) fn places_in(numbers: &[u32; 512]) -> Places {
+pub(crate) fn places_in(tables: &Tables) -> Places {
     let sizes: usize = 5;
-    let size_chunks = after(numbers, sizes);
-    let size_layers = after(numbers, size_chunks);
-    let size_bytes = after(numbers, size_layers);
-    let forecast = after(numbers, size_bytes);
-    let from = after(numbers, forecast);
+    let size_chunks = after(tables, sizes);
+    let size_layers = after(tables, size_chunks);
+    let size_bytes = after(tables, size_layers);
+    let forecast = after(tables, size_bytes);
+    let from = after(tables, forecast);
     let slots = from + 1;
-    let chunks = after(numbers, slots);
-    let layers = after(numbers, chunks);
-    let bytes = after(numbers, layers);
-    let last = after(numbers, bytes);
-    let room = after(numbers, last);
+    let chunks = after(tables, slots);
+    let layers = after(tables, chunks);
+    let bytes = after(tables, layers);
+    let last = after(tables, bytes);
+    let room = after(tables, last);
     Places {
         sizes,
         size_chunks,
@@ -91,38 +92,54 @@ pub(crate) fn places_in(numbers: &[u32; 512]) -> Places {
 }
 
 // The n numbers behind a place; all of them where they are not there.
-pub(crate) fn words(s: &[u32], at: usize, n: usize) -> &[u32] {
-    if s.len() <= at {
-        return s;
+fn behind<T>(s: &[T], at: usize, n: usize) -> &[T] {
+    if s.len() <= at || s.len() - at <= n {
+        s
+    } else {
+        &s[at + 1..at + 1 + n]
     }
-    if s.len() - at <= n {
-        return s;
-    }
-    let from = at + 1;
-    let to = from + n;
-    &s[from..to]
 }
 
-pub(crate) fn halves(s: &[u16], at: usize, n: usize) -> &[u16] {
-    if s.len() <= at {
-        return s;
-    }
-    if s.len() - at <= n {
-        return s;
-    }
-    let from = at + 1;
-    let to = from + n;
-    &s[from..to]
+pub(crate) fn words(tables: &Tables, at: usize) -> &[u32] {
+    behind(&tables.words, at, small(tables, at))
 }
 
-pub(crate) fn bytes(s: &[u8], at: usize, n: usize) -> &[u8] {
-    if s.len() <= at {
-        return s;
+pub(crate) fn halves(tables: &Tables, at: usize) -> &[u16] {
+    behind(&tables.halves, at, small(tables, at))
+}
+
+pub(crate) fn bytes(tables: &Tables, at: usize) -> &[u8] {
+    behind(&tables.bytes, at, small(tables, at))
+}
+
+pub(crate) fn slot(tables: &Tables, at: usize) -> u16 {
+    tables.halves.get(at).copied().unwrap_or(0)
+}
+
+pub(crate) fn job_in(tables: &Tables, at: Places) -> JobInput<'_> {
+    let overrides = Overrides {
+        chunks: halves(tables, at.size_chunks),
+        layers: bytes(tables, at.size_layers),
+        bytes: words(tables, at.size_bytes),
+    };
+    JobInput {
+        programme: Programme {
+            chunks: tables.halves[1],
+            span: tables.halves[2],
+            delay: tables.halves[3],
+            limit: tables.halves[4],
+        },
+        sizes: words(tables, at.sizes),
+        overrides,
+        forecast: words(tables, at.forecast),
     }
-    if s.len() - at <= n {
-        return s;
+}
+
+pub(crate) fn rows_in(tables: &Tables, at: Places) -> Rows<'_> {
+    Rows {
+        slots: halves(tables, at.slots),
+        chunks: halves(tables, at.chunks),
+        layers: bytes(tables, at.layers),
+        bytes: words(tables, at.bytes),
     }
-    let from = at + 1;
-    let to = from + n;
-    &s[from..to]
 }

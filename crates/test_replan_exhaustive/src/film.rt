@@ -3,7 +3,8 @@
 // job is written anew.
 ghost use Rattle.std.specs.Prelude.{◌≤◌};
 
-use job::Programme;
+use core_prefix::prefix;
+use job::{JobInput, Overrides, Programme};
 
 // Its number, and four bits for the size of each part.
 #[derive(Clone, Copy)]
@@ -19,7 +20,7 @@ pub(crate) struct Film {
 pub(crate) const PARTS: u16 = 6;
 
 // Equal chunks of one layer, uneven ones, equal chunks of two layers, uneven ones.
-fn sizes(kind: u16) -> u32 {
+fn parts(kind: u16) -> u32 {
     match kind {
         0 => 0x010101,
         1 => 0x020202,
@@ -42,62 +43,46 @@ pub(crate) fn film_of(k: u16) -> Film {
         span: 1 + k / 2 % 2,
         delay: 1 + k / 4 % 3,
         limit: k / 12 % 4,
-        sizes: sizes(k / 48),
-    }
-}
-
-pub(crate) fn programme(f: Film) -> Programme {
-    Programme {
-        chunks: f.chunks,
-        span: f.span,
-        delay: f.delay,
-        limit: f.limit,
+        sizes: parts(k / 48),
     }
 }
 
 // The paper's d(i + 1); L is 1 or 2. The remainders tell the prover that the sums are small.
 pub(crate) fn due(f: Film, i: u16) -> u16 {
     if f.span == 1 {
-        return i % 4 + f.delay % 4;
+        i % 4 + f.delay % 4
+    } else {
+        2 * (i % 4) + f.delay % 4
     }
-    2 * (i % 4) + f.delay % 4
 }
 
 // The paper's d(C).
 pub(crate) fn last_due(f: Film) -> u16 {
-    let c = f.chunks;
-    if c == 0 {
-        return 0;
+    if f.chunks == 0 {
+        0
+    } else {
+        due(f, f.chunks - 1)
     }
-    due(f, c - 1)
 }
 
 // The bytes of a part; 0 for one that the job does not have.
 pub(crate) fn size(f: Film, part: u16) -> u32
     ensures { result ≤ 15 }
 {
-    if f.chunks <= part / 2 {
-        return 0;
+    if part / 2 < f.chunks && part < PARTS {
+        (f.sizes >> (4 * part)) % 16
+    } else {
+        0
     }
-    if part < PARTS {
-        return (f.sizes >> (4 * part)) % 16;
-    }
-    0
 }
 
-pub(crate) fn layers(f: Film) -> usize {
-    if 0 < size(f, 1) {
-        return 2;
-    }
-    1
+fn layers(f: Film) -> usize {
+    if 0 < size(f, 1) { 2 } else { 1 }
 }
 
 // H, the whole part of limit / L.
 pub(crate) fn held_most(f: Film) -> u16 {
-    if f.span == 1 {
-        return f.limit;
-    }
-    f.limit / 2
+    if f.span == 1 { f.limit } else { f.limit / 2 }
 }
 
 // "Where H is at least C and base sizes vary" request 9 settles the bases of the plan.
@@ -106,6 +91,57 @@ pub(crate) fn walked(f: Film) -> bool {
 }
 
 // Whether a later part has another size than chunk 0's: it has an SZ.
-pub(crate) fn differs(f: Film, part: u16) -> bool {
+fn differs(f: Film, part: u16) -> bool {
     part / 2 < f.chunks && size(f, part) != size(f, part % 2)
+}
+
+// A film's sizes and SZs as the calls take them.
+#[derive(Clone, Copy)]
+pub(crate) struct Sizes {
+    own: [u32; 2],
+    chunks: [u16; 4],
+    layers: [u8; 4],
+    bytes: [u32; 4],
+    uneven: usize,
+}
+
+pub(crate) fn sizes_of(f: Film) -> Sizes {
+    let mut sizes = Sizes {
+        own: [size(f, 0), size(f, 1)],
+        chunks: [0; 4],
+        layers: [0; 4],
+        bytes: [0; 4],
+        uneven: 0,
+    };
+    for part in 2..PARTS {
+        let n = sizes.uneven;
+        if differs(f, part) && n < 4 {
+            sizes.chunks[n] = 1 + part / 2;
+            sizes.layers[n] = (part % 2) as u8;
+            sizes.bytes[n] = size(f, part);
+            sizes.uneven = n + 1;
+        }
+    }
+    sizes
+}
+
+// The job with as much of a forecast as it has slots.
+pub(crate) fn job_of<'a>(f: Film, sizes: &'a Sizes, forecast: &'a [u32; 4]) -> JobInput<'a> {
+    let n = sizes.uneven;
+    let overrides = Overrides {
+        chunks: prefix(&sizes.chunks, n),
+        layers: prefix(&sizes.layers, n),
+        bytes: prefix(&sizes.bytes, n),
+    };
+    JobInput {
+        programme: Programme {
+            chunks: f.chunks,
+            span: f.span,
+            delay: f.delay,
+            limit: f.limit,
+        },
+        sizes: prefix(&sizes.own, layers(f)),
+        overrides,
+        forecast: prefix(forecast, last_due(f) as usize),
+    }
 }

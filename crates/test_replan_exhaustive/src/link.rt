@@ -46,9 +46,10 @@ fn earlier(p: u16) -> u16
     ensures { 1 ≤ result }
 {
     if p == 0 {
-        return 1;
+        1
+    } else {
+        forecasts((p - 1) as usize)
     }
-    forecasts((p - 1) as usize)
 }
 
 // A forecast's slots from p on.

@@ -5,6 +5,8 @@ ghost use Rattle.std.specs.Prelude.{◌≤◌};
 
 use crate::film;
 use crate::film::Film;
+use core_prefix::prefix;
+use fetch::Rows;
 
 pub(crate) const CELLS: u16 = 6;
 
@@ -12,9 +14,10 @@ pub(crate) fn cell(list: u32, k: u16) -> u16
     ensures { result ≤ 7 }
 {
     if k < CELLS {
-        return ((list >> (3 * k)) % 8) as u16;
+        ((list >> (3 * k)) % 8) as u16
+    } else {
+        0
     }
-    0
 }
 
 // The first list that has a byte in slot p - 1, or in no slot before it.
@@ -28,25 +31,16 @@ pub(crate) fn bound(p: u16) -> u32 {
     }
 }
 
-fn one_if(test: bool) -> u32
-    ensures { result ≤ 1 }
-{
-    if test {
-        return 1;
-    }
-    0
-}
-
 // How many cells have a value.
 pub(crate) fn count(list: u32, v: u16) -> u32
     ensures { result ≤ 6 }
 {
-    one_if(cell(list, 0) == v)
-        + one_if(cell(list, 1) == v)
-        + one_if(cell(list, 2) == v)
-        + one_if(cell(list, 3) == v)
-        + one_if(cell(list, 4) == v)
-        + one_if(cell(list, 5) == v)
+    u32::from(cell(list, 0) == v)
+        + u32::from(cell(list, 1) == v)
+        + u32::from(cell(list, 2) == v)
+        + u32::from(cell(list, 3) == v)
+        + u32::from(cell(list, 4) == v)
+        + u32::from(cell(list, 5) == v)
 }
 
 // Whether a byte of the part may stand in cell k: the layer has not more than its bytes, and the
@@ -57,61 +51,62 @@ fn may(f: Film, list: u32, k: u16, part: u16) -> bool {
 
 fn cell_may(f: Film, list: u32, k: u16) -> bool {
     let v = cell(list, k);
-    if k % 2 == 1 {
-        if v < cell(list, k - 1) {
-            return false;
-        }
-    }
-    if v == 0 {
-        return true;
-    }
-    may(f, list, k, v - 1)
+    let ordered = k % 2 == 0 || cell(list, k - 1) <= v;
+    ordered && (v == 0 || may(f, list, k, v - 1))
 }
 
 pub(crate) fn is_list(f: Film, list: u32) -> bool {
-    cell_may(f, list, 0)
-        && cell_may(f, list, 1)
-        && cell_may(f, list, 2)
-        && cell_may(f, list, 3)
-        && cell_may(f, list, 4)
-        && cell_may(f, list, 5)
+    (0..CELLS).all(|k| cell_may(f, list, k))
 }
 
 // Cell k from the first or from the last.
-fn turned(k: u16, back: bool) -> u16
-    ensures { result ≤ 65535 }
-{
+fn turned(k: u16, back: bool) -> u16 {
     if back {
-        return (CELLS - 1) - k % CELLS;
+        (CELLS - 1) - k % CELLS
+    } else {
+        k
     }
-    k
+}
+
+// Room for 18 rows.
+#[derive(Clone, Copy)]
+pub(crate) struct Room {
+    pub slots: [u16; 18],
+    pub chunks: [u16; 18],
+    pub layers: [u8; 18],
+    pub bytes: [u32; 18],
+}
+
+pub(crate) const EMPTY: Room = Room {
+    slots: [0; 18],
+    chunks: [0; 18],
+    layers: [0; 18],
+    bytes: [0; 18],
+};
+
+// The first n rows.
+pub(crate) fn first(room: &Room, n: usize) -> Rows<'_> {
+    Rows {
+        slots: prefix(&room.slots, n),
+        chunks: prefix(&room.chunks, n),
+        layers: prefix(&room.layers, n),
+        bytes: prefix(&room.bytes, n),
+    }
 }
 
 // A row for each byte, in either order, from a place on; the place after them.
-pub(crate) fn hand(
-    list: u32,
-    back: bool,
-    at: usize,
-    slots: &mut [u16; 18],
-    chunks: &mut [u16; 18],
-    layers: &mut [u8; 18],
-    bytes: &mut [u32; 18],
-) -> usize {
+pub(crate) fn hand(list: u32, back: bool, at: usize, room: &mut Room) -> usize {
     let mut n = at;
-    let mut k: u16 = 0;
-    while k < CELLS {
+    for k in 0..CELLS {
         let c = turned(k, back);
         let v = cell(list, c);
-        if 0 < v {
-            if n < 18 {
-                slots[n] = 1 + c / 2;
-                chunks[n] = (v + 1) / 2;
-                layers[n] = ((v + 1) % 2) as u8;
-                bytes[n] = 1;
-                n = n + 1;
-            }
+        if 0 < v && n < 18 {
+            room.slots[n] = 1 + c / 2;
+            room.chunks[n] = (v + 1) / 2;
+            room.layers[n] = ((v + 1) % 2) as u8;
+            room.bytes[n] = 1;
+            n += 1;
         }
-        k = k + 1;
     }
     n
 }

@@ -14,15 +14,9 @@ mod standing;
 mod sums;
 mod tally;
 
-ghost use Rattle.std.specs.Prelude.{◌≤◌};
-
-use crate::asked::{Case, Got};
+use crate::asked::{Case, Made};
 use crate::film::Film;
 use std::io;
-
-fn bits(word: u32) -> u32 {
-    u32::count_ones(word) % 33
-}
 
 // Whether a part has some bytes and not all in the rows fetched.
 fn is_short(f: Film, list: u32, part: u16) -> bool {
@@ -31,44 +25,24 @@ fn is_short(f: Film, list: u32, part: u16) -> bool {
 }
 
 fn carries(marks: u32, part: u16) -> bool {
-    if part < film::PARTS {
-        return (marks >> (4 * (part / 2) + part % 2)) % 2 == 1;
-    }
-    false
-}
-
-fn is_ended(f: Film, list: u32, marks: u32, part: u16) -> bool {
-    is_short(f, list, part) && carries(marks, part)
-}
-
-fn is_given_up(f: Film, list: u32, marks: u32, part: u16) -> bool {
-    is_short(f, list, part) && !carries(marks, part)
+    part < film::PARTS && (marks >> (4 * (part / 2) + part % 2)) % 2 == 1
 }
 
 fn ends_some(f: Film, list: u32, marks: u32) -> bool {
-    is_ended(f, list, marks, 0)
-        || is_ended(f, list, marks, 1)
-        || is_ended(f, list, marks, 2)
-        || is_ended(f, list, marks, 3)
-        || is_ended(f, list, marks, 4)
-        || is_ended(f, list, marks, 5)
+    (0..film::PARTS).any(|part| is_short(f, list, part) && carries(marks, part))
 }
 
 fn gives_up_some(f: Film, list: u32, marks: u32) -> bool {
-    is_given_up(f, list, marks, 0)
-        || is_given_up(f, list, marks, 1)
-        || is_given_up(f, list, marks, 2)
-        || is_given_up(f, list, marks, 3)
-        || is_given_up(f, list, marks, 4)
-        || is_given_up(f, list, marks, 5)
+    (0..film::PARTS).any(|part| is_short(f, list, part) && !carries(marks, part))
 }
 
 // The marks of the film's own chunks.
 fn own_marks(f: Film, marks: u32) -> u32 {
     if f.chunks == 2 {
-        return marks % 256;
+        marks % 256
+    } else {
+        marks % 4096
     }
-    marks % 4096
 }
 
 fn note_kind(c: Case, marks: u32, tally: &mut [u64]) {
@@ -79,38 +53,34 @@ fn note_kind(c: Case, marks: u32, tally: &mut [u64]) {
     tally::add_if(tally, tally::ENDED, ends_some(f, c.list, marks));
 }
 
-fn note_plan(got: Got, marks: u32, tally: &mut [u64]) {
+fn note_plan(plan: Made, marks: u32, tally: &mut [u64]) {
     tally::add(tally, tally::PLANS, 1);
-    tally::add(tally, tally::BASES, bits(marks & 0x111));
-    tally::add(tally, tally::UPPERS, bits(marks & 0x222));
-    tally::add(tally, tally::ROWS, (got.rows % 100) as u32);
-    tally::add_if(tally, tally::PASSED, got.passed);
+    tally::add(tally, tally::BASES, (marks & 0x111).count_ones());
+    tally::add(tally, tally::UPPERS, (marks & 0x222).count_ones());
+    tally::add(tally, tally::ROWS, (plan.rows % 100) as u32);
+    tally::add_if(tally, tally::PASSED, plan.passed);
 }
 
 // The case in either order of its rows. Whether it was planned: a list is refused whatever the
 // forecast from p on is.
 fn trial(c: Case, tally: &mut [u64]) -> bool {
     let got = asked::ask(c);
-    let mut other = c;
-    other.back = true;
-    let again = asked::ask(other);
+    let again = asked::ask(Case { back: true, ..c });
     let sum = sums::plus(tally::number(tally, tally::SUM), got.sum);
     tally::set(tally, tally::SUM, sum);
     tally::add_if(tally, tally::TURNED, got.sum == again.sum);
-    if got.rows == 99 {
+    let Some(plan) = got.plan else {
         tally::add(tally, tally::REFUSED, 1);
         return false;
-    }
-    let marks = own_marks(c.film, got.marks);
+    };
+    let marks = own_marks(c.film, plan.marks);
     note_kind(c, marks, tally);
-    note_plan(got, marks, tally);
+    note_plan(plan, marks, tally);
     true
 }
 
 fn every_forecast(f: Film, p: u16, list: u32, tally: &mut [u64]) {
-    let forecasts = link::forecasts(asked::slots_on(f, p));
-    let mut w: u16 = 0;
-    while w < forecasts {
+    for w in 0..link::forecasts(asked::slots_on(f, p)) {
         let c = Case {
             film: f,
             p,
@@ -121,7 +91,6 @@ fn every_forecast(f: Film, p: u16, list: u32, tally: &mut [u64]) {
         if !trial(c, tally) {
             return;
         }
-        w = w + 1;
     }
 }
 
@@ -133,11 +102,8 @@ fn one_list(f: Film, p: u16, list: u32, tally: &mut [u64]) {
 }
 
 fn every_list(f: Film, p: u16, tally: &mut [u64]) {
-    let bound = lists::bound(p);
-    let mut list: u32 = 0;
-    while list < bound {
+    for list in 0..lists::bound(p) {
         one_list(f, p, list, tally);
-        list = list + 1;
     }
 }
 
@@ -147,32 +113,25 @@ fn every_slot(f: Film, tally: &mut [u64]) {
         return;
     }
     tally::add(tally, tally::FILMS, 1);
-    let mut p: u16 = 0;
-    while p < last {
-        p = p + 1;
+    for p in 1..=last {
         every_list(f, p, tally);
     }
     standing::every_forecast(f, tally);
 }
 
 fn every_film(tally: &mut [u64]) {
-    let mut k: u16 = 0;
-    while k < film::NUMBERS {
+    for k in 0..film::NUMBERS {
         every_slot(film::film_of(k), tally);
-        k = k + 1;
     }
 }
 
 // The words, and the numbers from one on and before another.
-fn say(rt: &impl Print, words: &[u8], tally: &[u64], from: u16, to: u16) -> io::Result<()> {
-    rt.write_all(words)?;
-    let mut k = from;
-    while k < to {
-        rt.write_all(b" ")?;
-        rt.print(tally::number(tally, k))?;
-        k = k + 1;
+fn say(rt: &impl Print, words: &str, tally: &[u64], from: u16, to: u16) -> io::Result<()> {
+    print!(rt; "{words}")?;
+    for k in from..to {
+        print!(rt; " {}", tally::number(tally, k))?;
     }
-    rt.write_all(b"\n")
+    println!(rt;)
 }
 
 fn main(rt: HostRuntime) -> io::Result<()> {
@@ -180,28 +139,28 @@ fn main(rt: HostRuntime) -> io::Result<()> {
     every_film(&mut tally);
     say(
         &rt,
-        b"films; lists of rows fetched; refused by 22:",
+        "films; lists of rows fetched; refused by 22:",
         &tally,
         tally::FILMS,
         tally::PLANS,
     )?;
     say(
         &rt,
-        b"plans made afresh; with H 0, a chunk due before p, a begun layer given up, one ended; bases, layers above, rows from p on; that pass the second call:",
+        "plans made afresh; with H 0, a chunk due before p, a begun layer given up, one ended; bases, layers above, rows from p on; that pass the second call:",
         &tally,
         tally::PLANS,
         tally::TURNED,
     )?;
     say(
         &rt,
-        b"the same with the rows in another order; checksum over all answers:",
+        "the same with the rows in another order; checksum over all answers:",
         &tally,
         tally::TURNED,
         tally::STANDING,
     )?;
     say(
         &rt,
-        b"standing plans, at each p; that go on as they were:",
+        "standing plans, at each p; that go on as they were:",
         &tally,
         tally::STANDING,
         16,

@@ -1,97 +1,68 @@
 // The case files: r.. are job files.
-use job::{OVERRIDES, Programme, SLOTS};
-use jobrecords::JobRead;
-use records::Written;
+use core_prefix::prefix;
+use job::{JobInput, OVERRIDES, Overrides, SLOTS};
+use jobrecords::LentJob;
+use refusals::Refusal;
 use std::io;
 use std::rt::Files;
 
-pub fn word(rt: &impl Print, text: &[u8]) -> io::Result<()> {
-    rt.write_all(text)
+pub(crate) fn refused(rt: &impl Print, refusal: Refusal) -> io::Result<()> {
+    println!(rt; "refused {}", refusal.number())
 }
 
-// A word, a number and a line feed.
-pub fn line(rt: &impl Print, text: &[u8], n: usize) -> io::Result<()> {
-    word(rt, text)?;
-    rt.print(n as u64)?;
-    word(rt, b"\n")
-}
-
-fn print_report(
-    rt: &impl Print,
-    p: Programme,
-    sizes: &[u32],
-    size_chunks: &[u16],
-    size_layers: &[u8],
-    size_bytes: &[u32],
-    forecast: &[u32],
-) -> io::Result<()> {
+fn print_report(rt: &impl Print, job: &JobInput) -> io::Result<()> {
     let mut out = [0u8; 8192];
-    match report::report(
-        p,
-        sizes,
-        size_chunks,
-        size_layers,
-        size_bytes,
-        forecast,
-        &mut out,
-    ) {
-        Written::Refused(n) => line(rt, b"refused ", n as usize),
-        Written::Bytes(n) => print_first(rt, &out, n),
+    match report::report(job, &mut out) {
+        Ok(n) => rt.write_all(prefix(&out, n)),
+        Err(refusal) => refused(rt, refusal),
     }
 }
 
-fn print_first(rt: &impl Print, out: &[u8; 8192], n: usize) -> io::Result<()> {
-    word(rt, core_prefix::bytes(out, n))
-}
-
-fn report_of(rt: &impl Print, file: &[u8; 1024], n: usize) -> io::Result<()> {
+fn report_of(rt: &impl Print, file: &[u8]) -> io::Result<()> {
     let mut sizes = [0u32; 4];
-    let mut size_chunks = [0u16; OVERRIDES];
-    let mut size_layers = [0u8; OVERRIDES];
-    let mut size_bytes = [0u32; OVERRIDES];
+    let mut chunks = [0u16; OVERRIDES];
+    let mut layers = [0u8; OVERRIDES];
+    let mut bytes = [0u32; OVERRIDES];
     let mut forecast = [0u32; SLOTS];
-    match jobfile::read_job(
-        core_prefix::bytes(file, n),
-        &mut sizes,
-        &mut size_chunks,
-        &mut size_layers,
-        &mut size_bytes,
-        &mut forecast,
-    ) {
-        JobRead::Refused(n) => line(rt, b"refused ", n as usize),
-        JobRead::Job {
-            programme,
-            layers,
-            overrides,
-            slots,
-        } => print_report(
-            rt,
-            programme,
-            core_prefix::words(&sizes, layers),
-            core_prefix::halves(&size_chunks, overrides),
-            core_prefix::bytes(&size_layers, overrides),
-            core_prefix::words(&size_bytes, overrides),
-            core_prefix::words(&forecast, slots),
-        ),
+    let mut lent = LentJob {
+        sizes: &mut sizes,
+        chunks: &mut chunks,
+        layers: &mut layers,
+        bytes: &mut bytes,
+        forecast: &mut forecast,
+    };
+    match jobfile::read_job(file, &mut lent) {
+        Ok(read) => {
+            let n = read.overrides;
+            let overrides = Overrides {
+                chunks: prefix(&chunks, n),
+                layers: prefix(&layers, n),
+                bytes: prefix(&bytes, n),
+            };
+            let job = JobInput {
+                programme: read.programme,
+                sizes: prefix(&sizes, read.layers),
+                overrides,
+                forecast: prefix(&forecast, read.slots),
+            };
+            print_report(rt, &job)
+        }
+        Err(refusal) => refused(rt, refusal),
     }
 }
 
 // A file that can't be opened is read as empty.
-fn read_case(rt: &(impl Files + Print), i: u8, file: &mut [u8; 1024]) -> io::Result<usize> {
-    let path = [b'r', 48 + i / 10 % 10, 48 + i % 10];
-    word(rt, &path)?;
-    word(rt, b"\n")?;
-    core_input::read_file(rt, &path, file)
-}
-
 fn case(rt: &(impl Files + Print), i: u8) -> io::Result<()> {
+    let path = [b'r', b'0' + i / 10 % 10, b'0' + i % 10];
+    rt.write_all(&path)?;
+    println!(rt;)?;
     let mut file = [0u8; 1024];
-    let n = read_case(rt, i, &mut file)?;
-    report_of(rt, &file, n)
+    let n = core_input::read_file(rt, &path, &mut file)?;
+    report_of(rt, prefix(&file, n))
 }
 
-pub fn reports(rt: &(impl Files + Print)) -> io::Result<()> {
-    for i in 0u8..19 {
+pub(crate) fn reports(rt: &(impl Files + Print)) -> io::Result<()> {
+    for i in 0..19 {
         case(rt, i)?;
     }
     Ok(())

@@ -10,8 +10,5 @@ use std::io;
 
 fn main(rt: HostRuntime) -> io::Result<()> {
     cases::reports(&rt)?;
-    rooms::exact(&rt)?;
-    rooms::longer(&rt)?;
-    rooms::one_short(&rt)?;
-    rooms::refused_first(&rt)
+    rooms::rooms(&rt)
 }

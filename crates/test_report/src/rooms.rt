@@ -1,55 +1,40 @@
 // Room for job A's report: exact, longer, one byte short.
-use crate::cases::{line, word};
-use job::Programme;
-use records::Written;
+use crate::cases::refused;
+use job::{JobInput, Overrides, Programme};
 use std::io;
 
-fn programme(chunks: u16) -> Programme {
-    Programme {
-        chunks,
-        span: 2,
-        delay: 2,
-        limit: 2,
+// The answer for job A, but of so many chunks; the bytes at the ends of the buffer tell what was
+// written.
+fn a_into(rt: &impl Print, chunks: u16, out: &mut [u8]) -> io::Result<()> {
+    let job = JobInput {
+        programme: Programme {
+            chunks,
+            span: 2,
+            delay: 2,
+            limit: 2,
+        },
+        sizes: &[2, 1],
+        overrides: Overrides {
+            chunks: &[],
+            layers: &[],
+            bytes: &[],
+        },
+        forecast: &[3, 0, 1, 0, 2, 0],
+    };
+    match report::report(&job, out) {
+        Ok(n) => println!(rt; "written {n}")?,
+        Err(refusal) => refused(rt, refusal)?,
     }
+    let first = out.first().copied().unwrap_or(0);
+    let last = out.last().copied().unwrap_or(0);
+    println!(rt; "first {first}")?;
+    println!(rt; "last {last}")
 }
 
-// The answer; the bytes at the ends of the buffer tell what was written.
-fn answered(rt: &impl Print, r: Written, first: u8, last: u8) -> io::Result<()> {
-    match r {
-        Written::Bytes(n) => line(rt, b"written ", n)?,
-        Written::Refused(n) => line(rt, b"refused ", n as usize)?,
-    }
-    line(rt, b"first ", first as usize)?;
-    line(rt, b"last ", last as usize)
-}
-
-fn a_into(chunks: u16, out: &mut [u8]) -> Written {
-    let sizes = [2u32, 1];
-    let forecast = [3u32, 0, 1, 0, 2, 0];
-    report::report(programme(chunks), &sizes, &[], &[], &[], &forecast, out)
-}
-
-pub fn exact(rt: &impl Print) -> io::Result<()> {
-    let mut out = [9u8; 86];
-    let r = a_into(3, &mut out);
-    answered(rt, r, out[0], out[85])
-}
-
-pub fn longer(rt: &impl Print) -> io::Result<()> {
-    let mut out = [9u8; 87];
-    let r = a_into(3, &mut out);
-    answered(rt, r, out[0], out[86])
-}
-
-pub fn one_short(rt: &impl Print) -> io::Result<()> {
-    let mut out = [9u8; 85];
-    let r = a_into(3, &mut out);
-    answered(rt, r, out[0], out[84])
-}
-
-pub fn refused_first(rt: &impl Print) -> io::Result<()> {
-    let mut out = [9u8; 1];
-    word(rt, b"5 before 11: ")?;
-    let r = a_into(501, &mut out);
-    answered(rt, r, out[0], out[0])
+pub(crate) fn rooms(rt: &impl Print) -> io::Result<()> {
+    a_into(rt, 3, &mut [9; 86])?;
+    a_into(rt, 3, &mut [9; 87])?;
+    a_into(rt, 3, &mut [9; 85])?;
+    print!(rt; "5 before 11: ")?;
+    a_into(rt, 501, &mut [9; 1])
 }

@@ -4,7 +4,6 @@
 #![tactic(auto)]
 
 mod calls;
-mod print;
 mod rooms;
 
 use std::io;

@@ -1,74 +1,28 @@
 // The room lent for SZs when a file is read: exact, longer, and one short for each of the three.
-use crate::calls::job_of;
-use crate::print::{pair, word};
-use jobrecords::JobRead;
+use crate::calls::{job_a, szs};
+use jobrecords::{LentJob, ReadJob};
+use refusals::Refusal;
 use std::io;
 
-fn room16(s: &mut [u16], n: usize) -> &mut [u16] {
-    if s.len() < n {
-        return s;
-    }
-    &mut s[..n]
-}
-
-fn room8(s: &mut [u8], n: usize) -> &mut [u8] {
-    if s.len() < n {
-        return s;
-    }
-    &mut s[..n]
-}
-
-fn room32(s: &mut [u32], n: usize) -> &mut [u32] {
-    if s.len() < n {
-        return s;
-    }
-    &mut s[..n]
-}
-
-fn read_said(rt: &impl Print, read: JobRead) -> io::Result<()> {
+fn read_said(rt: &impl Print, read: Result<ReadJob, Refusal>) -> io::Result<()> {
     match read {
-        JobRead::Job {
-            programme: _,
-            layers,
-            overrides,
-            slots,
-        } => {
-            pair(rt, b"layers ", layers)?;
-            pair(rt, b" SZs ", overrides)?;
-            pair(rt, b" slots ", slots)
-        }
-        JobRead::Refused(n) => pair(rt, b"refused ", n as usize),
+        Ok(
+            ReadJob {
+                programme: _,
+                layers,
+                overrides,
+                slots,
+            },
+        ) => print!(rt; "layers {layers} SZs {overrides} slots {slots}"),
+        Err(refusal) => print!(rt; "refused {}", refusal.number()),
     }
 }
 
-fn half(rt: &impl Print, x: u16) -> io::Result<()> {
-    pair(rt, b" ", x as usize)
-}
-
-fn byte(rt: &impl Print, x: u8) -> io::Result<()> {
-    pair(rt, b" ", x as usize)
-}
-
-fn long(rt: &impl Print, x: u32) -> io::Result<()> {
-    pair(rt, b" ", x as usize)
-}
-
-// Numbers of the lent room after a call: of the last SZ, and past it.
-fn shown(rt: &impl Print, chunks: &[u16; 3], layers: &[u8; 3], bytes: &[u32; 3]) -> io::Result<()> {
-    word(rt, b", then")?;
-    half(rt, chunks[1])?;
-    half(rt, chunks[2])?;
-    byte(rt, layers[1])?;
-    byte(rt, layers[2])?;
-    long(rt, bytes[1])?;
-    long(rt, bytes[2])?;
-    word(rt, b"\n")
-}
-
-// A file with two SZs is read into room for so many of each of their fields.
+// A file with two SZs is read into room for so many of each of their fields. Of the lent room after
+// the call the numbers of the last SZ are shown, and those past it.
 fn read(
     rt: &impl Print,
-    text: &[u8],
+    text: &str,
     file: &[u8],
     chunk: usize,
     layer: usize,
@@ -79,41 +33,34 @@ fn read(
     let mut layers = [9u8; 3];
     let mut bytes = [9u32; 3];
     let mut forecast = [0u32; 6];
-    word(rt, text)?;
-    let read = jobfile::read_job(
-        file,
-        &mut sizes,
-        room16(&mut chunks, chunk),
-        room8(&mut layers, layer),
-        room32(&mut bytes, byte),
-        &mut forecast,
-    );
-    read_said(rt, read)?;
-    shown(rt, &chunks, &layers, &bytes)
-}
-
-fn write(out: &mut [u8]) {
-    jobfile::write_job(
-        job_of(3),
-        &[2, 1],
-        &[2, 3],
-        &[0, 1],
-        &[1, 2],
-        &[3, 0, 1, 0, 2, 0],
-        out,
-    );
+    let mut lent = LentJob {
+        sizes: &mut sizes,
+        chunks: &mut chunks[..chunk.min(3)],
+        layers: &mut layers[..layer.min(3)],
+        bytes: &mut bytes[..byte.min(3)],
+        forecast: &mut forecast,
+    };
+    print!(rt; "{text}: ")?;
+    read_said(rt, jobfile::read_job(file, &mut lent))?;
+    let [_, chunk, past_chunk] = chunks;
+    let [_, layer, past_layer] = layers;
+    let [_, byte, past_byte] = bytes;
+    println!(rt; ", then {chunk} {past_chunk} {layer} {past_layer} {byte} {past_byte}")
 }
 
 pub(crate) fn rooms(rt: &impl Print) -> io::Result<()> {
+    let job = job_a(szs(&[2, 3], &[0, 1], &[1, 2]));
     let mut file = [0u8; 90];
-    write(&mut file);
-    read_all(rt, &file)
+    match jobfile::write_job(&job, &mut file) {
+        Ok(_) => read_all(rt, &file),
+        Err(refusal) => println!(rt; "refused {}", refusal.number()),
+    }
 }
 
 fn read_all(rt: &impl Print, file: &[u8]) -> io::Result<()> {
-    read(rt, b"longer: ", file, 3, 3, 3)?;
-    read(rt, b"exact: ", file, 2, 2, 2)?;
-    read(rt, b"no room for a chunk: ", file, 1, 2, 2)?;
-    read(rt, b"for a layer: ", file, 2, 1, 2)?;
-    read(rt, b"for bytes: ", file, 2, 2, 1)
+    read(rt, "longer", file, 3, 3, 3)?;
+    read(rt, "exact", file, 2, 2, 2)?;
+    read(rt, "no room for a chunk", file, 1, 2, 2)?;
+    read(rt, "for a layer", file, 2, 1, 2)?;
+    read(rt, "for bytes", file, 2, 2, 1)
 }

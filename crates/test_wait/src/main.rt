@@ -18,8 +18,7 @@ fn main(rt: HostRuntime) -> io::Result<()> {
     cases::ranges(&rt)?;
     cases::uneven_films(&rt)?;
     cases::large(&rt)?;
-    let mut tally = [0u64; 9];
+    let mut tally = tally::NOTHING;
     family::every_film(&mut tally);
-    tally::say_films(&rt, &tally)?;
-    tally::say_answers(&rt, &tally)
+    tally::say(&rt, tally)
 }

@@ -1,64 +1,50 @@
 // What the family's tests count.
 use std::io;
 
-pub const FILMS: usize = 0;
-
-pub const NONE_HELD: usize = 1;
-
-pub const WORSE: usize = 2;
-
-pub const FIRST: usize = 3;
-
-pub const LATER: usize = 4;
-
-pub const LAST: usize = 5;
-
-pub const NONE_WORKS: usize = 6;
-
-pub const TOO_SHORT: usize = 7;
-
-pub const SAME: usize = 8;
-
-fn add(tally: &mut [u64], k: usize) {
-    if k < tally.len() {
-        let x = tally[k];
-        if x < 1 << 63 {
-            tally[k] = x + 1;
-        }
-    }
+#[derive(Clone, Copy)]
+pub(crate) struct Tally {
+    pub films: u64,
+    pub none_held: u64,
+    pub worse: u64,
+    pub first: u64,
+    pub later: u64,
+    pub last: u64,
+    pub none_works: u64,
+    pub too_short: u64,
+    pub same: u64,
 }
 
-// One more of k, where the test holds.
-pub fn add_if(tally: &mut [u64], k: usize, test: bool) {
-    if test {
-        add(tally, k);
-    }
+pub(crate) const NOTHING: Tally = Tally {
+    films: 0,
+    none_held: 0,
+    worse: 0,
+    first: 0,
+    later: 0,
+    last: 0,
+    none_works: 0,
+    too_short: 0,
+    same: 0,
+};
+
+// One more, where the test holds.
+pub(crate) fn count(n: &mut u64, test: bool) {
+    *n = n.saturating_add(u64::from(test));
 }
 
-fn number(tally: &[u64], k: usize) -> u64 {
-    if k < tally.len() {
-        return tally[k];
-    }
-    0
-}
-
-fn say(rt: &impl Print, word: &[u8], tally: &[u64], k: usize) -> io::Result<()> {
-    rt.write_all(word)?;
-    rt.print(number(tally, k))
-}
-
-pub fn say_films(rt: &impl Print, tally: &[u64]) -> io::Result<()> {
-    say(rt, b"films ", tally, FILMS)?;
-    say(rt, b" with H 0 ", tally, NONE_HELD)?;
-    say(rt, b" a longer wait worse ", tally, WORSE)?;
-    say(rt, b"\nthe first s ", tally, FIRST)?;
-    say(rt, b" a later one ", tally, LATER)?;
-    say(rt, b" the last within the forecast ", tally, LAST)
-}
-
-pub fn say_answers(rt: &impl Print, tally: &[u64]) -> io::Result<()> {
-    say(rt, b" none works ", tally, NONE_WORKS)?;
-    say(rt, b" too short for s = 1 ", tally, TOO_SHORT)?;
-    say(rt, b"\nthe same answer by plans ", tally, SAME)?;
-    rt.write_all(b"\n")
+pub(crate) fn say(rt: &impl Print, tally: Tally) -> io::Result<()> {
+    let Tally {
+        films,
+        none_held,
+        worse,
+        first,
+        later,
+        last,
+        none_works,
+        too_short,
+        same,
+    } = tally;
+    println!(rt; "films {films} with H 0 {none_held} a longer wait worse {worse}")?;
+    print!(rt; "the first s {first} a later one {later} the last within the forecast {last}")?;
+    println!(rt; " none works {none_works} too short for s = 1 {too_short}")?;
+    println!(rt; "the same answer by plans {same}")
 }
