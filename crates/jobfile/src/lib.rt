@@ -73,9 +73,7 @@ fn put_programme(out: &mut [u8], at: usize, p: Programme) -> usize
     let [s, delay] = p.delay.to_le_bytes();
     let [b, limit] = p.limit.to_le_bytes();
     let mark = b"PG";
-    let record = [
-        mark[0], mark[1], c, chunks, l, span, s, delay, b, limit,
-    ];
+    let record = [mark[0], mark[1], c, chunks, l, span, s, delay, b, limit];
     put_bytes(out, at, &record)
 }
 

@@ -249,9 +249,7 @@ fn put_ft(out: &mut [u8], at: usize, slot: u16, chunk: u16, layer: u8, bytes: u3
     let [i, j] = chunk.to_le_bytes();
     let [a, b, c, d] = bytes.to_le_bytes();
     let mark = b"FT";
-    let row = [
-        mark[0], mark[1], s, t, i, j, layer, a, b, c, d,
-    ];
+    let row = [mark[0], mark[1], s, t, i, j, layer, a, b, c, d];
     out[at..at + 11].copy_from_slice(&row);
 }
 
