@@ -17,10 +17,7 @@ pub(crate) fn plus(a: u64, b: u64) -> u64 {
 pub(crate) fn of_case(c: Case) -> u64 {
     let f = c.film;
     with(
-        with(
-            with(u64::from(f.number), u32::from(c.p)),
-            c.list,
-        ),
+        with(with(u64::from(f.number), u32::from(c.p)), c.list),
         c.rate,
     )
 }

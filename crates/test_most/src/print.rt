@@ -17,7 +17,10 @@ pub(crate) fn said(rt: &impl Print, found: Result<MostPlan, Refusal>) -> io::Res
             Ok(())
         }
         Err(refusal) => {
-            print!(rt; "refused {}, counts 0 0 0 0, at most 0 and 0", refusal.number())
+            print!(rt;
+                "refused {}, counts 0 0 0 0, at most 0 and 0",
+                refusal.number()
+            )
         }
     }
 }

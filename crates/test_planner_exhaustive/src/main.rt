@@ -111,41 +111,40 @@ fn every_job(tally: &mut [u64]) {
 }
 
 // The words, and the numbers from one on and before another.
-fn say(rt: &impl Print, words: &[u8], tally: &[u64], from: u16, to: u16) -> io::Result<()> {
-    rt.write_all(words)?;
+fn say(rt: &impl Print, words: &str, tally: &[u64], from: u16, to: u16) -> io::Result<()> {
+    print!(rt; "{words}")?;
     for k in from..to {
-        rt.write_all(b" ")?;
-        rt.print(tally::number(tally, k))?;
+        print!(rt; " {}", tally::number(tally, k))?;
     }
-    rt.write_all(b"\n")
+    println!(rt;)
 }
 
 fn say_all(rt: &impl Print, tally: &[u64]) -> io::Result<()> {
     say(
         rt,
-        b"jobs; with three layers, four layers, uneven chunks, H 0, a limit no multiple of L, an empty slot, a limit that binds, bases settled by request 9:",
+        "jobs; with three layers, four layers, uneven chunks, H 0, a limit no multiple of L, an empty slot, a limit that binds, bases settled by request 9:",
         tally,
         tally::JOBS,
         tally::LISTS,
     )?;
-    say(rt, b"bases, layers above, rows:", tally, tally::BASES, 27)?;
+    say(rt, "bases, layers above, rows:", tally, tally::BASES, 27)?;
     say(
         rt,
-        b"lists that pass; bounds on bases, on layers 0 to 3 in playing order, with the whole held, for equal chunks; on bases of uneven film, with the whole held; lists that break one; of uneven film under a limit, that carry more bases than the plan:",
+        "lists that pass; bounds on bases, on layers 0 to 3 in playing order, with the whole held, for equal chunks; on bases of uneven film, with the whole held; lists that break one; of uneven film under a limit, that carry more bases than the plan:",
         tally,
         tally::LISTS,
         tally::SAME_MARKS,
     )?;
     say(
         rt,
-        b"pairs of equal chunks that differ in one slot; with more bases, as many more as can be, other than promised:",
+        "pairs of equal chunks that differ in one slot; with more bases, as many more as can be, other than promised:",
         tally,
         tally::PAIRS,
         31,
     )?;
     say(
         rt,
-        b"plans with the same marks, counts, rows; that pass, in playing order:",
+        "plans with the same marks, counts, rows; that pass, in playing order:",
         tally,
         tally::SAME_MARKS,
         tally::BASES,

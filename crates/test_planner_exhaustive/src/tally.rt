@@ -1,4 +1,5 @@
 // What the tests count. The first 24 numbers are flags: so many jobs, lists or plans had them.
+// Kept: the numbers are places of one array, which is printed by ranges of them.
 pub(crate) const JOBS: u16 = 0;
 
 pub(crate) const THREE_LAYERS: u16 = 1;

@@ -77,15 +77,18 @@ fn one_job(k: u32, tally: &mut Tally) {
         digit(f / 81),
         digit(f / 243),
     ];
+    let sizes = [base, 1];
+    let chunks = [2, 2, 3];
+    let layers = [0, 1, 0];
     let bytes = [base + 1, 2, base + 2];
     let overrides = Overrides {
-        chunks: prefix(&[2, 2, 3], n),
-        layers: prefix(&[0, 1, 0], n),
+        chunks: prefix(&chunks, n),
+        layers: prefix(&layers, n),
         bytes: prefix(&bytes, n),
     };
     let job = JobInput {
         programme: p,
-        sizes: &[base, 1],
+        sizes: &sizes,
         overrides,
         forecast: prefix(&forecast, job::last_due(p)),
     };

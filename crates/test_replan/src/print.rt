@@ -16,9 +16,9 @@ fn column<T: Display>(rt: &impl Print, text: &str, column: &[T]) -> io::Result<(
 // The rows and the counts. A refusal has no counts, which the line says by zeros.
 pub(crate) fn plan_said(rt: &impl Print, plan: Result<Planned, Refusal>) -> io::Result<()> {
     match plan {
-        Ok(Planned { rows, counts }) => {
-            let [a, b, c, d] = counts;
-            print!(rt; ": rows {rows}, counts {a} {b} {c} {d}")
+        Ok(plan) => {
+            let [a, b, c, d] = plan.counts;
+            print!(rt; ": rows {}, counts {a} {b} {c} {d}", plan.rows)
         }
         Err(refusal) => print!(rt; ": refused {}, counts 0 0 0 0", refusal.number()),
     }

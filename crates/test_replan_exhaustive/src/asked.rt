@@ -90,7 +90,12 @@ pub(crate) fn ask(c: Case) -> Got {
     }
 }
 
-fn plan_made(c: Case, sizes: &Sizes, answer: Result<Planned, Refusal>, lent: &Lent) -> Option<Made> {
+fn plan_made(
+    c: Case,
+    sizes: &Sizes,
+    answer: Result<Planned, Refusal>,
+    lent: &Lent,
+) -> Option<Made> {
     match answer {
         Ok(plan) => Some(Made {
             rows: plan.rows,

@@ -61,11 +61,7 @@ pub(crate) fn is_list(f: Film, list: u32) -> bool {
 
 // Cell k from the first or from the last.
 fn turned(k: u16, back: bool) -> u16 {
-    if back {
-        (CELLS - 1) - k % CELLS
-    } else {
-        k
-    }
+    if back { (CELLS - 1) - k % CELLS } else { k }
 }
 
 // Room for 18 rows.

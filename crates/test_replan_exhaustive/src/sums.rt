@@ -20,10 +20,7 @@ pub(crate) fn plus(a: u64, b: u64) -> u64 {
 pub(crate) fn of_case(c: Case) -> u64 {
     let f = c.film;
     with(
-        with(
-            with(u64::from(f.number), u32::from(c.p)),
-            c.list,
-        ),
+        with(with(u64::from(f.number), u32::from(c.p)), c.list),
         u32::from(c.w),
     )
 }
@@ -63,8 +60,5 @@ pub(crate) fn word_of(marks: [u8; 3]) -> u32 {
 // Four bits a layer.
 fn counts_of(counts: [u16; 4]) -> u32 {
     let [a, b, c, d] = counts;
-    u32::from(a % 16)
-        + 16 * u32::from(b % 16)
-        + 256 * u32::from(c % 16)
-        + 4096 * u32::from(d % 16)
+    u32::from(a % 16) + 16 * u32::from(b % 16) + 256 * u32::from(c % 16) + 4096 * u32::from(d % 16)
 }

@@ -1,4 +1,5 @@
 // What the tests count.
+// Kept: the numbers are places of one array, which is printed by ranges of them.
 pub(crate) const FILMS: u16 = 0;
 
 pub(crate) const LISTS: u16 = 1;

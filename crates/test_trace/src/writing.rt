@@ -19,10 +19,7 @@ pub(crate) fn written(rt: &impl Print, forecast: &[u32]) -> io::Result<()> {
 // The forecast goes into room for so many bytes, after which all ten bytes show.
 fn write(rt: &impl Print, forecast: &[u32], places: usize) -> io::Result<()> {
     let mut out = [b'.'; 10];
-    answered(
-        rt,
-        trace::write_trace(forecast, &mut out[..places.min(10)]),
-    )?;
+    answered(rt, trace::write_trace(forecast, &mut out[..places.min(10)]))?;
     print!(rt; ", then ")?;
     rt.write_all(&out)?;
     println!(rt;)

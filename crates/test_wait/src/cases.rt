@@ -1,33 +1,11 @@
 // Single cases: each line says what it is, where it is small the bases that the plan with each s
 // carries, and the answer.
 use crate::plans;
+use crate::plans::equal_film;
 use core_prefix::prefix;
 use job::Overrides;
 use std::io;
 use wait::Film;
-
-// A film of equal chunks.
-fn equal_film<'a>(
-    chunks: u16,
-    span: u16,
-    limit: u16,
-    sizes: &'a [u32],
-    forecast: &'a [u32],
-) -> Film<'a> {
-    let overrides = Overrides {
-        chunks: &[],
-        layers: &[],
-        bytes: &[],
-    };
-    Film {
-        chunks,
-        span,
-        limit,
-        sizes,
-        overrides,
-        forecast,
-    }
-}
 
 fn ask(rt: &impl Print, text: &str, film: &Film) -> io::Result<()> {
     print!(rt; "{text}: ")?;
@@ -187,18 +165,18 @@ pub(crate) fn large(rt: &impl Print) -> io::Result<()> {
     ask(
         rt,
         "3,600 slots of nothing",
-        &equal_film(500, 1, 499, &[1], &forecast[..3600]),
+        &equal_film(500, 1, 499, &[1], prefix(&forecast, 3600)),
     )?;
     forecast[3100..].fill(1);
     ask(
         rt,
         "the last s of 500 chunks",
-        &equal_film(500, 1, 0, &[1], &forecast[..3600]),
+        &equal_film(500, 1, 0, &[1], prefix(&forecast, 3600)),
     )?;
     forecast[1..].fill(16777216);
     ask(
         rt,
         "sums above 32 bits",
-        &equal_film(300, 1, 0, &[16777216], &forecast[..3600]),
+        &equal_film(300, 1, 0, &[16777216], prefix(&forecast, 3600)),
     )
 }

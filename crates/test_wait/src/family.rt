@@ -1,8 +1,8 @@
 // All films of the family, each asked once and tried with a plan for every s.
 use crate::plans;
+use crate::plans::equal_film;
 use crate::tally::{Tally, count};
 use core_prefix::prefix;
-use job::Overrides;
 use refusals::Refusal;
 use wait::Film;
 
@@ -20,19 +20,14 @@ fn one_film(k: u16, slots: usize, tally: &mut Tally) {
         digit(f / 27),
         digit(f / 81),
     ];
-    let overrides = Overrides {
-        chunks: &[],
-        layers: &[],
-        bytes: &[],
-    };
-    let film = Film {
-        chunks: 1 + k % 3,
-        span: 1 + k / 3 % 2,
-        limit: k / 6 % 4,
-        sizes: &[1 + (k / 24 % 2) as u32],
-        overrides,
-        forecast: prefix(&forecast, slots),
-    };
+    let sizes = [1 + (k / 24 % 2) as u32];
+    let film = equal_film(
+        1 + k % 3,
+        1 + k / 3 % 2,
+        k / 6 % 4,
+        &sizes,
+        prefix(&forecast, slots),
+    );
     trial(&film, tally);
 }
 

@@ -1,8 +1,31 @@
 // The obvious way: the plan of the job with each s, laid out, and its base count.
 use core_prefix::prefix;
 use fetch::LentList;
-use job::{JobInput, Programme};
+use job::{JobInput, Overrides, Programme};
 use wait::Film;
+
+// A film of equal chunks.
+pub(crate) fn equal_film<'a>(
+    chunks: u16,
+    span: u16,
+    limit: u16,
+    sizes: &'a [u32],
+    forecast: &'a [u32],
+) -> Film<'a> {
+    let overrides = Overrides {
+        chunks: &[],
+        layers: &[],
+        bytes: &[],
+    };
+    Film {
+        chunks,
+        span,
+        limit,
+        sizes,
+        overrides,
+        forecast,
+    }
+}
 
 // What trying every s says: the first that works, how many were tried, and whether one after the
 // first doesn't work.
