@@ -96,7 +96,10 @@ fn put(
         }
         Call::Book => {
             print!(rt; "booked: ")?;
-            done_said(rt, booking::book(programme, sizes, &overrides, forecast, list))
+            done_said(
+                rt,
+                booking::book(programme, sizes, &overrides, forecast, list),
+            )
         }
         Call::Release => {
             print!(rt; "released: ")?;

@@ -10,14 +10,20 @@ pub(crate) fn said(rt: &impl Print, found: Result<Searched, Refusal>) -> io::Res
     match found {
         Ok(found) => {
             let [a, b, c, d] = found.counts;
-            print!(rt; "rows {}, counts {a} {b} {c} {d}, steps {}", found.rows, found.steps)?;
+            print!(rt;
+                "rows {}, counts {a} {b} {c} {d}, steps {}",
+                found.rows, found.steps
+            )?;
             if found.ended {
                 print!(rt; ", ended")?;
             }
             print!(rt; ", short {}", found.shortfall)
         }
         Err(refusal) => {
-            print!(rt; "refused {}, counts 0 0 0 0, steps 0, short 0", refusal.number())
+            print!(rt;
+                "refused {}, counts 0 0 0 0, steps 0, short 0",
+                refusal.number()
+            )
         }
     }
 }
