@@ -35,42 +35,24 @@ pub(crate) struct Made {
     pub passed: bool,
 }
 
-// Room for a plan of at most 18 rows.
-#[derive(Clone, Copy)]
-pub(crate) struct Lent {
-    pub marks: [u8; 3],
-    pub rows: Room,
-}
-
-// What is lent holds 9s.
-pub(crate) const NINES: Lent = Lent {
-    marks: [9; 3],
-    rows: Room {
-        slots: [9; 18],
-        chunks: [9; 18],
-        layers: [9; 18],
-        bytes: [9; 18],
-    },
-};
-
 pub(crate) fn replan_into(
     job: &JobInput,
     p: u16,
     fetched: &Rows,
     onward: &[u32],
-    lent: &mut Lent,
+    room: &mut Room,
 ) -> Result<Planned, Refusal> {
-    let rows = &mut lent.rows;
     let mut out = LentList {
-        marks: &mut lent.marks,
-        slots: &mut rows.slots,
-        chunks: &mut rows.chunks,
-        layers: &mut rows.layers,
-        bytes: &mut rows.bytes,
+        marks: &mut room.marks,
+        slots: &mut room.slots,
+        chunks: &mut room.chunks,
+        layers: &mut room.layers,
+        bytes: &mut room.bytes,
     };
     replan::replan(job, p, fetched, onward, &mut out)
 }
 
+// What is lent holds 9s.
 pub(crate) fn ask(c: Case) -> Got {
     let f = c.film;
     let sizes = film::sizes_of(f);
@@ -81,26 +63,21 @@ pub(crate) fn ask(c: Case) -> Got {
     let fetched = lists::first(&fetched, n);
     let onward = link::onward(c.w);
     let onward = prefix(&onward, slots_on(f, c.p));
-    let mut lent = NINES;
-    let answer = replan_into(&job, c.p, &fetched, onward, &mut lent);
-    let answered = sums::of_answer(sums::of_case(c), answer, lent.marks);
+    let mut room = lists::NINES;
+    let answer = replan_into(&job, c.p, &fetched, onward, &mut room);
+    let answered = sums::of_answer(sums::of_case(c), answer, room.marks);
     Got {
-        sum: sums::of_rows(answered, &lists::first(&lent.rows, 18)),
-        plan: plan_made(c, &sizes, answer, &lent),
+        sum: sums::of_rows(answered, &lists::first(&room, 18)),
+        plan: plan_made(c, sizes, answer, &room),
     }
 }
 
-fn plan_made(
-    c: Case,
-    sizes: &Sizes,
-    answer: Result<Planned, Refusal>,
-    lent: &Lent,
-) -> Option<Made> {
+fn plan_made(c: Case, sizes: Sizes, answer: Result<Planned, Refusal>, room: &Room) -> Option<Made> {
     match answer {
         Ok(plan) => Some(Made {
             rows: plan.rows,
-            marks: sums::word_of(lent.marks),
-            passed: passes(c, sizes, lent, plan.rows),
+            marks: sums::word_of(room.marks),
+            passed: passes(c, sizes, room, plan.rows),
         }),
         Err(_) => None,
     }
@@ -113,15 +90,15 @@ pub(crate) fn slots_on(f: Film, p: u16) -> usize {
 
 // Whether the second checker call's verdict is 0 on the new rows, with the handed ones put behind
 // them.
-fn passes(c: Case, sizes: &Sizes, lent: &Lent, rows: usize) -> bool {
+fn passes(c: Case, sizes: Sizes, room: &Room, rows: usize) -> bool {
     let f = c.film;
     let forecast = link::joined(c.p, c.w);
-    let job = film::job_of(f, sizes, &forecast);
-    let mut room = lent.rows;
+    let job = film::job_of(f, &sizes, &forecast);
+    let mut room = *room;
     let n = lists::hand(c.list, c.back, rows, &mut room);
     let rows = lists::first(&room, n);
     let list = FetchList {
-        marks: prefix(&lent.marks, f.chunks as usize),
+        marks: prefix(&room.marks, f.chunks as usize),
         rows,
     };
     checker::check_from(&job, c.p, &list) == Ok(0)

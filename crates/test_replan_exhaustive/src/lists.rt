@@ -64,9 +64,10 @@ fn turned(k: u16, back: bool) -> u16 {
     if back { (CELLS - 1) - k % CELLS } else { k }
 }
 
-// Room for 18 rows.
+// Room for marks and 18 rows.
 #[derive(Clone, Copy)]
 pub(crate) struct Room {
+    pub marks: [u8; 3],
     pub slots: [u16; 18],
     pub chunks: [u16; 18],
     pub layers: [u8; 18],
@@ -74,10 +75,19 @@ pub(crate) struct Room {
 }
 
 pub(crate) const EMPTY: Room = Room {
+    marks: [0; 3],
     slots: [0; 18],
     chunks: [0; 18],
     layers: [0; 18],
     bytes: [0; 18],
+};
+
+pub(crate) const NINES: Room = Room {
+    marks: [9; 3],
+    slots: [9; 18],
+    chunks: [9; 18],
+    layers: [9; 18],
+    bytes: [9; 18],
 };
 
 // The first n rows.

@@ -1,6 +1,5 @@
 // Standing plans settled in document 01's way: at each p, with the plan's own rows before it and
 // the forecast as it was, the new marks are the plan's and the new rows the rest of it.
-use crate::asked::Lent;
 use crate::film::{Film, Sizes};
 use crate::lists::Room;
 use crate::{asked, film, link, lists, sums, tally};
@@ -24,32 +23,31 @@ fn rest(room: &Room, m: usize) -> Rows<'_> {
 }
 
 // The plan's own rows and marks go on at p as they were.
-fn goes_on(f: Film, p: u16, w: u16, sizes: &Sizes, own: &Lent) -> bool {
-    let m = before(p, &own.rows.slots);
+fn goes_on(f: Film, p: u16, w: u16, sizes: Sizes, own: &Room) -> bool {
+    let m = before(p, &own.slots);
     let forecast = link::onward(w);
-    let job = film::job_of(f, sizes, &forecast);
-    let fetched = lists::first(&own.rows, m);
+    let job = film::job_of(f, &sizes, &forecast);
+    let fetched = lists::first(own, m);
     let onward = link::rest(w, p);
     let onward = prefix(&onward, asked::slots_on(f, p));
-    let mut lent = asked::NINES;
-    let answer = asked::replan_into(&job, p, &fetched, onward, &mut lent);
-    let new = lists::first(&lent.rows, 18usize.saturating_sub(m));
+    let mut room = lists::NINES;
+    let answer = asked::replan_into(&job, p, &fetched, onward, &mut room);
+    let new = lists::first(&room, 18usize.saturating_sub(m));
     answer.is_ok()
-        && sums::word_of(lent.marks) == sums::word_of(own.marks)
-        && sums::of_rows(0, &rest(&own.rows, m)) == sums::of_rows(0, &new)
+        && sums::word_of(room.marks) == sums::word_of(own.marks)
+        && sums::of_rows(0, &rest(own, m)) == sums::of_rows(0, &new)
 }
 
-fn plan(f: Film, w: u16, sizes: &Sizes, tally: &mut [u64]) {
+fn plan(f: Film, w: u16, sizes: Sizes, tally: &mut [u64]) {
     let forecast = link::onward(w);
-    let job = film::job_of(f, sizes, &forecast);
-    let mut own = asked::NINES;
-    let rows = &mut own.rows;
+    let job = film::job_of(f, &sizes, &forecast);
+    let mut own = lists::NINES;
     let mut out = LentList {
         marks: &mut own.marks,
-        slots: &mut rows.slots,
-        chunks: &mut rows.chunks,
-        layers: &mut rows.layers,
-        bytes: &mut rows.bytes,
+        slots: &mut own.slots,
+        chunks: &mut own.chunks,
+        layers: &mut own.layers,
+        bytes: &mut own.bytes,
     };
     if planner::plan(&job, &mut out).is_err() {
         return;
@@ -67,6 +65,6 @@ pub(crate) fn every_forecast(f: Film, tally: &mut [u64]) {
     }
     let sizes = film::sizes_of(f);
     for w in 0..link::forecasts(film::last_due(f) as usize) {
-        plan(f, w, &sizes, tally);
+        plan(f, w, sizes, tally);
     }
 }
