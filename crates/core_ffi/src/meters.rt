@@ -25,12 +25,7 @@ fn meter_in(slots: &[u16], bytes: &[u32], kept: &[u8]) -> Result<Meter, Refusal>
 }
 
 // A meter put into the storage, or 11.
-fn store(
-    m: Meter,
-    slots: &mut [u16],
-    bytes: &mut [u32],
-    kept: &mut [u8],
-) -> Result<(), Refusal>
+fn store(m: Meter, slots: &mut [u16], bytes: &mut [u32], kept: &mut [u8]) -> Result<(), Refusal>
     ensures refused { refusal_number result ≡ cells_refusal (storage slots.old bytes.old kept.old) }
     ensures stored { storage slots.new bytes.new kept.new
         ≡ stored_in (cells_refusal (storage slots.old bytes.old kept.old)) m

@@ -39,12 +39,7 @@ pub fn plan_with_counts(
 
 // Where the counts have no room, the plan is made into none: it is refused by all that comes before
 // 11, or by 11.
-fn replan_short(
-    job: &JobInput,
-    from: u16,
-    fetched: &Rows,
-    onward: &[u32],
-) -> Result<usize, Refusal>
+fn replan_short(job: &JobInput, from: u16, fetched: &Rows, onward: &[u32]) -> Result<usize, Refusal>
     ensures { by_number result ≡
         Err (input_refusal (handed job.now) (handed_on from fetched.now onward.now) or_else 11) }
 {
