@@ -12,6 +12,7 @@ use refusals::Refusal;
 
 // Where the programme or the lengths have no room, the file is read into none: it is refused by all
 // that comes before 11, or by 11.
+#[tactic(auto, unfolding(jobrecords::specs::Reader::read_answer))]
 fn read_short(sequenced: bool, file: &[u8]) -> Result<usize, Refusal>
     ensures { by_number result ≡ Err (refusal_of sequenced file.now or_else 11) }
 {

@@ -33,6 +33,7 @@ pub fn number(answer: Result<usize, Refusal>) -> u64
 }
 
 // The same of an answer without a result: 0, or the refusal.
+#[tactic(auto, unfolding(crate::specs::Convention::answered))]
 pub fn done(answer: Result<(), Refusal>) -> u64
     ensures { result ≡ answered (refusal_number answer) 0 }
 {

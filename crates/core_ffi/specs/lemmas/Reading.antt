@@ -1,6 +1,6 @@
 -- Lemmas. The job readers: with room for the programme and the lengths they hand over what the
 -- library's reader does, without it they answer 11 after all that comes before 11. Assumes nothing.
-use Rattle.std.specs.Prelude.{ℕ, ◌≤◌, ◌<◌, ◌≡◌, refl, Bool, false, cond, ◌&&◌, ◌⊎◌, List, [], ◌∷◌, leb, length, Result, Err}
+use Rattle.std.specs.Prelude.{ℕ, ◌≤◌, ◌<◌, ◌≡◌, refl, Bool, true, false, cond, ◌&&◌, ◌⊎◌, List, [], ◌∷◌, leb, length, Result, Err}
 use Rattle.std.proofs.Common.{sym, ap, ◌∙◌, ⊎_elim, le-leb, ne_eqb}
 use Rattle.std.proofs.lemmas.Bool.{lt-leb}
 use Rattle.theory_basics.specs.Lent.{lent_after}
@@ -35,7 +35,8 @@ abbrev pub NoRoom : JobRoom → Type 0
 NoRoom lent = (length lent.programme < 4) ⊎ (length lent.lengths < 2)
 
 neither : (b : Bool) → b && false ≡ false
-neither b = elim b as (λ v. v && false ≡ false) [ true ↦ refl | false ↦ refl ]
+neither true = refl
+neither false = refl
 
 no_room : (lent : JobRoom) → NoRoom lent → leb 4 (length lent.programme) && leb 2 (length lent.lengths) ≡ false
 no_room lent =
@@ -88,7 +89,3 @@ module _ (sequenced : Bool) (file : List ℕ) where
         programme_is = keeps (programme_of j) lent.programme;
         lengths_are = keeps (lengths_of j) lent.lengths;
       }
-
-  -- What a reading into too little room answers, with 11 after it.
-  pub short_refused : (lent : Buffers) (n : ℕ) → job_read_refusal sequenced file lent ≡ n → n or_else 11 ≡ refusal_of sequenced file or_else 11
-  short_refused lent n e = ap (λ (x : ℕ). x or_else 11) (sym e) ∙ eleven_once (refusal_of sequenced file) (room_for (job_of_file sequenced file) lent)

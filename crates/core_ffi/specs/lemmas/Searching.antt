@@ -1,7 +1,7 @@
 -- Lemmas. The search within a budget: with room for the counts and the three numbers of the walk it
 -- hands over what the library's call does, without it 11 after all that comes before 11. Assumes
 -- nothing.
-use Rattle.std.specs.Prelude.{ℕ, ◌≤◌, ◌<◌, ◌≡◌, refl, Bool, false, cond, ◌&&◌, ◌⊎◌, List, [], ◌∷◌, leb, length, Result, Err}
+use Rattle.std.specs.Prelude.{ℕ, ◌≤◌, ◌<◌, ◌≡◌, refl, Bool, true, false, cond, ◌&&◌, ◌⊎◌, List, [], ◌∷◌, leb, length, Result, Err}
 use Rattle.std.proofs.Common.{sym, ap, ◌∙◌, ⊎_elim, le-leb}
 use Rattle.std.proofs.lemmas.Bool.{lt-leb}
 use Rattle.theory_basics.specs.Lent.{lent_after}
@@ -29,7 +29,8 @@ abbrev pub NoRoom : (counts walk : List ℕ) → Type 0
 NoRoom counts walk = (length counts < 4) ⊎ (length walk < 3)
 
 both_or_none : (b : Bool) → b && false ≡ false
-both_or_none b = elim b as (λ v. v && false ≡ false) [ true ↦ refl | false ↦ refl ]
+both_or_none true = refl
+both_or_none false = refl
 
 no_room : (counts walk : List ℕ) → NoRoom counts walk → leb 4 (length counts) && leb 3 (length walk) ≡ false
 no_room counts walk =
