@@ -14,7 +14,7 @@ import sys
 import header
 
 DOCUMENTS = ["README.md", "CONTRIBUTING.md", "CHANGELOG.md"] + sorted(glob.glob("docs/*.md") + glob.glob("docs/notes/*.md") + glob.glob("bench/*.md"))
-HISTORY = ("docs/PORT.md", "docs/notes/", "CHANGELOG.md")
+HISTORY = ("docs/PORT.md", "docs/DESIGN-PASS.md", "docs/notes/", "CHANGELOG.md")
 
 # What a command may name and the tree need not have: what is built or made by another command, and
 # folders that a reader chooses.
@@ -157,8 +157,8 @@ def faults(document):
     for target in re.findall(r"\]\(([^)#]+)(?:#[^)]*)?\)", text):
         if "://" not in target and not os.path.exists(os.path.join(os.path.dirname(document), target)):
             yield f"{target}: a link to nothing"
-    # docs/PORT.md lists statements, some of which several crates or sections have.
-    lines = [line for line in text.splitlines() if len(line) > 60 and document != "docs/PORT.md"]
+    # The two pages list statements, some of which several crates or sections have.
+    lines = [line for line in text.splitlines() if len(line) > 60 and document not in HISTORY[:2]]
     for line in lines:
         if lines.count(line) > 1:
             yield f"{line[:60]}: stands there twice"
