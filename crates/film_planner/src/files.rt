@@ -40,9 +40,7 @@ pub extern "C" fn film_read_job(
         bytes: size_bytes,
         forecast,
     };
-    core_ffi::number(core_ffi::read_with_lengths(
-        true, file, programme, lengths, &mut room,
-    ))
+    core_ffi::number(core_ffi::read_with_lengths(true, file, programme, lengths, &mut room))
 }
 
 // `jobfile::read_mixed_job` for C.
@@ -71,9 +69,7 @@ pub extern "C" fn film_read_mixed_job(
         bytes: &mut [],
         forecast,
     };
-    core_ffi::number(core_ffi::read_with_lengths(
-        false, file, programme, lengths, &mut out,
-    ))
+    core_ffi::number(core_ffi::read_with_lengths(false, file, programme, lengths, &mut out))
 }
 
 // `jobfile::write_job` for C.

@@ -161,9 +161,7 @@ pub extern "C" fn film_book(
             bytes: row_bytes,
         },
     };
-    core_ffi::done(booking::book(
-        programme, sizes, &overrides, forecast, &list,
-    ))
+    core_ffi::done(booking::book(programme, sizes, &overrides, forecast, &list))
 }
 
 // `booking::release` for C.
@@ -207,13 +205,12 @@ pub extern "C" fn film_release(
         layers: row_layers,
         bytes: row_bytes,
     };
-    core_ffi::done(booking::release(
-        programme, sizes, &overrides, forecast, &rows,
-    ))
+    core_ffi::done(booking::release(programme, sizes, &overrides, forecast, &rows))
 }
 
 // A count of marks of any length may pass 2^32, so it stands in a lent slice.
 #[unsafe(no_mangle)]
+#[tactic(auto, unfolding(core_ffi::specs::Convention::answered))]
 pub extern "C" fn film_count_marks(marks: &[u8], n: u8, count: &mut [u64]) -> u64
     ensures { CountMarksReturned marks.now n count.old result count.new }
 {

@@ -123,9 +123,7 @@ pub extern "C" fn film_replan(
         layers: row_layers,
         bytes: row_bytes,
     };
-    core_ffi::number(core_ffi::replan_with_counts(
-        &job, from, &fetched, onward, &mut out, counts,
-    ))
+    core_ffi::number(core_ffi::replan_with_counts(&job, from, &fetched, onward, &mut out, counts))
 }
 
 // `search::search` for C.
@@ -183,9 +181,7 @@ pub extern "C" fn film_search(
         layers: row_layers,
         bytes: row_bytes,
     };
-    core_ffi::number(core_ffi::search_with_walk(
-        &job, budget, &mut out, counts, walk,
-    ))
+    core_ffi::number(core_ffi::search_with_walk(&job, budget, &mut out, counts, walk))
 }
 
 // `most::most_pictures` for C.
@@ -245,7 +241,5 @@ pub extern "C" fn film_most(
         layers: row_layers,
         bytes: row_bytes,
     };
-    core_ffi::number(core_ffi::most_with_bounds(
-        &job, passes, work, &mut out, counts, bounds,
-    ))
+    core_ffi::number(core_ffi::most_with_bounds(&job, passes, work, &mut out, counts, bounds))
 }

@@ -1,0 +1,9 @@
+use Rattle.std.proofs.Common.{◌≡◌, rules}
+use Rattle.refusals.specs.Numbers.{by_number}
+use Rattle.core_ffi.specs.lemmas.Numbers.{answer_number, number_is}
+use Rattle.film_planner.proofs.lists.film_check_from.Goals as goal
+
+pub returns : goal.returns
+returns c =
+    let same : c.number.result ≡ answer_number (by_number c.check_from.result) = search rules in
+    number_is _ _ same c.check_from.ensures

@@ -1,0 +1,9 @@
+use Rattle.std.proofs.Common.{◌≡◌, rules}
+use Rattle.refusals.specs.Numbers.{by_number}
+use Rattle.core_ffi.specs.lemmas.Numbers.{answer_number, number_is}
+use Rattle.film_planner.proofs.texts.film_wait.Goals as goal
+
+pub returns : goal.returns
+returns c =
+    let same : c.number.result ≡ answer_number (by_number c.wait.result) = search rules in
+    number_is _ _ same c.wait.ensures.answer
