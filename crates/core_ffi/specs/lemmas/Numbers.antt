@@ -28,6 +28,9 @@ module _ {A : Type 0} (f : A → ℕ) where
 abbrev pub answer_number : Result ℕ ℕ → ℕ
 answer_number r = number_by (λ n. n) r
 
+pub number_is : (refused n : ℕ) {a : Result ℕ ℕ} {r : ℕ} → r ≡ answer_number a → a ≡ by.answered refused n → r ≡ answered refused n
+number_is refused n {a} e f = e ∙ numbered (λ (n : ℕ). n) refused n a f
+
 -- ---- what is stored of a result in front of what a slice held
 
 module _ {A : Type 0} (f : A → List ℕ) where
