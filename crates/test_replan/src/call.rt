@@ -117,7 +117,7 @@ fn plan_case(rt: &impl Print, tables: &Tables, at: Places) -> io::Result<()> {
 
 // The case of a line.
 pub(crate) fn case(rt: &impl Print, text: &[u8]) -> io::Result<()> {
-    let (name, numbers) = text.split_at(line::colon(text));
+    let (name, numbers) = text.split_at(line::colon(text).min(text.len()));
     rt.write_all(name)?;
     let tables = table::tables_of(line::numbers_in(numbers.get(1..).unwrap_or(numbers)));
     let at = table::places_in(&tables);
