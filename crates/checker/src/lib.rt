@@ -118,12 +118,13 @@ fn verdict_of(job: &JobInput, from: u16, list: &FetchList) -> u8
     let depth = job.sizes.len();
     let last = job::last_due(p);
     let unset = p.chunks as u32;
+    // All tables stand before the first call: one behind it would be cleared twice.
     let mut table = [unset; SIZES];
-    core_sizes::fill_sizes(job, &mut table);
-    let rows = &list.rows;
     let mut slotsum = [0u64; SUMS];
     let mut layersum = [0u64; SIZES];
     let mut first = [65535u16; 501];
+    core_sizes::fill_sizes(job, &mut table);
+    let rows = &list.rows;
     let pass = core_rules::tally(
         p,
         last,

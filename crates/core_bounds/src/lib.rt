@@ -41,9 +41,9 @@ fn most_within(row: &[u64], count: usize, level: u64) -> usize
     requires { (count ≤ 500) × (501 ≤ length row.now) }
     ensures { result ≡ largest (λ c. leb (get_or row.now c 0) level) count }
 {
-    for c in (0..count).rev() {
-        if row[c + 1] <= level {
-            return c + 1;
+    for c in (1..=count).rev() {
+        if row[c] <= level {
+            return c;
         }
     }
     0

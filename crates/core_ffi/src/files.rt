@@ -3,12 +3,26 @@ ghost use Rattle.std.specs.Prelude.{◌≡◌, Err};
 ghost use Rattle.theory_basics.specs.Refusals.{◌or_else◌};
 ghost use Rattle.refusals.specs.Numbers.{by_number};
 ghost use Rattle.jobrecords.specs.Refusal.{refusal_of};
+ghost use Rattle.jobrecords.specs.Reader.{JobReadPromise};
 ghost use Rattle.jobrecords.specs.Handed.{SameBuffers, lent_job};
 ghost use Rattle.core_ffi.specs.Files.{JobReadReturned, job_room};
 ghost use Rattle.core_ffi.specs.lemmas.Numbers.{answer_number};
 
-use jobrecords::LentJob;
+use jobrecords::{LentJob, ReadJob};
 use refusals::Refusal;
+
+// A job file by the reader of its form. A mixed file has no SZ, so the room for them stays as it is.
+fn read_either(sequenced: bool, file: &[u8], out: &mut LentJob) -> Result<ReadJob, Refusal>
+    ensures promise { JobReadPromise sequenced file.now (lent_job out.old) (by_number result)
+        (lent_job out.new) }
+    ensures same { SameBuffers out.old out.new }
+{
+    if sequenced {
+        jobfile::read_job(file, out)
+    } else {
+        jobfile::read_mixed_job(file, out.sizes, out.forecast)
+    }
+}
 
 // Where the programme or the lengths have no room, the file is read into none: it is refused by all
 // that comes before 11, or by 11.
@@ -23,7 +37,7 @@ fn read_short(sequenced: bool, file: &[u8]) -> Result<usize, Refusal>
         bytes: &mut [],
         forecast: &mut [],
     };
-    jobrecords::read_job(sequenced, file, &mut none)?;
+    read_either(sequenced, file, &mut none)?;
     Err(Refusal::ShortBuffer)
 }
 
@@ -48,7 +62,7 @@ pub fn read_with_lengths(
     let Some(two) = lengths.first_chunk_mut::<2>() else {
         return read_short(sequenced, file);
     };
-    let read = jobrecords::read_job(sequenced, file, out)?;
+    let read = read_either(sequenced, file, out)?;
     let p = read.programme;
     *four = [p.chunks, p.span, p.delay, p.limit];
     *two = [read.layers as u64, read.overrides as u64];

@@ -1,4 +1,5 @@
 pub mod Marks
 pub mod Rows
 pub mod Writing
+mod Copies
 mod Spreads

@@ -5,7 +5,7 @@
 // layers, and a chunk that stands in no table keeps the mark of what is whole of it.
 #![tactic(auto)]
 
-ghost use Rattle.std.specs.Prelude.{◌≡◌, ◌≤◌, length, drop};
+ghost use Rattle.std.specs.Prelude.{◌≡◌, ◌≤◌, length, drop, take};
 ghost use Rattle.theory_basics.specs.Lent.{over};
 ghost use Rattle.core_sizes.specs.Table.{table_at};
 ghost use Rattle.core_output.specs.lemmas.Writing.{WritePre, FillPre, FillPost, WritePost};
@@ -29,6 +29,17 @@ pub struct Output {
     pub counts: [u16; 4],
 }
 
+// The marks of the layers that are whole already, one by one: a copy of a slice would ask libc for
+// one that may overlap.
+fn put_whole(whole: &[u8; CHUNKS], count: usize, marks: &mut [u8])
+    requires { (count ≤ 500) × (count ≤ length marks.old) }
+    ensures { marks.new ≡ over (take count whole.now) marks.old }
+{
+    for k in 0..count {
+        marks[k] = whole[k];
+    }
+}
+
 // A mark for each chunk: what is whole, and over it the one at its place in the tables.
 fn spread(
     ids: &[u16; CHUNKS],
@@ -45,7 +56,7 @@ fn spread(
     ensures { marks.new ≡ over
         (marks_in count first ids.now mark.now whole.now) marks.old }
 {
-    marks[..count].copy_from_slice(&whole[..count]);
+    put_whole(whole, count, marks);
     for q in first..CHUNKS {
         marks[ids[q] as usize - 1] = mark[q];
     }

@@ -3,7 +3,7 @@
 // best set met so far at the end of best.
 #![tactic(auto)]
 
-ghost use Rattle.std.specs.Prelude.{◌≤◌, drop};
+ghost use Rattle.std.specs.Prelude.{◌≡◌, ◌≤◌, drop};
 ghost use Rattle.job.specs.Job.{last_due};
 ghost use Rattle.core_sizes.specs.Table.{table_at};
 ghost use Rattle.core_moore_hodgson.specs.lemmas.Tables.{KeptIn};
@@ -20,6 +20,17 @@ pub struct Outcome {
     pub ended: bool,
 }
 
+// What stands from a place on, one by one: a copy of a slice would ask libc for one that may
+// overlap.
+fn copy_end(from: &[u16; CHUNKS], k: usize, to: &mut [u16; CHUNKS])
+    requires { k ≤ 500 }
+    ensures { drop k to.new ≡ drop k from.now }
+{
+    for p in (k..CHUNKS).rev() {
+        to[p] = from[p];
+    }
+}
+
 // The set at the end of ids is met: it is copied if it has more chunks than the best one.
 fn keep_best(k: usize, ids: &[u16; CHUNKS], best: &mut [u16; CHUNKS], count: &mut usize)
     requires { (k ≤ 500) × (count.old ≤ 500) }
@@ -28,7 +39,7 @@ fn keep_best(k: usize, ids: &[u16; CHUNKS], best: &mut [u16; CHUNKS], count: &mu
 {
     let size = CHUNKS - k;
     if *count < size {
-        best[k..].copy_from_slice(&ids[k..]);
+        copy_end(ids, k, best);
         *count = size;
     }
 }

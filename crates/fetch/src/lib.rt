@@ -81,9 +81,10 @@ fn count_words(marks: &[u8], n: u8) -> usize
 
 // How many marks from a place on have layer n, one by one.
 fn count_from(marks: &[u8], from: usize, n: u8) -> usize
+    requires { from ≤ length marks.now }
     ensures { result ≡ count_by (λ m. bit m n) (drop from marks.now) }
 {
-    marks.iter().skip(from).filter(|&&m| has(m, n)).count()
+    marks[from..].iter().filter(|&&m| has(m, n)).count()
 }
 
 // The sum over the odd rest, by bytes.

@@ -209,8 +209,8 @@ pub extern "C" fn film_release(
 }
 
 // A count of marks of any length may pass 2^32, so it stands in a lent slice.
-#[unsafe(no_mangle)]
 #[tactic(auto, unfolding(core_ffi::specs::Convention::answered))]
+#[unsafe(no_mangle)]
 pub extern "C" fn film_count_marks(marks: &[u8], n: u8, count: &mut [u64]) -> u64
     ensures { CountMarksReturned marks.now n count.old result count.new }
 {

@@ -159,9 +159,15 @@ fn put_overrides(out: &mut [u8], at: usize, sz: &Overrides) -> usize
     ensures { Puts out.old at (records_bytes (map override_record (handed_overrides sz.now)))
         out.new result }
 {
+    // Held by themselves, so that a turn of the loop doesn't load their places from the SZs.
+    let Overrides {
+        chunks,
+        layers,
+        bytes,
+    } = *sz;
     let mut next = at;
-    for i in 0..sz.chunks.len() {
-        next = put_override(out, next, sz.chunks[i], sz.layers[i], sz.bytes[i]);
+    for i in 0..chunks.len() {
+        next = put_override(out, next, chunks[i], layers[i], bytes[i]);
     }
     next
 }

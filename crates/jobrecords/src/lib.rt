@@ -457,7 +457,10 @@ fn one_step(
     requires { OneStepPre sequenced file.now at j sizes.old slots.old }
     ensures { OneStepPost sequenced file.now at sizes.new slots.new result }
 {
-    let (record, next) = record_at(sequenced, file, at)?;
+    let read = record_at(sequenced, file, at);
+    let Ok((record, next)) = read else {
+        return Err(read.unwrap_err());
+    };
     if is_end(record) {
         accept_end(file, j, file.len() - next, sizes)?;
         return Ok(Step::Done(j));

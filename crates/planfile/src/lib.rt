@@ -139,7 +139,10 @@ fn count_fts(file: &[u8], from: usize) -> usize
 fn accept_end(count: u16, kept: usize, file: &[u8], at: usize) -> Result<(), Refusal>
     ensures { refusal_number result ≡ end_of count kept (length file.now) (read_at file.now at) }
 {
-    let (record, next) = record_at(file, at)?;
+    let read = record_at(file, at);
+    let Ok((record, next)) = read else {
+        return Err(read.unwrap_err());
+    };
     match record {
         Record::Kp { .. } => Err(Refusal::NotWhole),
         Record::Ft { .. } => Err(Refusal::EndsEarly),
@@ -274,16 +277,16 @@ fn put_fts(out: &mut [u8], from: usize, rows: &Rows)
         (map ft_of
         (rows_of rows.now.slots.now rows.now.chunks.now rows.now.layers.now rows.now.bytes.now))) }
 {
-    for i in 0..rows.slots.len() {
+    // Held by themselves, so that a turn of the loop doesn't load their places from the rows.
+    let Rows {
+        slots,
+        chunks,
+        layers,
+        bytes,
+    } = *rows;
+    for i in 0..slots.len() {
         let at = from + 11 * i;
-        put_ft(
-            out,
-            at,
-            rows.slots[i],
-            rows.chunks[i],
-            rows.layers[i],
-            rows.bytes[i],
-        );
+        put_ft(out, at, slots[i], chunks[i], layers[i], bytes[i]);
     }
 }
 

@@ -44,7 +44,12 @@ fn accept_part(p: Programme, from: u16, onward: &[u32]) -> Result<(), Refusal>
 }
 
 // 5, 6, 18, 7, 8, 21, and 7 of the handed forecast.
-fn accept_asked(job: &JobInput, from: u16, fetched: &Rows, onward: &[u32]) -> Result<(), Refusal>
+pub fn accept_asked(
+    job: &JobInput,
+    from: u16,
+    fetched: &Rows,
+    onward: &[u32],
+) -> Result<(), Refusal>
     ensures { refusal_number result ≡
         asked_refusal (handed job.now) (handed_on from fetched.now onward.now) }
 {

@@ -70,6 +70,8 @@ pub(crate) fn ends_equal(f: Film) -> bool {
     f.sizes >> shift == equal_sizes(f) >> shift
 }
 
-pub(crate) fn layers(f: Film) -> usize {
+pub(crate) fn layers(f: Film) -> usize
+    ensures { result ≤ 4 }
+{
     (0..4).filter(|&n| 0 < size(f, n)).count()
 }

@@ -10,11 +10,14 @@ mod table;
 use core_prefix::prefix;
 use std::io;
 
+// An empty line is a case too; nothing follows the last line feed.
 fn every_line(rt: &impl Print, text: &[u8]) -> io::Result<()> {
-    for line in text.split(|&b| b == b'\n') {
-        if !line.is_empty() {
-            call::case(rt, line)?;
-        }
+    if text.is_empty() {
+        return Ok(());
+    }
+    let lines = text.strip_suffix(b"\n").unwrap_or(text);
+    for line in lines.split(|&b| b == b'\n') {
+        call::case(rt, line)?;
     }
     Ok(())
 }

@@ -1,5 +1,7 @@
 // Standing plans settled in document 01's way: at each p, with the plan's own rows before it and
 // the forecast as it was, the new marks are the plan's and the new rows the rest of it.
+ghost use Rattle.std.specs.Prelude.{◌≤◌};
+
 use crate::film::{Film, Sizes};
 use crate::lists::Room;
 use crate::{asked, film, link, lists, sums, tally};
@@ -7,7 +9,9 @@ use core_prefix::prefix;
 use fetch::{LentList, Rows};
 
 // How many of the rows are before p; 9s stand after them.
-fn before(p: u16, slots: &[u16; 18]) -> usize {
+fn before(p: u16, slots: &[u16; 18]) -> usize
+    ensures { result ≤ 18 }
+{
     slots.iter().position(|&slot| p <= slot).unwrap_or(18)
 }
 

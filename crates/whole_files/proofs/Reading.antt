@@ -1,29 +1,30 @@
 -- Laws on a job file that was read into buffers which hold any job: its refusal, or the job as
 -- slices. Assumes nothing.
-use Prim.Native.Nat.{ℕ, ◌≤◌}
-use mathlib.Core.Path.{◌≡◌, sym, ap, subst, ◌∙◌}
+use Prim.Native.Nat.{ℕ, ◌≤◌, zero, suc}
+use mathlib.Core.Path.{◌≡◌, refl, sym, ap, subst, ◌∙◌}
 use mathlib.Core.Bool.{Bool}
-use mathlib.Core.List.{List}
+use mathlib.Core.List.{List, []}
 use native.Mathlib.Omega.{arith}
-use lib.ListN.{length, length-map}
+use lib.ListN.{length, length-map, take}
 use borrow.Author.Tests.{le-leb}
 use Rattle.job.specs.Job.{Accepted, Job, Override, layers}
 use Rattle.job.specs.Input.{JobInput, WholeSizes, override_bytes, override_chunks, job_input, job_in, job_refusal, override_layers}
 use Rattle.job.specs.Theorems.{input_iff, slices_back_lem}
 use Rattle.job.specs.Uneven.{overrides_few}
-use Rattle.jobrecords.specs.Refusal.{refusal_of, job_of_file}
+use Rattle.jobrecords.specs.Refusal.{one_sequence, mixed, refusal_of, job_of_file}
 use Rattle.jobrecords.specs.Reader.{Buffers, JobReadPromise, buffers, job_answer, lent_read, read_answer, job_read_refusal, room_refusal}
-use Rattle.jobrecords.specs.Theorems.{file_accepted}
+use Rattle.jobrecords.specs.Theorems.{file_accepted, no_overrides}
 use Rattle.jobfile.specs.Theorems.{never_long}
 use Rattle.jobfile.specs.Writer.{JobWritePromise, file_written, job_file, long_refusal, write_answer}
 use Rattle.jobrecords.specs.declared.ReadJob.{ReadJob}
 use Rattle.refusals.specs.declared.Refusal.{Refusal}
-use Rattle.refusals.specs.Numbers.{by_number}
+use Rattle.refusals.specs.Numbers.{by_number, number_of}
 use Rattle.std.specs.Prelude.{Result, Ok, Err}
 use Rattle.whole_files.specs.Calls.{TextPromise}
 use Rattle.whole_files.specs.declared.rooms.JobRoom.{JobRoom}
+use Rattle.whole_files.specs.declared.rooms.MixedRoom.{MixedRoom}
 use Rattle.whole_files.specs.lemmas.Answers.{err_answered, ok_answered}
-use Rattle.whole_files.specs.lemmas.Rooms.{ReadsJob, Taken, job_of}
+use Rattle.whole_files.specs.lemmas.Rooms.{ReadsJob, ReadsMixed, Taken}
 use Rattle.whole_files.proofs.Fronts.{front}
 use Rattle.whole_files.proofs.Writing.{never_second}
 
@@ -43,6 +44,52 @@ handed_back j = ap (λ (os : List Override). record { programme = j.programme; s
 
 handed_accepted : (j : Job) → Accepted j → job_refusal (as_handed j) ≡ 0
 handed_accepted j a = (input_iff (as_handed j)).1 (whole_sizes j.overrides, subst Accepted (sym (handed_back j)) a)
+
+-- ---- a file that is read into buffers which hold its job
+
+module _ (sequenced : Bool) (file : List ℕ) (lent : Buffers) (enough : refusal_of sequenced file ≡ 0 → room_refusal (job_of_file sequenced file) lent ≡ 0) where
+  -- Its own refusal is the only one.
+  file_alone : job_read_refusal sequenced file lent ≡ refusal_of sequenced file
+  file_alone = never_second (refusal_of sequenced file) (room_refusal (job_of_file sequenced file) lent) enough
+
+  refuses : (e : Refusal) (after : Buffers) → JobReadPromise sequenced file lent (Err (number_of e)) after → refusal_of sequenced file ≡ number_of e
+  unfolding read_answer
+  refuses e after made = sym file_alone ∙ (err_answered (job_read_refusal sequenced file lent) _ (job_answer (job_of_file sequenced file)) made.answer).0
+
+  -- The job that was read stands in the fronts of the buffers.
+  takes :
+      (read : ReadJob) (after : Buffers) → JobReadPromise sequenced file lent (Ok read) after →
+      Taken sequenced file
+      (job_input read.programme (take read.layers after.sizes) (take read.overrides after.size_chunks) (take read.overrides after.size_layers)
+      (take read.overrides after.size_bytes) (take read.slots after.forecast))
+  unfolding read_answer lent_read
+  takes read after made =
+      let r : ℕ = job_read_refusal sequenced file lent in
+      let j = job_of_file sequenced file in
+      let known = ok_answered r read (job_answer j) made.answer in
+      let none = known.0 in
+      let is = known.1 in
+      let own : refusal_of sequenced file ≡ 0 = sym file_alone ∙ none in
+      let a = file_accepted sequenced file own in
+      let ep : read.programme ≡ j.programme = ap (λ (x : ReadJob). x.programme) is in
+      let eo : read.overrides ≡ length j.overrides = ap (λ (x : ReadJob). x.overrides) is in
+      let ez = front r j.sizes _ after.sizes read.layers none (ap (λ (x : ReadJob). x.layers) is) (ap (λ (x : Buffers). x.sizes) made.after) in
+      let ec =
+      front r (override_chunks j.overrides) _ after.size_chunks read.overrides none (eo ∙ sym (length-map j.overrides (λ (x : Override). x.chunk))) (ap (λ (x : Buffers). x.size_chunks) made.after) in
+      let em =
+      front r (override_layers j.overrides) _ after.size_layers read.overrides none (eo ∙ sym (length-map j.overrides (λ (x : Override). x.layer))) (ap (λ (x : Buffers). x.size_layers) made.after) in
+      let eb =
+      front r (override_bytes j.overrides) _ after.size_bytes read.overrides none (eo ∙ sym (length-map j.overrides (λ (x : Override). x.bytes))) (ap (λ (x : Buffers). x.size_bytes) made.after) in
+      let ef = front r j.forecast _ after.forecast read.slots none (ap (λ (x : ReadJob). x.slots) is) (ap (λ (x : Buffers). x.forecast) made.after) in
+      let handed : JobInput =
+      job_input read.programme (take read.layers after.sizes) (take read.overrides after.size_chunks) (take read.overrides after.size_layers)
+      (take read.overrides after.size_bytes) (take read.slots after.forecast) in
+      let same : handed ≡ as_handed j = rw (ep, ez, ec, em, eb, ef) in
+      record {
+        none = own;
+        accepted = ap job_refusal same ∙ handed_accepted j a;
+        same = ap (λ (h : JobInput). job_in h) same ∙ handed_back j;
+      }
 
 -- ---- room that holds any job
 
@@ -64,41 +111,40 @@ holds_any j a lent h =
       le-leb (length j.forecast) (length lent.forecast) (omega (arith, a.slots_in, a.last_in)),
     )
 
-module _ (sequenced : Bool) (file : List ℕ) (lent : Buffers) (roomy : Roomy lent) where
-  -- So the file's refusal is the only one.
-  file_alone : job_read_refusal sequenced file lent ≡ refusal_of sequenced file
-  file_alone =
-      never_second (refusal_of sequenced file) (room_refusal (job_of_file sequenced file) lent) (λ e.
-      holds_any (job_of_file sequenced file) (file_accepted sequenced file e) lent roomy)
+module _ (file : List ℕ) (lent : Buffers) (roomy : Roomy lent) where
+  enough_one : refusal_of one_sequence file ≡ 0 → room_refusal (job_of_file one_sequence file) lent ≡ 0
+  enough_one e = holds_any (job_of_file one_sequence file) (file_accepted one_sequence file e) lent roomy
 
   pub reads : (r : Result ReadJob Refusal) (room : JobRoom) →
-      JobReadPromise sequenced file lent (by_number r) (buffers room.sizes room.chunks room.layers room.bytes room.forecast) → ReadsJob sequenced file r room
-  unfolding read_answer lent_read
-  reads (Err e) room made = sym file_alone ∙ (err_answered (job_read_refusal sequenced file lent) _ (job_answer (job_of_file sequenced file)) made.answer).0
-  reads (Ok read) room made =
-      let r : ℕ = job_read_refusal sequenced file lent in
-      let j = job_of_file sequenced file in
-      let known = ok_answered r read (job_answer j) made.answer in
-      let none = known.0 in
-      let is = known.1 in
-      let own : refusal_of sequenced file ≡ 0 = sym file_alone ∙ none in
-      let a = file_accepted sequenced file own in
-      let ep : read.programme ≡ j.programme = ap (λ (x : ReadJob). x.programme) is in
-      let eo : read.overrides ≡ length j.overrides = ap (λ (x : ReadJob). x.overrides) is in
-      let ez = front r j.sizes _ room.sizes read.layers none (ap (λ (x : ReadJob). x.layers) is) (ap (λ (x : Buffers). x.sizes) made.after) in
-      let ec =
-      front r (override_chunks j.overrides) _ room.chunks read.overrides none (eo ∙ sym (length-map j.overrides (λ (x : Override). x.chunk))) (ap (λ (x : Buffers). x.size_chunks) made.after) in
-      let em =
-      front r (override_layers j.overrides) _ room.layers read.overrides none (eo ∙ sym (length-map j.overrides (λ (x : Override). x.layer))) (ap (λ (x : Buffers). x.size_layers) made.after) in
-      let eb =
-      front r (override_bytes j.overrides) _ room.bytes read.overrides none (eo ∙ sym (length-map j.overrides (λ (x : Override). x.bytes))) (ap (λ (x : Buffers). x.size_bytes) made.after) in
-      let ef = front r j.forecast _ room.forecast read.slots none (ap (λ (x : ReadJob). x.slots) is) (ap (λ (x : Buffers). x.forecast) made.after) in
-      let same : job_of read room ≡ as_handed j = rw (ep, ez, ec, em, eb, ef) in
-      record {
-        none = own;
-        accepted = ap job_refusal same ∙ handed_accepted j a;
-        same = ap (λ (h : JobInput). job_in h) same ∙ handed_back j;
-      }
+      JobReadPromise one_sequence file lent (by_number r) (buffers room.sizes room.chunks room.layers room.bytes room.forecast) → ReadsJob file r room
+  reads (Err e) room made = refuses one_sequence file lent enough_one e _ made
+  reads (Ok read) room made = takes one_sequence file lent enough_one read _ made
+
+-- A mixed file has no SZ, so no room is needed for them.
+holds_mixed : (j : Job) → Accepted j → j.overrides ≡ [] → (zs fs : List ℕ) → 4 ≤ length zs → 3600 ≤ length fs → room_refusal j (buffers zs [] [] [] fs) ≡ 0
+holds_mixed j a none zs fs z f =
+    rw (
+      le-leb (layers j) (length zs) (omega (arith, a.layers_in.high)),
+      none,
+      le-leb (length j.forecast) (length fs) (omega (arith, a.slots_in, a.last_in)),
+    )
+
+take_none : (n : ℕ) → take {A = ℕ} n [] ≡ []
+take_none zero = refl
+take_none (suc n) = refl
+
+module _ (file zs fs : List ℕ) (sizes : 4 ≤ length zs) (slots : 3600 ≤ length fs) where
+  enough_mixed : refusal_of mixed file ≡ 0 → room_refusal (job_of_file mixed file) (buffers zs [] [] [] fs) ≡ 0
+  enough_mixed e = holds_mixed (job_of_file mixed file) (file_accepted mixed file e) (no_overrides file) zs fs sizes slots
+
+  pub reads_mixed : (r : Result ReadJob Refusal) (room : MixedRoom) →
+      JobReadPromise mixed file (buffers zs [] [] [] fs) (by_number r) (buffers room.sizes [] [] [] room.forecast) → ReadsMixed file r room
+  reads_mixed (Err e) room made = refuses mixed file (buffers zs [] [] [] fs) enough_mixed e _ made
+  reads_mixed (Ok read) room made =
+      let t = takes mixed file (buffers zs [] [] [] fs) enough_mixed read _ made in
+      subst
+      (λ (none : List ℕ). Taken mixed file (job_input read.programme (take read.layers room.sizes) none none none (take read.slots room.forecast)))
+      (take_none read.overrides) t
 
 -- ---- what is written
 

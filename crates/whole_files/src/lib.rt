@@ -12,7 +12,7 @@ ghost use Rattle.whole_files.specs.Calls.{PlanOfJob, verdict_on_file};
 
 use job::JobInput;
 use refusals::Refusal;
-use rooms::{JobRoom, ListRoom};
+use rooms::{JobRoom, ListRoom, MixedRoom};
 
 mod rooms;
 
@@ -20,7 +20,7 @@ mod rooms;
 fn plan_job(job: &JobInput, out: &mut [u8]) -> Result<usize, Refusal>
     ensures { PlanOfJob (handed job.now) out.old result out.new }
 {
-    let mut room = ListRoom::any(job.programme.chunks);
+    let mut room = ListRoom::cleared();
     let rows = room.plan(job)?;
     planfile::write_plan(job, &room.list(job.programme.chunks, rows), out)
 }
@@ -29,7 +29,7 @@ fn plan_job(job: &JobInput, out: &mut [u8]) -> Result<usize, Refusal>
 fn verdict_job(job: &JobInput, plan: &[u8]) -> Result<u8, Refusal>
     ensures { by_number result ≡ verdict_on_file (handed job.now) plan.now }
 {
-    let mut room = ListRoom::any(job.programme.chunks);
+    let mut room = ListRoom::cleared();
     let rows = room.read(job, plan)?;
     checker::check(job, &room.list(job.programme.chunks, rows))
 }
@@ -39,8 +39,8 @@ fn verdict_job(job: &JobInput, plan: &[u8]) -> Result<u8, Refusal>
 pub fn plan_file(job: &[u8], out: &mut [u8]) -> Result<usize, Refusal>
     ensures { PlanFilePromise job.now out.old result out.new }
 {
-    let mut room = JobRoom::any(job.len());
-    let read = room.read(true, job)?;
+    let mut room = JobRoom::cleared();
+    let read = room.read(job)?;
     plan_job(&room.job(read), out)
 }
 
@@ -49,8 +49,8 @@ pub fn plan_file(job: &[u8], out: &mut [u8]) -> Result<usize, Refusal>
 pub fn verdict_files(job: &[u8], plan: &[u8]) -> Result<u8, Refusal>
     ensures { by_number result ≡ verdict_answer job.now plan.now }
 {
-    let mut room = JobRoom::any(job.len());
-    let read = room.read(true, job)?;
+    let mut room = JobRoom::cleared();
+    let read = room.read(job)?;
     verdict_job(&room.job(read), plan)
 }
 
@@ -58,8 +58,8 @@ pub fn verdict_files(job: &[u8], plan: &[u8]) -> Result<u8, Refusal>
 pub fn report_file(job: &[u8], out: &mut [u8]) -> Result<usize, Refusal>
     ensures { ReportFilePromise job.now out.old result out.new }
 {
-    let mut room = JobRoom::any(job.len());
-    let read = room.read(true, job)?;
+    let mut room = JobRoom::cleared();
+    let read = room.read(job)?;
     report::report(&room.job(read), out)
 }
 
@@ -68,8 +68,8 @@ pub fn report_file(job: &[u8], out: &mut [u8]) -> Result<usize, Refusal>
 pub fn reasons_file(job: &[u8], out: &mut [u8]) -> Result<usize, Refusal>
     ensures { ReasonsFilePromise job.now out.old result out.new }
 {
-    let mut room = JobRoom::any(job.len());
-    let read = room.read(true, job)?;
+    let mut room = JobRoom::cleared();
+    let read = room.read(job)?;
     reasons::reasons(&room.job(read), out)
 }
 
@@ -78,7 +78,7 @@ pub fn reasons_file(job: &[u8], out: &mut [u8]) -> Result<usize, Refusal>
 pub fn convert_file(job: &[u8], out: &mut [u8]) -> Result<usize, Refusal>
     ensures { ConvertFilePromise job.now out.old result out.new }
 {
-    let mut room = JobRoom::any(job.len());
-    let read = room.read(false, job)?;
+    let mut room = MixedRoom::cleared();
+    let read = room.read(job)?;
     jobfile::write_job(&room.job(read), out)
 }

@@ -1,5 +1,5 @@
 // Arrays that hold any job and any list: what is read or planned into them is never refused by 11.
-// They are filled with no constant: so they are stored in wide words, faster than cleared.
+// They are cleared: what is filled with no constant is made beside the room and copied into it.
 ghost use Rattle.std.specs.Prelude.{◌≡◌};
 ghost use Rattle.theory_basics.specs.Refusals.{◌or_else◌};
 ghost use Rattle.records.specs.File.{file_refusal};
@@ -8,7 +8,7 @@ ghost use Rattle.job.specs.Input.{job_in, job_refusal};
 ghost use Rattle.fetch.specs.Handed.{handed_list};
 ghost use Rattle.planfile.specs.PlanFile.{format, plan_in};
 ghost use Rattle.whole_files.specs.Files.{plan_of_job};
-ghost use Rattle.whole_files.specs.lemmas.Rooms.{HoldsList, ReadsJob, job_of, list_of};
+ghost use Rattle.whole_files.specs.lemmas.Rooms.{HoldsList, ReadsJob, ReadsMixed, job_of, list_of, mixed_of};
 
 use fetch::{FetchList, LentList, Rows};
 use job::{CHUNKS, JobInput, LAYERS, OVERRIDES, Overrides, SLOTS};
@@ -29,22 +29,19 @@ pub struct JobRoom {
 }
 
 impl JobRoom {
-    // Filled with the last bits of a number.
-    pub fn any(fill: usize) -> JobRoom {
-        let unset = (fill % 65536) as u16;
-        let wide = u32::from(unset);
+    pub(crate) fn cleared() -> JobRoom {
         JobRoom {
             sizes: [0; LAYERS],
-            chunks: [unset; OVERRIDES],
+            chunks: [0; OVERRIDES],
             layers: [0; OVERRIDES],
-            bytes: [wide; OVERRIDES],
-            forecast: [wide; SLOTS],
+            bytes: [0; OVERRIDES],
+            forecast: [0; SLOTS],
         }
     }
 
-    // The job of a file, in one sequence or mixed.
-    pub fn read(&mut self, sequenced: bool, file: &[u8]) -> Result<ReadJob, Refusal>
-        ensures { ReadsJob sequenced file.now result self.new }
+    // The job of a file in one sequence.
+    pub fn read(&mut self, file: &[u8]) -> Result<ReadJob, Refusal>
+        ensures { ReadsJob file.now result self.new }
     {
         let mut out = LentJob {
             sizes: &mut self.sizes,
@@ -53,7 +50,7 @@ impl JobRoom {
             bytes: &mut self.bytes,
             forecast: &mut self.forecast,
         };
-        jobrecords::read_job(sequenced, file, &mut out)
+        jobfile::read_job(file, &mut out)
     }
 
     // A job that was read.
@@ -73,6 +70,45 @@ impl JobRoom {
     }
 }
 
+// Room for the job of a mixed file, which has no SZ: for its sizes and for its forecast.
+#[derive(Drop)]
+pub struct MixedRoom {
+    pub sizes: [u32; LAYERS],
+    pub forecast: [u32; SLOTS],
+}
+
+impl MixedRoom {
+    pub(crate) fn cleared() -> MixedRoom {
+        MixedRoom {
+            sizes: [0; LAYERS],
+            forecast: [0; SLOTS],
+        }
+    }
+
+    // The job of a mixed file.
+    pub fn read(&mut self, file: &[u8]) -> Result<ReadJob, Refusal>
+        ensures { ReadsMixed file.now result self.new }
+    {
+        jobfile::read_mixed_job(file, &mut self.sizes, &mut self.forecast)
+    }
+
+    // A job that was read.
+    pub fn job(&self, read: ReadJob) -> JobInput<'_>
+        ensures { handed result ≡ mixed_of read self.now }
+    {
+        JobInput {
+            programme: read.programme,
+            sizes: core_prefix::prefix(&self.sizes, read.layers),
+            overrides: Overrides {
+                chunks: &[],
+                layers: &[],
+                bytes: &[],
+            },
+            forecast: core_prefix::prefix(&self.forecast, read.slots),
+        }
+    }
+}
+
 // Room for a list with its marks.
 #[derive(Drop)]
 pub struct ListRoom {
@@ -84,14 +120,13 @@ pub struct ListRoom {
 }
 
 impl ListRoom {
-    // Filled with a number.
-    pub fn any(fill: u16) -> ListRoom {
+    pub(crate) fn cleared() -> ListRoom {
         ListRoom {
             marks: [0; CHUNKS],
-            slots: [fill; FILE_ROWS],
-            chunks: [fill; FILE_ROWS],
+            slots: [0; FILE_ROWS],
+            chunks: [0; FILE_ROWS],
             layers: [0; FILE_ROWS],
-            bytes: [u32::from(fill); FILE_ROWS],
+            bytes: [0; FILE_ROWS],
         }
     }
 

@@ -1,16 +1,18 @@
 -- Lemmas. The job readers: with room for the programme and the lengths they hand over what the
 -- library's reader does, without it they answer 11 after all that comes before 11. Assumes nothing.
-use Rattle.std.specs.Prelude.{ℕ, ◌≤◌, ◌<◌, ◌≡◌, refl, Bool, true, false, cond, ◌&&◌, ◌⊎◌, List, [], ◌∷◌, leb, length, Result, Err}
-use Rattle.std.proofs.Common.{sym, ap, ◌∙◌, ⊎_elim, le-leb, ne_eqb}
+use Rattle.std.specs.Prelude.{ℕ, ◌≤◌, ◌<◌, ◌≡◌, refl, Bool, true, false, cond, ◌&&◌, ◌⊎◌, List, [], ◌∷◌, eqb, leb, length, Result, Err}
+use Rattle.std.proofs.Common.{arith, sym, ap, ◌∙◌, ⊎_elim, le-leb, ne_eqb}
 use Rattle.std.proofs.lemmas.Bool.{lt-leb}
 use Rattle.theory_basics.specs.Lent.{lent_after}
 use Rattle.theory_basics.specs.Refusals.{◌or_else◌, unless}
 use Rattle.job.specs.Input.{override_bytes, override_chunks, override_layers}
-use Rattle.job.specs.Job.{Job, layers}
-use Rattle.jobrecords.specs.Reader.{Buffers, JobReadPromise, job_answer, job_read_refusal, lent_by, lent_read, read_answer}
+use Rattle.job.specs.Job.{Job, Override, layers}
+use Rattle.jobrecords.specs.Reader.{Buffers, JobReadPromise, buffers, job_answer, job_read_refusal, lent_by, lent_read, read_answer}
 use Rattle.jobrecords.specs.lemmas.Lent.{same_buffers}
-use Rattle.jobrecords.specs.Refusal.{job_of_file, refusal_of}
+use Rattle.jobrecords.specs.Refusal.{job_of_file, mixed, refusal_of}
+use Rattle.jobrecords.specs.Theorems.{no_overrides}
 use Rattle.jobrecords.specs.declared.ReadJob.{ReadJob}
+use Rattle.refusals.specs.Numbers
 use Rattle.core_ffi.specs.Convention.{answered}
 use Rattle.core_ffi.specs.Files.{JobReadReturned, JobRoom, job_return_refusal, lengths_of, programme_of}
 use Rattle.core_ffi.specs.lemmas.Numbers.{answer_number, number_by, numbered, refused_number, stored, stored_of}
@@ -88,4 +90,48 @@ module _ (sequenced : Bool) (file : List ℕ) where
             (keeps (override_bytes j.overrides) old.size_bytes) (keeps j.forecast old.forecast);
         programme_is = keeps (programme_of j) lent.programme;
         lengths_are = keeps (lengths_of j) lent.lengths;
+      }
+
+-- ---- a mixed file, which has no SZ, read with room for them
+
+one_way : (b : Bool) (xs : List ℕ) → xs ≡ cond b xs xs
+one_way true xs = refl
+one_way false xs = refl
+
+module _ (file : List ℕ) (lent lent' : Buffers) (a : Result ReadJob ℕ) where
+  abbrev without : Buffers → Buffers
+  without l = buffers l.sizes [] [] [] l.forecast
+
+  same_refusal : job_read_refusal mixed file (without lent) ≡ job_read_refusal mixed file lent
+  same_refusal =
+      let os = (job_of_file mixed file).overrides in
+      let none : length os ≡ 0 = ap length (no_overrides file) in
+      rw (
+        le-leb (length os) (length lent.size_chunks) (omega (arith, none)),
+        le-leb (length os) (length lent.size_layers) (omega (arith, none)),
+        le-leb (length os) (length lent.size_bytes) (omega (arith, none)),
+        le-leb (length os) (length (without lent).size_chunks) (omega (arith, none)),
+      )
+
+  -- It is read as if there were none, and the room stays as it is.
+  pub mixed_beside : JobReadPromise mixed file (without lent) a (without lent')
+      → lent'.size_chunks ≡ lent.size_chunks
+      → lent'.size_layers ≡ lent.size_layers
+      → lent'.size_bytes ≡ lent.size_bytes
+      → JobReadPromise mixed file lent a lent'
+  unfolding lent_read read_answer
+  mixed_beside p c l b =
+      let j = job_of_file mixed file in
+      let none = no_overrides file in
+      let R : ℕ = job_read_refusal mixed file lent in
+      let w = same_refusal in
+      record {
+        answer = p.answer ∙ ap (λ (n : ℕ). Numbers.answered n (job_answer j)) w;
+        after =
+            same_buffers
+            (ap (λ (x : Buffers). x.sizes) p.after ∙ ap (λ (n : ℕ). lent_after n j.sizes lent.sizes) w)
+            (c ∙ one_way (eqb R 0) lent.size_chunks ∙ ap (λ (os : List Override). lent_after R (override_chunks os) lent.size_chunks) (sym none))
+            (l ∙ one_way (eqb R 0) lent.size_layers ∙ ap (λ (os : List Override). lent_after R (override_layers os) lent.size_layers) (sym none))
+            (b ∙ one_way (eqb R 0) lent.size_bytes ∙ ap (λ (os : List Override). lent_after R (override_bytes os) lent.size_bytes) (sym none))
+            (ap (λ (x : Buffers). x.forecast) p.after ∙ ap (λ (n : ℕ). lent_after n j.forecast lent.forecast) w);
       }

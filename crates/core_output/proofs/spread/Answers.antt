@@ -1,9 +1,9 @@
 use Rattle.std.proofs.Common.{arith}
-use Rattle.core_output.proofs.Spreads.{chunk_in, over_front, spreading_end, spreading_more, spreading_start}
+use Rattle.core_output.proofs.Spreads.{chunk_in, spreading_end, spreading_more, spreading_start}
 use Rattle.core_output.proofs.spread.Goals as goal
 
 pub loop-q-init : goal.loop-q-init
-loop-q-init c = let a = c.args in let o = c.requires in spreading_start a.ids.now a.mark.now a.first a.whole.now a.count _ a.marks.now o.0 o.3 (omega (arith, o.1)) o.2 (over_front a.whole.now a.marks.now a.count _ (omega (arith, o.1)) c.copy_from_slice.ensures.after)
+loop-q-init c = let a = c.args in let o = c.requires in spreading_start a.ids.now a.mark.now a.first a.whole.now a.count _ a.marks.now o.0 o.3 (omega (arith, o.1)) o.2 c.put_whole.ensures
 
 pub overflow_sub-marks : goal.overflow_sub-marks
 overflow_sub-marks c =
@@ -28,4 +28,4 @@ pub returns : goal.returns
 returns c =
     let a = c.args in
     let l = c.loop-q in
-    spreading_end a.ids.now a.mark.now a.first a.whole.now a.count _ a.marks.now c.told-ids (omega (arith, c.requires.1)) (over_front a.whole.now a.marks.now a.count _ (omega (arith, c.requires.1)) c.copy_from_slice.ensures.after) l.marks l.q l.invariant c.loop-q-test.false
+    spreading_end a.ids.now a.mark.now a.first a.whole.now a.count _ a.marks.now c.told-ids (omega (arith, c.requires.1)) c.put_whole.ensures l.marks l.q l.invariant c.loop-q-test.false

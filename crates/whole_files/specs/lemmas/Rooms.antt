@@ -1,15 +1,16 @@
 -- Lemmas. What stands in room that holds any job and any list. Assumes nothing.
-use Rattle.std.specs.Prelude.{ℕ, ◌≡◌, Bool, List, Result, Ok, Err, map, take}
+use Rattle.std.specs.Prelude.{ℕ, ◌≡◌, Bool, List, [], Result, Ok, Err, map, take}
 use Rattle.refusals.specs.declared.Refusal.{Refusal}
 use Rattle.refusals.specs.Numbers.{number_of}
 use Rattle.job.specs.Input.{JobInput, job_input, job_in, job_refusal}
 use Rattle.fetch.specs.Rows.{row_bytes, row_chunk, row_layer, row_slot}
 use Rattle.fetch.specs.Slices.{ListSlices, slices_of}
-use Rattle.jobrecords.specs.Refusal.{refusal_of, job_of_file}
+use Rattle.jobrecords.specs.Refusal.{one_sequence, mixed, refusal_of, job_of_file}
 use Rattle.jobrecords.specs.declared.ReadJob.{ReadJob}
 use Rattle.planfile.specs.PlanFile.{Plan}
 use Rattle.whole_files.specs.declared.rooms.JobRoom.{JobRoom}
 use Rattle.whole_files.specs.declared.rooms.ListRoom.{ListRoom}
+use Rattle.whole_files.specs.declared.rooms.MixedRoom.{MixedRoom}
 
 -- ---- a job that was read
 
@@ -25,10 +26,18 @@ pub record Taken (sequenced : Bool) (file : List ℕ) (h : JobInput) : Type 0 wh
   pub accepted : job_refusal h ≡ 0
   pub same : job_in h ≡ job_of_file sequenced file
 
--- What is read of a file: its job, or its refusal.
-abbrev pub ReadsJob : Bool → List ℕ → Result ReadJob Refusal → JobRoom → Type 0
-ReadsJob sequenced file (Ok read) room = Taken sequenced file (job_of read room)
-ReadsJob sequenced file (Err e) room = refusal_of sequenced file ≡ number_of e
+-- What is read of a file in one sequence: its job, or its refusal.
+abbrev pub ReadsJob : List ℕ → Result ReadJob Refusal → JobRoom → Type 0
+ReadsJob file (Ok read) room = Taken one_sequence file (job_of read room)
+ReadsJob file (Err e) room = refusal_of one_sequence file ≡ number_of e
+
+-- The same of a mixed file, which has no SZ.
+abbrev pub mixed_of : ReadJob → MixedRoom → JobInput
+mixed_of read room = job_input read.programme (take read.layers room.sizes) [] [] [] (take read.slots room.forecast)
+
+abbrev pub ReadsMixed : List ℕ → Result ReadJob Refusal → MixedRoom → Type 0
+ReadsMixed file (Ok read) room = Taken mixed file (mixed_of read room)
+ReadsMixed file (Err e) room = refusal_of mixed file ≡ number_of e
 
 -- ---- a list
 

@@ -8,4 +8,4 @@ returns c =
     let s = c.args.self.now in
     let lent = buffers s.sizes s.chunks s.layers s.bytes s.forecast in
     let roomy : Roomy lent = record { sizes = omega arith; chunks = omega arith; layers = omega arith; bytes = omega arith; slots = omega arith } in
-    reads c.args.sequenced c.args.file.now lent roomy c.read_job.result _ c.read_job.ensures.promise
+    reads c.args.file.now lent roomy c.read_job.result _ c.read_job.ensures.promise
